@@ -2,9 +2,9 @@ ghost use Rattle.std.specs.Prelude.{◌≡◌, IfOk};
 ghost use Rattle.std.specs.Borrow.{Lends, sem};
 ghost use Rattle.sr_value.specs.contracts.boxed.Boxed.{the_row};
 
+use crate::compare::Compare;
 use crate::copies::Duplicate;
 use crate::memory::NoMemory;
-use crate::tests_of_equality::Compare;
 use std::alloc::Global;
 use std::marker::Model;
 

@@ -5,15 +5,27 @@
 #![tactic(auto)]
 
 mod boxed;
+mod capability;
+mod compare;
 mod copies;
+mod fault;
 mod memory;
+mod place;
 mod row;
-mod tests_of_equality;
+mod shape;
 mod text;
+mod value;
+mod value_text;
 
 pub use boxed::Boxed;
+pub use capability::{Cap, Owner};
+pub use compare::Compare;
 pub use copies::Duplicate;
+pub use fault::{Fault, ValueFail};
 pub use memory::NoMemory;
+pub use place::{Place, Span};
 pub use row::Row;
-pub use tests_of_equality::Compare;
+pub use shape::{Dims, Sel, Shape};
 pub use text::Text;
+pub use value::Value;
+pub use value_text::{EnumNames, text_of};

@@ -3,9 +3,9 @@ ghost use Rattle.std.specs.Option.{option_copied};
 ghost use Rattle.std.specs.Borrow.{Lends, sem};
 ghost use Rattle.sr_value.specs.contracts.row.Row.{the_row};
 
+use crate::compare::Compare;
 use crate::copies::Duplicate;
 use crate::memory::NoMemory;
-use crate::tests_of_equality::Compare;
 use std::alloc::Global;
 use std::marker::Model;
 

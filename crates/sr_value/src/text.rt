@@ -1,8 +1,8 @@
 ghost use Rattle.std.specs.Prelude.{◌≡◌, [], ◌∷◌, ◌++◌, ◌↔◌, length, take, IsTrue, IfOk, OnOk, OnErr};
 
+use crate::compare::Compare;
 use crate::copies::Duplicate;
 use crate::memory::NoMemory;
-use crate::tests_of_equality::Compare;
 use std::alloc::Global;
 use std::marker::Model;
 
