@@ -12,6 +12,7 @@ from_true : {b : _} → b ≡ true → IsTrue b
 from_true e = search rules
 
 pub returns : goal.returns
-returns c =
-    ( (λ h. same_true the_type (search rules) _ _ (sym c.eq.ensures ∙ is_true h))
-    , (λ e. from_true (c.eq.ensures ∙ true_same the_type _ _ e)))
+returns c = (
+  (λ h. same_true the_type (search rules) _ _ (sym c.eq.ensures ∙ is_true h)),
+  (λ e. from_true (c.eq.ensures ∙ true_same the_type _ _ e)),
+)

@@ -1,0 +1,17 @@
+use sr_value::{Span, Text};
+
+/// A name where it stands.
+#[derive(Debug, Drop)]
+pub struct Name {
+    pub text: Text,
+    pub span: Span,
+}
+
+/// A name, or a name of a component and one of its spec: `name` or `component.name`.
+#[derive(Debug, Drop)]
+pub struct QualifiedName {
+    pub span: Span,
+    pub first: Name,
+    /// The name behind the point, where there is one.
+    pub second: Option<Name>,
+}
