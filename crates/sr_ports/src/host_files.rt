@@ -25,7 +25,10 @@ pub struct FileSink<'a, R: rt::Files> {
 }
 
 impl<'a, R: rt::Files> HostFiles<'a, R> {
-    pub fn new(rt: &'a R) -> Self {
+    /// The files that `rt` reaches, of which no read has failed.
+    pub fn new(rt: &'a R) -> Self
+        ensures { ⟦<HostFiles<'a, R> as Files>⟧.faults result ≡ 0 }
+    {
         HostFiles { rt, faults: 0 }
     }
 }
@@ -60,7 +63,10 @@ fn read_start<R: rt::Files>(rt: &R, alloc: Global, name: &str, most: usize) -> i
 }
 
 impl<'a, R: rt::Files> FileSink<'a, R> {
-    pub fn new(rt: &'a R, name: &'a str) -> Self {
+    /// A sink into the file of this name, of which no put has failed. It makes no file yet.
+    pub fn new(rt: &'a R, name: &'a str) -> Self
+        ensures { ⟦<FileSink<'a, R> as Sink>⟧.faults result ≡ 0 }
+    {
         FileSink {
             rt,
             name,

@@ -20,8 +20,11 @@ pub struct HostSink<O> {
     faults: u64,
 }
 
-impl<I> HostSource<I> {
-    pub fn new(reader: I) -> Self {
+impl<I: Read> HostSource<I> {
+    /// The source over this reader, of which no take has failed.
+    pub fn new(reader: I) -> Self
+        ensures { ⟦<HostSource<I> as Source>⟧.faults result ≡ 0 }
+    {
         HostSource { reader, faults: 0 }
     }
 }
@@ -42,8 +45,11 @@ impl<I: Read> Source for HostSource<I> {
     }
 }
 
-impl<O> HostSink<O> {
-    pub fn new(writer: O) -> Self {
+impl<O: Write> HostSink<O> {
+    /// The sink over this writer, of which no put has failed.
+    pub fn new(writer: O) -> Self
+        ensures { ⟦<HostSink<O> as Sink>⟧.faults result ≡ 0 }
+    {
         HostSink { writer, faults: 0 }
     }
 }

@@ -1,4 +1,4 @@
-ghost use Rattle.std.specs.Prelude.{◌≡◌, ◌<◌, ◌≤◌, ◌↔◌, [], min, length, Some, IfOk, IsErr, IsErrOf};
+ghost use Rattle.std.specs.Prelude.{◌≡◌, ◌<◌, ◌≤◌, ◌↔◌, [], min, length, drop, Some, MatchResult, IfOk, IsErr, IsErrOf};
 ghost use Rattle.sr_ports.specs.Faults.{Counts, TakeCounts};
 ghost use Rattle.sr_ports.specs.Streams.{Takes, EndsWhereEmpty, Puts};
 
@@ -84,6 +84,7 @@ impl Source for MemSource {
         ensures size { IfOk result (λ count. count ≡ min (source_most self.old) (min (length room.old) (length (source_left self.old)))) }
         ensures calls { MakesCall (source_calls self.old) (source_calls self.new) }
         ensures most { source_most self.new ≡ source_most self.old }
+        ensures beyond { MatchResult result (λ count. drop count room.new ≡ drop count room.old) (λ _. room.new ≡ room.old) }
     {
         if self.schedule.begin() {
             self.schedule.raise();
