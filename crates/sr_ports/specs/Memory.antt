@@ -1,0 +1,45 @@
+-- Devices in memory, whose calls fail by a list.
+use Rattle.std.specs.Prelude.{◌≡◌, ℕ, ◌+◌, ◌-◌, ◌^◌, min, List, drop, Contains}
+use Rattle.sr_ports.specs.declared.schedule.Schedule.{Schedule}
+use Rattle.sr_ports.specs.declared.memory_files.MemFiles.{MemFiles}
+use Rattle.sr_ports.specs.declared.memory_streams.MemSource.{MemSource}
+use Rattle.sr_ports.specs.declared.memory_streams.MemSink.{MemSink}
+
+-- the number of the next call, from 1; it stands still at the end of its type
+abbrev pub next_call : Schedule → ℕ
+next_call schedule = min (schedule.calls + 1) (2 ^ 64 - 1)
+
+-- the next call is one of those that are to fail
+abbrev pub NextFails : Schedule → Type 0
+NextFails schedule = Contains schedule.failing (next_call schedule)
+
+-- one call was made, and the list of those that fail stayed
+pub record MakesCall (old new : Schedule) : Type 0 where
+  pub counted : new.calls ≡ next_call old
+  pub kept : new.failing ≡ old.failing
+
+-- what a device in memory holds or has left, the most bytes of one call of it, and its calls
+
+abbrev pub files_held : MemFiles → List (List ℕ × List ℕ)
+files_held files = files.files
+
+abbrev pub files_calls : MemFiles → Schedule
+files_calls files = files.schedule
+
+abbrev pub source_left : MemSource → List ℕ
+source_left source = drop source.at source.bytes
+
+abbrev pub source_most : MemSource → ℕ
+source_most source = source.most
+
+abbrev pub source_calls : MemSource → Schedule
+source_calls source = source.schedule
+
+abbrev pub sink_held : MemSink → List ℕ
+sink_held sink = sink.bytes
+
+abbrev pub sink_most : MemSink → ℕ
+sink_most sink = sink.most
+
+abbrev pub sink_calls : MemSink → Schedule
+sink_calls sink = sink.schedule

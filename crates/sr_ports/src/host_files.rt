@@ -1,0 +1,107 @@
+ghost use Rattle.std.specs.Prelude.{◌≡◌, ◌≤◌, None, IfOk, vec_len};
+ghost use Rattle.std.specs.Io.{WritesAtMost};
+
+use crate::fault::PortFail;
+use crate::files::Files;
+use crate::sink::Sink;
+use std::alloc::Global;
+use std::io::{ErrorKind, Read, Write};
+use std::{fs, io, rt};
+
+/// The files of the host. They tell no content.
+#[derive(Drop)]
+pub struct HostFiles<'a, R> {
+    rt: &'a R,
+    faults: u64,
+}
+
+/// A sink into a file of the host, which the first put makes, or empties where it is there. It tells no content.
+#[derive(Drop)]
+pub struct FileSink<'a, R: rt::Files> {
+    rt: &'a R,
+    name: &'a str,
+    file: Option<R::File>,
+    faults: u64,
+}
+
+impl<'a, R: rt::Files> HostFiles<'a, R> {
+    /// The files that `rt` reaches, of which no read has failed.
+    pub fn new(rt: &'a R) -> Self
+        ensures { ⟦<HostFiles<'a, R> as Files>⟧.faults result ≡ 0 }
+    {
+        HostFiles { rt, faults: 0 }
+    }
+}
+
+impl<R: rt::Files> Files for HostFiles<'_, R> {
+    ghost content = { λ _. None };
+
+    ghost faults = { λ files. files.faults };
+
+    fn read(&mut self, alloc: Global, name: &str, most: usize) -> Result<Vec<u8>, PortFail> {
+        match read_start(self.rt, alloc, name, most) {
+            Ok(bytes) => Ok(bytes),
+            Err(error) if error.kind() == ErrorKind::OutOfMemory => Err(PortFail::NoMemory),
+            Err(_) => {
+                self.faults = self.faults.saturating_add(1);
+                Err(PortFail::Failed)
+            }
+        }
+    }
+}
+
+/// The first `most` bytes of a file.
+fn read_start<R: rt::Files>(rt: &R, alloc: Global, name: &str, most: usize) -> io::Result<Vec<u8>>
+    ensures { IfOk result (λ bytes. vec_len bytes ≤ most) }
+{
+    let mut bytes = Vec::new(alloc);
+    fs::open(rt, name)?
+        .take(most as u64)
+        .read_to_end(&mut bytes)?;
+    bytes.truncate(most);
+    Ok(bytes)
+}
+
+impl<'a, R: rt::Files> FileSink<'a, R> {
+    /// A sink into the file of this name, of which no put has failed. It makes no file yet.
+    pub fn new(rt: &'a R, name: &'a str) -> Self
+        ensures { ⟦<FileSink<'a, R> as Sink>⟧.faults result ≡ 0 }
+    {
+        FileSink {
+            rt,
+            name,
+            file: None,
+            faults: 0,
+        }
+    }
+
+    /// Writes into the file, which it makes first where that wasn't done.
+    fn write(&mut self, piece: &[u8]) -> io::Result<usize>
+        ensures bound { WritesAtMost result piece.now }
+        ensures faults { self.new.faults ≡ self.old.faults }
+    {
+        if self.file.is_none() {
+            self.file = Some(fs::create(self.rt, self.name)?);
+        }
+        match &mut self.file {
+            Some(file) => file.write(piece),
+            None => Ok(0),
+        }
+    }
+}
+
+impl<R: rt::Files> Sink for FileSink<'_, R> {
+    ghost held = { λ _. None };
+
+    ghost faults = { λ sink. sink.faults };
+
+    fn put(&mut self, piece: &[u8]) -> Result<usize, PortFail> {
+        match self.write(piece) {
+            Ok(0) | Err(_) => {
+                self.faults = self.faults.saturating_add(1);
+                Err(PortFail::Failed)
+            }
+            Ok(count) => Ok(count),
+        }
+    }
+}

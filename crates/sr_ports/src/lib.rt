@@ -1,0 +1,31 @@
+//! The devices that a run of SR reads from and writes to, as traits with a written meaning.
+//!
+//! Each device may tell its content, to contracts alone, and counts its faults: the count never falls, and a
+//! call fails only where it raised the count. There are devices in memory, which tell their content and fail
+//! by a list, and adapters over the host's files and streams, which tell nothing.
+#![tactic(auto)]
+
+mod fault;
+mod files;
+mod gate;
+mod host_files;
+mod host_streams;
+mod memory_files;
+mod memory_streams;
+mod schedule;
+mod sink;
+mod slices;
+mod source;
+
+pub use fault::{PortFail, TakeFailed};
+pub use files::Files;
+pub use gate::{FreeGate, Gate, Point};
+pub use host_files::{FileSink, HostFiles};
+pub use host_streams::{HostSink, HostSource};
+pub use memory_files::MemFiles;
+pub use memory_streams::{MemSink, MemSource};
+pub use sink::{Sink, put_all};
+pub use source::Source;
+
+#[cfg(test)]
+mod tests;

@@ -1,0 +1,162 @@
+ghost use Rattle.std.specs.Prelude.{◌≡◌, ◌<◌, ◌≤◌, ◌↔◌, [], min, length, drop, Some, MatchResult, IfOk, IsErr, IsErrOf};
+ghost use Rattle.sr_ports.specs.Faults.{Counts, TakeCounts};
+ghost use Rattle.sr_ports.specs.Streams.{Takes, EndsWhereEmpty, Puts};
+
+use crate::fault::{PortFail, TakeFailed};
+use crate::schedule::Schedule;
+use crate::sink::Sink;
+use crate::slices::{copy_front, rest_of};
+use crate::source::Source;
+use sr_value::{Row, Text};
+use std::alloc::Global;
+
+/// A source of bytes in memory. It tells what it has left.
+#[derive(Debug, Drop)]
+pub struct MemSource {
+    bytes: Text,
+    at: usize,
+    most: usize,
+    schedule: Schedule,
+    ghost within: { at ≤ length bytes },
+    ghost moves: { 0 < most },
+}
+
+/// A sink that keeps its bytes in memory. It tells what it holds.
+#[derive(Debug, Drop)]
+pub struct MemSink {
+    bytes: Text,
+    most: usize,
+    schedule: Schedule,
+    ghost moves: { 0 < most },
+}
+
+impl MemSource {
+    ghost use Rattle.sr_ports.specs.Memory.{source_left, source_most, source_calls};
+
+    /// A source of these bytes, which gives at most `most` of them in one call. `fails` has the numbers of the
+    /// calls that fail, counted from 1.
+    pub fn new(bytes: Text, most: usize, fails: Row<u64>) -> Self
+        requires { 0 < most }
+        ensures left { source_left result ≡ bytes }
+        ensures most { source_most result ≡ most }
+        ensures fails { (source_calls result).failing ≡ fails }
+        ensures calls { (source_calls result).calls ≡ 0 }
+        ensures faults { (source_calls result).faults ≡ 0 }
+    {
+        MemSource {
+            bytes,
+            at: 0,
+            most,
+            schedule: Schedule::new(fails),
+        }
+    }
+
+    /// The bytes that are left.
+    pub fn left(&self) -> &[u8]
+        ensures { result.now ≡ source_left self.now }
+    {
+        rest_of(self.bytes.as_bytes(), self.at)
+    }
+
+    /// How many calls failed.
+    pub fn faults(&self) -> u64
+        ensures { result ≡ (source_calls self.now).faults }
+    {
+        self.schedule.faults()
+    }
+}
+
+impl Source for MemSource {
+    ghost use Rattle.sr_ports.specs.Memory.{source_left, source_most, source_calls, NextFails, MakesCall};
+
+    ghost left = { λ source. Some (source_left source) };
+
+    ghost faults = { λ source. (source_calls source).faults };
+
+    fn take(&mut self, room: &mut [u8]) -> Result<usize, TakeFailed>
+        requires { 0 < length room.old }
+        ensures bytes { Takes (Some (source_left self.old)) (Some (source_left self.new)) result room.new }
+        ensures end { EndsWhereEmpty (Some (source_left self.old)) result }
+        ensures cause { TakeCounts (source_calls self.old).faults (source_calls self.new).faults result }
+
+        // A call fails exactly where the list says so, and gives as many bytes as it may.
+        ensures fails { IsErr result ↔ NextFails (source_calls self.old) }
+        ensures size { IfOk result (λ count. count ≡ min (source_most self.old) (min (length room.old) (length (source_left self.old)))) }
+        ensures calls { MakesCall (source_calls self.old) (source_calls self.new) }
+        ensures most { source_most self.new ≡ source_most self.old }
+        ensures beyond { MatchResult result (λ count. drop count room.new ≡ drop count room.old) (λ _. room.new ≡ room.old) }
+    {
+        if self.schedule.begin() {
+            self.schedule.raise();
+            return Err(TakeFailed);
+        }
+        let left = rest_of(self.bytes.as_bytes(), self.at);
+        let count = self.most.min(room.len()).min(left.len());
+        copy_front(room, left, count);
+        self.at += count;
+        Ok(count)
+    }
+}
+
+impl MemSink {
+    ghost use Rattle.sr_ports.specs.Memory.{sink_held, sink_most, sink_calls};
+
+    /// A sink of no bytes, which takes at most `most` of them in one call. `fails` has the numbers of the calls
+    /// that fail, counted from 1. It takes no memory.
+    pub fn new(alloc: Global, most: usize, fails: Row<u64>) -> Self
+        requires { 0 < most }
+        ensures held { sink_held result ≡ [] }
+        ensures most { sink_most result ≡ most }
+        ensures fails { (sink_calls result).failing ≡ fails }
+        ensures calls { (sink_calls result).calls ≡ 0 }
+        ensures faults { (sink_calls result).faults ≡ 0 }
+    {
+        MemSink {
+            bytes: Text::new(alloc),
+            most,
+            schedule: Schedule::new(fails),
+        }
+    }
+
+    /// The bytes that it holds.
+    pub fn held(&self) -> &[u8]
+        ensures { result.now ≡ sink_held self.now }
+    {
+        self.bytes.as_bytes()
+    }
+
+    /// How many calls failed.
+    pub fn faults(&self) -> u64
+        ensures { result ≡ (sink_calls self.now).faults }
+    {
+        self.schedule.faults()
+    }
+}
+
+impl Sink for MemSink {
+    ghost use Rattle.sr_ports.specs.Memory.{sink_held, sink_most, sink_calls, NextFails, MakesCall};
+
+    ghost held = { λ sink. Some (sink_held sink) };
+
+    ghost faults = { λ sink. (sink_calls sink).faults };
+
+    fn put(&mut self, piece: &[u8]) -> Result<usize, PortFail>
+        requires { 0 < length piece.now }
+        ensures bytes { Puts (Some (sink_held self.old)) (Some (sink_held self.new)) result piece.now }
+        ensures cause { Counts (sink_calls self.old).faults (sink_calls self.new).faults result }
+
+        // A call fails exactly where the list says so, and takes as many bytes as it may.
+        ensures fails { IsErrOf result PortFail.Failed ↔ NextFails (sink_calls self.old) }
+        ensures size { IfOk result (λ count. count ≡ min (sink_most self.old) (length piece.now)) }
+        ensures calls { MakesCall (sink_calls self.old) (sink_calls self.new) }
+        ensures most { sink_most self.new ≡ sink_most self.old }
+    {
+        if self.schedule.begin() {
+            self.schedule.raise();
+            return Err(PortFail::Failed);
+        }
+        let count = self.most.min(piece.len());
+        self.bytes.push_all(&piece[..count])?;
+        Ok(count)
+    }
+}
