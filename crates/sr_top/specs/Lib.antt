@@ -1,0 +1,5 @@
+pub mod Causes
+pub mod Report
+pub mod Run
+pub mod Small
+pub mod Words

@@ -1,0 +1,94 @@
+-- What a call of the program says at its end: the diagnostic line and the status.
+use Rattle.std.specs.Prelude.{◌≡◌, ℕ, ◌≤◌, List, [], ◌∷◌, ◌++◌, length, take, codes, Option, slice_index_or}
+use Rattle.std.specs.Fmt.{decimal}
+use Rattle.std.specs.Io.KnownBytes.{append_known}
+use Rattle.sr_ports.specs.Faults.{Rose}
+use Rattle.sr_value.specs.declared.place.Place.{Place}
+use Rattle.sr_value.specs.declared.fault.Fault.{Fault}
+use Rattle.sr_value.specs.declared.fault.Fault.TheVariants.{Overflow, ZeroDivisor, Index, Shape, StringLength, Range, NullCap, Gone, BadStatus, TooLarge, Early}
+use Rattle.sr_text.specs.Labels.{kind_label}
+use Rattle.sr_top.specs.declared.report.Ending.{Ending}
+use Rattle.sr_top.specs.declared.report.Ending.TheVariants.{Done, Quiet, Stopped, Failed, Limit, Refused, NoFile, ReadFault, WriteFault, NoMemory, Usage}
+use Rattle.sr_top.specs.declared.report.LimitKind.{LimitKind}
+use Rattle.sr_top.specs.declared.report.LimitKind.TheVariants.{Steps, Ticks, Input}
+use Rattle.sr_top.specs.declared.report.Side.{Side}
+use Rattle.sr_top.specs.declared.report.Side.TheVariants as sides
+
+abbrev pub fault_label : Fault → List ℕ
+fault_label Overflow = codes "E1 Overflow"
+fault_label ZeroDivisor = codes "E2 ZeroDivisor"
+fault_label Index = codes "E3 Index"
+fault_label Shape = codes "E4 Shape"
+fault_label StringLength = codes "E5 StringLength"
+fault_label Range = codes "E6 Range"
+fault_label NullCap = codes "E7 NullCap"
+fault_label Gone = codes "E8 Gone"
+fault_label BadStatus = codes "E9 BadStatus"
+fault_label TooLarge = codes "E10 TooLarge"
+fault_label Early = codes "E11 Early"
+
+abbrev pub limit_label : LimitKind → List ℕ
+limit_label Steps = codes "steps"
+limit_label (Ticks process) = codes "ticks"
+limit_label Input = codes "input"
+
+abbrev pub file_name : List (List ℕ) → ℕ → List ℕ
+file_name names file = slice_index_or names file []
+
+-- `sr: FILE:LINE: LABEL`
+abbrev pub placed_line : List (List ℕ) → Place → List ℕ → List ℕ
+placed_line names place label =
+    codes "sr: " ++ file_name names place.file ++ codes ":" ++ decimal place.line ++ codes ": " ++ label ++ 10 ∷ []
+
+-- the text for words that are no command
+abbrev pub usage_text : List ℕ
+usage_text =
+    codes "usage: sr run FILE... [--workers N] [--steps N] [--ticks N] [--journal]" ++ 10 ∷
+    codes "       sr check FILE..." ++ 10 ∷
+    codes "       sr classes FILE..." ++ 10 ∷
+    codes "       sr gen SEED [--workers N]" ++ 10 ∷ []
+
+-- the diagnostic text of an ending, for files of these names
+abbrev pub diag_text : List (List ℕ) → Ending → List ℕ
+diag_text names Done = []
+diag_text names Quiet = []
+diag_text names (Stopped status) = []
+diag_text names (Failed fault place) = placed_line names place (fault_label fault)
+diag_text names (Limit kind) = codes "sr: limit: " ++ limit_label kind ++ 10 ∷ []
+diag_text names (Refused refusal) = placed_line names refusal.place (kind_label refusal.kind)
+diag_text names (NoFile file) = codes "sr: cannot read " ++ file_name names file ++ 10 ∷ []
+diag_text names ReadFault = codes "sr: input failed" ++ 10 ∷ []
+diag_text names WriteFault = codes "sr: output failed" ++ 10 ∷ []
+diag_text names NoMemory = codes "sr: no memory" ++ 10 ∷ []
+diag_text names Usage = usage_text
+
+abbrev pub ending_status : Ending → ℕ
+ending_status Done = 0
+ending_status Quiet = 0
+ending_status (Stopped status) = status
+ending_status (Failed fault place) = 101
+ending_status (Limit kind) = 102
+ending_status (Refused refusal) = 103
+ending_status (NoFile file) = 104
+ending_status ReadFault = 105
+ending_status WriteFault = 106
+ending_status NoMemory = 107
+ending_status Usage = 108
+
+-- a journal that couldn't be put decides the status, whatever the ending
+abbrev pub status_of : Ending → Side → ℕ
+status_of ending sides.Whole = ending_status ending
+status_of ending sides.Failed = 106
+status_of ending sides.NoMemory = 107
+
+-- some first bytes of a text were put
+pub record PutsFirst (before now : Option (List ℕ)) (text : List ℕ) : Type 0 where
+  pub count : ℕ
+  pub within : count ≤ length text
+  pub put : now ≡ append_known before (take count text)
+
+-- how far a text got into a sink, and that the sink failed only where its count of faults says so
+abbrev pub GotAsFar : Side → List ℕ → Option (List ℕ) → Option (List ℕ) → ℕ → ℕ → Type 0
+GotAsFar sides.Whole text before now faults faults_now = (now ≡ append_known before text) × (faults_now ≡ faults)
+GotAsFar sides.Failed text before now faults faults_now = PutsFirst before now text × Rose faults faults_now
+GotAsFar sides.NoMemory text before now faults faults_now = PutsFirst before now text × (faults_now ≡ faults)

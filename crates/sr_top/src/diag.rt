@@ -1,0 +1,161 @@
+ghost use Rattle.std.specs.Prelude.{◌≡◌, [], ◌∷◌, ◌++◌, map, codes, IfOk};
+ghost use Rattle.std.specs.Fmt.{decimal};
+ghost use Rattle.sr_top.specs.Report as report_of;
+ghost use Rattle.sr_top.specs.declared.report.Ending.TheVariants as endings;
+
+use crate::report::{Ending, LimitKind, Side};
+use sr_ports::{PortFail, Sink, put_all};
+use sr_value::{Fault, NoMemory, Place, Text};
+use std::alloc::Global;
+
+/// The text for words that are no command.
+const USAGE: &str =
+    "usage: sr run FILE... [--workers N] [--steps N] [--ticks N] [--journal]\n       sr check FILE...\n       sr classes FILE...\n       sr gen SEED [--workers N]\n";
+
+/// The number and the name of a fault.
+fn fault_label(fault: Fault) -> &'static str
+    ensures { result.now ≡ report_of.fault_label fault }
+{
+    match fault {
+        Fault::Overflow => "E1 Overflow",
+        Fault::ZeroDivisor => "E2 ZeroDivisor",
+        Fault::Index => "E3 Index",
+        Fault::Shape => "E4 Shape",
+        Fault::StringLength => "E5 StringLength",
+        Fault::Range => "E6 Range",
+        Fault::NullCap => "E7 NullCap",
+        Fault::Gone => "E8 Gone",
+        Fault::BadStatus => "E9 BadStatus",
+        Fault::TooLarge => "E10 TooLarge",
+        Fault::Early => "E11 Early",
+    }
+}
+
+fn limit_label(kind: LimitKind) -> &'static str
+    ensures { result.now ≡ report_of.limit_label kind }
+{
+    match kind {
+        LimitKind::Steps => "steps",
+        LimitKind::Ticks(_) => "ticks",
+        LimitKind::Input => "input",
+    }
+}
+
+fn file_name<'a>(names: &[&'a str], file: u32) -> &'a str
+    ensures { result.now ≡ report_of.file_name (map (λ name. name.now) names.now) file }
+{
+    match names.get(file as usize) {
+        None => "",
+        Some(name) => *name,
+    }
+}
+
+/// A line that names a place and what is the matter there.
+fn placed_line(alloc: Global, names: &[&str], place: Place, label: &str) -> Result<Text, NoMemory>
+    ensures { IfOk result (λ text. text ≡ report_of.placed_line (map (λ name. name.now) names.now) place label.now) }
+{
+    let number = decimal_text(alloc, place.line)?;
+    let mut text = Text::from_slice(alloc, b"sr: ")?;
+    text.push_all(file_name(names, place.file).as_bytes())?;
+    text.push_all(b":")?;
+    text.push_all(number.as_bytes())?;
+    text.push_all(b": ")?;
+    text.push_all(label.as_bytes())?;
+    text.push_all(b"\n")?;
+    Ok(text)
+}
+
+/// A number in decimal.
+fn decimal_text(alloc: Global, number: u32) -> Result<Text, NoMemory>
+    ensures { IfOk result (λ text. text ≡ decimal number) }
+{
+    let digits = format!(in alloc; "{number}")?;
+    Text::from_slice(alloc, digits.as_bytes())
+}
+
+/// A line of fixed words.
+fn line(alloc: Global, words: &str, more: &str) -> Result<Text, NoMemory>
+    ensures { IfOk result (λ text. text ≡ words.now ++ more.now) }
+{
+    let mut text = Text::from_slice(alloc, words.as_bytes())?;
+    text.push_all(more.as_bytes())?;
+    Ok(text)
+}
+
+/// The diagnostic text of an ending, for files of these names.
+pub fn diag_text(alloc: Global, names: &[&str], ending: Ending) -> Result<Text, NoMemory>
+    ensures { IfOk result (λ text. text ≡ report_of.diag_text (map (λ name. name.now) names.now) ending) }
+{
+    match ending {
+        Ending::Done => Ok(Text::new(alloc)),
+        Ending::Quiet => Ok(Text::new(alloc)),
+        Ending::Stopped(_) => Ok(Text::new(alloc)),
+        Ending::Failed { fault, place } => placed_line(alloc, names, place, fault_label(fault)),
+        Ending::Limit(kind) => limit_line(alloc, kind),
+        Ending::Refused(refusal) => placed_line(alloc, names, refusal.place, refusal.kind.label()),
+        Ending::NoFile(file) => no_file_line(alloc, file_name(names, file)),
+        Ending::ReadFault => line(alloc, "sr: input failed", "\n"),
+        Ending::WriteFault => line(alloc, "sr: output failed", "\n"),
+        Ending::NoMemory => line(alloc, "sr: no memory", "\n"),
+        Ending::Usage => line(alloc, USAGE, ""),
+    }
+}
+
+fn limit_line(alloc: Global, kind: LimitKind) -> Result<Text, NoMemory>
+    ensures { IfOk result (λ text. text ≡ report_of.diag_text [] (endings.Limit kind)) }
+{
+    let label = limit_label(kind);
+    let text = format!(in alloc; "sr: limit: {label}\n")?;
+    Text::from_slice(alloc, text.as_bytes())
+}
+
+fn no_file_line(alloc: Global, name: &str) -> Result<Text, NoMemory>
+    ensures { IfOk result (λ text. text ≡ codes "sr: cannot read " ++ name.now ++ 10 ∷ []) }
+{
+    let text = format!(in alloc; "sr: cannot read {name}\n")?;
+    Text::from_slice(alloc, text.as_bytes())
+}
+
+/// The exit status of an ending.
+fn ending_status(ending: Ending) -> u8
+    ensures { result ≡ report_of.ending_status ending }
+{
+    match ending {
+        Ending::Done => 0,
+        Ending::Quiet => 0,
+        Ending::Stopped(status) => status,
+        Ending::Failed { .. } => 101,
+        Ending::Limit(_) => 102,
+        Ending::Refused(_) => 103,
+        Ending::NoFile(_) => 104,
+        Ending::ReadFault => 105,
+        Ending::WriteFault => 106,
+        Ending::NoMemory => 107,
+        Ending::Usage => 108,
+    }
+}
+
+/// The exit status of an ending, where the journal got this far.
+pub fn status_of(ending: Ending, journal: Side) -> u8
+    ensures { result ≡ report_of.status_of ending journal }
+{
+    match journal {
+        Side::Whole => ending_status(ending),
+        Side::Failed => 106,
+        Side::NoMemory => 107,
+    }
+}
+
+/// Puts the diagnostic text of an ending.
+pub fn put_diag<D: Sink>(alloc: Global, names: &[&str], ending: Ending, diag: &mut D) -> Side
+    ensures { report_of.GotAsFar result (report_of.diag_text (map (λ name. name.now) names.now) ending) (D.held diag.old) (D.held diag.new) (D.faults diag.old) (D.faults diag.new) }
+{
+    let Ok(text) = diag_text(alloc, names, ending) else {
+        return Side::NoMemory;
+    };
+    match put_all(diag, text.as_bytes()) {
+        Ok(()) => Side::Whole,
+        Err(PortFail::Failed) => Side::Failed,
+        Err(PortFail::NoMemory) => Side::NoMemory,
+    }
+}
