@@ -8,7 +8,7 @@ use std::alloc::Global;
 use std::io::{ErrorKind, Read, Write};
 use std::{fs, io, rt};
 
-/// The files of the host. They tell no content.
+/// The files of the host. They tell no content. Every error counts as a fault but that memory ran out.
 #[derive(Drop)]
 pub struct HostFiles<'a, R> {
     rt: &'a R,
@@ -16,6 +16,7 @@ pub struct HostFiles<'a, R> {
 }
 
 /// A sink into a file of the host, which the first put makes, or empties where it is there. It tells no content.
+/// Every error counts as a fault, and so does a write of no bytes.
 #[derive(Drop)]
 pub struct FileSink<'a, R: rt::Files> {
     rt: &'a R,
