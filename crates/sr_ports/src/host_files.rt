@@ -20,7 +20,8 @@ pub struct HostFiles<'a, R> {
 #[derive(Drop)]
 pub struct FileSink<'a, R: rt::Files> {
     rt: &'a R,
-    name: &'a str,
+    /// The name of the file.
+    pub name: &'a str,
     file: Option<R::File>,
     faults: u64,
 }
@@ -66,7 +67,8 @@ fn read_start<R: rt::Files>(rt: &R, alloc: Global, name: &str, most: usize) -> i
 impl<'a, R: rt::Files> FileSink<'a, R> {
     /// A sink into the file of this name, of which no put has failed. It makes no file yet.
     pub fn new(rt: &'a R, name: &'a str) -> Self
-        ensures { ⟦<FileSink<'a, R> as Sink>⟧.faults result ≡ 0 }
+        ensures name { result.name.now ≡ name.now }
+        ensures faults { ⟦<FileSink<'a, R> as Sink>⟧.faults result ≡ 0 }
     {
         FileSink {
             rt,
