@@ -18,13 +18,22 @@ pub record MakesCall (old new : Schedule) : Type 0 where
   pub counted : new.calls ≡ next_call old
   pub kept : new.failing ≡ old.failing
 
--- what a device in memory holds or has left, the most bytes of one call of it, and its calls
+-- no call was made yet, and these are to fail
+pub record HasNoCalls (schedule : Schedule) (failing : List ℕ) : Type 0 where
+  pub none : schedule.calls ≡ 0
+  pub no_faults : schedule.faults ≡ 0
+  pub listed : schedule.failing ≡ failing
+
+-- what a device in memory holds or has left, the most bytes of one call, its calls, and how many of them failed
 
 abbrev pub files_held : MemFiles → List (List ℕ × List ℕ)
 files_held files = files.files
 
 abbrev pub files_calls : MemFiles → Schedule
 files_calls files = files.schedule
+
+abbrev pub files_faults : MemFiles → ℕ
+files_faults files = files.schedule.faults
 
 abbrev pub source_left : MemSource → List ℕ
 source_left source = drop source.at source.bytes
@@ -35,6 +44,9 @@ source_most source = source.most
 abbrev pub source_calls : MemSource → Schedule
 source_calls source = source.schedule
 
+abbrev pub source_faults : MemSource → ℕ
+source_faults source = source.schedule.faults
+
 abbrev pub sink_held : MemSink → List ℕ
 sink_held sink = sink.bytes
 
@@ -43,3 +55,6 @@ sink_most sink = sink.most
 
 abbrev pub sink_calls : MemSink → Schedule
 sink_calls sink = sink.schedule
+
+abbrev pub sink_faults : MemSink → ℕ
+sink_faults sink = sink.schedule.faults

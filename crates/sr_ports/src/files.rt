@@ -13,7 +13,8 @@ pub trait Files {
     /// How often a read failed.
     ghost faults: { Self → ℕ };
 
-    /// The first `most` bytes of the file of this name, or all where it has fewer.
+    /// The first `most` bytes of the file of this name, or all where it has fewer. A file that is missing or
+    /// can't be read is a fault.
     fn read(&mut self, alloc: Global, name: &str, most: usize) -> Result<Vec<u8>, PortFail>
         ensures bytes { ReadsFile (content self.old) name.now most result }
         ensures kept { content self.new ≡ content self.old }

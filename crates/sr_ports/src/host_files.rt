@@ -8,7 +8,7 @@ use std::alloc::Global;
 use std::io::{ErrorKind, Read, Write};
 use std::{fs, io, rt};
 
-/// The files of the host. They tell no content.
+/// The files of the host. They tell no content. Every error counts as a fault but that memory ran out.
 #[derive(Drop)]
 pub struct HostFiles<'a, R> {
     rt: &'a R,
@@ -16,10 +16,12 @@ pub struct HostFiles<'a, R> {
 }
 
 /// A sink into a file of the host, which the first put makes, or empties where it is there. It tells no content.
+/// Every error counts as a fault, and so does a write of no bytes.
 #[derive(Drop)]
 pub struct FileSink<'a, R: rt::Files> {
     rt: &'a R,
-    name: &'a str,
+    /// The name of the file.
+    pub name: &'a str,
     file: Option<R::File>,
     faults: u64,
 }
@@ -65,7 +67,8 @@ fn read_start<R: rt::Files>(rt: &R, alloc: Global, name: &str, most: usize) -> i
 impl<'a, R: rt::Files> FileSink<'a, R> {
     /// A sink into the file of this name, of which no put has failed. It makes no file yet.
     pub fn new(rt: &'a R, name: &'a str) -> Self
-        ensures { ⟦<FileSink<'a, R> as Sink>⟧.faults result ≡ 0 }
+        ensures name { result.name.now ≡ name.now }
+        ensures faults { ⟦<FileSink<'a, R> as Sink>⟧.faults result ≡ 0 }
     {
         FileSink {
             rt,

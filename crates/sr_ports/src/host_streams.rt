@@ -5,15 +5,16 @@ use crate::sink::Sink;
 use crate::source::Source;
 use std::io::{Read, Write};
 
-/// A reader of the host as a source, as standard input. It tells no content.
+/// A reader of the host as a source, as standard input. It tells no content. Every error counts as a fault.
 #[derive(Drop)]
 pub struct HostSource<I> {
     reader: I,
     faults: u64,
 }
 
-/// A writer of the host as a sink, as standard output or standard error. It tells no content. The writer has
-/// to pass on at once what it is given, since a sink has no flush.
+/// A writer of the host as a sink, as standard output or standard error. It tells no content. Every error counts
+/// as a fault, and so does a write of no bytes. The writer has to pass on at once what it is given, since a sink
+/// has no flush.
 #[derive(Drop)]
 pub struct HostSink<O> {
     writer: O,

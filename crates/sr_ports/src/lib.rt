@@ -1,8 +1,9 @@
 //! The devices that a run of SR reads from and writes to, as traits with a written meaning.
 //!
-//! Each device may tell its content, to contracts alone, and counts its faults: the count never falls, and a
-//! call fails only where it raised the count. There are devices in memory, which tell their content and fail
-//! by a list, and adapters over the host's files and streams, which tell nothing.
+//! Each device may tell its content, to contracts alone, and counts its faults: the count never falls, a call
+//! fails only where it raised the count, and every other answer leaves the count. There are devices in memory,
+//! which tell their content and fail by a list, and adapters over the host's files and streams, which tell
+//! nothing: that a real file or stream keeps the bytes that passed is not proved.
 #![tactic(auto)]
 
 mod fault;

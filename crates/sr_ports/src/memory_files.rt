@@ -17,15 +17,13 @@ pub struct MemFiles {
 }
 
 impl MemFiles {
-    ghost use Rattle.sr_ports.specs.Memory.{files_held, files_calls};
+    ghost use Rattle.sr_ports.specs.Memory.{files_held, files_calls, files_faults, HasNoCalls};
 
     /// Files of these names and bytes; of two of one name the first counts. `fails` has the numbers of the
     /// calls that fail, counted from 1.
     pub fn new(files: Row<(Text, Text)>, fails: Row<u64>) -> Self
         ensures held { files_held result ≡ files }
-        ensures fails { (files_calls result).failing ≡ fails }
-        ensures calls { (files_calls result).calls ≡ 0 }
-        ensures faults { (files_calls result).faults ≡ 0 }
+        ensures calls { HasNoCalls (files_calls result) fails }
     {
         MemFiles {
             files,
@@ -35,23 +33,23 @@ impl MemFiles {
 
     /// How many calls failed.
     pub fn faults(&self) -> u64
-        ensures { result ≡ (files_calls self.now).faults }
+        ensures { result ≡ files_faults self.now }
     {
         self.schedule.faults()
     }
 }
 
 impl Files for MemFiles {
-    ghost use Rattle.sr_ports.specs.Memory.{files_held, files_calls, NextFails, MakesCall};
+    ghost use Rattle.sr_ports.specs.Memory.{files_held, files_calls, files_faults, NextFails, MakesCall};
 
     ghost content = { λ files. Some (files_held files) };
 
-    ghost faults = { λ files. (files_calls files).faults };
+    ghost faults = { files_faults };
 
     fn read(&mut self, alloc: Global, name: &str, most: usize) -> Result<Vec<u8>, PortFail>
         ensures bytes { ReadsFile (Some (files_held self.old)) name.now most result }
         ensures kept { Some (files_held self.new) ≡ Some (files_held self.old) }
-        ensures cause { Counts (files_calls self.old).faults (files_calls self.new).faults result }
+        ensures cause { Counts (files_faults self.old) (files_faults self.new) result }
 
         // A call fails exactly where the list says so or no file has the name.
         ensures fails { IsErrOf result PortFail.Failed

@@ -31,7 +31,7 @@ pub struct MemSink {
 }
 
 impl MemSource {
-    ghost use Rattle.sr_ports.specs.Memory.{source_left, source_most, source_calls};
+    ghost use Rattle.sr_ports.specs.Memory.{source_left, source_most, source_calls, source_faults, HasNoCalls};
 
     /// A source of these bytes, which gives at most `most` of them in one call. `fails` has the numbers of the
     /// calls that fail, counted from 1.
@@ -39,9 +39,7 @@ impl MemSource {
         requires { 0 < most }
         ensures left { source_left result ≡ bytes }
         ensures most { source_most result ≡ most }
-        ensures fails { (source_calls result).failing ≡ fails }
-        ensures calls { (source_calls result).calls ≡ 0 }
-        ensures faults { (source_calls result).faults ≡ 0 }
+        ensures calls { HasNoCalls (source_calls result) fails }
     {
         MemSource {
             bytes,
@@ -60,24 +58,24 @@ impl MemSource {
 
     /// How many calls failed.
     pub fn faults(&self) -> u64
-        ensures { result ≡ (source_calls self.now).faults }
+        ensures { result ≡ source_faults self.now }
     {
         self.schedule.faults()
     }
 }
 
 impl Source for MemSource {
-    ghost use Rattle.sr_ports.specs.Memory.{source_left, source_most, source_calls, NextFails, MakesCall};
+    ghost use Rattle.sr_ports.specs.Memory.{source_left, source_most, source_calls, source_faults, NextFails, MakesCall};
 
     ghost left = { λ source. Some (source_left source) };
 
-    ghost faults = { λ source. (source_calls source).faults };
+    ghost faults = { source_faults };
 
     fn take(&mut self, room: &mut [u8]) -> Result<usize, TakeFailed>
         requires { 0 < length room.old }
         ensures bytes { Takes (Some (source_left self.old)) (Some (source_left self.new)) result room.new }
         ensures end { EndsWhereEmpty (Some (source_left self.old)) result }
-        ensures cause { TakeCounts (source_calls self.old).faults (source_calls self.new).faults result }
+        ensures cause { TakeCounts (source_faults self.old) (source_faults self.new) result }
 
         // A call fails exactly where the list says so, and gives as many bytes as it may.
         ensures fails { IsErr result ↔ NextFails (source_calls self.old) }
@@ -99,7 +97,7 @@ impl Source for MemSource {
 }
 
 impl MemSink {
-    ghost use Rattle.sr_ports.specs.Memory.{sink_held, sink_most, sink_calls};
+    ghost use Rattle.sr_ports.specs.Memory.{sink_held, sink_most, sink_calls, sink_faults, HasNoCalls};
 
     /// A sink of no bytes, which takes at most `most` of them in one call. `fails` has the numbers of the calls
     /// that fail, counted from 1. It takes no memory.
@@ -107,9 +105,7 @@ impl MemSink {
         requires { 0 < most }
         ensures held { sink_held result ≡ [] }
         ensures most { sink_most result ≡ most }
-        ensures fails { (sink_calls result).failing ≡ fails }
-        ensures calls { (sink_calls result).calls ≡ 0 }
-        ensures faults { (sink_calls result).faults ≡ 0 }
+        ensures calls { HasNoCalls (sink_calls result) fails }
     {
         MemSink {
             bytes: Text::new(alloc),
@@ -127,23 +123,23 @@ impl MemSink {
 
     /// How many calls failed.
     pub fn faults(&self) -> u64
-        ensures { result ≡ (sink_calls self.now).faults }
+        ensures { result ≡ sink_faults self.now }
     {
         self.schedule.faults()
     }
 }
 
 impl Sink for MemSink {
-    ghost use Rattle.sr_ports.specs.Memory.{sink_held, sink_most, sink_calls, NextFails, MakesCall};
+    ghost use Rattle.sr_ports.specs.Memory.{sink_held, sink_most, sink_calls, sink_faults, NextFails, MakesCall};
 
     ghost held = { λ sink. Some (sink_held sink) };
 
-    ghost faults = { λ sink. (sink_calls sink).faults };
+    ghost faults = { sink_faults };
 
     fn put(&mut self, piece: &[u8]) -> Result<usize, PortFail>
         requires { 0 < length piece.now }
         ensures bytes { Puts (Some (sink_held self.old)) (Some (sink_held self.new)) result piece.now }
-        ensures cause { Counts (sink_calls self.old).faults (sink_calls self.new).faults result }
+        ensures cause { Counts (sink_faults self.old) (sink_faults self.new) result }
 
         // A call fails exactly where the list says so, and takes as many bytes as it may.
         ensures fails { IsErrOf result PortFail.Failed ↔ NextFails (sink_calls self.old) }

@@ -12,13 +12,11 @@ pub struct Schedule {
 }
 
 impl Schedule {
-    ghost use Rattle.sr_ports.specs.Memory.{next_call, NextFails};
+    ghost use Rattle.sr_ports.specs.Memory.{next_call, NextFails, HasNoCalls};
 
     /// No call was made. `failing` has the numbers of the calls that are to fail, counted from 1.
     pub fn new(failing: Row<u64>) -> Self
-        ensures failing { result.failing ≡ failing }
-        ensures calls { result.calls ≡ 0 }
-        ensures faults { result.faults ≡ 0 }
+        ensures { HasNoCalls result failing }
     {
         Schedule {
             failing,

@@ -14,7 +14,8 @@ pub trait Sink {
     /// How often a put failed.
     ghost faults: { Self → ℕ };
 
-    /// Appends the first bytes of `piece`, at least one, and says how many.
+    /// Appends the first bytes of `piece`, which isn't empty, and says how many: at least one. After a fault or
+    /// want of memory nothing was appended.
     fn put(&mut self, piece: &[u8]) -> Result<usize, PortFail>
         requires { 0 < length piece.now }
         ensures bytes { Puts (held self.old) (held self.new) result piece.now }
@@ -22,7 +23,7 @@ pub trait Sink {
 }
 
 /// Puts all of `bytes`, in as many puts as it takes; each is handed all bytes that are still to go. After a
-/// failure the sink holds some first bytes of them.
+/// fault or want of memory the sink holds some first bytes of them, and not all.
 pub fn put_all<S: Sink>(sink: &mut S, bytes: &[u8]) -> Result<(), PortFail>
     ensures whole { OnOk result (S.held sink.new ≡ append_known (S.held sink.old) bytes.now) }
     ensures part { OnErr result (PutInPart (S.held sink.old) (S.held sink.new) bytes.now) }

@@ -12,7 +12,8 @@ pub trait Source {
     /// How often a take failed.
     ghost faults: { Self → ℕ };
 
-    /// Moves the next bytes into the front of `room`, and says how many; 0 is the end. It takes no memory.
+    /// Moves the next bytes into the front of `room`, which isn't empty, and says how many; 0 is the end. After
+    /// a fault nothing was taken. It takes no memory.
     fn take(&mut self, room: &mut [u8]) -> Result<usize, TakeFailed>
         requires { 0 < length room.old }
         ensures bytes { Takes (left self.old) (left self.new) result room.new }
