@@ -10,3 +10,6 @@ mod words;
 
 pub use report::{Ending, LimitKind, Report, Side, Stretch};
 pub use top::sr_top;
+
+#[cfg(test)]
+mod tests;

@@ -29,3 +29,6 @@ pub use shape::{Dims, Sel, Shape};
 pub use text::Text;
 pub use value::Value;
 pub use value_text::{EnumNames, text_of};
+
+#[cfg(test)]
+mod collection_tests;

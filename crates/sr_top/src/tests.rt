@@ -1,0 +1,192 @@
+use crate::{Ending, Report, Side, sr_top};
+use sr_ask::Item;
+use sr_ports::{FreeGate, MemFiles, MemSink, MemSource};
+use sr_text::{Kind, Refusal};
+use sr_value::{NoMemory, Place, Row, Text};
+use std::alloc::Global;
+use std::test::Fail;
+
+/// A call with ports in memory: its words, the content of `a.sr`, the reads that fail, the most bytes of one
+/// put of the output, the puts of it that fail; and what is to come.
+#[derive(Clone, Copy)]
+struct Case<'a> {
+    words: &'a [&'a str],
+    content: &'a [u8],
+    read_fails: &'a [u64],
+    most: usize,
+    put_fails: &'a [u64],
+    ending: Ending,
+    status: u8,
+    output: &'a [u8],
+    diag: &'a [u8],
+    items: usize,
+}
+
+/// A run of two writes.
+const TWO: &[u8] = b"resource main()\n  write(\"one\")\n  write(\"two\")\nend\n";
+
+const NOT_BUILT: Ending = Ending::Refused(Refusal {
+    kind: Kind::NotBuilt,
+    place: Place { file: 0, line: 1 },
+});
+
+fn numbers(alloc: Global, of: &[u64]) -> Result<Row<u64>, NoMemory> {
+    Ok(Row::from_vec(Vec::from_slice(alloc, of)?))
+}
+
+/// Makes the call of a case, and gives its report, the output and the diagnostic text.
+fn called(alloc: Global, case: &Case<'_>) -> Result<(Report, MemSink, MemSink), NoMemory> {
+    let mut words = Vec::new(alloc);
+    for word in case.words {
+        words.push(String::from_str(alloc, word)?)?;
+    }
+    let mut held = Row::new(alloc);
+    let name = Text::from_slice(alloc, b"a.sr")?;
+    held.push((name, Text::from_slice(alloc, case.content)?))?;
+    let mut output = MemSink::new(alloc, case.most.max(1), numbers(alloc, case.put_fails)?);
+    let mut diag = MemSink::new(alloc, 100, numbers(alloc, &[])?);
+    let report = sr_top(
+        alloc,
+        &words,
+        &mut MemFiles::new(held, numbers(alloc, case.read_fails)?),
+        &mut MemSource::new(Text::new(alloc), 1, numbers(alloc, &[])?),
+        &mut output,
+        &mut diag,
+        &mut MemSink::new(alloc, 1, numbers(alloc, &[])?),
+        &FreeGate,
+    );
+    Ok((report, output, diag))
+}
+
+/// The call of a run of `a.sr` that goes well.
+fn run_case<'a>(content: &'a [u8], output: &'a [u8], items: usize) -> Case<'a> {
+    Case {
+        words: &["run", "a.sr"],
+        content,
+        read_fails: &[],
+        most: 100,
+        put_fails: &[],
+        ending: Ending::Quiet,
+        status: 0,
+        output,
+        diag: b"",
+        items,
+    }
+}
+
+/// A call that ends before a run.
+fn early<'a>(words: &'a [&'a str], ending: Ending, status: u8, diag: &'a [u8]) -> Case<'a> {
+    Case {
+        words,
+        content: b"",
+        read_fails: &[],
+        most: 100,
+        put_fails: &[],
+        ending,
+        status,
+        output: b"",
+        diag,
+        items: 0,
+    }
+}
+
+const USAGE: &[u8] =
+    b"usage: sr run FILE... [--workers N] [--steps N] [--ticks N] [--journal]\n       sr check FILE...\n       sr classes FILE...\n       sr gen SEED [--workers N]\n";
+
+#[test]
+fn calls_with_ports_in_memory(rt: HostRuntime) -> Result<(), Fail> {
+    let hello = b"resource main()\n  write(\"hello\", 3)\nend\n";
+    let spaced = b"\t resource  \tmain() \n\n\twrite( 007 ,\"a, b\" )\n  write()\nend";
+    let s13 = b"sr: a.sr:1: S13 NotBuilt\n";
+    let cases = [
+        run_case(hello, b"hello 3\n", 6),
+        run_case(spaced, b"7 a, b\n\n", 7),
+        Case {
+            most: 4,
+            put_fails: &[2],
+            ending: Ending::WriteFault,
+            status: 106,
+            output: b"one\n",
+            diag: b"sr: output failed\n",
+            items: 3,
+            ..run_case(TWO, b"", 0)
+        },
+        Case {
+            most: 1,
+            ..run_case(TWO, b"one\ntwo\n", 7)
+        },
+        run_case(TWO, b"one\ntwo\n", 7),
+        Case {
+            read_fails: &[1],
+            ..early(
+                &["run", "a.sr"],
+                Ending::NoFile(0),
+                104,
+                b"sr: cannot read a.sr\n",
+            )
+        },
+        early(
+            &["run", "b.sr"],
+            Ending::NoFile(0),
+            104,
+            b"sr: cannot read b.sr\n",
+        ),
+        early(&["run", "a.sr"], NOT_BUILT, 103, s13),
+        early(&[], Ending::Usage, 108, USAGE),
+        early(&["run"], Ending::Usage, 108, USAGE),
+        early(&["run", "-x"], Ending::Usage, 108, USAGE),
+        early(&["walk", "a.sr"], Ending::Usage, 108, USAGE),
+        early(&["run", "a.sr", "a.sr"], Ending::Usage, 108, USAGE),
+    ];
+    for case in &cases {
+        let (report, output, diag) = called(rt.alloc(), case)?;
+        assert_eq!(rt; output.held(), case.output);
+        assert_eq!(rt; diag.held(), case.diag);
+        assert_eq!(rt; report.ending, case.ending);
+        assert_eq!(rt; report.status, case.status);
+        assert_eq!(rt; report.items.len(), case.items);
+        assert_eq!(rt; report.diag, Side::Whole);
+    }
+    Ok(())
+}
+
+#[test]
+fn items_of_hello(rt: HostRuntime) -> Result<(), Fail> {
+    let case = run_case(b"resource main()\nwrite(\"hello\", 3)\nend", b"", 0);
+    let (report, _, _) = called(rt.alloc(), &case)?;
+    let step = |actor, name| Item::Step { actor, name };
+    let items = [
+        step(1, 2),
+        step(2, 0),
+        step(2, 0),
+        step(1, 0),
+        step(1, 0),
+        Item::Quiesce { name: 0 },
+    ];
+    assert_eq!(rt; report.items.as_slice(), items.as_slice());
+    Ok(())
+}
+
+#[test]
+fn texts_that_are_not_small(rt: HostRuntime) -> Result<(), Fail> {
+    let texts: [&[u8]; 12] = [
+        b"resource main()\nwrite(1)\n",
+        b"resource main()\r\nend\n",
+        b"resourcemain()\nend\n",
+        b"resource main\nend\n",
+        b"resource main()\nwrite(2147483648)\nend\n",
+        b"resource main()\nwrite(1,)\nend\n",
+        b"resource main()\nwrite(-1)\nend\n",
+        b"resource main()\nwrite(\"a\\n\")\nend\n",
+        b"resource main()\nwrite(\"a)\nend\n",
+        b"resource main()\nwrite (1)\nend\n",
+        b"resource main()\nwrites(1)\nend\n",
+        b"resource main()\nwrite(1)\nend\nend2\n",
+    ];
+    for text in texts {
+        let (report, output, _) = called(rt.alloc(), &run_case(text, b"", 0))?;
+        assert_eq!(rt; report.ending, NOT_BUILT);
+        assert_eq!(rt; output.held().len(), 0);
+    }
+    Ok(())
+}
