@@ -3,25 +3,34 @@
 
 use sr_ports::{FileSink, FreeGate, HostFiles, HostSink, HostSource};
 use sr_top::sr_top;
-use std::alloc::{AllocError, Global};
+use sr_value::NoMemory;
 use std::env;
+use std::io::ErrorKind;
 use std::process::ExitCode;
 use std::rt::Env;
 
+/// The status where memory runs out before the top call.
+const NO_MEMORY: u8 = 107;
+
 /// The words after the program's name. Words that are no text count as none, and so as no command.
-fn words<R: Env + AllocGlobal>(rt: &R) -> Result<Vec<String>, AllocError> {
+fn words<R: Env + AllocGlobal>(rt: &R) -> Result<Vec<String>, NoMemory> {
     let mut words = Vec::new(rt.alloc());
-    if let Ok(args) = env::args(rt) {
-        for word in args.skip(1) {
-            words.push(word)?;
+    match env::args(rt) {
+        Ok(args) => {
+            for word in args.skip(1) {
+                words.push(word)?;
+            }
+            Ok(words)
         }
+        Err(error) if error.kind() == ErrorKind::OutOfMemory => Err(NoMemory),
+        Err(_) => Ok(words),
     }
-    Ok(words)
 }
 
 fn main(rt: HostRuntime) -> ExitCode {
     let Ok(words) = words(&rt) else {
-        return ExitCode::from(107);
+        let _ = eprintln!(rt; "sr: no memory");
+        return ExitCode::from(NO_MEMORY);
     };
     let report = sr_top(
         rt.alloc(),
