@@ -1,5 +1,5 @@
 -- Laws of the two quotients and their rests.
-use Rattle.std.proofs.Common.{◌≡◌, ◌≢◌, ◌<◌, ◌+ℤ◌, ◌-ℤ◌, ◌*ℤ◌, ◌≤ℤ◌, ◌<ℤ◌, ◌⊎◌, pos, negsuc, unsigned_abs, ℤ, ℕ, zero, suc, ◌+◌, ◌-◌, ◌*◌, ◌≤◌, ◌/◌, ◌%◌, arith, refl, ap, ◌∙◌, inl, inr, int_rem, neg_ℤ}
+use Rattle.std.proofs.Common.{◌≡◌, ◌≢◌, ◌<◌, ◌+ℤ◌, ◌*ℤ◌, ◌≤ℤ◌, ◌<ℤ◌, ◌⊎◌, pos, negsuc, unsigned_abs, ℤ, ℕ, zero, suc, ◌/◌, ◌%◌, arith, refl, ap, ◌∙◌, inl, inr, int_rem, neg_ℤ}
 use Rattle.std.proofs.lemmas.Int.{ints, to_z-of_z}
 use Rattle.std.proofs.lemmas.Nat.{div-add-mod', le-div, div_below, mod_below}
 use Rattle.std.proofs.lemmas.Bool.{cases_lt}

@@ -1,5 +1,5 @@
 -- Division of whole numbers, in which nothing is cut to 32 bits. Each holds where `b` isn't 0.
-use Rattle.std.specs.Prelude.{◌≡◌, ℕ, zero, suc, ◌+◌, ◌*◌, ◌/◌, ◌<◌, ◌≤◌, ◌⊎◌, ℤ, pos, negsuc, ◌+ℤ◌, ◌-ℤ◌, ◌*ℤ◌, ◌≤ℤ◌, ◌<ℤ◌, int_div, unsigned_abs}
+use Rattle.std.specs.Prelude.{zero, suc, ◌+◌, ◌*◌, ◌/◌, ◌<◌, ◌≤◌, ℤ, pos, negsuc, ◌-ℤ◌, ◌*ℤ◌, ◌≤ℤ◌, int_div, unsigned_abs}
 
 -- `q` is at most the exact quotient of `a` by `b`: `q * b` is at most `a`, or at least `a` where `b` is negative
 abbrev pub IsAtMostQuotient : ℤ → ℤ → ℤ → Type 0

@@ -15,9 +15,11 @@ mod memory;
 mod operand;
 mod operator;
 mod place;
+mod predefined;
 mod row;
 mod shape;
 mod text;
+mod unset;
 mod value;
 mod value_text;
 
@@ -31,8 +33,13 @@ pub use fault::{Fault, ValueFail};
 pub use memory::NoMemory;
 pub use operator::Operator;
 pub use place::{Place, Span};
+pub use predefined::{
+    Dimension, absolute, char_of, greatest, highest, int_of, least, length_of, lower_bound, lowest,
+    parse_int, predecessor, string_of, successor, upper_bound,
+};
 pub use row::Row;
 pub use shape::{Dims, Sel, Shape};
 pub use text::Text;
+pub use unset::{MOST_CELLS, default_of, has_bounds_in_range};
 pub use value::Value;
 pub use value_text::{EnumNames, text_of};
