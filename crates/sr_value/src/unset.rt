@@ -129,7 +129,7 @@ fn product(a: u64, b: u64) -> u64
 }
 
 /// How many indices there are from `lo` to `hi`.
-fn indices(lo: i32, hi: i32) -> u64
+pub(crate) fn indices(lo: i32, hi: i32) -> u64
     ensures value { result ≡ extent lo hi }
     ensures bound { result ≤ 4294967296 }
 {
