@@ -8,12 +8,19 @@ mod boxed;
 mod capability;
 mod compare;
 mod copies;
+mod division;
+mod evaluation;
 mod fault;
+mod fit;
 mod memory;
+mod operand;
+mod operator;
 mod place;
+mod predefined;
 mod row;
 mod shape;
 mod text;
+mod unset;
 mod value;
 mod value_text;
 
@@ -21,12 +28,21 @@ pub use boxed::Boxed;
 pub use capability::{Cap, Owner};
 pub use compare::Compare;
 pub use copies::Duplicate;
+pub use division::{modulo, quotient, remainder};
+pub use evaluation::{LONGEST, arith, unary};
 pub use fault::{Fault, ValueFail};
+pub use fit::misfit;
 pub use memory::NoMemory;
+pub use operator::Operator;
 pub use place::{Place, Span};
+pub use predefined::{
+    Dimension, absolute, char_of, greatest, highest, int_of, least, length_of, lower_bound, lowest,
+    parse_int, predecessor, string_of, successor, upper_bound,
+};
 pub use row::Row;
 pub use shape::{Dims, Sel, Shape};
 pub use text::Text;
+pub use unset::{MOST_CELLS, default_of, has_bounds_in_range};
 pub use value::Value;
 pub use value_text::{EnumNames, text_of};
 

@@ -1,0 +1,87 @@
+use super::fits;
+use crate::signature::{Forms, Mode};
+use crate::spot::Spot;
+use crate::ty::{Param, Signature, Ty, same};
+use sr_value::{Boxed, Duplicate, Row};
+use std::alloc::Global;
+use std::test::Fail;
+
+fn op(alloc: Global, mode: Mode, returns: bool, forms: Forms) -> Result<Ty, Fail> {
+    let params = Row::from_vec(vec![in alloc;
+        Param { mode, ty: Ty::Str },
+        Param {
+            mode: Mode::Val,
+            ty: Ty::Vm
+        },
+    ]?);
+    let returned = if returns {
+        Some(Boxed::new(alloc, Ty::Int)?)
+    } else {
+        None
+    };
+    Ok(Ty::Op(Signature {
+        params,
+        returns: returned,
+        forms,
+    }))
+}
+
+#[test]
+fn types(rt: HostRuntime) -> Result<(), Fail> {
+    let alloc = rt.alloc();
+    let here = Spot { file: 0, byte: 7 };
+    let there = Spot { file: 1, byte: 7 };
+    let call = op(alloc, Mode::Var, true, Forms::Call)?;
+    let rows = [
+        (Ty::Enum(here), Ty::Enum(here), true),
+        (Ty::Enum(here), Ty::Enum(there), false),
+        (Ty::Rec(here), Ty::Enum(here), false),
+        (
+            Ty::Vector(Boxed::new(alloc, Ty::Int)?),
+            Ty::Vector(Boxed::new(alloc, Ty::Int)?),
+            true,
+        ),
+        (
+            Ty::Vector(Boxed::new(alloc, Ty::Int)?),
+            Ty::Matrix(Boxed::new(alloc, Ty::Int)?),
+            false,
+        ),
+        (
+            Ty::Vector(Boxed::new(alloc, Ty::Int)?),
+            Ty::Vector(Boxed::new(alloc, Ty::Char)?),
+            false,
+        ),
+        (
+            call.copy(alloc)?,
+            op(alloc, Mode::Var, true, Forms::Call)?,
+            true,
+        ),
+        (
+            call.copy(alloc)?,
+            op(alloc, Mode::Res, true, Forms::Call)?,
+            false,
+        ),
+        (
+            call.copy(alloc)?,
+            op(alloc, Mode::Var, false, Forms::Call)?,
+            false,
+        ),
+        (
+            call.copy(alloc)?,
+            op(alloc, Mode::Var, true, Forms::Both)?,
+            false,
+        ),
+        (Ty::Resource(here), Ty::Vm, false),
+    ];
+    for (a, b, want) in rows {
+        assert_eq!(rt; same(&a, &b), want, "{a:?} {b:?}");
+        assert_eq!(rt; fits(&a, &b), want, "{a:?} {b:?}");
+    }
+    assert!(rt; fits(&Ty::NullCap, &call));
+    assert!(rt; fits(&Ty::NullCap, &Ty::Vm));
+    assert!(rt; !fits(&Ty::NullCap, &Ty::Int));
+    assert!(rt; !fits(&call, &Ty::NullCap));
+    assert!(rt; fits(&Ty::Untyped, &Ty::Int));
+    assert!(rt; fits(&Ty::Bool, &Ty::Untyped));
+    Ok(())
+}

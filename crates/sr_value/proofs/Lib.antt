@@ -1,0 +1,3 @@
+pub mod DivisionLaws
+pub mod Counts
+pub mod Numerals
