@@ -13,7 +13,7 @@ use std::cmp::Ordering;
 use std::slice;
 
 /// The most bytes that a string may have.
-pub const LONGEST: usize = 65_535;
+pub const MOST_BYTES: usize = 65_535;
 
 /// The value of an operator between two operands. Operands that haven't the operator's types, and
 /// an operator that takes one operand, are E6.
@@ -230,7 +230,7 @@ fn joined(alloc: Global, a: &Value, b: &Value) -> Result<Value, ValueFail>
     let (Some(front), Some(back)) = (bytes(a), bytes(b)) else {
         return Err(ValueFail::Fault(Fault::Range));
     };
-    if front.len() > LONGEST || back.len() > LONGEST - front.len() {
+    if front.len() > MOST_BYTES || back.len() > MOST_BYTES - front.len() {
         return Err(ValueFail::Fault(Fault::StringLength));
     }
     let mut text = Text::from_slice(alloc, front)?;

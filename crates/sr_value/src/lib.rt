@@ -29,7 +29,7 @@ pub use capability::{Cap, Owner};
 pub use compare::Compare;
 pub use copies::Duplicate;
 pub use division::{modulo, quotient, remainder};
-pub use evaluation::{LONGEST, arith, unary};
+pub use evaluation::{MOST_BYTES, arith, unary};
 pub use fault::{Fault, ValueFail};
 pub use fit::misfit;
 pub use memory::NoMemory;

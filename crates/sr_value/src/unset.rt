@@ -5,7 +5,7 @@ ghost use Rattle.sr_value.specs.Shapes.{in_range, extent, dims_in_range, item_co
 
 use crate::capability::Cap;
 use crate::copies::Duplicate;
-use crate::evaluation::LONGEST;
+use crate::evaluation::MOST_BYTES;
 use crate::fault::{Fault, ValueFail};
 use crate::memory::NoMemory;
 use crate::row::Row;
@@ -68,7 +68,7 @@ fn has_strings_in_range(shape: &Shape) -> bool
     ensures { result ≡ strings_in_range shape.now }
 {
     match shape {
-        Shape::Str { most } => *most as usize <= LONGEST,
+        Shape::Str { most } => *most as usize <= MOST_BYTES,
         Shape::Rec(fields) => have_strings_in_range(fields.as_slice()),
         Shape::Arr { dims: _, item } => has_strings_in_range(item.get()),
         _ => true,

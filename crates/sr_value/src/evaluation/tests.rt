@@ -1,4 +1,4 @@
-use super::{LONGEST, arith, unary};
+use super::{MOST_BYTES, arith, unary};
 use crate::capability::{Cap, Owner};
 use crate::compare::Compare;
 use crate::fault::{Fault, ValueFail};
@@ -104,7 +104,7 @@ fn strings(rt: HostRuntime) -> Result<(), Fail> {
     assert!(rt; both.same(&string(rt.alloc(), b"by")?));
     let most = string(
         rt.alloc(),
-        vec![in rt.alloc(); 0u8; LONGEST - 1]?.as_slice(),
+        vec![in rt.alloc(); 0u8; MOST_BYTES - 1]?.as_slice(),
     )?;
     let full = arith(rt.alloc(), Operator::Join, &most, &Value::Char(0))
         .ok()
