@@ -1,0 +1,7 @@
+pub mod Components
+pub mod Declarations
+pub mod Expressions
+pub mod Statements
+pub mod Tables
+pub mod Tests
+pub mod Types

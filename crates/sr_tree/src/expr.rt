@@ -157,3 +157,44 @@ pub enum Create {
         span: Span,
     },
 }
+
+impl Expr {
+    ghost use Rattle.std.specs.Prelude.{◌≡◌};
+    ghost use Rattle.sr_tree.specs.Expressions.{expr_span};
+
+    /// The span of the first token.
+    pub fn span(&self) -> Span
+        ensures { result ≡ expr_span self.now }
+    {
+        match self {
+            Expr::Literal { span, .. }
+            | Expr::BasicType { span, .. }
+            | Expr::Conversion { span, .. }
+            | Expr::Group { span, .. }
+            | Expr::Parts { span, .. }
+            | Expr::Field { span, .. }
+            | Expr::Index { span, .. }
+            | Expr::Unary { span, .. }
+            | Expr::Pending { span, .. }
+            | Expr::Binary { span, .. } => *span,
+            Expr::Name(name) => name.span,
+            Expr::Call(invocation) => invocation.span,
+            Expr::Create(create) => create.span(),
+        }
+    }
+}
+
+impl Create {
+    ghost use Rattle.std.specs.Prelude.{◌≡◌};
+    ghost use Rattle.sr_tree.specs.Expressions.{create_span};
+
+    /// The span of the word `create`.
+    pub fn span(&self) -> Span
+        ensures { result ≡ create_span self.now }
+    {
+        match self {
+            Create::Resource { span, .. } => *span,
+            Create::Machine { span } => *span,
+        }
+    }
+}
