@@ -1,0 +1,5 @@
+//! The lexer: the tokens of a source text, and the limits on their nesting.
+#![tactic(auto)]
+
+mod byte;
+mod symbol;
