@@ -1,2 +1,4 @@
 pub mod Bytes
+pub mod Literals
+pub mod Pieces
 pub mod Symbols

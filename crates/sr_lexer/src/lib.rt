@@ -2,4 +2,6 @@
 #![tactic(auto)]
 
 mod byte;
+mod literal;
+mod piece;
 mod symbol;
