@@ -1,4 +1,5 @@
 pub mod Bytes
 pub mod Literals
 pub mod Pieces
+pub mod Roles
 pub mod Symbols

@@ -4,4 +4,5 @@
 mod byte;
 mod literal;
 mod piece;
+mod role;
 mod symbol;
