@@ -1,2 +1,4 @@
+pub mod ChainLemmas
 pub mod LiteralLemmas
 pub mod PieceLemmas
+pub mod TrackLemmas

@@ -1,5 +1,8 @@
 pub mod Bytes
 pub mod Literals
 pub mod Pieces
+pub mod Reading
 pub mod Roles
+pub mod Separators
 pub mod Symbols
+pub mod Tokens

@@ -1,5 +1,5 @@
 -- The pieces of a source text: blanks, newlines, comments and tokens, each the longest that can begin at its byte.
-use Rattle.std.specs.Prelude.{ℕ, ◌+◌, ◌-◌, ◌*◌, ◌==◌, nat_eq, nat_lt, Bool, true, false, ◌&&◌, ◌||◌, not, if◌then◌else◌, List, [], ◌∷◌, take, drop, length, fold, position, take_while, slice_index, Option, Some, None, codes}
+use Rattle.std.specs.Prelude.{ℕ, ◌<◌, ◌≤◌, ◌+◌, ◌-◌, ◌*◌, ◌==◌, nat_eq, nat_lt, Bool, true, false, ◌&&◌, ◌||◌, not, if◌then◌else◌, List, [], ◌∷◌, take, drop, length, fold, position, take_while, slice_index, Option, Some, None, codes}
 use Rattle.std.specs.Prelude.{Result, Ok, Err}
 use Rattle.std.specs.List.{starts_with, range_with_len}
 use Rattle.sr_text.specs.declared.refusal.Kind.{Kind}
@@ -41,7 +41,7 @@ run_len test bytes = length (take_while test bytes)
 
 -- `#` and what follows it up to the end of the line
 abbrev pub line_comment : List ℕ → Piece
-line_comment bytes = a_piece Comment (run_len (λ byte. not (byte == 10)) bytes)
+line_comment bytes = a_piece Comment (run_len (λ byte. not (byte == 10)) (drop 1 bytes) + 1)
 
 -- `*/` stands at this place
 abbrev pub is_close : List ℕ → ℕ → Bool
@@ -64,9 +64,9 @@ abbrev pub name_kind : Option Word → TokenKind
 name_kind None = kinds.Name
 name_kind (Some word) = kinds.Word word
 
--- letters, digits and underscores, as many as stand there
+-- a letter and what follows it of letters, digits and underscores
 abbrev pub name_piece : List ℕ → Piece
-name_piece bytes = let len = run_len is_name_byte bytes in a_piece (Token (name_kind (word_of (take len bytes)))) len
+name_piece bytes = let len = run_len is_name_byte (drop 1 bytes) + 1 in a_piece (Token (name_kind (word_of (take len bytes)))) len
 
 -- the number that decimal digits stand for
 abbrev pub number_of : List ℕ → ℕ
@@ -126,3 +126,8 @@ piece_of_class classes.Other bytes = sign_piece bytes
 -- the longest piece that begins at the first byte, or why none does
 unfoldable pub piece_at : List ℕ → Result Piece Fault
 piece_at bytes = piece_of_class (class_of (slice_index bytes 0)) bytes
+
+-- a piece has bytes, all of them there, and the byte that shows a fault is there too
+abbrev pub FitsIn : List ℕ → Result Piece Fault → Type 0
+FitsIn bytes (Ok piece) = (0 < piece.len) × (piece.len ≤ length bytes)
+FitsIn bytes (Err fault) = fault.at < length bytes

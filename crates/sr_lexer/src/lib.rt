@@ -2,7 +2,12 @@
 #![tactic(auto)]
 
 mod byte;
+mod lexer;
 mod literal;
 mod piece;
+mod reader;
 mod role;
 mod symbol;
+
+pub use lexer::lex;
+pub use sr_tree::{Sign, Token, TokenKind, Tokens, Word};

@@ -1,7 +1,7 @@
 ghost use Rattle.std.specs.Prelude.{◌≡◌, ◌<◌, ◌≤◌, ◌==◌, ◌||◌, not, nat_lt, length, take, All, IsTrue, IfSome, ◌^◌, position};
 ghost use Rattle.sr_text.specs.declared.refusal.Kind.TheVariants.{BadToken};
 ghost use Rattle.sr_lexer.specs.Bytes.{is_digit, is_letter, is_name_byte, is_text_byte};
-ghost use Rattle.sr_lexer.specs.Pieces.{a_piece, first_passes, run_len, line_comment, is_close, close_of, block_comment, name_piece, number_of, number_piece, has_right_count, is_literal, quoted_piece, literal_piece, sign_piece, piece_at};
+ghost use Rattle.sr_lexer.specs.Pieces.{a_piece, first_passes, run_len, line_comment, is_close, close_of, block_comment, name_piece, number_of, number_piece, has_right_count, is_literal, quoted_piece, literal_piece, sign_piece, piece_at, FitsIn};
 
 use crate::byte::{
     Class, class_of_byte, continues_name, is_decimal_digit, is_latin_letter, may_be_quoted,
@@ -40,10 +40,11 @@ pub(crate) struct Fault {
 }
 
 /// The longest piece at the front of the bytes, or why none begins there.
-#[tactic(auto, unfolding(crate::specs::Pieces::piece_at))]
+#[tactic(auto, using(crate::proofs::PieceLemmas::piece_fits), unfolding(crate::specs::Pieces::piece_at))]
 pub(crate) fn piece_in_front(rest: &[u8]) -> Result<Piece, Fault>
     requires { 0 < length rest.now }
-    ensures { result ≡ piece_at rest.now }
+    ensures value { result ≡ piece_at rest.now }
+    ensures fits { FitsIn rest.now result }
 {
     match class_of_byte(rest[0]) {
         Class::Blank => Ok(make_piece(PieceKind::Blank, 1)),
@@ -66,14 +67,16 @@ fn make_piece(kind: PieceKind, len: usize) -> Piece
 
 /// The comment from `#` to the end of the line.
 fn line_comment_in_front(rest: &[u8]) -> Piece
+    requires { 0 < length rest.now }
     ensures { result ≡ line_comment rest.now }
 {
-    make_piece(PieceKind::Comment, len_of_line(rest))
+    make_piece(PieceKind::Comment, len_of_line(&rest[1..]) + 1)
 }
 
 /// How many bytes stand before the end of the line.
 fn len_of_line(rest: &[u8]) -> usize
-    ensures { result ≡ run_len (λ byte. not (byte == 10)) rest.now }
+    ensures value { result ≡ run_len (λ byte. not (byte == 10)) rest.now }
+    ensures within { result ≤ length rest.now }
 {
     rest.iter().take_while(|byte| **byte != b'\n').count()
 }
@@ -118,9 +121,10 @@ fn bad_token() -> Fault
 
 /// The name or reserved word.
 fn name_in_front(rest: &[u8]) -> Piece
+    requires { 0 < length rest.now }
     ensures { result ≡ name_piece rest.now }
 {
-    let len = len_of_name(rest);
+    let len = len_of_name(&rest[1..]) + 1;
     let kind = match word_from(&rest[..len]) {
         Some(word) => TokenKind::Word(word),
         None => TokenKind::Name,
@@ -130,7 +134,8 @@ fn name_in_front(rest: &[u8]) -> Piece
 
 /// How many letters, digits and underscores stand at the front.
 fn len_of_name(rest: &[u8]) -> usize
-    ensures { result ≡ run_len is_name_byte rest.now }
+    ensures value { result ≡ run_len is_name_byte rest.now }
+    ensures within { result ≤ length rest.now }
 {
     rest.iter()
         .take_while(|byte| continues_name(**byte))
