@@ -25,7 +25,7 @@ rest_is at bytes = ap (λ n. take n (drop at bytes)) (sym (length-drop at bytes)
 line_more : (bytes : List ℕ) (at more : ℕ) → line_at bytes (at + more) ≡ line_at bytes at + newlines (take more (drop at bytes))
 line_more bytes at more =
     let parts : count_by (λ byte. byte == 10) (take (at + more) bytes) ≡ count_by (λ byte. byte == 10) (take at bytes) + count_by (λ byte. byte == 10) (take more (drop at bytes)) =
-      ap (count_by (λ byte. byte == 10)) (take-add at more bytes) ∙ sum_by-append (λ byte. cond (byte == 10) 1 0) (take at bytes) (take more (drop at bytes)) in
+    ap (count_by (λ byte. byte == 10)) (take-add at more bytes) ∙ sum_by-append (λ byte. cond (byte == 10) 1 0) (take at bytes) (take more (drop at bytes)) in
     omega (arith, parts)
 
 pub line_here : (bytes : List ℕ) (at more line : ℕ) → line ≡ line_at bytes at → line + newlines (take more (take (length bytes - at) (drop at bytes))) ≡ line_at bytes (at + more)

@@ -1,4 +1,5 @@
 pub mod ChainLemmas
 pub mod LiteralLemmas
 pub mod PieceLemmas
+pub mod TallyLemmas
 pub mod TrackLemmas

@@ -3,6 +3,7 @@
 
 mod byte;
 mod lexer;
+mod limits;
 mod literal;
 mod piece;
 mod reader;
@@ -10,4 +11,5 @@ mod role;
 mod symbol;
 
 pub use lexer::lex;
+pub use limits::profile;
 pub use sr_tree::{Sign, Token, TokenKind, Tokens, Word};
