@@ -2,6 +2,7 @@
 #![tactic(auto)]
 
 mod byte;
+mod laws;
 mod lexer;
 mod limits;
 mod literal;
@@ -10,6 +11,7 @@ mod reader;
 mod role;
 mod symbol;
 
+pub use laws::one_outcome;
 pub use lexer::lex;
 pub use limits::profile;
 pub use sr_tree::{Sign, Token, TokenKind, Tokens, Word};
