@@ -95,9 +95,10 @@ unfolding Ends
 some_end file bytes zero from within enough = inl ([], omega arith)
 some_end file bytes (suc fuel) from within enough =
     elim (eq-or-lt_of_le within) [
-      inl e ↦ inl ([], e)
-    | inr lt ↦ step file bytes from (piece_at (drop from bytes)) lt refl (piece_fits (drop from bytes) (omega (arith, length-drop from bytes)))
-        (λ next later within. some_end file bytes fuel next within (omega arith)) ]
+      | inl e ↦ inl ([], e)
+      | inr lt ↦ step file bytes from (piece_at (drop from bytes)) lt refl (piece_fits (drop from bytes) (omega (arith, length-drop from bytes)))
+          (λ next later within. some_end file bytes fuel next within (omega arith))
+    ]
 
 told_end : (file : ℕ) (bytes : List ℕ) → Ends file bytes 0 ⊎ Breaks file bytes 0 → ((a : List Token) × Lexes file bytes a) ⊎ ((r : Refusal) × RefusesToLex file bytes r)
 unfolding Ends Breaks

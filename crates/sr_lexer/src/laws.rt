@@ -9,5 +9,4 @@ pub fn one_outcome()
     ensures refusal { (file : ℕ) (bytes : List ℕ) (r s : Refusal) → RefusesToLex file bytes r → RefusesToLex file bytes s → r ≡ s }
     ensures apart { (file : ℕ) (bytes : List ℕ) (a : List Token) (r : Refusal) → Lexes file bytes a → RefusesToLex file bytes r → ⊥ }
     ensures some { (file : ℕ) (bytes : List ℕ) → ((a : List Token) × Lexes file bytes a) ⊎ ((r : Refusal) × RefusesToLex file bytes r) }
-{
-}
+{}

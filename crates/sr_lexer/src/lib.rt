@@ -10,6 +10,8 @@ mod piece;
 mod reader;
 mod role;
 mod symbol;
+#[cfg(test)]
+mod tests;
 
 pub use laws::one_outcome;
 pub use lexer::lex;

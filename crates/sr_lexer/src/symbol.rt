@@ -5,7 +5,7 @@ ghost use Rattle.sr_lexer.specs.Symbols.{sign_spelling, word_spelling, word_of, 
 use sr_tree::{Sign, Word};
 
 /// The signs, each before those that it begins with.
-const SIGNS: [Sign; 29] = [
+pub(crate) const SIGNS: [Sign; 29] = [
     Sign::Exchange,
     Sign::Assign,
     Sign::Colon,
@@ -38,7 +38,7 @@ const SIGNS: [Sign; 29] = [
 ];
 
 /// The reserved words.
-const WORDS: [Word; 71] = [
+pub(crate) const WORDS: [Word; 71] = [
     Word::Af,
     Word::And,
     Word::Body,
