@@ -1,9 +1,7 @@
 ghost use Rattle.std.specs.Prelude.{◌≡◌, ◌+◌, ◌^◌, ◌<◌, length, OnOk, IfErr, if◌then◌else◌};
 ghost use Rattle.sr_lexer.specs.Limits.{fault_where, IsWithinLimits, ExceedsLimits};
 
-use crate::role::{
-    begins_level, belongs_to_no_profile, ends_level, is_counted, stands_between_runs,
-};
+use crate::role::{begins_level, ends_level, is_counted, is_left_out_word, stands_between_runs};
 use sr_text::{Kind, Refusal};
 use sr_tree::{Token, TokenKind, Tokens};
 use sr_value::Place;
@@ -59,7 +57,7 @@ impl Tally {
         requires { self.closers < 2 ^ 63 }
         ensures { result ≡ fault_where self.openers self.closers self.run kind }
     {
-        if belongs_to_no_profile(kind) {
+        if is_left_out_word(kind) {
             Some(Kind::OutOfProfile)
         } else if self.openers > self.closers + GREATEST_DEPTH || self.run > GREATEST_RUN {
             Some(Kind::Large)

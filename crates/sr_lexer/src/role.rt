@@ -151,7 +151,7 @@ pub(crate) fn is_counted(kind: TokenKind) -> bool
 }
 
 /// Whether the token is a word that this profile leaves out.
-pub(crate) fn belongs_to_no_profile(kind: TokenKind) -> bool
+pub(crate) fn is_left_out_word(kind: TokenKind) -> bool
     ensures { result ≡ is_left_out kind }
 {
     matches!(
