@@ -2,7 +2,7 @@
 use Rattle.std.proofs.Common.{◌≡◌, ℕ, ◌+◌, ◌<◌, ◌≤◌, Bool, true, false, cond, ◌||◌, List, length, get_or, drop, ap, ◌∙◌, filter}
 use Rattle.std.specs.List.{prefix_len, list_any}
 use Rattle.std.proofs.lemmas.List.{at_drop_more, at_drop_all}
-use Rattle.sr_lexer.specs.Literals.{Marked, marked, escapes_next, is_inside, is_wrong_escape, begins_character}
+use Rattle.sr_lexer.specs.Literals.{marked, escapes_next, is_inside, is_wrong_escape, begins_character}
 
 -- what is left of the quoted bytes, from the byte `at` on
 pub quoted_more : (quote : ℕ) (escaped : Bool) (xs : List ℕ) (at : ℕ) → at < length xs → is_inside quote (record { byte = get_or xs at 0; escaped = escaped }) ≡ true → prefix_len (is_inside quote) (marked escaped (drop at xs)) ≡ 1 + prefix_len (is_inside quote) (marked (escapes_next escaped (get_or xs at 0)) (drop (at + 1) xs))

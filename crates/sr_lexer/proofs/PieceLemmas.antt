@@ -1,5 +1,5 @@
 -- Numbers, digit by digit, and how long pieces are.
-use Rattle.std.proofs.Common.{◌≡◌, ℕ, zero, suc, ◌+◌, ◌-◌, ◌*◌, ◌<◌, ◌≤◌, Bool, true, false, cond, not, ◌==◌, nat_lt, ◌&&◌, List, [], ◌∷◌, length, get_or, take, drop, refl, ap, sym, subst, ◌∙◌, arith, fold, find, position, take_while, Option, Some, None, Result, nat_eq, codes, slice_index, length-take, length-drop, zero-add, lit<}
+use Rattle.std.proofs.Common.{◌≡◌, ℕ, zero, suc, ◌+◌, ◌-◌, ◌*◌, ◌<◌, ◌≤◌, Bool, true, false, cond, not, ◌==◌, nat_lt, ◌&&◌, List, [], ◌∷◌, length, get_or, take, drop, refl, ap, subst, ◌∙◌, arith, fold, find, position, take_while, Option, Some, None, Result, nat_eq, codes, slice_index, length-take, length-drop, zero-add, lit<}
 use Rattle.std.proofs.lemmas.Bool.Decides.{nat_tests}
 use Rattle.sr_text.specs.declared.refusal.Kind.TheVariants.{BadToken}
 use Rattle.sr_lexer.specs.declared.piece.PieceKind.TheVariants.{Token}
@@ -19,7 +19,7 @@ use Rattle.sr_lexer.specs.declared.piece.Fault.{Fault}
 use Rattle.sr_lexer.specs.Bytes.{class_of, is_blank, is_digit, is_letter, is_name_byte, is_text_byte}
 use Rattle.sr_lexer.specs.Symbols.{signs, sign_at, listed_sign, sign_spelling}
 use Rattle.sr_lexer.specs.Literals.{has_wrong_escape}
-use Rattle.sr_lexer.specs.Pieces.{number_of, is_number, has_right_count, found, broken, FitsIn, run_len, first_passes, is_close, close_of, closed_comment, block_comment, line_comment, name_piece, number_piece, quoted_piece, literal_piece, signed_piece, sign_piece, is_literal, piece_of_class, piece_at}
+use Rattle.sr_lexer.specs.Pieces.{number_of, is_number, has_right_count, found, broken, FitsIn, run_len, first_passes, is_close, close_of, closed_comment, block_comment, number_piece, quoted_piece, signed_piece, sign_piece, is_literal, piece_of_class, piece_at}
 
 -- more digits make no smaller number
 grows : (digits : List ℕ) (start : ℕ) → start ≤ fold (λ number digit. 10 * number + (digit - 48)) start digits
@@ -38,11 +38,11 @@ number_over digits at bound h over =
     let part = from_part digits 0 (at + 1) in
     omega (arith, step, part)
 
-and_left : (a b : Bool) → (a && b) ≡ true → a ≡ true
+pub and_left : (a b : Bool) → (a && b) ≡ true → a ≡ true
 and_left true b e = refl
 and_left false b e = e
 
-and_right : (a b : Bool) → (a && b) ≡ true → b ≡ true
+pub and_right : (a b : Bool) → (a && b) ≡ true → b ≡ true
 and_right true b e = e
 and_right false b e = absurd (cc)
 

@@ -1,5 +1,5 @@
 -- Reading one more piece.
-use Rattle.std.proofs.Common.{◌≡◌, ℕ, ◌+◌, Bool, true, false, cond, not, List, [], ◌∷◌, ◌++◌, reverse, refl, ap, sym, ◌∙◌, rules, append_assoc, fold, find, take_while, Option, Some, None, option_map, unwrap_or}
+use Rattle.std.proofs.Common.{◌≡◌, ℕ, Bool, cond, not, List, [], ◌∷◌, ◌++◌, reverse, refl, ap, sym, ◌∙◌, append_assoc, find, take_while, Option, Some, None, option_map, unwrap_or}
 use Rattle.std.specs.Option.{option_or}
 use Rattle.std.proofs.lemmas.List.{append-nil, reverse-append}
 use Rattle.std.proofs.lemmas.List.Sums.{fold-append, take_while-cons}
@@ -9,7 +9,7 @@ use Rattle.sr_tree.specs.declared.token.TokenKind.{TokenKind}
 use Rattle.sr_lexer.specs.declared.piece.PieceKind.{PieceKind}
 use Rattle.sr_lexer.specs.declared.piece.PieceKind.TheVariants as pieces
 use Rattle.sr_lexer.specs.declared.reader.Reader.{Reader}
-use Rattle.sr_lexer.specs.Separators.{Placed, is_token, is_newline, open_after, open_brackets, ends_line, line_may_end, behind_last_token, newline_behind, separators, separators_where, token_of, tokens_at, tokens_behind, tokens_of}
+use Rattle.sr_lexer.specs.Separators.{Placed, is_token, is_newline, open_after, open_brackets, ends_line, line_may_end, behind_last_token, separators, separators_where, token_of, tokens_at, tokens_behind, tokens_of}
 use Rattle.sr_lexer.specs.Reading.{after_piece, Tracks}
 
 -- the tokens of two lists of pieces, one behind the other

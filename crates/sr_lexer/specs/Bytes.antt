@@ -1,5 +1,5 @@
 -- Classes of bytes.
-use Rattle.std.specs.Prelude.{ℕ, Bool, ◌==◌, ◌&&◌, ◌||◌, nat_le, if◌then◌else◌, List, [], ◌∷◌}
+use Rattle.std.specs.Prelude.{ℕ, Bool, ◌==◌, ◌&&◌, ◌||◌, nat_le, if◌then◌else◌}
 use Rattle.sr_lexer.specs.declared.byte.Class.{Class}
 use Rattle.sr_lexer.specs.declared.byte.Class.TheVariants.{Blank, Newline, Hash, Apostrophe, Quote, Digit, Letter, Other}
 

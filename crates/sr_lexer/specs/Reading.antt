@@ -1,7 +1,6 @@
 -- What the reader of pieces keeps, and how it goes on.
 use Rattle.std.specs.Prelude.{◌≡◌, ℕ, List, [], ◌∷◌, ◌++◌, Some, None, unwrap_or}
 use Rattle.sr_value.specs.declared.place.Span.{Span}
-use Rattle.sr_tree.specs.declared.token.Token.{Token}
 use Rattle.sr_tree.specs.declared.token.TokenKind.{TokenKind}
 use Rattle.sr_lexer.specs.declared.piece.PieceKind.{PieceKind}
 use Rattle.sr_lexer.specs.declared.piece.PieceKind.TheVariants as pieces

@@ -1,11 +1,11 @@
 -- The signs and the reserved words, and how they are written.
-use Rattle.std.specs.Prelude.{ℕ, List, [], ◌∷◌, Option, Some, None, codes, find, nat_eq, if◌then◌else◌}
+use Rattle.std.specs.Prelude.{ℕ, Bool, List, [], ◌∷◌, Option, Some, codes, find, nat_eq, if◌then◌else◌}
 use Rattle.std.specs.List.{starts_with}
 use lib.Pointwise.{pointwise}
 use Rattle.sr_tree.specs.declared.token.Sign.{Sign}
 use Rattle.sr_tree.specs.declared.token.Sign.TheVariants.{Exchange, Assign, Colon, Arrow, Decrement, Minus, Increment, Plus, Star, Parallel, Slash, Percent, Join, Equal, NotEqual, LessEqual, Less, GreaterEqual, Greater, OpenParen, CloseParen, Alternative, OpenBracket, CloseBracket, OpenBrace, CloseBrace, Comma, Point, Query}
 use Rattle.sr_tree.specs.declared.token.Word.{Word}
-use Rattle.sr_tree.specs.declared.token.Word.TheVariants.{Af, And, Body, Bool, By, Call, Cap, Char, Co, Const, Create, Destroy, Do, Downto, Else, End, Enum, Exit, Fa, False, Fi, Final, Forward, Global, If, Import, In, Int, Mod, Next, Ni, Noop, Not, Null, Oc, Od, On, Op, OpType, Or, Proc, Procedure, Process, Rec, Receive, Reply, Res, Resource, Return, Returns, Sem, Send, Skip, St, Stop, String, To, True, «Type», Val, Var, Vm, Xor, Real, Ptr, Union, File, Ref, External, Separate, Extend}
+use Rattle.sr_tree.specs.declared.token.Word.TheVariants as reserved
 
 -- how each sign is written
 abbrev pub sign_spelling : Sign → List ℕ
@@ -41,77 +41,77 @@ sign_spelling Query = codes "?"
 
 -- how each reserved word is written
 abbrev pub word_spelling : Word → List ℕ
-word_spelling Af = codes "af"
-word_spelling And = codes "and"
-word_spelling Body = codes "body"
-word_spelling Bool = codes "bool"
-word_spelling By = codes "by"
-word_spelling Call = codes "call"
-word_spelling Cap = codes "cap"
-word_spelling Char = codes "char"
-word_spelling Co = codes "co"
-word_spelling Const = codes "const"
-word_spelling Create = codes "create"
-word_spelling Destroy = codes "destroy"
-word_spelling Do = codes "do"
-word_spelling Downto = codes "downto"
-word_spelling Else = codes "else"
-word_spelling End = codes "end"
-word_spelling Enum = codes "enum"
-word_spelling Exit = codes "exit"
-word_spelling Fa = codes "fa"
-word_spelling False = codes "false"
-word_spelling Fi = codes "fi"
-word_spelling Final = codes "final"
-word_spelling Forward = codes "forward"
-word_spelling Global = codes "global"
-word_spelling If = codes "if"
-word_spelling Import = codes "import"
-word_spelling In = codes "in"
-word_spelling Int = codes "int"
-word_spelling Mod = codes "mod"
-word_spelling Next = codes "next"
-word_spelling Ni = codes "ni"
-word_spelling Noop = codes "noop"
-word_spelling Not = codes "not"
-word_spelling Null = codes "null"
-word_spelling Oc = codes "oc"
-word_spelling Od = codes "od"
-word_spelling On = codes "on"
-word_spelling Op = codes "op"
-word_spelling OpType = codes "optype"
-word_spelling Or = codes "or"
-word_spelling Proc = codes "proc"
-word_spelling Procedure = codes "procedure"
-word_spelling Process = codes "process"
-word_spelling Rec = codes "rec"
-word_spelling Receive = codes "receive"
-word_spelling Reply = codes "reply"
-word_spelling Res = codes "res"
-word_spelling Resource = codes "resource"
-word_spelling Return = codes "return"
-word_spelling Returns = codes "returns"
-word_spelling Sem = codes "sem"
-word_spelling Send = codes "send"
-word_spelling Skip = codes "skip"
-word_spelling St = codes "st"
-word_spelling Stop = codes "stop"
-word_spelling String = codes "string"
-word_spelling To = codes "to"
-word_spelling True = codes "true"
-word_spelling «Type» = codes "type"
-word_spelling Val = codes "val"
-word_spelling Var = codes "var"
-word_spelling Vm = codes "vm"
-word_spelling Xor = codes "xor"
-word_spelling Real = codes "real"
-word_spelling Ptr = codes "ptr"
-word_spelling Union = codes "union"
-word_spelling File = codes "file"
-word_spelling Ref = codes "ref"
-word_spelling External = codes "external"
-word_spelling Separate = codes "separate"
-word_spelling Extend = codes "extend"
+word_spelling reserved.Af = codes "af"
+word_spelling reserved.And = codes "and"
+word_spelling reserved.Body = codes "body"
+word_spelling reserved.Bool = codes "bool"
+word_spelling reserved.By = codes "by"
+word_spelling reserved.Call = codes "call"
+word_spelling reserved.Cap = codes "cap"
+word_spelling reserved.Char = codes "char"
+word_spelling reserved.Co = codes "co"
+word_spelling reserved.Const = codes "const"
+word_spelling reserved.Create = codes "create"
+word_spelling reserved.Destroy = codes "destroy"
+word_spelling reserved.Do = codes "do"
+word_spelling reserved.Downto = codes "downto"
+word_spelling reserved.Else = codes "else"
+word_spelling reserved.End = codes "end"
+word_spelling reserved.Enum = codes "enum"
+word_spelling reserved.Exit = codes "exit"
+word_spelling reserved.Fa = codes "fa"
+word_spelling reserved.False = codes "false"
+word_spelling reserved.Fi = codes "fi"
+word_spelling reserved.Final = codes "final"
+word_spelling reserved.Forward = codes "forward"
+word_spelling reserved.Global = codes "global"
+word_spelling reserved.If = codes "if"
+word_spelling reserved.Import = codes "import"
+word_spelling reserved.In = codes "in"
+word_spelling reserved.Int = codes "int"
+word_spelling reserved.Mod = codes "mod"
+word_spelling reserved.Next = codes "next"
+word_spelling reserved.Ni = codes "ni"
+word_spelling reserved.Noop = codes "noop"
+word_spelling reserved.Not = codes "not"
+word_spelling reserved.Null = codes "null"
+word_spelling reserved.Oc = codes "oc"
+word_spelling reserved.Od = codes "od"
+word_spelling reserved.On = codes "on"
+word_spelling reserved.Op = codes "op"
+word_spelling reserved.OpType = codes "optype"
+word_spelling reserved.Or = codes "or"
+word_spelling reserved.Proc = codes "proc"
+word_spelling reserved.Procedure = codes "procedure"
+word_spelling reserved.Process = codes "process"
+word_spelling reserved.Rec = codes "rec"
+word_spelling reserved.Receive = codes "receive"
+word_spelling reserved.Reply = codes "reply"
+word_spelling reserved.Res = codes "res"
+word_spelling reserved.Resource = codes "resource"
+word_spelling reserved.Return = codes "return"
+word_spelling reserved.Returns = codes "returns"
+word_spelling reserved.Sem = codes "sem"
+word_spelling reserved.Send = codes "send"
+word_spelling reserved.Skip = codes "skip"
+word_spelling reserved.St = codes "st"
+word_spelling reserved.Stop = codes "stop"
+word_spelling reserved.String = codes "string"
+word_spelling reserved.To = codes "to"
+word_spelling reserved.True = codes "true"
+word_spelling reserved.«Type» = codes "type"
+word_spelling reserved.Val = codes "val"
+word_spelling reserved.Var = codes "var"
+word_spelling reserved.Vm = codes "vm"
+word_spelling reserved.Xor = codes "xor"
+word_spelling reserved.Real = codes "real"
+word_spelling reserved.Ptr = codes "ptr"
+word_spelling reserved.Union = codes "union"
+word_spelling reserved.File = codes "file"
+word_spelling reserved.Ref = codes "ref"
+word_spelling reserved.External = codes "external"
+word_spelling reserved.Separate = codes "separate"
+word_spelling reserved.Extend = codes "extend"
 
 -- all signs, each before those that it begins with
 abbrev pub signs : List Sign
@@ -119,15 +119,19 @@ signs = Exchange ∷ Assign ∷ Colon ∷ Arrow ∷ Decrement ∷ Minus ∷ Incr
 
 -- all reserved words
 abbrev pub words : List Word
-words = Af ∷ And ∷ Body ∷ Bool ∷ By ∷ Call ∷ Cap ∷ Char ∷ Co ∷ Const ∷ Create ∷ Destroy ∷ Do ∷ Downto ∷ Else ∷ End ∷ Enum ∷ Exit ∷ Fa ∷ False ∷ Fi ∷ Final ∷ Forward ∷ Global ∷ If ∷ Import ∷ In ∷ Int ∷ Mod ∷ Next ∷ Ni ∷ Noop ∷ Not ∷ Null ∷ Oc ∷ Od ∷ On ∷ Op ∷ OpType ∷ Or ∷ Proc ∷ Procedure ∷ Process ∷ Rec ∷ Receive ∷ Reply ∷ Res ∷ Resource ∷ Return ∷ Returns ∷ Sem ∷ Send ∷ Skip ∷ St ∷ Stop ∷ String ∷ To ∷ True ∷ «Type» ∷ Val ∷ Var ∷ Vm ∷ Xor ∷ Real ∷ Ptr ∷ Union ∷ File ∷ Ref ∷ External ∷ Separate ∷ Extend ∷ []
+words = reserved.Af ∷ reserved.And ∷ reserved.Body ∷ reserved.Bool ∷ reserved.By ∷ reserved.Call ∷ reserved.Cap ∷ reserved.Char ∷ reserved.Co ∷ reserved.Const ∷ reserved.Create ∷ reserved.Destroy ∷ reserved.Do ∷ reserved.Downto ∷ reserved.Else ∷ reserved.End ∷ reserved.Enum ∷ reserved.Exit ∷ reserved.Fa ∷ reserved.False ∷ reserved.Fi ∷ reserved.Final ∷ reserved.Forward ∷ reserved.Global ∷ reserved.If ∷ reserved.Import ∷ reserved.In ∷ reserved.Int ∷ reserved.Mod ∷ reserved.Next ∷ reserved.Ni ∷ reserved.Noop ∷ reserved.Not ∷ reserved.Null ∷ reserved.Oc ∷ reserved.Od ∷ reserved.On ∷ reserved.Op ∷ reserved.OpType ∷ reserved.Or ∷ reserved.Proc ∷ reserved.Procedure ∷ reserved.Process ∷ reserved.Rec ∷ reserved.Receive ∷ reserved.Reply ∷ reserved.Res ∷ reserved.Resource ∷ reserved.Return ∷ reserved.Returns ∷ reserved.Sem ∷ reserved.Send ∷ reserved.Skip ∷ reserved.St ∷ reserved.Stop ∷ reserved.String ∷ reserved.To ∷ reserved.True ∷ reserved.«Type» ∷ reserved.Val ∷ reserved.Var ∷ reserved.Vm ∷ reserved.Xor ∷ reserved.Real ∷ reserved.Ptr ∷ reserved.Union ∷ reserved.File ∷ reserved.Ref ∷ reserved.External ∷ reserved.Separate ∷ reserved.Extend ∷ []
 
 -- the reserved word that is written so
 unfoldable pub word_of : List ℕ → Option Word
 word_of text = find (λ word. pointwise nat_eq (word_spelling word) text) words
 
--- the first of the list that the bytes begin with, which is the longest
+-- whether the sign stands at the front of the bytes
+abbrev pub begins_with_sign : List ℕ → Sign → Bool
+begins_with_sign bytes sign = starts_with nat_eq bytes (sign_spelling sign)
+
+-- the first of the list that stands at the front of the bytes, which is the longest
 unfoldable pub listed_sign : List ℕ → Option Sign
-listed_sign bytes = find (λ sign. starts_with nat_eq bytes (sign_spelling sign)) signs
+listed_sign bytes = find (begins_with_sign bytes) signs
 
 -- the longest sign at the front of the bytes; `~=` is another spelling of `!=`
 abbrev pub sign_at : List ℕ → Option Sign

@@ -1,5 +1,5 @@
 -- What is counted while the limits are tested.
-use Rattle.std.specs.Prelude.{ℕ, ◌+◌, if◌then◌else◌, List}
+use Rattle.std.specs.Prelude.{◌+◌, if◌then◌else◌, List}
 use Rattle.sr_tree.specs.declared.token.Token.{Token}
 use Rattle.sr_tree.specs.declared.token.TokenKind.{TokenKind}
 use Rattle.sr_lexer.specs.declared.limits.Tally.{Tally}

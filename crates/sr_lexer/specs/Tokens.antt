@@ -1,6 +1,5 @@
 -- The tokens of a file, or where and why it has none.
 use Rattle.std.specs.Prelude.{◌≡◌, ℕ, ◌+◌, ◌<◌, List, [], ◌∷◌, take, drop, length, Ok, Err, count_by, ◌==◌}
-use Rattle.sr_value.specs.declared.place.Span.{Span}
 use Rattle.sr_tree.specs.declared.token.Token.{Token}
 use Rattle.sr_text.specs.declared.refusal.Refusal.{Refusal}
 use Rattle.sr_text.specs.declared.refusal.FrontFail.{FrontFail}

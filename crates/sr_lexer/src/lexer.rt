@@ -46,7 +46,10 @@ pub fn lex(alloc: Global, file: u32, bytes: &[u8]) -> Result<Tokens, FrontFail>
 fn refusal_of(file: u32, line: u32, rest: &[u8], fault: Fault) -> Refusal
     requires within { fault.at < length rest.now }
     requires small { line + length rest.now < 2 ^ 32 }
-    ensures { result ≡ record { kind = fault.kind; place = record { file = file; line = line + newlines (take fault.at rest.now) } } }
+    ensures { result ≡ record {
+      kind = fault.kind;
+      place = record { file = file; line = line + newlines (take fault.at rest.now) };
+    } }
 {
     let line = line + newlines_in(&rest[..fault.at]);
     Refusal {

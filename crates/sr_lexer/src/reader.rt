@@ -91,7 +91,8 @@ impl Reader {
 
     /// Takes the separator that stands before a token, if one does.
     fn take_separator(&mut self, alloc: Global, next: TokenKind) -> Result<(), NoMemory>
-        ensures tokens { OnOk result (self.new.tokens ≡ self.old.tokens ++ separators_where self.old.depth self.old.may_end self.old.newline next) }
+        ensures tokens { OnOk result (self.new.tokens
+            ≡ self.old.tokens ++ separators_where self.old.depth self.old.may_end self.old.newline next) }
         ensures depth { self.new.depth ≡ self.old.depth }
     {
         if self.depth > 0 || !self.may_end || goes_on_with_line(next) {

@@ -1,5 +1,5 @@
 -- The pieces so far are a chain up to the present byte, and the reader has read them.
-use Rattle.std.proofs.Common.{◌≡◌, ℕ, ◌-◌, ◌≤◌, List, length}
+use Rattle.std.proofs.Common.{◌≡◌, ◌-◌, ◌≤◌, List, length}
 use Rattle.sr_text.specs.Lines.{line_at}
 use Rattle.sr_lexer.specs.Separators.{Placed}
 use Rattle.sr_lexer.specs.Reading.{Tracks}
