@@ -1,0 +1,10 @@
+pub mod Bytes
+pub mod Limits
+pub mod Literals
+pub mod Pieces
+pub mod Reading
+pub mod Roles
+pub mod Separators
+pub mod Symbols
+pub mod Tallies
+pub mod Tokens

@@ -1,0 +1,19 @@
+//! The lexer: the tokens of a source text, and the limits on their nesting.
+#![tactic(auto)]
+
+mod byte;
+mod laws;
+mod lexer;
+mod limits;
+mod literal;
+mod piece;
+mod reader;
+mod role;
+mod symbol;
+#[cfg(test)]
+mod tests;
+
+pub use laws::{one_outcome, one_spelling};
+pub use lexer::lex;
+pub use limits::profile;
+pub use sr_tree::{Sign, Token, TokenKind, Tokens, Word};
