@@ -1,0 +1,15 @@
+pub mod Components
+pub mod Entries
+pub mod Firsts
+pub mod Noted
+pub mod Notes
+pub mod Order
+pub mod Predefined
+pub mod Readings
+pub mod Scopes
+pub mod Shown
+pub mod Sorts
+pub mod Specs
+pub mod Spots
+pub mod Tables
+pub mod Uses

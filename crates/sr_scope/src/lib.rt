@@ -1,0 +1,5 @@
+//! What each name of a program means, or why it means nothing.
+#![tactic(auto)]
+
+pub mod exprs;
+pub mod names;
