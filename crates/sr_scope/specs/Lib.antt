@@ -1,2 +1,4 @@
+pub mod Declares
 pub mod Exprs
 pub mod Names
+pub mod Types

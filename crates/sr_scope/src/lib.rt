@@ -1,5 +1,7 @@
 //! What each name of a program means, or why it means nothing.
 #![tactic(auto)]
 
+pub mod declares;
 pub mod exprs;
 pub mod names;
+pub mod types;
