@@ -1,4 +1,6 @@
+pub mod Declarations
 pub mod Declares
 pub mod Exprs
 pub mod Names
+pub mod Statements
 pub mod Types

@@ -1,7 +1,9 @@
 //! What each name of a program means, or why it means nothing.
 #![tactic(auto)]
 
+pub mod declarations;
 pub mod declares;
 pub mod exprs;
 pub mod names;
+pub mod statements;
 pub mod types;
