@@ -2,5 +2,6 @@ pub mod Declarations
 pub mod Declares
 pub mod Exprs
 pub mod Names
+pub mod Procs
 pub mod Statements
 pub mod Types

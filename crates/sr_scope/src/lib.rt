@@ -5,5 +5,6 @@ pub mod declarations;
 pub mod declares;
 pub mod exprs;
 pub mod names;
+pub mod procs;
 pub mod statements;
 pub mod types;
