@@ -4,6 +4,7 @@
 pub mod declarations;
 pub mod declares;
 pub mod exprs;
+pub mod items;
 pub mod names;
 pub mod procs;
 pub mod statements;
