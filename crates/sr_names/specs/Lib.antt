@@ -1,6 +1,7 @@
 pub mod Components
 pub mod Entries
 pub mod Firsts
+pub mod Links
 pub mod Noted
 pub mod Notes
 pub mod Order
@@ -10,6 +11,7 @@ pub mod Scopes
 pub mod Shown
 pub mod Sorts
 pub mod Specs
+pub mod Spreading
 pub mod Spots
 pub mod Tables
 pub mod Uses

@@ -5,6 +5,7 @@
 #![tactic(auto)]
 
 mod finding;
+mod links;
 mod meaning;
 mod members;
 mod notes;
@@ -15,6 +16,7 @@ mod spot;
 mod table;
 
 pub use finding::{Finding, Rule, Wrong};
+pub use links::{Link, connected, connects_along_ways};
 pub use meaning::{Decl, Meaning, Sort};
 pub use members::Members;
 pub use notes::{Notes, Uses};
