@@ -1,5 +1,6 @@
 pub mod Components
 pub mod Entries
+pub mod FirstLaw
 pub mod Firsts
 pub mod Links
 pub mod Noted

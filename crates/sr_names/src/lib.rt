@@ -5,6 +5,7 @@
 #![tactic(auto)]
 
 mod finding;
+mod laws;
 mod links;
 mod meaning;
 mod members;
@@ -16,6 +17,7 @@ mod spot;
 mod table;
 
 pub use finding::{Finding, Rule, Wrong};
+pub use laws::keeps_first;
 pub use links::{Link, connected, connects_along_ways};
 pub use meaning::{Decl, Meaning, Sort};
 pub use members::Members;

@@ -14,7 +14,7 @@ use Rattle.sr_names.specs.declared.place.Place.{Place}
 use Rattle.sr_names.specs.Notes.{nothing, all_noted}
 use Rattle.sr_names.specs.Specs.{Specs}
 use Rattle.sr_tree.specs.declared.component.File.{File}
-use Rattle.sr_scope.specs.declared.resolve.Names.{Names}
+use Rattle.sr_scope.specs.declared.program.Names.{Names}
 use Rattle.sr_scope.specs.Components.{files_collected, files_collected_twice, files_links, files_found, main_found}
 
 abbrev pub no_place : Place
