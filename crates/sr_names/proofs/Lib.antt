@@ -1,0 +1,4 @@
+pub mod FirstLemmas
+pub mod LinkLemmas
+pub mod ShownLemmas
+pub mod TableLemmas

@@ -1,0 +1,238 @@
+-- What is found in components and files.
+use Rattle.std.specs.Prelude.{ℕ, ◌-◌, List, [], ◌∷◌, ◌++◌, Option, Some, None, Bool, true, false, if◌then◌else◌, map, length, slice_get, unwrap_or}
+use Rattle.std.specs.Option.{option_map, option_and_then, option_to_list}
+use Rattle.sr_value.specs.declared.place.Span.{Span}
+use Rattle.sr_names.specs.declared.finding.Finding.{Finding}
+use Rattle.sr_names.specs.declared.finding.Rule.TheVariants.{Cycle, Main}
+use Rattle.sr_names.specs.declared.links.Link.{Link}
+use Rattle.sr_names.specs.declared.meaning.Decl.{Decl}
+use Rattle.sr_names.specs.declared.meaning.Meaning.TheVariants.{Declared}
+use Rattle.sr_names.specs.declared.meaning.Sort.{Sort}
+use Rattle.sr_names.specs.declared.meaning.Sort.TheVariants.{Resource as resource_sort, Global as global_sort}
+use Rattle.sr_names.specs.declared.place.Place.{Place}
+use Rattle.sr_names.specs.declared.spot.Spot.{Spot}
+use Rattle.sr_names.specs.Components.{with_members}
+use Rattle.sr_names.specs.Entries.{Entries}
+use Rattle.sr_names.specs.Links.{connects}
+use Rattle.sr_names.specs.Readings.{broken, reading, declaration}
+use Rattle.sr_names.specs.Scopes.{no_blocks}
+use Rattle.sr_names.specs.Specs.{Specs}
+use Rattle.sr_names.specs.Spots.{spot_of}
+use Rattle.sr_names.specs.Tables.{declared_as, with_decl}
+use Rattle.sr_tree.specs.declared.component.Component.{Component}
+use Rattle.sr_tree.specs.declared.component.Component.TheVariants.{Resource, SplitResource, Global}
+use Rattle.sr_tree.specs.declared.component.File.{File}
+use Rattle.sr_tree.specs.declared.component.Item.{Item}
+use Rattle.sr_tree.specs.declared.component.Item.TheVariants.{Spec, Proc, Procedure, Process, Final, Statement}
+use Rattle.sr_tree.specs.declared.component.SpecItem.{SpecItem}
+use Rattle.sr_tree.specs.declared.component.SpecItem.TheVariants.{Import, Const, «Type», OpType, Op, Var, Sem}
+use Rattle.sr_tree.specs.declared.name.Name.{Name}
+use Rattle.sr_tree.specs.declared.types.Formal.{Formal}
+use Rattle.sr_scope.specs.Declares.{name_declared, name_twice}
+use Rattle.sr_scope.specs.Items.{specs_declared, specs_twice, items_declared, items_twice, inside, specs_found, items_found, served_twice}
+use Rattle.sr_scope.specs.Types.{formal_read, formals_found, formals_declared, formals_twice}
+
+abbrev pub name_of : Component → Name
+name_of (Resource span name formals items) = name
+name_of (SplitResource span name spec formals items) = name
+name_of (Global span name spec body) = name
+
+abbrev pub sort_of : Component → Sort
+sort_of (Resource span name formals items) = resource_sort
+sort_of (SplitResource span name spec formals items) = resource_sort
+sort_of (Global span name spec body) = global_sort
+
+-- a resource that has its formals directly behind its name is all body
+abbrev pub spec_of : Component → List SpecItem
+spec_of (Resource span name formals items) = []
+spec_of (SplitResource span name spec formals items) = spec
+spec_of (Global span name spec body) = spec
+
+abbrev pub formals_of : Component → List Formal
+formals_of (Resource span name formals items) = formals
+formals_of (SplitResource span name spec formals items) = formals
+formals_of (Global span name spec body) = []
+
+abbrev pub body_of : Component → List Item
+body_of (Resource span name formals items) = items
+body_of (SplitResource span name spec formals items) = items
+body_of (Global span name spec body) = unwrap_or body []
+
+abbrev pub decl_of : Component → Decl
+decl_of component = declaration (sort_of component) (name_of component).span
+
+-- the names of a component: of its spec, its formals and its body, all in one scope
+abbrev pub own_declared : Component → Entries
+own_declared component = items_declared (body_of component) (formals_declared (map formal_read (formals_of component)) (specs_declared (spec_of component) []))
+
+abbrev pub own_twice : Component → List Finding
+own_twice component =
+    specs_twice (spec_of component) []
+    ++ (formals_twice (map formal_read (formals_of component)) (specs_declared (spec_of component) [])
+    ++ items_twice (body_of component) (formals_declared (map formal_read (formals_of component)) (specs_declared (spec_of component) [])))
+
+-- the components of the program by their names, and the names of their specs
+abbrev pub collected : Component → Place → Place
+collected component place = record place {
+  components = name_declared (sort_of component) (name_of component) place.components;
+  specs = with_members place.specs (spot_of (name_of component).span) (specs_declared (spec_of component) []);
+}
+
+-- two components of one name: the later one is refused
+abbrev pub collected_twice : Component → Place → List Finding
+collected_twice component place = name_twice (sort_of component) (name_of component) place.components ++ specs_twice (spec_of component) []
+
+abbrev pub all_collected : List Component → Place → Place
+all_collected [] place = place
+all_collected (component ∷ components) place = all_collected components (collected component place)
+
+abbrev pub all_collected_twice : List Component → Place → List Finding
+all_collected_twice [] place = []
+all_collected_twice (component ∷ components) place = collected_twice component place ++ all_collected_twice components (collected component place)
+
+abbrev pub files_collected : List File → Place → Place
+files_collected [] place = place
+files_collected (file ∷ files) place = files_collected files (all_collected file.components place)
+
+abbrev pub files_collected_twice : List File → Place → List Finding
+files_collected_twice [] place = []
+files_collected_twice (file ∷ files) place = all_collected_twice file.components place ++ files_collected_twice files (all_collected file.components place)
+
+-- imports
+abbrev pub imported_names : SpecItem → List Name
+imported_names (Import imports) = imports.names
+imported_names (Const constant) = []
+imported_names («Type» named) = []
+imported_names (OpType named) = []
+imported_names (Op operations) = []
+imported_names (Var variables) = []
+imported_names (Sem declared) = []
+
+abbrev pub item_imports : Item → List Name
+item_imports (Spec item) = imported_names item
+item_imports (Proc proc) = []
+item_imports (Procedure procedure) = []
+item_imports (Process process) = []
+item_imports (Final final) = []
+item_imports (Statement statement) = []
+
+abbrev pub specs_imports : List SpecItem → List Name
+specs_imports [] = []
+specs_imports (item ∷ items) = imported_names item ++ specs_imports items
+
+abbrev pub items_imports : List Item → List Name
+items_imports [] = []
+items_imports (item ∷ items) = item_imports item ++ items_imports items
+
+-- the components that a component imports, in its spec or its body
+abbrev pub imports_of : Component → List Name
+imports_of component = specs_imports (spec_of component) ++ items_imports (body_of component)
+
+-- a global imports a global
+abbrev pub link_of_sorts : Sort → Sort → Spot → Spot → Option Link
+link_of_sorts global_sort global_sort from to = Some (record { from = from; to = to })
+link_of_sorts _ _ from to = None
+
+abbrev pub link_to : Entries → Decl → Name → Option Link
+link_to components importer name =
+    option_and_then (λ target. link_of_sorts importer.sort target.sort importer.spot target.spot) (declared_as components name.text)
+
+abbrev pub links_to : Entries → Decl → List Name → List Link
+links_to components importer [] = []
+links_to components importer (name ∷ names) = option_to_list (link_to components importer name) ++ links_to components importer names
+
+abbrev pub all_links : Entries → List Component → List Link
+all_links components [] = []
+all_links components (component ∷ more) = links_to components (decl_of component) (imports_of component) ++ all_links components more
+
+-- the imports of globals by globals
+abbrev pub files_links : Entries → List File → List Link
+files_links components [] = []
+files_links components (file ∷ files) = all_links components file.components ++ files_links components files
+
+-- an import of a global by a global is on a cycle where the links lead back
+abbrev pub on_cycle : List Link → Option Link → Bool
+on_cycle links None = false
+on_cycle links (Some link) = connects links link.to link.from
+
+abbrev pub cycle_unless : Bool → Span → List Finding
+cycle_unless is_cyclic span = if is_cyclic then broken Cycle span ∷ [] else []
+
+-- an import names a component of the program, and lies on no cycle of globals
+abbrev pub import_found : Entries → List Link → Decl → Name → List Finding
+import_found components links importer name =
+    reading (option_map Declared (declared_as components name.text)) name.span ∷ cycle_unless (on_cycle links (link_to components importer name)) name.span
+
+abbrev pub imports_found : Entries → List Link → Decl → List Name → List Finding
+imports_found components links importer [] = []
+imports_found components links importer (name ∷ names) = import_found components links importer name ++ imports_found components links importer names
+
+abbrev pub with_import : Entries → Name → Entries → Entries
+with_import components name visible = by (declared_as components name.text)
+  where
+    by : Option Decl → Entries
+    by None = visible
+    by (Some decl) = with_decl visible name.text decl
+
+abbrev pub with_imports : Entries → List Name → Entries → Entries
+with_imports components [] visible = visible
+with_imports components (name ∷ names) visible = with_imports components names (with_import components name visible)
+
+-- the components whose names a component can use: itself and what it imports
+abbrev pub visible_to : Entries → Component → Entries
+visible_to components component = with_imports components (imports_of component) (with_decl [] (name_of component).text (decl_of component))
+
+abbrev pub place_of : Entries → Specs → Component → Place
+place_of components specs component = record {
+  components = components;
+  specs = specs;
+  own = own_declared component;
+  visible = visible_to components component;
+  within = None;
+}
+
+-- what is found within a component, once its names are known
+abbrev pub walked : Component → Place → List Finding
+walked component place =
+    served_twice (body_of component) place no_blocks []
+    ++ (specs_found (spec_of component) place no_blocks
+    ++ (formals_found (map formal_read (formals_of component)) (inside place None) no_blocks
+    ++ items_found (body_of component) (inside place None) no_blocks))
+
+abbrev pub component_found : Entries → Specs → List Link → Component → List Finding
+component_found components specs links component =
+    own_twice component
+    ++ (imports_found components links (decl_of component) (imports_of component)
+    ++ walked component (place_of components specs component))
+
+abbrev pub components_found : Entries → Specs → List Link → List Component → List Finding
+components_found components specs links [] = []
+components_found components specs links (component ∷ more) = component_found components specs links component ++ components_found components specs links more
+
+abbrev pub files_found : Entries → Specs → List Link → List File → List Finding
+files_found components specs links [] = []
+files_found components specs links (file ∷ files) = components_found components specs links file.components ++ files_found components specs links files
+
+-- main is the last component of the last file: a resource without formals
+abbrev pub last_of : {A : Type 0} → List A → Option A
+last_of items = slice_get items (length items - 1)
+
+abbrev pub is_none_of : List Formal → Bool
+is_none_of [] = true
+is_none_of (formal ∷ formals) = false
+
+abbrev pub can_be_main : Option Component → Bool
+can_be_main (Some (Resource span name formals items)) = is_none_of formals
+can_be_main (Some (SplitResource span name spec formals items)) = is_none_of formals
+can_be_main (Some (Global span name spec body)) = false
+can_be_main None = false
+
+abbrev pub last_component : List File → Option Component
+last_component files = option_and_then (λ file. last_of file.components) (last_of files)
+
+-- otherwise the last file is refused at its first byte
+abbrev pub start_of : List File → Span
+start_of files = record { file = length files - 1; from = 0; to = 0; line = 1 }
+
+abbrev pub main_found : List File → List Finding
+main_found files = if can_be_main (last_component files) then [] else broken Main (start_of files) ∷ []

@@ -1,0 +1,10 @@
+pub mod Components
+pub mod Declarations
+pub mod Declares
+pub mod Exprs
+pub mod Items
+pub mod Names
+pub mod Procs
+pub mod Resolved
+pub mod Statements
+pub mod Types

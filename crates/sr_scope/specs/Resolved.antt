@@ -1,0 +1,59 @@
+-- What the names of a program mean, or why it is refused.
+use Rattle.std.specs.Prelude.{◌≡◌, List, [], ◌++◌, Option, Some, None, Result, Ok, Err}
+use Rattle.sr_text.specs.declared.refusal.FrontFail.{FrontFail}
+use Rattle.sr_text.specs.declared.refusal.FrontFail.TheVariants.{Refused, NoMemory}
+use Rattle.sr_text.specs.declared.refusal.Kind.{Kind}
+use Rattle.sr_text.specs.declared.refusal.Kind.TheVariants.{Name as name_kind, Twice as twice_kind, BadType as type_kind, BadUse as use_kind, Guard as guard_kind, Main as main_kind, Cycle as cycle_kind}
+use Rattle.sr_text.specs.declared.refusal.Refusal.{Refusal}
+use Rattle.sr_names.specs.declared.finding.Finding.{Finding}
+use Rattle.sr_names.specs.declared.finding.Rule.{Rule}
+use Rattle.sr_names.specs.declared.finding.Rule.TheVariants.{Name, Twice, BadType, BadUse, Guard, Main, Cycle}
+use Rattle.sr_names.specs.declared.finding.Wrong.{Wrong}
+use Rattle.sr_names.specs.declared.notes.Notes.{Notes}
+use Rattle.sr_names.specs.declared.place.Place.{Place}
+use Rattle.sr_names.specs.Notes.{nothing, all_noted}
+use Rattle.sr_names.specs.Specs.{Specs}
+use Rattle.sr_tree.specs.declared.component.File.{File}
+use Rattle.sr_scope.specs.declared.program.Names.{Names}
+use Rattle.sr_scope.specs.Components.{files_collected, files_collected_twice, files_links, files_found, main_found}
+
+abbrev pub no_place : Place
+no_place = record { components = []; specs = []; own = []; visible = []; within = None }
+
+abbrev pub program : List File → Place
+program files = files_collected files no_place
+
+-- all that is found out about the names of a program
+abbrev pub findings : List File → List Finding
+findings files =
+    files_collected_twice files no_place
+    ++ (main_found files ++ files_found (program files).components (program files).specs (files_links (program files).components files) files)
+
+abbrev pub kind_of : Rule → Kind
+kind_of Name = name_kind
+kind_of Twice = twice_kind
+kind_of BadType = type_kind
+kind_of BadUse = use_kind
+kind_of Guard = guard_kind
+kind_of Main = main_kind
+kind_of Cycle = cycle_kind
+
+abbrev pub refusal_of : Wrong → Refusal
+refusal_of wrong = record { kind = kind_of wrong.rule; place = record { file = wrong.span.file; line = wrong.span.line } }
+
+-- the first broken rule refuses the program; where none is broken the names have their meanings
+abbrev pub answered : Notes → Specs → Result Names Refusal
+answered notes specs = by notes.first
+  where
+    by : Option Wrong → Result Names Refusal
+    by None = Ok (record { uses = notes.uses; specs = specs })
+    by (Some wrong) = Err (refusal_of wrong)
+
+abbrev pub resolved : List File → Result Names Refusal
+resolved files = answered (all_noted nothing (findings files)) (program files).specs
+
+-- an answer is what is meant, but for want of memory
+abbrev pub Answers : Result Names FrontFail → Result Names Refusal → Type 0
+Answers (Ok names) meant = meant ≡ Ok names
+Answers (Err (Refused refusal)) meant = meant ≡ Err refusal
+Answers (Err NoMemory) meant = Unit {0}

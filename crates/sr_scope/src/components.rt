@@ -1,0 +1,464 @@
+ghost use Rattle.std.specs.Prelude.{◌≡◌, ◌++◌, IfOk, OnOk};
+ghost use Rattle.sr_names.specs.Notes.{all_noted};
+ghost use Rattle.sr_names.specs.Tables.{declared_as};
+ghost use Rattle.sr_names.specs.Readings.{reading};
+ghost use Rattle.std.specs.Option.{option_map};
+ghost use Rattle.sr_scope.specs.Components.{name_of, sort_of, spec_of, formals_of, body_of, decl_of, collected, collected_twice, all_collected, all_collected_twice, files_collected, files_collected_twice, imported_names, item_imports, specs_imports, items_imports, imports_of, link_of_sorts, link_to, links_to, all_links, files_links, on_cycle, cycle_unless, import_found, imports_found, with_import, visible_to, walked, component_found, components_found, files_found};
+ghost use Rattle.sr_scope.specs.Items.{inside};
+
+use crate::declares::declare_name;
+use crate::items::{declare_items, declare_spec, items, serve_items, spec_items};
+use crate::types::{declare_formals, formals};
+use sr_names::{
+    Blocks, Decl, Finding, Link, Meaning, Notes, Place, Rule, Sort, Spot, Table, Wrong, connected,
+};
+use sr_tree::{Component, File, Formal, Item, Name, SpecItem};
+use sr_value::{Duplicate, NoMemory, Row, Span};
+use std::alloc::Global;
+
+fn name_of(component: &Component) -> &Name
+    ensures { result.now ≡ name_of component.now }
+{
+    match component {
+        Component::Resource { name, .. } => name,
+        Component::SplitResource { name, .. } => name,
+        Component::Global { name, .. } => name,
+    }
+}
+
+fn sort_of(component: &Component) -> Sort
+    ensures { result ≡ sort_of component.now }
+{
+    match component {
+        Component::Resource { .. } | Component::SplitResource { .. } => Sort::Resource,
+        Component::Global { .. } => Sort::Global,
+    }
+}
+
+fn spec_of(component: &Component) -> &[SpecItem]
+    ensures { result.now ≡ spec_of component.now }
+{
+    match component {
+        Component::Resource { .. } => &[],
+        Component::SplitResource { spec, .. } => spec.as_slice(),
+        Component::Global { spec, .. } => spec.as_slice(),
+    }
+}
+
+fn formals_of(component: &Component) -> &[Formal]
+    ensures { result.now ≡ formals_of component.now }
+{
+    match component {
+        Component::Resource { formals, .. } => formals.as_slice(),
+        Component::SplitResource { formals, .. } => formals.as_slice(),
+        Component::Global { .. } => &[],
+    }
+}
+
+fn body_of(component: &Component) -> &[Item]
+    ensures { result.now ≡ body_of component.now }
+{
+    match component {
+        Component::Resource { items, .. } => items.as_slice(),
+        Component::SplitResource { items, .. } => items.as_slice(),
+        Component::Global { body, .. } => match body {
+            Some(items) => items.as_slice(),
+            None => &[],
+        },
+    }
+}
+
+fn decl_of(component: &Component) -> Decl
+    ensures { result ≡ decl_of component.now }
+{
+    Decl {
+        sort: sort_of(component),
+        spot: Spot::of(name_of(component).span),
+    }
+}
+
+/// Puts a component and the names of its spec among those of the program.
+fn collect_component(
+    alloc: Global,
+    component: &Component,
+    place: &mut Place,
+    notes: &mut Notes,
+) -> Result<(), NoMemory>
+    ensures place { OnOk result (place.new ≡ collected component.now place.old) }
+    ensures noted { OnOk result (notes.new ≡ all_noted notes.old (collected_twice component.now place.old)) }
+{
+    let name = name_of(component);
+    declare_name(
+        alloc,
+        name,
+        sort_of(component),
+        &mut place.components,
+        notes,
+    )?;
+    let mut spec = Table::new(alloc);
+    declare_spec(alloc, spec_of(component), &mut spec, notes)?;
+    place.specs.insert(Spot::of(name.span), spec)
+}
+
+fn collect_components(
+    alloc: Global,
+    components: &[Component],
+    place: &mut Place,
+    notes: &mut Notes,
+) -> Result<(), NoMemory>
+    ensures place { OnOk result (place.new ≡ all_collected components.now place.old) }
+    ensures noted { OnOk result (notes.new ≡ all_noted notes.old (all_collected_twice components.now place.old)) }
+{
+    for component in components {
+        collect_component(alloc, component, place, notes)?;
+    }
+    Ok(())
+}
+
+/// Puts the components of all files and the names of their specs among those of the program.
+pub fn collect_files(
+    alloc: Global,
+    files: &[File],
+    place: &mut Place,
+    notes: &mut Notes,
+) -> Result<(), NoMemory>
+    ensures place { OnOk result (place.new ≡ files_collected files.now place.old) }
+    ensures noted { OnOk result (notes.new ≡ all_noted notes.old (files_collected_twice files.now place.old)) }
+{
+    for file in files {
+        collect_components(alloc, file.components.as_slice(), place, notes)?;
+    }
+    Ok(())
+}
+
+fn push_names(alloc: Global, names: &[Name], all: &mut Row<Name>) -> Result<(), NoMemory>
+    ensures { OnOk result (all.new ≡ all.old ++ names.now) }
+{
+    for name in names {
+        all.push(Name {
+            text: name.text.copy(alloc)?,
+            span: name.span,
+        })?;
+    }
+    Ok(())
+}
+
+fn push_imported(alloc: Global, item: &SpecItem, all: &mut Row<Name>) -> Result<(), NoMemory>
+    ensures { OnOk result (all.new ≡ all.old ++ imported_names item.now) }
+{
+    match item {
+        SpecItem::Import(imports) => push_names(alloc, imports.names.as_slice(), all),
+        SpecItem::Const(_)
+        | SpecItem::Type(_)
+        | SpecItem::OpType(_)
+        | SpecItem::Op(_)
+        | SpecItem::Var(_)
+        | SpecItem::Sem(_) => Ok(()),
+    }
+}
+
+fn push_item_imports(alloc: Global, item: &Item, all: &mut Row<Name>) -> Result<(), NoMemory>
+    ensures { OnOk result (all.new ≡ all.old ++ item_imports item.now) }
+{
+    match item {
+        Item::Spec(inner) => push_imported(alloc, inner, all),
+        Item::Proc(_)
+        | Item::Procedure(_)
+        | Item::Process(_)
+        | Item::Final(_)
+        | Item::Statement(_) => Ok(()),
+    }
+}
+
+fn push_specs_imports(
+    alloc: Global,
+    items: &[SpecItem],
+    all: &mut Row<Name>,
+) -> Result<(), NoMemory>
+    ensures { OnOk result (all.new ≡ all.old ++ specs_imports items.now) }
+{
+    for item in items {
+        push_imported(alloc, item, all)?;
+    }
+    Ok(())
+}
+
+fn push_items_imports(alloc: Global, items: &[Item], all: &mut Row<Name>) -> Result<(), NoMemory>
+    ensures { OnOk result (all.new ≡ all.old ++ items_imports items.now) }
+{
+    for item in items {
+        push_item_imports(alloc, item, all)?;
+    }
+    Ok(())
+}
+
+/// The names that a component imports.
+fn imports_of(alloc: Global, component: &Component) -> Result<Row<Name>, NoMemory>
+    ensures { IfOk result (λ names. names ≡ imports_of component.now) }
+{
+    let mut all = Row::new(alloc);
+    push_specs_imports(alloc, spec_of(component), &mut all)?;
+    push_items_imports(alloc, body_of(component), &mut all)?;
+    Ok(all)
+}
+
+fn link_of(importer: Decl, target: Decl) -> Option<Link>
+    ensures { result ≡ link_of_sorts importer.sort target.sort importer.spot target.spot }
+{
+    match importer.sort {
+        Sort::Global => match target.sort {
+            Sort::Global => Some(Link {
+                from: importer.spot,
+                to: target.spot,
+            }),
+            _ => None,
+        },
+        _ => None,
+    }
+}
+
+/// The link that an import is, where a global imports a global.
+fn link_to(components: &Table, importer: Decl, name: &Name) -> Option<Link>
+    ensures { result ≡ link_to components.now importer name.now }
+{
+    let target = components.get(name.text.as_bytes())?;
+    link_of(importer, target)
+}
+
+fn push_links(
+    components: &Table,
+    importer: Decl,
+    names: &[Name],
+    links: &mut Row<Link>,
+) -> Result<(), NoMemory>
+    ensures { OnOk result (links.new ≡ links.old ++ links_to components.now importer names.now) }
+{
+    for name in names {
+        if let Some(link) = link_to(components, importer, name) {
+            links.push(link)?;
+        }
+    }
+    Ok(())
+}
+
+fn push_all_links(
+    alloc: Global,
+    components: &Table,
+    all: &[Component],
+    links: &mut Row<Link>,
+) -> Result<(), NoMemory>
+    ensures { OnOk result (links.new ≡ links.old ++ all_links components.now all.now) }
+{
+    for component in all {
+        let names = imports_of(alloc, component)?;
+        push_links(components, decl_of(component), names.as_slice(), links)?;
+    }
+    Ok(())
+}
+
+/// The imports of globals by globals.
+pub fn links_of(alloc: Global, components: &Table, files: &[File]) -> Result<Row<Link>, NoMemory>
+    ensures { IfOk result (λ links. links ≡ files_links components.now files.now) }
+{
+    let mut links = Row::new(alloc);
+    for file in files {
+        push_all_links(alloc, components, file.components.as_slice(), &mut links)?;
+    }
+    Ok(links)
+}
+
+/// Whether a link is on a cycle of links.
+fn is_on_cycle(alloc: Global, links: &[Link], link: Option<Link>) -> Result<bool, NoMemory>
+    ensures { IfOk result (λ cyclic. cyclic ≡ on_cycle links.now link) }
+{
+    match link {
+        Some(link) => connected(alloc, links, link.to, link.from),
+        None => Ok(false),
+    }
+}
+
+fn note_cycle(notes: &mut Notes, is_cyclic: bool, span: Span) -> Result<(), NoMemory>
+    ensures { OnOk result (notes.new ≡ all_noted notes.old (cycle_unless is_cyclic span)) }
+{
+    if !is_cyclic {
+        return Ok(());
+    }
+    notes.note(Finding::Broken(Wrong {
+        rule: Rule::Cycle,
+        span,
+    }))
+}
+
+fn imported(components: &Table, name: &Name) -> Finding
+    ensures { result ≡ reading (option_map Meaning.Declared (declared_as components.now name.now.text)) name.now.span }
+{
+    match components.get(name.text.as_bytes()) {
+        Some(decl) => Finding::Use {
+            spot: Spot::of(name.span),
+            meaning: Meaning::Declared(decl),
+        },
+        None => Finding::Broken(Wrong {
+            rule: Rule::Name,
+            span: name.span,
+        }),
+    }
+}
+
+fn note_import(
+    alloc: Global,
+    components: &Table,
+    links: &[Link],
+    importer: Decl,
+    name: &Name,
+    notes: &mut Notes,
+) -> Result<(), NoMemory>
+    ensures { OnOk result (notes.new ≡ all_noted notes.old (import_found components.now links.now importer name.now)) }
+{
+    notes.note(imported(components, name))?;
+    let is_cyclic = is_on_cycle(alloc, links, link_to(components, importer, name))?;
+    note_cycle(notes, is_cyclic, name.span)
+}
+
+/// Notes what is found in the imports of a component.
+fn note_imports(
+    alloc: Global,
+    components: &Table,
+    links: &[Link],
+    importer: Decl,
+    names: &[Name],
+    notes: &mut Notes,
+) -> Result<(), NoMemory>
+    ensures { OnOk result (notes.new ≡ all_noted notes.old (imports_found components.now links.now importer names.now)) }
+{
+    for name in names {
+        note_import(alloc, components, links, importer, name, notes)?;
+    }
+    Ok(())
+}
+
+fn import(
+    alloc: Global,
+    components: &Table,
+    name: &Name,
+    visible: &mut Table,
+) -> Result<(), NoMemory>
+    ensures { OnOk result (visible.new ≡ with_import components.now name.now visible.old) }
+{
+    if let Some(decl) = components.get(name.text.as_bytes()) {
+        let _ = visible.declare(alloc, name.text.as_bytes(), decl)?;
+    }
+    Ok(())
+}
+
+/// The components whose names a component can use.
+fn visible_to(
+    alloc: Global,
+    components: &Table,
+    component: &Component,
+    names: &[Name],
+) -> Result<Table, NoMemory>
+    requires { names.now ≡ imports_of component.now }
+    ensures { IfOk result (λ visible. visible ≡ visible_to components.now component.now) }
+{
+    let mut visible = Table::new(alloc);
+    let _ = visible.declare(
+        alloc,
+        name_of(component).text.as_bytes(),
+        decl_of(component),
+    )?;
+    for name in names {
+        import(alloc, components, name, &mut visible)?;
+    }
+    Ok(visible)
+}
+
+/// Notes what is found within a component, once its names are known.
+fn walk(
+    alloc: Global,
+    component: &Component,
+    place: &mut Place,
+    notes: &mut Notes,
+) -> Result<(), NoMemory>
+    ensures place { OnOk result (place.new ≡ inside place.old place.new.within) }
+    ensures noted { OnOk result (notes.new ≡ all_noted notes.old (walked component.now place.old)) }
+{
+    let mut blocks = Blocks::new(alloc);
+    let mut served = Table::new(alloc);
+    serve_items(
+        alloc,
+        body_of(component),
+        place,
+        &blocks,
+        &mut served,
+        notes,
+    )?;
+    spec_items(alloc, spec_of(component), place, &blocks, notes)?;
+    place.within = None;
+    formals(alloc, formals_of(component), place, &blocks, notes)?;
+    items(alloc, body_of(component), place, &mut blocks, notes)
+}
+
+/// Notes what is found in a component.
+fn component(
+    alloc: Global,
+    component: &Component,
+    links: &[Link],
+    place: &mut Place,
+    notes: &mut Notes,
+) -> Result<(), NoMemory>
+    ensures components { OnOk result (place.new.components ≡ place.old.components) }
+    ensures specs { OnOk result (place.new.specs ≡ place.old.specs) }
+    ensures noted { OnOk result (notes.new ≡ all_noted notes.old (component_found place.old.components place.old.specs links.now component.now)) }
+{
+    let mut own = Table::new(alloc);
+    declare_spec(alloc, spec_of(component), &mut own, notes)?;
+    declare_formals(alloc, formals_of(component), &mut own, notes)?;
+    declare_items(alloc, body_of(component), &mut own, notes)?;
+    let names = imports_of(alloc, component)?;
+    note_imports(
+        alloc,
+        &place.components,
+        links,
+        decl_of(component),
+        names.as_slice(),
+        notes,
+    )?;
+    place.visible = visible_to(alloc, &place.components, component, names.as_slice())?;
+    place.own = own;
+    place.within = None;
+    walk(alloc, component, place, notes)
+}
+
+fn components(
+    alloc: Global,
+    components: &[Component],
+    links: &[Link],
+    place: &mut Place,
+    notes: &mut Notes,
+) -> Result<(), NoMemory>
+    ensures components { OnOk result (place.new.components ≡ place.old.components) }
+    ensures specs { OnOk result (place.new.specs ≡ place.old.specs) }
+    ensures noted { OnOk result (notes.new ≡ all_noted notes.old (components_found place.old.components place.old.specs links.now components.now)) }
+{
+    for each in components {
+        component(alloc, each, links, place, notes)?;
+    }
+    Ok(())
+}
+
+/// Notes what is found in the components of all files.
+pub fn walk_files(
+    alloc: Global,
+    files: &[File],
+    links: &[Link],
+    place: &mut Place,
+    notes: &mut Notes,
+) -> Result<(), NoMemory>
+    ensures specs { OnOk result (place.new.specs ≡ place.old.specs) }
+    ensures noted { OnOk result (notes.new ≡ all_noted notes.old (files_found place.old.components place.old.specs links.now files.now)) }
+{
+    for file in files {
+        components(alloc, file.components.as_slice(), links, place, notes)?;
+    }
+    Ok(())
+}

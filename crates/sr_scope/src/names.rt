@@ -1,0 +1,69 @@
+ghost use Rattle.std.specs.Prelude.{◌≡◌, IfOk, OnOk};
+ghost use Rattle.sr_names.specs.Notes.{all_noted};
+ghost use Rattle.sr_scope.specs.Names.{component, is_component, component_named, name_found, field_found, qualified_found};
+
+use sr_names::{Blocks, Decl, Meaning, Notes, Place, Sort, read, read_member};
+use sr_tree::{Name, QualifiedName};
+use sr_value::NoMemory;
+
+/// Notes what a name means that is used, and answers the component that it names, where it names one.
+pub fn name(
+    name: &Name,
+    place: &Place,
+    blocks: &Blocks,
+    notes: &mut Notes,
+) -> Result<Option<Decl>, NoMemory>
+    ensures component { IfOk result (λ component. component ≡ component_named place.now blocks.now name.now) }
+    ensures noted { OnOk result (notes.new ≡ all_noted notes.old (name_found place.now blocks.now name.now)) }
+{
+    let meaning = read(place, blocks, notes, name.text.as_bytes(), name.span)?;
+    Ok(component(meaning))
+}
+
+/// The component that a meaning is, where it is one.
+fn component(meaning: Option<Meaning>) -> Option<Decl>
+    ensures { result ≡ component meaning }
+{
+    match meaning {
+        Some(Meaning::Declared(decl)) if is_component(decl.sort) => Some(decl),
+        _ => None,
+    }
+}
+
+fn is_component(sort: Sort) -> bool
+    ensures { result ≡ is_component sort }
+{
+    matches!(sort, Sort::Resource | Sort::Global)
+}
+
+/// Notes what a name means that is used, and where it names a component and a point and a name stand behind it,
+/// what that name of its spec means.
+pub fn qualified_name(
+    qualified: &QualifiedName,
+    place: &Place,
+    blocks: &Blocks,
+    notes: &mut Notes,
+) -> Result<(), NoMemory>
+    ensures { OnOk result (notes.new ≡ all_noted notes.old (qualified_found place.now blocks.now qualified.now)) }
+{
+    let component = name(&qualified.first, place, blocks, notes)?;
+    match &qualified.second {
+        Some(second) => field(component, second, place, notes),
+        None => Ok(()),
+    }
+}
+
+/// Notes what a name means behind a point, where a component stands before it. Behind anything else it is a field.
+pub fn field(
+    component: Option<Decl>,
+    name: &Name,
+    place: &Place,
+    notes: &mut Notes,
+) -> Result<(), NoMemory>
+    ensures { OnOk result (notes.new ≡ all_noted notes.old (field_found place.now component name.now)) }
+{
+    match component {
+        Some(component) => read_member(place, notes, component, name.text.as_bytes(), name.span),
+        None => Ok(()),
+    }
+}

@@ -1,0 +1,165 @@
+ghost use Rattle.std.specs.Prelude.{◌≡◌, ◌-◌, ◌^◌, ◌<◌, length, OnOk};
+ghost use Rattle.std.specs.Option.{option_copied};
+ghost use Rattle.sr_names.specs.Components.{member_named};
+ghost use Rattle.sr_names.specs.Notes.{all_noted};
+ghost use Rattle.sr_names.specs.Uses.{meaning_at};
+ghost use Rattle.std.specs.Prelude.{Some};
+ghost use Rattle.sr_scope.specs.Components.{last_component, can_be_main, main_found, start_of};
+ghost use Rattle.sr_scope.specs.Resolved.{Answers, resolved, no_place, kind_of, refusal_of, answered};
+
+use crate::components::{collect_files, links_of, walk_files};
+use sr_names::{Decl, Finding, Meaning, Members, Notes, Place, Rule, Spot, Table, Uses, Wrong};
+use sr_text::{FrontFail, Kind, Refusal};
+use sr_tree::{Component, File};
+use sr_value::{NoMemory, Row, Span};
+use std::alloc::Global;
+
+/// What the names of a program mean.
+#[derive(Drop)]
+pub struct Names {
+    /// The meaning of each use of a name, by its spot.
+    pub uses: Uses,
+    /// The names of the components' specs, for what stands behind a point.
+    pub specs: Members,
+}
+
+impl Names {
+    /// The meaning of the name that is used at a spot.
+    pub fn meaning(&self, spot: Spot) -> Option<Meaning>
+        ensures { result ≡ meaning_at self.now.uses spot }
+    {
+        self.uses.get(spot)
+    }
+
+    /// What the spec of a component, which is known by the spot of its name, declares a name as.
+    pub fn member(&self, component: Spot, name: &[u8]) -> Option<Decl>
+        ensures { result ≡ member_named self.now.specs component name.now }
+    {
+        self.specs.get(component, name)
+    }
+}
+
+/// What each name of a program means: the declaration of each use of a name. The program is refused where a name
+/// is unknown, ambiguous or not yet usable (S4), where two declarations of one scope have one name or two procs
+/// serve one operation (S5), where the last component can't be main (S9), and where globals import each other in
+/// a cycle (S12): of all that is wrong the first by file and byte counts, and at one token the lowest number.
+pub fn resolve(alloc: Global, files: &Row<File>) -> Result<Names, FrontFail>
+    requires { length files.now < 2 ^ 32 }
+    ensures { Answers result (resolved files.now) }
+{
+    let mut notes = Notes::new(alloc);
+    let mut place = empty_place(alloc);
+    collect_files(alloc, files.as_slice(), &mut place, &mut notes)?;
+    note_main(files.as_slice(), &mut notes)?;
+    let links = links_of(alloc, &place.components, files.as_slice())?;
+    walk_files(
+        alloc,
+        files.as_slice(),
+        links.as_slice(),
+        &mut place,
+        &mut notes,
+    )?;
+    answer(notes, place.specs)
+}
+
+fn empty_place(alloc: Global) -> Place
+    ensures { result ≡ no_place }
+{
+    Place {
+        components: Table::new(alloc),
+        specs: Members::new(alloc),
+        own: Table::new(alloc),
+        visible: Table::new(alloc),
+        within: None,
+    }
+}
+
+fn last_component(files: &[File]) -> Option<&Component>
+    ensures { option_copied result ≡ last_component files.now }
+{
+    let file = files.last()?;
+    file.components.as_slice().last()
+}
+
+fn can_be_main(component: &Component) -> bool
+    ensures { result ≡ can_be_main (Some component.now) }
+{
+    match component {
+        Component::Resource { formals, .. } => formals.as_slice().is_empty(),
+        Component::SplitResource { formals, .. } => formals.as_slice().is_empty(),
+        Component::Global { .. } => false,
+    }
+}
+
+fn has_main(files: &[File]) -> bool
+    ensures { result ≡ can_be_main (last_component files.now) }
+{
+    match last_component(files) {
+        Some(component) => can_be_main(component),
+        None => false,
+    }
+}
+
+/// The first byte of the last file.
+fn start_of(files: &[File]) -> Span
+    requires { length files.now < 2 ^ 32 }
+    ensures { result ≡ start_of files.now }
+{
+    Span {
+        file: files.len().saturating_sub(1) as u32,
+        from: 0,
+        to: 0,
+        line: 1,
+    }
+}
+
+fn note_main(files: &[File], notes: &mut Notes) -> Result<(), NoMemory>
+    requires { length files.now < 2 ^ 32 }
+    ensures { OnOk result (notes.new ≡ all_noted notes.old (main_found files.now)) }
+{
+    if has_main(files) {
+        return Ok(());
+    }
+    notes.note(Finding::Broken(Wrong {
+        rule: Rule::Main,
+        span: start_of(files),
+    }))
+}
+
+fn kind_of(rule: Rule) -> Kind
+    ensures { result ≡ kind_of rule }
+{
+    match rule {
+        Rule::Name => Kind::Name,
+        Rule::Twice => Kind::Twice,
+        Rule::BadType => Kind::BadType,
+        Rule::BadUse => Kind::BadUse,
+        Rule::Guard => Kind::Guard,
+        Rule::Main => Kind::Main,
+        Rule::Cycle => Kind::Cycle,
+    }
+}
+
+fn refusal_of(wrong: Wrong) -> Refusal
+    ensures { result ≡ refusal_of wrong }
+{
+    Refusal {
+        kind: kind_of(wrong.rule),
+        place: sr_value::Place {
+            file: wrong.span.file,
+            line: wrong.span.line,
+        },
+    }
+}
+
+fn answer(notes: Notes, specs: Members) -> Result<Names, FrontFail>
+    ensures { Answers result (answered notes specs) }
+{
+    match notes.first {
+        None => Ok(Names {
+            uses: notes.uses,
+            specs,
+        }),
+        Some(wrong) => Err(FrontFail::Refused(refusal_of(wrong))),
+    }
+}

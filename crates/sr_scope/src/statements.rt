@@ -1,0 +1,288 @@
+ghost use Rattle.std.specs.Prelude.{◌≡◌, OnOk, map};
+ghost use Rattle.sr_names.specs.Notes.{all_noted};
+ghost use Rattle.sr_scope.specs.Declarations.{with_inner};
+ghost use Rattle.sr_scope.specs.Exprs.{all_found};
+ghost use Rattle.sr_scope.specs.Statements.{condition_found, statement_found, item_read, arm_found, branch_found, co_arm_found, block_found};
+
+use crate::declarations::{constant, quantifiers, variables};
+use crate::declares::{declare_name, declare_names, declare_returned, declare_variables};
+use crate::exprs::{create, expr, exprs, invocation};
+use crate::names::name;
+use crate::types::maybe_expr;
+use sr_names::{Blocks, Notes, Place, Sort};
+use sr_tree::{Arm, ArmCondition, BlockItem, Branch, CoArm, Statement};
+use sr_value::NoMemory;
+use std::alloc::Global;
+
+/// Notes what is found in a statement. The scopes are then as before.
+#[cycle(statements)]
+pub fn statement(
+    alloc: Global,
+    statement: &Statement,
+    place: &Place,
+    blocks: &mut Blocks,
+    notes: &mut Notes,
+) -> Result<(), NoMemory>
+    ensures scopes { OnOk result (blocks.new ≡ blocks.old) }
+    ensures noted { OnOk result (notes.new ≡ all_noted notes.old (statement_found statement.now place.now blocks.old)) }
+{
+    match statement {
+        Statement::Skip { .. }
+        | Statement::Exit { .. }
+        | Statement::Next { .. }
+        | Statement::Return { .. }
+        | Statement::Reply { .. } => Ok(()),
+        Statement::Stop { status, .. } => maybe_expr(status, place, blocks, notes),
+        Statement::Call {
+            invocation: invoked,
+            ..
+        }
+        | Statement::Send {
+            invocation: invoked,
+            ..
+        }
+        | Statement::Forward {
+            invocation: invoked,
+            ..
+        } => { invocation(invoked, place, blocks, notes) }
+        Statement::Receive {
+            operation,
+            places,
+            ..
+        } => {
+            name(operation, place, blocks, notes)?;
+            exprs(places.as_slice(), place, blocks, notes)
+        }
+        Statement::Assign {
+            place: target,
+            value,
+            ..
+        } => {
+            expr(target, place, blocks, notes)?;
+            expr(value, place, blocks, notes)?;
+            Ok(())
+        }
+        Statement::Exchange { left, right, .. } => {
+            expr(left, place, blocks, notes)?;
+            expr(right, place, blocks, notes)?;
+            Ok(())
+        }
+        Statement::Increment { place: target, .. } | Statement::Decrement { place: target, .. } => {
+            expr(target, place, blocks, notes)?;
+            Ok(())
+        }
+        Statement::If {
+            branches: all,
+            otherwise,
+            ..
+        }
+        | Statement::Do {
+            branches: all,
+            otherwise,
+            ..
+        } => {
+            branches(alloc, all.as_slice(), place, blocks, notes)?;
+            match otherwise {
+                Some(items) => block(alloc, items.as_slice(), place, blocks, notes),
+                None => Ok(()),
+            }
+        }
+        Statement::ForAll {
+            quantifiers: all,
+            block: items,
+            ..
+        } => {
+            blocks.open(alloc)?;
+            quantifiers(alloc, all.as_slice(), place, blocks, notes)?;
+            block(alloc, items.as_slice(), place, blocks, notes)?;
+            blocks.close();
+            Ok(())
+        }
+        Statement::In {
+            arms: all,
+            otherwise,
+            ..
+        } => {
+            arms(alloc, all.as_slice(), place, blocks, notes)?;
+            match otherwise {
+                Some(items) => block(alloc, items.as_slice(), place, blocks, notes),
+                None => Ok(()),
+            }
+        }
+        Statement::Co { arms: all, .. } => co_arms(alloc, all.as_slice(), place, blocks, notes),
+        Statement::Destroy { target, .. } => {
+            expr(target, place, blocks, notes)?;
+            Ok(())
+        }
+        Statement::Create {
+            create: created,
+            ..
+        } => create(created, place, blocks, notes),
+    }
+}
+
+/// Notes what is found in a block, which is a scope of its own.
+#[cycle(statements)]
+fn block(
+    alloc: Global,
+    items: &[BlockItem],
+    place: &Place,
+    blocks: &mut Blocks,
+    notes: &mut Notes,
+) -> Result<(), NoMemory>
+    ensures scopes { OnOk result (blocks.new ≡ blocks.old) }
+    ensures noted { OnOk result (notes.new ≡ all_noted notes.old (block_found (map item_read items.now) place.now blocks.old)) }
+{
+    blocks.open(alloc)?;
+    for item in items {
+        block_item(alloc, item, place, blocks, notes)?;
+    }
+    blocks.close();
+    Ok(())
+}
+
+#[cycle(statements)]
+fn block_item(
+    alloc: Global,
+    item: &BlockItem,
+    place: &Place,
+    blocks: &mut Blocks,
+    notes: &mut Notes,
+) -> Result<(), NoMemory>
+    ensures scopes { OnOk result (blocks.new ≡ with_inner blocks.old (item_read item.now place.now blocks.old).inner) }
+    ensures noted { OnOk result (notes.new ≡ all_noted notes.old (item_read item.now place.now blocks.old).found) }
+{
+    match item {
+        BlockItem::Const(declared) => {
+            constant(alloc, declared, place, blocks, notes)?;
+            declare_name(
+                alloc,
+                &declared.name,
+                Sort::Constant,
+                &mut blocks.inner,
+                notes,
+            )
+        }
+        BlockItem::Var(declared) => {
+            variables(alloc, declared, place, blocks, notes)?;
+            declare_variables(alloc, declared.decls.as_slice(), &mut blocks.inner, notes)
+        }
+        BlockItem::Statement(inner) => statement(alloc, inner, place, blocks, notes),
+    }
+}
+
+#[cycle(statements)]
+fn branches(
+    alloc: Global,
+    branches: &[Branch],
+    place: &Place,
+    blocks: &mut Blocks,
+    notes: &mut Notes,
+) -> Result<(), NoMemory>
+    ensures scopes { OnOk result (blocks.new ≡ blocks.old) }
+    ensures noted { OnOk result (notes.new ≡ all_noted notes.old (all_found (map branch_found branches.now) place.now blocks.old)) }
+{
+    for branch in branches {
+        expr(&branch.guard, place, blocks, notes)?;
+        block(alloc, branch.block.as_slice(), place, blocks, notes)?;
+    }
+    Ok(())
+}
+
+#[cycle(statements)]
+fn arms(
+    alloc: Global,
+    arms: &[Arm],
+    place: &Place,
+    blocks: &mut Blocks,
+    notes: &mut Notes,
+) -> Result<(), NoMemory>
+    ensures scopes { OnOk result (blocks.new ≡ blocks.old) }
+    ensures noted { OnOk result (notes.new ≡ all_noted notes.old (all_found (map arm_found arms.now) place.now blocks.old)) }
+{
+    for each in arms {
+        arm(alloc, each, place, blocks, notes)?;
+    }
+    Ok(())
+}
+
+#[cycle(statements)]
+fn arm(
+    alloc: Global,
+    arm: &Arm,
+    place: &Place,
+    blocks: &mut Blocks,
+    notes: &mut Notes,
+) -> Result<(), NoMemory>
+    ensures scopes { OnOk result (blocks.new ≡ blocks.old) }
+    ensures noted { OnOk result (notes.new ≡ all_noted notes.old (arm_found arm.now place.now blocks.old)) }
+{
+    name(&arm.operation, place, blocks, notes)?;
+    blocks.open(alloc)?;
+    declare_names(
+        alloc,
+        arm.formals.as_slice(),
+        Sort::Variable,
+        &mut blocks.inner,
+        notes,
+    )?;
+    declare_returned(alloc, &arm.returned, &mut blocks.inner, notes)?;
+    condition(&arm.condition, place, blocks, notes)?;
+    maybe_expr(&arm.order, place, blocks, notes)?;
+    block(alloc, arm.block.as_slice(), place, blocks, notes)?;
+    blocks.close();
+    Ok(())
+}
+
+fn condition(
+    condition: &Option<ArmCondition>,
+    place: &Place,
+    blocks: &Blocks,
+    notes: &mut Notes,
+) -> Result<(), NoMemory>
+    ensures { OnOk result (notes.new ≡ all_noted notes.old (condition_found condition.now place.now blocks.now)) }
+{
+    if let Some(written) = condition {
+        expr(&written.condition, place, blocks, notes)?;
+    }
+    Ok(())
+}
+
+#[cycle(statements)]
+fn co_arms(
+    alloc: Global,
+    arms: &[CoArm],
+    place: &Place,
+    blocks: &mut Blocks,
+    notes: &mut Notes,
+) -> Result<(), NoMemory>
+    ensures scopes { OnOk result (blocks.new ≡ blocks.old) }
+    ensures noted { OnOk result (notes.new ≡ all_noted notes.old (all_found (map co_arm_found arms.now) place.now blocks.old)) }
+{
+    for each in arms {
+        co_arm(alloc, each, place, blocks, notes)?;
+    }
+    Ok(())
+}
+
+#[cycle(statements)]
+fn co_arm(
+    alloc: Global,
+    arm: &CoArm,
+    place: &Place,
+    blocks: &mut Blocks,
+    notes: &mut Notes,
+) -> Result<(), NoMemory>
+    ensures scopes { OnOk result (blocks.new ≡ blocks.old) }
+    ensures noted { OnOk result (notes.new ≡ all_noted notes.old (co_arm_found arm.now place.now blocks.old)) }
+{
+    blocks.open(alloc)?;
+    quantifiers(alloc, arm.quantifiers.as_slice(), place, blocks, notes)?;
+    maybe_expr(&arm.target, place, blocks, notes)?;
+    invocation(&arm.invocation, place, blocks, notes)?;
+    if let Some(items) = &arm.block {
+        block(alloc, items.as_slice(), place, blocks, notes)?;
+    }
+    blocks.close();
+    Ok(())
+}

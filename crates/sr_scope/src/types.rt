@@ -1,0 +1,235 @@
+ghost use Rattle.std.specs.Prelude.{◌≡◌, OnOk, map};
+ghost use Rattle.std.specs.Option.{option_map};
+ghost use Rattle.sr_names.specs.Notes.{all_noted};
+ghost use Rattle.sr_scope.specs.Types.{maybe_expr_found, range_found, dims_found, maybe_dims_found, decls_found, formals_found, formals_declared, formals_twice, signed_declared, signed_twice, signed_found, type_found, maybe_type_found, formal_read, returned_read, signature_read, maybe_found};
+
+use crate::declares::{declare_name, declare_variables};
+use crate::exprs::expr;
+use crate::names::qualified_name;
+use sr_names::{Blocks, Notes, Place, Sort, Table};
+use sr_tree::{Decl, DimsTree, Expr, Formal, RangeTree, Returned, Signature, TypeTree};
+use sr_value::NoMemory;
+use std::alloc::Global;
+
+/// Notes what is found in an expression, where there is one.
+pub fn maybe_expr(
+    maybe: &Option<Expr>,
+    place: &Place,
+    blocks: &Blocks,
+    notes: &mut Notes,
+) -> Result<(), NoMemory>
+    ensures { OnOk result (notes.new ≡ all_noted notes.old (maybe_expr_found maybe.now place.now blocks.now)) }
+{
+    if let Some(value) = maybe {
+        expr(value, place, blocks, notes)?;
+    }
+    Ok(())
+}
+
+fn range(
+    range: &RangeTree,
+    place: &Place,
+    blocks: &Blocks,
+    notes: &mut Notes,
+) -> Result<(), NoMemory>
+    ensures { OnOk result (notes.new ≡ all_noted notes.old (range_found range.now place.now blocks.now)) }
+{
+    match range {
+        RangeTree::Length { length, .. } => {
+            expr(length, place, blocks, notes)?;
+            Ok(())
+        }
+        RangeTree::Bounds { low, high, .. } => {
+            expr(low, place, blocks, notes)?;
+            expr(high, place, blocks, notes)?;
+            Ok(())
+        }
+        RangeTree::From { low, .. } => {
+            expr(low, place, blocks, notes)?;
+            Ok(())
+        }
+        RangeTree::Any { .. } => Ok(()),
+    }
+}
+
+fn dims(dims: &DimsTree, place: &Place, blocks: &Blocks, notes: &mut Notes) -> Result<(), NoMemory>
+    ensures { OnOk result (notes.new ≡ all_noted notes.old (dims_found dims.now place.now blocks.now)) }
+{
+    range(&dims.first, place, blocks, notes)?;
+    match &dims.second {
+        Some(second) => range(second, place, blocks, notes),
+        None => Ok(()),
+    }
+}
+
+fn maybe_dims(
+    maybe: &Option<DimsTree>,
+    place: &Place,
+    blocks: &Blocks,
+    notes: &mut Notes,
+) -> Result<(), NoMemory>
+    ensures { OnOk result (notes.new ≡ all_noted notes.old (maybe_dims_found maybe.now place.now blocks.now)) }
+{
+    match maybe {
+        Some(written) => dims(written, place, blocks, notes),
+        None => Ok(()),
+    }
+}
+
+/// Notes what is found in the bounds of names that are declared.
+pub fn decls(
+    decls: &[Decl],
+    place: &Place,
+    blocks: &Blocks,
+    notes: &mut Notes,
+) -> Result<(), NoMemory>
+    ensures { OnOk result (notes.new ≡ all_noted notes.old (decls_found decls.now place.now blocks.now)) }
+{
+    for decl in decls {
+        maybe_dims(&decl.dims, place, blocks, notes)?;
+    }
+    Ok(())
+}
+
+/// Declares formals, or the fields of a record, in a scope.
+pub fn declare_formals(
+    alloc: Global,
+    formals: &[Formal],
+    table: &mut Table,
+    notes: &mut Notes,
+) -> Result<(), NoMemory>
+    ensures table { OnOk result (table.new ≡ formals_declared (map formal_read formals.now) table.old) }
+    ensures noted { OnOk result (notes.new ≡ all_noted notes.old (formals_twice (map formal_read formals.now) table.old)) }
+{
+    for formal in formals {
+        declare_variables(alloc, formal.decls.as_slice(), table, notes)?;
+    }
+    Ok(())
+}
+
+/// Declares the formals of a signature and what it returns in a scope.
+pub fn declare_signature(
+    alloc: Global,
+    signature: &Signature,
+    table: &mut Table,
+    notes: &mut Notes,
+) -> Result<(), NoMemory>
+    ensures table { OnOk result (table.new ≡ signed_declared (signature_read signature.now) table.old) }
+    ensures noted { OnOk result (notes.new ≡ all_noted notes.old (signed_twice (signature_read signature.now) table.old)) }
+{
+    declare_formals(alloc, signature.formals.as_slice(), table, notes)?;
+    match &signature.returned {
+        Some(returned) => declare_name(alloc, &returned.decl.name, Sort::Variable, table, notes),
+        None => Ok(()),
+    }
+}
+
+/// Notes what is found in a type.
+#[cycle(types)]
+pub fn type_tree(
+    alloc: Global,
+    ty: &TypeTree,
+    place: &Place,
+    blocks: &Blocks,
+    notes: &mut Notes,
+) -> Result<(), NoMemory>
+    ensures { OnOk result (notes.new ≡ all_noted notes.old (type_found ty.now place.now blocks.now)) }
+{
+    match ty {
+        TypeTree::Int { .. }
+        | TypeTree::Bool { .. }
+        | TypeTree::Char { .. }
+        | TypeTree::Enum { .. }
+        | TypeTree::CapMachine { .. } => Ok(()),
+        TypeTree::Str { length, .. } => maybe_expr(length, place, blocks, notes),
+        TypeTree::Rec { fields, .. } => {
+            let mut scope = Table::new(alloc);
+            declare_formals(alloc, fields.as_slice(), &mut scope, notes)?;
+            formals(alloc, fields.as_slice(), place, blocks, notes)
+        }
+        TypeTree::CapOf { name, .. } => qualified_name(name, place, blocks, notes),
+        TypeTree::CapOperation {
+            signature: written,
+            ..
+        } => { signature(alloc, written, place, blocks, notes) }
+        TypeTree::Array {
+            dims: bounds,
+            item,
+            ..
+        } => {
+            dims(bounds, place, blocks, notes)?;
+            type_tree(alloc, item.get(), place, blocks, notes)
+        }
+        TypeTree::Named { name, .. } => qualified_name(name, place, blocks, notes),
+    }
+}
+
+/// Notes what is found in the bounds and types of formals or fields.
+#[cycle(types)]
+pub fn formals(
+    alloc: Global,
+    formals: &[Formal],
+    place: &Place,
+    blocks: &Blocks,
+    notes: &mut Notes,
+) -> Result<(), NoMemory>
+    ensures { OnOk result (notes.new ≡ all_noted notes.old (formals_found (map formal_read formals.now) place.now blocks.now)) }
+{
+    for formal in formals {
+        decls(formal.decls.as_slice(), place, blocks, notes)?;
+        type_tree(alloc, &formal.ty, place, blocks, notes)?;
+    }
+    Ok(())
+}
+
+#[cycle(types)]
+fn maybe_returned(
+    alloc: Global,
+    maybe: &Option<Returned>,
+    place: &Place,
+    blocks: &Blocks,
+    notes: &mut Notes,
+) -> Result<(), NoMemory>
+    ensures { OnOk result (notes.new ≡ all_noted notes.old (maybe_found (option_map returned_read maybe.now) place.now blocks.now)) }
+{
+    match maybe {
+        Some(returned) => {
+            maybe_dims(&returned.decl.dims, place, blocks, notes)?;
+            type_tree(alloc, returned.ty.get(), place, blocks, notes)
+        }
+        None => Ok(()),
+    }
+}
+
+/// Notes what is found in a signature, and which names it declares twice.
+#[cycle(types)]
+pub fn signature(
+    alloc: Global,
+    signature: &Signature,
+    place: &Place,
+    blocks: &Blocks,
+    notes: &mut Notes,
+) -> Result<(), NoMemory>
+    ensures { OnOk result (notes.new ≡ all_noted notes.old (signed_found (signature_read signature.now) place.now blocks.now)) }
+{
+    let mut scope = Table::new(alloc);
+    declare_signature(alloc, signature, &mut scope, notes)?;
+    formals(alloc, signature.formals.as_slice(), place, blocks, notes)?;
+    maybe_returned(alloc, &signature.returned, place, blocks, notes)
+}
+
+/// Notes what is found in a type, where one is written.
+pub fn maybe_type(
+    alloc: Global,
+    maybe: &Option<TypeTree>,
+    place: &Place,
+    blocks: &Blocks,
+    notes: &mut Notes,
+) -> Result<(), NoMemory>
+    ensures { OnOk result (notes.new ≡ all_noted notes.old (maybe_type_found maybe.now place.now blocks.now)) }
+{
+    match maybe {
+        Some(ty) => type_tree(alloc, ty, place, blocks, notes),
+        None => Ok(()),
+    }
+}
