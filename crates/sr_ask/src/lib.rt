@@ -1,0 +1,17 @@
+//! What a process of an SR program asks of the machine that runs it, what the machine answers, and the
+//! items that a run is made of.
+#![tactic(auto)]
+
+mod answer;
+mod ask;
+mod entry;
+mod item;
+mod request;
+mod start;
+
+pub use answer::Answer;
+pub use ask::{Ask, Asks, Role};
+pub use entry::{Entry, Seen};
+pub use item::Item;
+pub use request::{ReadKind, Request};
+pub use start::Start;
