@@ -5,6 +5,7 @@
 mod answer;
 mod ask;
 mod entry;
+mod environment;
 mod item;
 mod request;
 mod start;
@@ -12,6 +13,7 @@ mod start;
 pub use answer::Answer;
 pub use ask::{Ask, Asks, Role};
 pub use entry::{Entry, Seen};
+pub use environment::{Gives, Located, Out, Own, Service, Spot};
 pub use item::Item;
 pub use request::{ReadKind, Request};
 pub use start::Start;
