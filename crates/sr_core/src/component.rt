@@ -10,6 +10,14 @@ pub enum Kind {
     Global,
 }
 
+/// What a process runs from its beginning to its end.
+#[derive(Debug, Drop)]
+pub struct Body {
+    /// How many own variables it has, its formals among them. They are numbered from 0.
+    pub owns: u32,
+    pub block: Row<Statement>,
+}
+
 /// A resource or a global.
 #[derive(Debug, Drop)]
 pub struct Component {
@@ -23,8 +31,8 @@ pub struct Component {
     pub imports: Row<u32>,
     /// The globals that it imports directly or through globals, each after those that it imports.
     pub needs: Row<u32>,
-    pub initial: Row<Statement>,
-    pub final_code: Option<Row<Statement>>,
+    pub initial: Body,
+    pub final_code: Option<Body>,
 }
 
 /// A formal of an operation's signature.
@@ -58,7 +66,7 @@ pub struct Proc {
     pub op: u32,
     pub formals: Row<Formal>,
     pub returned: Option<Returned>,
-    pub body: Row<Statement>,
+    pub body: Body,
 }
 
 /// A program. Main is the last component.

@@ -13,7 +13,7 @@ mod owner;
 mod site;
 mod statement;
 
-pub use component::{Component, Core, Kind, Operation, Parameter, Proc};
+pub use component::{Body, Component, Core, Kind, Operation, Parameter, Proc};
 pub use expression::{Argument, Expr, Function, Leaf, Part, PlaceExpr, Readable, Reading, Step};
 pub use formal::{Formal, FormalShape, Mode, Returned};
 pub use owner::{Classes, Home, Me, Root, Whose};
