@@ -34,7 +34,8 @@ pub enum Function {
     HighBound2,
     Length,
     Pred,
-    Succ,
+    /// `succ(x)`; an enumeration has so many literals.
+    Succ { literals: u32 },
     /// `int(x)`.
     ToInt,
     /// `char(i)`.
