@@ -42,11 +42,11 @@ number (Number n) = Some n
 number _ = None
 
 -- `Number` as an answer to `Age`, which isn't below 0
-abbrev pub as_moment : ℤ → Option ℕ
-as_moment (pos n) = Some n
+abbrev pub as_moment : ℤ → Option ℤ
+as_moment (pos n) = Some (pos n)
 as_moment (negsuc n) = None
 
-abbrev pub moment : Answer → Option ℕ
+abbrev pub moment : Answer → Option ℤ
 moment (Number n) = as_moment n
 moment _ = None
 

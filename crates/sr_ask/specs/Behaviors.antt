@@ -61,7 +61,7 @@ abbrev pub heard : {A : Type 0} → (Answer → Option A) → Asks → ℕ → L
 heard takes asks limit [] stage = Stops asks
 heard takes asks limit (answer ∷ answers) stage =
     hear (takes answer) (record stage { ticks = limit; answers = answers })
-        (heard takes asks limit answers (record stage { answers = answers }))
+    (heard takes asks limit answers (record stage { answers = answers }))
 
 -- a process that asks, where it may begin `limit` statements between two answers
 abbrev pub asking : {A : Type 0} → (Answer → Option A) → Asks → ℕ → Doing A

@@ -271,7 +271,7 @@ with_operation core op test = if_there (slice_get core.operations op) where
 abbrev pub arm_ok : Core → Operation → Arm → Bool
 arm_ok core first arm =
     with_operation core arm.op (λ operation. (not (is_there operation.proc) && one_owner first operation)
-        && (names_formals arm.formals operation.parameters && same_there arm.returned operation.returns))
+    && (names_formals arm.formals operation.parameters && same_there arm.returned operation.returns))
     && (if_some is_quiet arm.guard && if_some is_quiet arm.by)
 
 -- all operations of an `in` have one owner
@@ -287,7 +287,7 @@ proc_is number (Some proc) = proc == number
 abbrev pub proc_ok : Core → ℕ → Proc → Bool
 proc_ok core number proc =
     with_operation core proc.op (λ operation. proc_is number operation.proc
-        && (names_formals proc.formals operation.parameters && same_there proc.returned operation.returns))
+    && (names_formals proc.formals operation.parameters && same_there proc.returned operation.returns))
 
 abbrev pub operation_ok : Core → Operation → Bool
 operation_ok core operation = nat_lt operation.component (length core.components) && if_some (λ proc. nat_lt proc (length core.procs)) operation.proc

@@ -14,17 +14,22 @@ use Rattle.sr_value.specs.declared.value.Value.TheVariants.{Int, Bool as truth_v
 use Rattle.sr_value.specs.Operators.{value_of, value_of_one}
 use Rattle.sr_value.specs.Shapes.{default_value}
 use Rattle.sr_parts.specs.Parts.{part_of}
-use Rattle.sr_ask.specs.Asking.{made, number, ready, moment, took, read_item, Item, Read_value, Not_of_kind, No_more}
+use Rattle.sr_ask.specs.Asking.{made, number, ready, moment, took, read_item}
 use Rattle.sr_ask.specs.Behaviors.{Doing, give, ◌>>=◌}
+use Rattle.sr_ask.specs.declared.forms.InputItem.{InputItem}
+use Rattle.sr_ask.specs.declared.forms.InputItem.TheVariants.{Value as read_value, NotOfKind, NoMore}
 use Rattle.sr_ask.specs.declared.environment.Located.{Located}
 use Rattle.sr_ask.specs.declared.request.ReadKind.{ReadKind}
 use Rattle.sr_ask.specs.declared.request.ReadKind.TheVariants.{Int as read_int, Bool as read_bool, Char as read_char, Str as read_str}
 use Rattle.sr_ask.specs.declared.request.Request.TheVariants.{Invoke, Take, Count, Read as read_request, EnsureGlobal, Create as create_request, MakeVm, Age}
 use Rattle.sr_core.specs.declared.component.Core.{Core}
-use Rattle.sr_core.specs.declared.expression.Argument.TheFolds.{fold-Expr, fold-Argument, fold-PlaceExpr}
+use Rattle.sr_core.specs.declared.expression.Argument.TheFolds.{fold-Expr, fold-Argument, fold-Part, fold-PlaceExpr, fold-Reading, fold-Step}
 use Rattle.sr_core.specs.declared.expression.Argument.TheOpen.{Argument-F, Expr-F, Part-F, Step-F, PlaceExpr-F, Reading-F}
 use Rattle.sr_core.specs.declared.expression.Argument.{Argument}
 use Rattle.sr_core.specs.declared.expression.Expr.{Expr}
+use Rattle.sr_core.specs.declared.expression.Part.{Part}
+use Rattle.sr_core.specs.declared.expression.Reading.{Reading}
+use Rattle.sr_core.specs.declared.expression.Step.{Step}
 use Rattle.sr_core.specs.declared.expression.PlaceExpr.{PlaceExpr}
 use Rattle.sr_core.specs.declared.expression.Leaf.{Leaf}
 use Rattle.sr_core.specs.declared.expression.Leaf.TheVariants.{Constant, Operation, MyResource, MyMachine, Count as count_of_op, MakeMachine, Moment}
@@ -32,20 +37,13 @@ use Rattle.sr_core.specs.declared.expression.Readable.{Readable}
 use Rattle.sr_core.specs.declared.expression.Readable.TheVariants.{Int as an_int, Bool as a_bool, Char as a_char, Str as a_str}
 use Rattle.sr_core.specs.declared.owner.Whose.{Whose}
 use Rattle.sr_core.specs.declared.owner.Whose.TheVariants.{Mine, Imported, Process}
+use Rattle.sr_meaning.specs.declared.evaluated.Aim.{Aim}
+use Rattle.sr_meaning.specs.declared.evaluated.Piece.{Piece}
+use Rattle.sr_meaning.specs.declared.evaluated.Sent.{Sent}
 use Rattle.sr_meaning.specs.Applied.{applied}
 use Rattle.sr_meaning.specs.Here.{Here, request, settle}
 use Rattle.sr_meaning.specs.Places.{spot_of, load_place, store_place, store_results}
-use Rattle.sr_meaning.specs.Values.{Piece, truth_of, number_of, cap_of, nothing, member_of, count_of, array_of}
-
--- What an argument sends, where it sends something, and the place that its result goes to.
-pub record Sent : Type 0 where
-  pub value : Option Value
-  pub back : Option Located
-
--- A place that `read` reads into, and what it is read as.
-pub record Aim : Type 0 where
-  pub kind : ReadKind
-  pub place : Located
+use Rattle.sr_meaning.specs.Values.{truth_of, number_of, cap_of, nothing, member_of, count_of, array_of}
 
 -- what each kind of part of an expression means
 abbrev pub Meaning : Type 0 → Type 0
@@ -75,7 +73,7 @@ leaf_meaning MyResource here = give (Capa (a_resource here.start.instance))
 leaf_meaning MyMachine here = give (Capa (Vm here.start.vm))
 leaf_meaning (count_of_op op) here = request number (Count op) here >>= λ n. give (Int n)
 leaf_meaning MakeMachine here = request made MakeVm here >>= λ name. give (Capa (Vm name))
-leaf_meaning Moment here = request moment Age here >>= λ now. give (Int (pos now))
+leaf_meaning Moment here = request moment Age here >>= λ now. give (Int now)
 
 -- ---- invocations
 
@@ -151,10 +149,10 @@ abbrev pub at_end : ℕ → ℤ
 at_end zero = negsuc 0
 at_end (suc n) = pos (suc n)
 
-abbrev pub read_next : ℕ → Aim → Meaning Value → Item → Meaning Value
-read_next count aim next (Read_value value) here = store_place aim.place value here >>= λ _. next here
-read_next count aim next Not_of_kind here = give (Int (pos count))
-read_next count aim next No_more here = give (Int (at_end count))
+abbrev pub read_next : ℕ → Aim → Meaning Value → InputItem → Meaning Value
+read_next count aim next (read_value value) here = store_place aim.place value here >>= λ _. next here
+read_next count aim next NotOfKind here = give (Int (pos count))
+read_next count aim next NoMore here = give (Int (at_end count))
 
 -- items are read and stored one after another, up to the first that isn't there or doesn't fit
 abbrev pub read_all : ℕ → List Aim → Meaning Value
@@ -224,3 +222,13 @@ place_of_expr = fold-PlaceExpr (Meaning Sent) (Meaning Value) (Meaning Piece) (M
 -- what an argument asks, and what it sends
 abbrev pub argument_of : Argument → Meaning Sent
 argument_of = fold-Argument (Meaning Sent) (Meaning Value) (Meaning Piece) (Meaning Sel) (Meaning Located) (Meaning Aim) argument_meaning node_meaning part_meaning step_meaning place_meaning reading_meaning
+
+-- the same of one step of a place, of one part of a bracketed list, and of one place of a `read`
+abbrev pub step_of_expr : Step → Meaning Sel
+step_of_expr = fold-Step (Meaning Sent) (Meaning Value) (Meaning Piece) (Meaning Sel) (Meaning Located) (Meaning Aim) argument_meaning node_meaning part_meaning step_meaning place_meaning reading_meaning
+
+abbrev pub part_of_expr : Part → Meaning Piece
+part_of_expr = fold-Part (Meaning Sent) (Meaning Value) (Meaning Piece) (Meaning Sel) (Meaning Located) (Meaning Aim) argument_meaning node_meaning part_meaning step_meaning place_meaning reading_meaning
+
+abbrev pub reading_of : Reading → Meaning Aim
+reading_of = fold-Reading (Meaning Sent) (Meaning Value) (Meaning Piece) (Meaning Sel) (Meaning Located) (Meaning Aim) argument_meaning node_meaning part_meaning step_meaning place_meaning reading_meaning

@@ -41,9 +41,10 @@ use Rattle.sr_core.specs.declared.owner.Whose.TheVariants.{Mine, Imported, Proce
 use Rattle.sr_core.specs.declared.site.Arm.{Arm}
 use Rattle.sr_core.specs.declared.site.Named.{Named}
 use Rattle.sr_core.specs.declared.site.Named.TheVariants.{Own as named_own, Home as named_home, Machine as named_machine}
+use Rattle.sr_meaning.specs.declared.evaluated.Piece.{Piece}
 use Rattle.sr_meaning.specs.Applied.{applied}
 use Rattle.sr_meaning.specs.Statements.{sent_to, sent_behind}
-use Rattle.sr_meaning.specs.Values.{Piece, truth_of, number_of, cap_of, member_of, count_of, array_of, formal_shape, int_bound}
+use Rattle.sr_meaning.specs.Values.{truth_of, number_of, cap_of, member_of, count_of, array_of, formal_shape, int_bound}
 
 -- What a guard reads: the names of the enumerations' literals, the process, the values of the names that it
 -- may use, and the shared variables and the counts of pending invocations.

@@ -17,10 +17,13 @@ use Rattle.sr_value.specs.Operands.{int_in}
 use Rattle.sr_value.specs.Operators.{value_of}
 use Rattle.sr_value.specs.Shapes.{default_value}
 use Rattle.sr_parts.specs.Parts.{with_ok}
-use Rattle.sr_ask.specs.Asking.{none_takes, done, made, moment, selected, Selection, Service_of, Otherwise, Pick, when}
+use Rattle.sr_ask.specs.Asking.{none_takes, done, made, moment, selected}
 use Rattle.sr_ask.specs.Behaviors.{Stage, Doing, Came, give, ◌>>=◌, ◌>>◌, tick, looped}
 use Rattle.sr_ask.specs.declared.answer.Answer.{Answer}
 use Rattle.sr_ask.specs.declared.answer.Answer.TheVariants.{Took}
+use Rattle.sr_ask.specs.declared.forms.Pick.{Pick}
+use Rattle.sr_ask.specs.declared.forms.Selection.{Selection}
+use Rattle.sr_ask.specs.declared.forms.Selection.TheVariants.{Service as a_service, Otherwise}
 use Rattle.sr_ask.specs.declared.environment.Gives.{Gives}
 use Rattle.sr_ask.specs.declared.environment.Gives.TheVariants.{Values, Instance}
 use Rattle.sr_ask.specs.declared.environment.Located.{Located}
@@ -62,7 +65,8 @@ use Rattle.sr_core.specs.declared.statement.Statement.TheFolds.{fold-Statement}
 use Rattle.sr_core.specs.declared.statement.Statement.TheOpen.{CoArm-F, Guarded-F, Statement-F}
 use Rattle.sr_meaning.specs.declared.ending.Ending.{Ending}
 use Rattle.sr_meaning.specs.declared.ending.Ending.TheVariants.{Through, Left, Turned, Returned as returned}
-use Rattle.sr_meaning.specs.Expressions.{Meaning, Sent, in_order, choice, expr_meaning, place_of_expr, argument_of, values_sent, places_back, give_back, taken}
+use Rattle.sr_meaning.specs.declared.evaluated.Sent.{Sent}
+use Rattle.sr_meaning.specs.Expressions.{Meaning, in_order, choice, expr_meaning, place_of_expr, argument_of, values_sent, places_back, give_back, taken}
 use Rattle.sr_meaning.specs.Here.{Here, at_line, request, settle, fail}
 use Rattle.sr_meaning.specs.Places.{own_at, declare_own, load_place, store_place}
 use Rattle.sr_meaning.specs.Values.{truth_of, number_of, cap_of, nothing, values_of, texts_of, written, bounded_by, formal_shape}
@@ -261,13 +265,17 @@ status_meaning None here = give (pos 0)
 status_meaning (Some expr) here = number_expr expr here
 
 -- a time below 0 is E6
-abbrev pub time_of : ℤ → Result ℕ Fault
-time_of (pos n) = Ok n
+abbrev pub time_of : ℤ → Result ℤ Fault
+time_of (pos n) = Ok (pos n)
 time_of (negsuc n) = Err Range
 
 -- a moment over 2147483647 is E1
-abbrev pub wake_at : ℕ → ℕ → Result ℕ Fault
-wake_at now time = if nat_le (now + time) 2147483647 then Ok (now + time) else Err Overflow
+abbrev pub as_until : ℤ → Result ℕ Fault
+as_until (pos n) = if nat_le n 2147483647 then Ok n else Err Overflow
+as_until (negsuc n) = Err Overflow
+
+abbrev pub wake_at : ℤ → ℤ → Result ℕ Fault
+wake_at now time = as_until (now +ℤ time)
 
 abbrev pub through : {A : Type 0} → Doing A → Doing Ending
 through doing = doing >>= λ _. give Through
@@ -411,7 +419,7 @@ service_meaning pick (Some arm) (Some block) here stage =
 service_meaning pick arm block here stage = give Through stage
 
 abbrev pub selection_meaning : Site → List (List (Meaning Ending)) → List (Meaning Ending) → Selection → Meaning Ending
-selection_meaning site blocks otherwise (Service_of pick) here = service_meaning pick (slice_get site.arms pick.arm) (slice_get blocks pick.arm) here
+selection_meaning site blocks otherwise (a_service pick) here = service_meaning pick (slice_get site.arms pick.arm) (slice_get blocks pick.arm) here
 selection_meaning site blocks otherwise Otherwise here = block_meaning otherwise here
 
 abbrev pub in_meaning : ℕ → List (List (Meaning Ending)) → List (Meaning Ending) → Meaning Ending

@@ -20,6 +20,7 @@ use Rattle.sr_value.specs.Operators.{is_int}
 use Rattle.sr_value.specs.Shapes.{extent}
 use Rattle.sr_value.specs.Texts.{value_text}
 use Rattle.sr_parts.specs.Parts.{or_fault, with_ok}
+use Rattle.sr_meaning.specs.declared.evaluated.Piece.{Piece}
 use Rattle.sr_core.specs.declared.formal.FormalShape.{FormalShape}
 use Rattle.sr_core.specs.declared.formal.FormalShape.TheVariants.{Fixed, Open, Open2}
 use Rattle.sr_core.specs.declared.statement.Direction.{Direction}
@@ -48,11 +49,6 @@ member_of op (a_resource instance) = Ok (Capa (Op (Inst instance) op))
 member_of op _ = Err Range
 
 -- ---- bracketed parts
-
--- One part of a bracketed list, and how often it stands there.
-pub record Piece : Type 0 where
-  pub count : ℕ
-  pub value : Value
 
 -- `[n] e` with n below 0 is E6
 abbrev pub count_of : ℤ → Result ℕ Fault

@@ -1,6 +1,6 @@
 ghost use Rattle.std.specs.Prelude.{◌≡◌, ℕ, Option, List};
 ghost use Rattle.sr_ask.specs.declared.answer.Answer.{Answer};
-ghost use Rattle.sr_ask.specs.Asking.{done, got, made, ready, number, moment};
+ghost use Rattle.sr_ask.specs.Asking.{done, got, made, ready, number, moment, as_moment, read_item, took};
 ghost use Rattle.sr_ask.specs.Behaviors.{asking};
 ghost use Rattle.sr_meaning.specs.Here.{request as ask_by};
 ghost use Rattle.sr_meaning.specs.Walkers.{Gave, Hears, Nexts, here_of, stage_of};
@@ -8,7 +8,7 @@ ghost use Rattle.sr_meaning.specs.Walkers.{Gave, Hears, Nexts, here_of, stage_of
 use crate::scene::Scene;
 use crate::stop::Stop;
 use crate::walker::Walker;
-use sr_ask::{Answer, Ask, Asks, Request};
+use sr_ask::{Answer, Ask, Asks, InputItem, Request, Taken};
 use sr_value::Value;
 
 /// A form of answer that a request takes.
@@ -93,12 +93,58 @@ impl Takes<i32> for IsNumber {
 /// `Number`, as a moment, which isn't below 0.
 pub struct IsMoment;
 
-impl Takes<u32> for IsMoment {
+impl Takes<i32> for IsMoment {
     ghost takes = { λ form. moment };
 
-    fn take(&self, answer: Answer) -> Option<u32> {
+    fn take(&self, answer: Answer) -> Option<i32> {
         match answer {
-            Answer::Number(number) => u32::try_from(number).ok(),
+            Answer::Number(number) => moment_of(number),
+            _ => None,
+        }
+    }
+}
+
+fn moment_of(number: i32) -> Option<i32>
+    ensures { result ≡ as_moment number }
+{
+    if number < 0 { None } else { Some(number) }
+}
+
+/// `Got`, `Bad` or `End`.
+pub struct IsItem;
+
+impl Takes<InputItem> for IsItem {
+    ghost takes = { λ form. read_item };
+
+    fn take(&self, answer: Answer) -> Option<InputItem> {
+        match answer {
+            Answer::Got(value) => Some(InputItem::Value(value)),
+            Answer::Bad => Some(InputItem::NotOfKind),
+            Answer::End => Some(InputItem::NoMore),
+            _ => None,
+        }
+    }
+}
+
+/// `Took`, of one invocation.
+pub struct IsReply {
+    pub id: u32,
+}
+
+impl Takes<Taken> for IsReply {
+    ghost use Rattle.std.specs.Prelude.{[], ◌∷◌};
+
+    ghost takes = { λ form. took (form.id ∷ []) };
+
+    fn take(&self, answer: Answer) -> Option<Taken> {
+        match answer {
+            Answer::Took { id, results } => {
+                if self.id == id {
+                    Some(Taken { id, results })
+                } else {
+                    None
+                }
+            }
             _ => None,
         }
     }
@@ -136,7 +182,12 @@ fn asked<T, F: Takes<T>>(walker: &mut Walker, form: &F, asks: Asks, limit: u32) 
 }
 
 /// Asks at the line of the statement, in the role of the process.
-pub fn ask<T, F: Takes<T>>(scene: &Scene, walker: &mut Walker, form: &F, request: Request) -> Result<T, Stop>
+pub fn ask<T, F: Takes<T>>(
+    scene: &Scene,
+    walker: &mut Walker,
+    form: &F,
+    request: Request,
+) -> Result<T, Stop>
     ensures { Gave (ask_by (F.takes form.now) request (here_of scene.now) (stage_of walker.old)) result (stage_of walker.new) }
 {
     let ask = Ask {
