@@ -1,4 +1,5 @@
-use sr_value::{Row, Sel, Shape, Value};
+use sr_value::{Duplicate, NoMemory, Row, Sel, Shape, Value};
+use std::alloc::Global;
 
 /// An own variable of a process: what it can hold, and what it holds.
 #[derive(Debug, Drop)]
@@ -57,4 +58,13 @@ pub struct Out {
     pub backs: Row<Located>,
     /// The values of the arm's quantifiers when it was made.
     pub turn: Row<i32>,
+}
+
+impl Duplicate for Located {
+    fn copy(&self, alloc: Global) -> Result<Located, NoMemory> {
+        Ok(Located {
+            spot: self.spot,
+            path: self.path.copy(alloc)?,
+        })
+    }
 }

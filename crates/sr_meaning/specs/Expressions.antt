@@ -1,6 +1,5 @@
 -- What an expression asks, and what it gives: of each node, from what its parts ask and give.
 use Rattle.std.specs.Prelude.{ℕ, zero, suc, ◌+◌, ℤ, pos, negsuc, Bool, true, false, List, [], ◌∷◌, Option, Some, None, unwrap_or, option_map, slice_get}
-use Rattle.std.specs.List.{filter_map}
 use Rattle.sr_value.specs.declared.capability.Cap.{Cap}
 use Rattle.sr_value.specs.declared.capability.Cap.TheVariants.{Null, Op, Res as a_resource, Vm}
 use Rattle.sr_value.specs.declared.capability.Owner.{Owner}
@@ -11,7 +10,7 @@ use Rattle.sr_value.specs.declared.shape.Sel.TheVariants.{At as at_one, At2 as a
 use Rattle.sr_value.specs.declared.shape.Shape.{Shape}
 use Rattle.sr_value.specs.declared.value.Value.{Value}
 use Rattle.sr_value.specs.declared.value.Value.TheVariants.{Int, Bool as truth_value, Capa}
-use Rattle.sr_value.specs.Operators.{value_of, value_of_one}
+use Rattle.sr_value.specs.Operators.{int_result, value_of, value_of_one}
 use Rattle.sr_value.specs.Shapes.{default_value}
 use Rattle.sr_parts.specs.Parts.{part_of}
 use Rattle.sr_ask.specs.Asking.{made, number, ready, moment, took, read_item}
@@ -77,12 +76,19 @@ leaf_meaning Moment here = request moment Age here >>= λ now. give (Int now)
 
 -- ---- invocations
 
--- a result goes to each `var` and `res` argument, and a value to each `val` and `var` formal
-abbrev pub values_sent : List Sent → List Value
-values_sent sent = filter_map (λ s. s.value) sent
+abbrev pub with_some : {A : Type 0} → Option A → List A → List A
+with_some None rest = rest
+with_some (Some a) rest = a ∷ rest
 
+-- a value is sent for each `val` and `var` formal
+abbrev pub values_sent : List Sent → List Value
+values_sent [] = []
+values_sent (sent ∷ rest) = with_some sent.value (values_sent rest)
+
+-- a result goes to the place of each `var` and `res` argument
 abbrev pub places_back : List Sent → List Located
-places_back sent = filter_map (λ s. s.back) sent
+places_back [] = []
+places_back (sent ∷ rest) = with_some sent.back (places_back rest)
 
 -- the value behind the results; an operation that returns nothing gives one that nobody uses
 abbrev pub value_behind : List Value → Value
@@ -145,18 +151,21 @@ kind_of a_char = read_char
 kind_of a_str = read_str
 
 -- the number of items read, or -1 where the input had ended before the first
-abbrev pub at_end : ℕ → ℤ
-at_end zero = negsuc 0
-at_end (suc n) = pos (suc n)
+abbrev pub number_read : ℕ → Meaning Value
+number_read count here = settle (int_result (pos count)) here
+
+abbrev pub at_end : ℕ → Meaning Value
+at_end zero here = give (Int (negsuc 0))
+at_end (suc n) here = number_read (suc n) here
 
 abbrev pub read_next : ℕ → Aim → Meaning Value → InputItem → Meaning Value
 read_next count aim next (read_value value) here = store_place aim.place value here >>= λ _. next here
-read_next count aim next NotOfKind here = give (Int (pos count))
-read_next count aim next NoMore here = give (Int (at_end count))
+read_next count aim next NotOfKind here = number_read count here
+read_next count aim next NoMore here = at_end count here
 
 -- items are read and stored one after another, up to the first that isn't there or doesn't fit
 abbrev pub read_all : ℕ → List Aim → Meaning Value
-read_all count [] here = give (Int (pos count))
+read_all count [] here = number_read count here
 read_all count (aim ∷ aims) here =
     request read_item (read_request aim.kind) here >>= λ item. read_next count aim (read_all (suc count) aims) item here
 

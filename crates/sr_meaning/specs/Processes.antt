@@ -34,7 +34,13 @@ proc_at core code = slice_get core.procs code
 abbrev pub component_of_proc : Core → Proc → ℕ
 component_of_proc core proc = unwrap_or (option_map (λ operation. operation.component) (slice_get core.operations proc.op)) 0
 
+-- main is the last component
+abbrev pub main_of : Core → ℕ
+main_of core = length core.components - 1
+
+-- the boot process makes main
 abbrev pub component_for : Role → Core → ℕ → ℕ
+component_for Boot core code = main_of core
 component_for proc_role core code = unwrap_or (option_map (component_of_proc core) (proc_at core code)) 0
 component_for role core code = code
 
@@ -90,10 +96,6 @@ beginning core start limit answers = record {
 -- the end of a process, which gives the present results
 abbrev pub finish : Meaning Ending
 finish here stage = request none_takes (Finish stage.service.answered stage.service.back (results_now here stage)) here stage
-
--- main is the last component
-abbrev pub main_of : Core → ℕ
-main_of core = length core.components - 1
 
 -- the boot process makes main's globals and main, and waits for it
 abbrev pub boot_meaning : Meaning (Unit {0})

@@ -71,11 +71,18 @@ row_of value = layer_row (out-Value value)
 abbrev pub from_one : ℕ → Result ℤ Fault
 from_one n = if nat_lt n 2147483648 then Ok (pos n) else Err Range
 
+-- how many parts there are
+abbrev pub count_all : List Piece → ℕ
+count_all [] = 0
+count_all (piece ∷ pieces) = piece.count + count_all pieces
+
+abbrev pub items_of : List Piece → List Value
+items_of [] = []
+items_of (piece ∷ pieces) = replicate piece.count piece.value ++ items_of pieces
+
 -- parts that aren't arrays: an array of one dimension, from 1
 abbrev pub line_of : List Piece → Result Value Fault
-line_of pieces =
-    with_ok (from_one (sum (map (λ piece. piece.count) pieces))) (λ hi.
-    Ok (Arr (One (pos 1) hi) (flat (map (λ piece. replicate piece.count piece.value) pieces))))
+line_of pieces = with_ok (from_one (count_all pieces)) (λ hi. Ok (Arr (One (pos 1) hi) (items_of pieces)))
 
 -- the rows of the parts, which must be of one length: E4 otherwise
 abbrev pub rows_of : ℕ → List Piece → Result (List Value) Fault
@@ -88,7 +95,7 @@ rows_of width (piece ∷ pieces) =
 abbrev pub table_of : List Value → List Piece → Result Value Fault
 table_of first pieces =
     with_ok (rows_of (length first) pieces) (λ items.
-    with_ok (from_one (sum (map (λ piece. piece.count) pieces))) (λ hi.
+    with_ok (from_one (count_all pieces)) (λ hi.
     with_ok (from_one (length first)) (λ hi2.
     Ok (Arr (Two (pos 1) hi (pos 1) hi2) items))))
 

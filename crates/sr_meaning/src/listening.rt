@@ -127,6 +127,7 @@ impl Takes<InputItem> for IsItem {
 }
 
 /// `Took`, of one invocation.
+#[derive(Clone, Copy)]
 pub struct IsReply {
     pub id: u32,
 }

@@ -1,6 +1,6 @@
 ghost use Rattle.std.specs.Prelude.{◌≡◌};
 ghost use Rattle.sr_ask.specs.Behaviors.{Came};
-ghost use Rattle.sr_parts.specs.Parts.{with_ok};
+ghost use Rattle.sr_parts.specs.Parts.{part_of, with_ok};
 ghost use Rattle.sr_meaning.specs.Here.{settle};
 ghost use Rattle.sr_meaning.specs.Places.{block_of, spot_of, own_at, own_after, own_load, own_store, load_place, store_place, declare_own};
 ghost use Rattle.sr_meaning.specs.Walkers.{Gave, here_of, stage_of};
@@ -12,7 +12,7 @@ use crate::stop::Stop;
 use crate::walker::Walker;
 use sr_ask::{Located, Own, Request, Spot};
 use sr_core::{Home, Root};
-use sr_parts::{loaded, stored};
+use sr_parts::{loaded, part_of, stored};
 use sr_value::{Duplicate, Fault, Row, Sel, Value, ValueFail};
 
 /// The instance whose shared variables are meant.
@@ -140,5 +140,16 @@ pub fn store(scene: &Scene, walker: &mut Walker, place: &Located, value: Value) 
             };
             ask(scene, walker, &IsDone, request)
         }
+    }
+}
+
+/// The part of a value that one step selects.
+pub fn part(scene: &Scene, walker: &Walker, value: &Value, step: Sel) -> Result<Value, Stop>
+    ensures { Gave (settle (part_of value.now step) (here_of scene.now) (stage_of walker.now)) result (stage_of walker.now) }
+{
+    match part_of(scene.alloc, value, step) {
+        Ok(part) => Ok(part),
+        Err(ValueFail::Fault(fault)) => failed(scene, walker, fault),
+        Err(ValueFail::NoMemory) => Err(Stop::NoMemory),
     }
 }

@@ -8,5 +8,8 @@ mod part;
 mod store;
 
 pub use fits::fitted;
-pub use load::loaded;
+pub use load::{loaded, part_of};
 pub use store::stored;
+
+#[cfg(test)]
+mod tests;

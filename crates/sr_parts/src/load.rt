@@ -1,6 +1,6 @@
 ghost use Rattle.std.specs.Prelude.{◌≡◌, drop};
 ghost use Rattle.sr_value.specs.Operators.{Answers};
-ghost use Rattle.sr_parts.specs.Parts.{loaded_at};
+ghost use Rattle.sr_parts.specs.Parts.{loaded_at, part_of};
 
 use crate::part::{Part, selected, step_at};
 use sr_value::{Duplicate, Fault, Sel, Value, ValueFail};
@@ -34,5 +34,16 @@ fn char_at_end(byte: u8, path: &[Sel], at: usize) -> Result<Value, ValueFail>
     match step_at(path, at) {
         None => Ok(Value::Char(byte)),
         Some(_) => Err(ValueFail::Fault(Fault::Index)),
+    }
+}
+
+/// A copy of the part of a value that one step selects; E3 where there is none.
+pub fn part_of(alloc: Global, value: &Value, step: Sel) -> Result<Value, ValueFail>
+    ensures { Answers result (part_of value.now step) }
+{
+    match selected(value, step) {
+        Some(Part::Whole(inner)) => Ok(inner.copy(alloc)?),
+        Some(Part::Byte(byte)) => Ok(Value::Char(byte)),
+        None => Err(ValueFail::Fault(Fault::Index)),
     }
 }
