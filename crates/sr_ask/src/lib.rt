@@ -5,6 +5,8 @@
 mod answer;
 mod ask;
 mod entry;
+mod environment;
+mod forms;
 mod item;
 mod request;
 mod start;
@@ -12,6 +14,8 @@ mod start;
 pub use answer::Answer;
 pub use ask::{Ask, Asks, Role};
 pub use entry::{Entry, Seen};
+pub use environment::{Gives, Located, Out, Own, Service, Spot};
+pub use forms::{InputItem, Pick, Selection, Taken};
 pub use item::Item;
 pub use request::{ReadKind, Request};
 pub use start::Start;

@@ -1,0 +1,2 @@
+pub mod Forever
+pub mod LawProofs

@@ -1,0 +1,243 @@
+-- What an expression asks, and what it gives: of each node, from what its parts ask and give.
+use Rattle.std.specs.Prelude.{ℕ, zero, suc, ◌+◌, ℤ, pos, negsuc, Bool, true, false, List, [], ◌∷◌, Option, Some, None, unwrap_or, option_map, slice_get}
+use Rattle.sr_value.specs.declared.capability.Cap.{Cap}
+use Rattle.sr_value.specs.declared.capability.Cap.TheVariants.{Null, Op, Res as a_resource, Vm}
+use Rattle.sr_value.specs.declared.capability.Owner.{Owner}
+use Rattle.sr_value.specs.declared.capability.Owner.TheVariants.{Inst, Proc as of_process}
+use Rattle.sr_value.specs.declared.operator.Operator.TheVariants.{And as both, Or as either}
+use Rattle.sr_value.specs.declared.shape.Sel.{Sel}
+use Rattle.sr_value.specs.declared.shape.Sel.TheVariants.{At as at_one, At2 as at_two, Field as at_field}
+use Rattle.sr_value.specs.declared.shape.Shape.{Shape}
+use Rattle.sr_value.specs.declared.value.Value.{Value}
+use Rattle.sr_value.specs.declared.value.Value.TheVariants.{Int, Bool as truth_value, Capa}
+use Rattle.sr_value.specs.Operators.{int_result, value_of, value_of_one}
+use Rattle.sr_value.specs.Shapes.{default_value}
+use Rattle.sr_parts.specs.Parts.{part_of}
+use Rattle.sr_ask.specs.Asking.{made, number, ready, moment, took, read_item}
+use Rattle.sr_ask.specs.Behaviors.{Doing, give, ◌>>=◌}
+use Rattle.sr_ask.specs.declared.forms.InputItem.{InputItem}
+use Rattle.sr_ask.specs.declared.forms.InputItem.TheVariants.{Value as read_value, NotOfKind, NoMore}
+use Rattle.sr_ask.specs.declared.environment.Located.{Located}
+use Rattle.sr_ask.specs.declared.request.ReadKind.{ReadKind}
+use Rattle.sr_ask.specs.declared.request.ReadKind.TheVariants.{Int as read_int, Bool as read_bool, Char as read_char, Str as read_str}
+use Rattle.sr_ask.specs.declared.request.Request.TheVariants.{Invoke, Take, Count, Read as read_request, EnsureGlobal, Create as create_request, MakeVm, Age}
+use Rattle.sr_core.specs.declared.component.Core.{Core}
+use Rattle.sr_core.specs.declared.expression.Argument.TheFolds.{fold-Expr, fold-Argument, fold-Part, fold-PlaceExpr, fold-Reading, fold-Step}
+use Rattle.sr_core.specs.declared.expression.Argument.TheOpen.{Argument-F, Expr-F, Part-F, Step-F, PlaceExpr-F, Reading-F}
+use Rattle.sr_core.specs.declared.expression.Argument.{Argument}
+use Rattle.sr_core.specs.declared.expression.Expr.{Expr}
+use Rattle.sr_core.specs.declared.expression.Part.{Part}
+use Rattle.sr_core.specs.declared.expression.Reading.{Reading}
+use Rattle.sr_core.specs.declared.expression.Step.{Step}
+use Rattle.sr_core.specs.declared.expression.PlaceExpr.{PlaceExpr}
+use Rattle.sr_core.specs.declared.expression.Leaf.{Leaf}
+use Rattle.sr_core.specs.declared.expression.Leaf.TheVariants.{Constant, Operation, MyResource, MyMachine, Count as count_of_op, MakeMachine, Moment}
+use Rattle.sr_core.specs.declared.expression.Readable.{Readable}
+use Rattle.sr_core.specs.declared.expression.Readable.TheVariants.{Int as an_int, Bool as a_bool, Char as a_char, Str as a_str}
+use Rattle.sr_core.specs.declared.owner.Whose.{Whose}
+use Rattle.sr_core.specs.declared.owner.Whose.TheVariants.{Mine, Imported, Process}
+use Rattle.sr_meaning.specs.declared.evaluated.Aim.{Aim}
+use Rattle.sr_meaning.specs.declared.evaluated.Piece.{Piece}
+use Rattle.sr_meaning.specs.declared.evaluated.Sent.{Sent}
+use Rattle.sr_meaning.specs.Applied.{applied}
+use Rattle.sr_meaning.specs.Here.{Here, request, settle}
+use Rattle.sr_meaning.specs.Places.{spot_of, load_place, store_place, store_results}
+use Rattle.sr_meaning.specs.Values.{truth_of, number_of, cap_of, nothing, member_of, count_of, array_of}
+
+-- what each kind of part of an expression means
+abbrev pub Meaning : Type 0 → Type 0
+Meaning A = Here → Doing A
+
+-- parts are evaluated from left to right
+abbrev pub in_order : {A : Type 0} → List (Meaning A) → Meaning (List A)
+in_order [] here = give []
+in_order (part ∷ parts) here = part here >>= λ first. in_order parts here >>= λ rest. give (first ∷ rest)
+
+abbrev pub choice : {A : Type 0} → Bool → Doing A → Doing A → Doing A
+choice true one other = one
+choice false one other = other
+
+-- ---- leaves
+
+-- an operation's capability names its owner
+abbrev pub owner_of : Whose → Here → Owner
+owner_of Mine here = Inst here.start.instance
+owner_of (Imported at) here = Inst (unwrap_or (slice_get here.start.homes at) 0)
+owner_of Process here = of_process here.start.process
+
+abbrev pub leaf_meaning : Leaf → Meaning Value
+leaf_meaning (Constant value) here = give value
+leaf_meaning (Operation whose op) here = give (Capa (Op (owner_of whose here) op))
+leaf_meaning MyResource here = give (Capa (a_resource here.start.instance))
+leaf_meaning MyMachine here = give (Capa (Vm here.start.vm))
+leaf_meaning (count_of_op op) here = request number (Count op) here >>= λ n. give (Int n)
+leaf_meaning MakeMachine here = request made MakeVm here >>= λ name. give (Capa (Vm name))
+leaf_meaning Moment here = request moment Age here >>= λ now. give (Int now)
+
+-- ---- invocations
+
+abbrev pub with_some : {A : Type 0} → Option A → List A → List A
+with_some None rest = rest
+with_some (Some a) rest = a ∷ rest
+
+-- a value is sent for each `val` and `var` formal
+abbrev pub values_sent : List Sent → List Value
+values_sent [] = []
+values_sent (sent ∷ rest) = with_some sent.value (values_sent rest)
+
+-- a result goes to the place of each `var` and `res` argument
+abbrev pub places_back : List Sent → List Located
+places_back [] = []
+places_back (sent ∷ rest) = with_some sent.back (places_back rest)
+
+-- the value behind the results; an operation that returns nothing gives one that nobody uses
+abbrev pub value_behind : List Value → Value
+value_behind [] = nothing
+value_behind (value ∷ rest) = value
+
+-- a call of `noop` gives the default of the returned type
+abbrev pub default_given : Option Shape → Meaning Value
+default_given None here = give nothing
+default_given (Some shape) here = settle (default_value shape) here
+
+-- after a reply the results are stored in the order of the formals; `noop` leaves the arguments as they are
+abbrev pub give_back : List Located → Option Shape → Option (List Value) → Meaning Value
+give_back places returns None here = default_given returns here
+give_back places returns (Some results) here = store_results places results here >>= λ rest. give (value_behind rest)
+
+-- the reply to one invocation
+abbrev pub taken : ℕ → Meaning (Option (List Value))
+taken id here = request (took (id ∷ [])) (Take (id ∷ [])) here >>= λ reply. give reply.results
+
+-- the target, then the arguments, the invocation, its reply, and then the stores
+abbrev pub called : Meaning Value → List (Meaning Sent) → Option Shape → Meaning Value
+called target args returns here =
+    target here >>= λ operation. settle (cap_of operation) here >>= λ cap.
+    in_order args here >>= λ sent.
+    request made (Invoke cap (values_sent sent) true) here >>= λ id.
+    taken id here >>= λ reply.
+    give_back (places_back sent) returns reply here
+
+-- ---- create
+
+-- each global is asked for until it is ready
+abbrev pub ensured : List ℕ → Cap → Meaning (Unit {0})
+ensured [] vm here = give tt
+ensured (global ∷ globals) vm here = request ready (EnsureGlobal global vm) here >>= λ _. ensured globals vm here
+
+-- the globals that a component needs, each after those that it imports
+abbrev pub needs_of : Core → ℕ → List ℕ
+needs_of core component = unwrap_or (option_map (λ c. c.needs) (slice_get core.components component)) []
+
+-- a new instance answers with its capability
+abbrev pub instance_in : Option (List Value) → Value
+instance_in None = Capa Null
+instance_in (Some []) = Capa Null
+instance_in (Some (value ∷ rest)) = value
+
+abbrev pub created : ℕ → List Value → Cap → Meaning Value
+created resource args vm here =
+    ensured (needs_of here.core resource) vm here >>= λ _.
+    request made (create_request resource args vm) here >>= λ name.
+    taken name here >>= λ reply.
+    give (instance_in reply)
+
+-- ---- read
+
+abbrev pub kind_of : Readable → ReadKind
+kind_of an_int = read_int
+kind_of a_bool = read_bool
+kind_of a_char = read_char
+kind_of a_str = read_str
+
+-- the number of items read, or -1 where the input had ended before the first
+abbrev pub number_read : ℕ → Meaning Value
+number_read count here = settle (int_result (pos count)) here
+
+abbrev pub at_end : ℕ → Meaning Value
+at_end zero here = give (Int (negsuc 0))
+at_end (suc n) here = number_read (suc n) here
+
+abbrev pub read_next : ℕ → Aim → Meaning Value → InputItem → Meaning Value
+read_next count aim next (read_value value) here = store_place aim.place value here >>= λ _. next here
+read_next count aim next NotOfKind here = number_read count here
+read_next count aim next NoMore here = at_end count here
+
+-- items are read and stored one after another, up to the first that isn't there or doesn't fit
+abbrev pub read_all : ℕ → List Aim → Meaning Value
+read_all count [] here = number_read count here
+read_all count (aim ∷ aims) here =
+    request read_item (read_request aim.kind) here >>= λ item. read_next count aim (read_all (suc count) aims) item here
+
+-- ---- nodes
+
+-- `and` doesn't evaluate the right side after false, nor `or` after true
+abbrev pub node_meaning : Expr-F (Meaning Sent) (Meaning Value) (Meaning Piece) (Meaning Sel) (Meaning Located) (Meaning Aim) → Meaning Value
+node_meaning (Expr-F.Leaf leaf) here = leaf_meaning leaf here
+node_meaning (Expr-F.Load place) here = place here >>= λ at. load_place at here
+node_meaning (Expr-F.Unary op operand) here = operand here >>= λ x. settle (value_of_one op x) here
+node_meaning (Expr-F.Binary op left right) here = left here >>= λ x. right here >>= λ y. settle (value_of op x y) here
+node_meaning (Expr-F.And left right) here =
+    left here >>= λ x. settle (truth_of x) here >>= λ truth.
+    choice truth (right here >>= λ y. settle (value_of both x y) here) (give (truth_value false))
+node_meaning (Expr-F.Or left right) here =
+    left here >>= λ x. settle (truth_of x) here >>= λ truth.
+    choice truth (give (truth_value true)) (right here >>= λ y. settle (value_of either x y) here)
+node_meaning (Expr-F.Apply function args) here = in_order args here >>= λ values. settle (applied here.core.names function values) here
+node_meaning (Expr-F.Array parts) here = in_order parts here >>= λ pieces. settle (array_of pieces) here
+node_meaning (Expr-F.Of whole step) here = whole here >>= λ value. step here >>= λ sel. settle (part_of value sel) here
+node_meaning (Expr-F.Member of op) here = of here >>= λ value. settle (cap_of value) here >>= λ cap. settle (member_of op cap) here
+node_meaning (Expr-F.Call target args returns) here = called target args returns here
+node_meaning (Expr-F.Create resource args machine) here =
+    in_order args here >>= λ values. machine here >>= λ value. settle (cap_of value) here >>= λ vm. created resource values vm here
+node_meaning (Expr-F.Read readings) here = in_order readings here >>= λ aims. read_all 0 aims here
+
+-- the indices of a place are evaluated once
+abbrev pub place_meaning : PlaceExpr-F (Meaning Sent) (Meaning Value) (Meaning Piece) (Meaning Sel) (Meaning Located) (Meaning Aim) → Meaning Located
+place_meaning place here = in_order place.path here >>= λ path. give (record { spot = spot_of place.root here; path = path })
+
+abbrev pub step_meaning : Step-F (Meaning Sent) (Meaning Value) (Meaning Piece) (Meaning Sel) (Meaning Located) (Meaning Aim) → Meaning Sel
+step_meaning (Step-F.At index) here = index here >>= λ x. settle (number_of x) here >>= λ i. give (at_one i)
+step_meaning (Step-F.At2 row column) here =
+    row here >>= λ x. settle (number_of x) here >>= λ i. column here >>= λ y. settle (number_of y) here >>= λ j. give (at_two i j)
+step_meaning (Step-F.Field field) here = give (at_field field)
+
+-- `[n] e`: the count and then the value, once
+abbrev pub part_meaning : Part-F (Meaning Sent) (Meaning Value) (Meaning Piece) (Meaning Sel) (Meaning Located) (Meaning Aim) → Meaning Piece
+part_meaning (Part-F.One value) here = value here >>= λ x. give (record { count = 1; value = x })
+part_meaning (Part-F.Repeated count value) here =
+    count here >>= λ n. settle (number_of n) here >>= λ number.
+    value here >>= λ x. settle (count_of number) here >>= λ times. give (record { count = times; value = x })
+
+-- a `var` argument sends what its place holds; a `res` argument sends nothing
+abbrev pub argument_meaning : Argument-F (Meaning Sent) (Meaning Value) (Meaning Piece) (Meaning Sel) (Meaning Located) (Meaning Aim) → Meaning Sent
+argument_meaning (Argument-F.Val value) here = value here >>= λ x. give (record { value = Some x; back = None })
+argument_meaning (Argument-F.Var place) here = place here >>= λ at. load_place at here >>= λ x. give (record { value = Some x; back = Some at })
+argument_meaning (Argument-F.Res place) here = place here >>= λ at. give (record { value = None; back = Some at })
+
+abbrev pub reading_meaning : Reading-F (Meaning Sent) (Meaning Value) (Meaning Piece) (Meaning Sel) (Meaning Located) (Meaning Aim) → Meaning Aim
+reading_meaning reading here = reading.place here >>= λ at. give (record { kind = kind_of reading.kind; place = at })
+
+-- ---- trees
+
+-- what an expression asks and gives
+abbrev pub expr_meaning : Expr → Meaning Value
+expr_meaning = fold-Expr (Meaning Sent) (Meaning Value) (Meaning Piece) (Meaning Sel) (Meaning Located) (Meaning Aim) argument_meaning node_meaning part_meaning step_meaning place_meaning reading_meaning
+
+-- what a place asks, and the place
+abbrev pub place_of_expr : PlaceExpr → Meaning Located
+place_of_expr = fold-PlaceExpr (Meaning Sent) (Meaning Value) (Meaning Piece) (Meaning Sel) (Meaning Located) (Meaning Aim) argument_meaning node_meaning part_meaning step_meaning place_meaning reading_meaning
+
+-- what an argument asks, and what it sends
+abbrev pub argument_of : Argument → Meaning Sent
+argument_of = fold-Argument (Meaning Sent) (Meaning Value) (Meaning Piece) (Meaning Sel) (Meaning Located) (Meaning Aim) argument_meaning node_meaning part_meaning step_meaning place_meaning reading_meaning
+
+-- the same of one step of a place, of one part of a bracketed list, and of one place of a `read`
+abbrev pub step_of_expr : Step → Meaning Sel
+step_of_expr = fold-Step (Meaning Sent) (Meaning Value) (Meaning Piece) (Meaning Sel) (Meaning Located) (Meaning Aim) argument_meaning node_meaning part_meaning step_meaning place_meaning reading_meaning
+
+abbrev pub part_of_expr : Part → Meaning Piece
+part_of_expr = fold-Part (Meaning Sent) (Meaning Value) (Meaning Piece) (Meaning Sel) (Meaning Located) (Meaning Aim) argument_meaning node_meaning part_meaning step_meaning place_meaning reading_meaning
+
+abbrev pub reading_of : Reading → Meaning Aim
+reading_of = fold-Reading (Meaning Sent) (Meaning Value) (Meaning Piece) (Meaning Sel) (Meaning Located) (Meaning Aim) argument_meaning node_meaning part_meaning step_meaning place_meaning reading_meaning

@@ -1,0 +1,10 @@
+pub mod Applied
+pub mod Expressions
+pub mod Guards
+pub mod Here
+pub mod Laws
+pub mod Places
+pub mod Processes
+pub mod Statements
+pub mod Values
+pub mod Walkers

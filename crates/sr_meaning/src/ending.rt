@@ -1,0 +1,12 @@
+/// How a statement ends.
+#[derive(Clone, Copy, Debug, PartialEq, Eq)]
+pub enum Ending {
+    /// What follows it comes next.
+    Through,
+    /// `exit` leaves the innermost `do`, `fa` or `co`.
+    Left,
+    /// `next` begins the next turn of the innermost `do`, `fa` or `co`.
+    Turned,
+    /// `return` ends the innermost service, or the proc, initial code or final code.
+    Returned,
+}
