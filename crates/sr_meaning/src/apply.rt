@@ -27,7 +27,12 @@ fn without_memory(outcome: Result<Value, Fault>) -> Result<Value, ValueFail>
 }
 
 /// The value of a predefined function of one argument; E6 for any other function.
-fn of_one(alloc: Global, names: &EnumNames, function: Function, x: &Value) -> Result<Value, ValueFail>
+fn of_one(
+    alloc: Global,
+    names: &EnumNames,
+    function: Function,
+    x: &Value,
+) -> Result<Value, ValueFail>
     requires { function ≢ Function.Record }
     ensures { Answers result (applied names.now function (x.now ∷ [])) }
 {
@@ -63,7 +68,12 @@ fn of_two(names: &EnumNames, function: Function, x: &Value, y: &Value) -> Result
 }
 
 /// The value of a predefined function but for the making of a record.
-fn of_values(alloc: Global, names: &EnumNames, function: Function, args: &[Value]) -> Result<Value, ValueFail>
+fn of_values(
+    alloc: Global,
+    names: &EnumNames,
+    function: Function,
+    args: &[Value],
+) -> Result<Value, ValueFail>
     requires { function ≢ Function.Record }
     ensures { Answers result (applied names.now function args.now) }
 {
@@ -75,7 +85,12 @@ fn of_values(alloc: Global, names: &EnumNames, function: Function, args: &[Value
 }
 
 /// The value of a predefined function, or its fault.
-pub fn apply(scene: &Scene, walker: &Walker, function: Function, args: Row<Value>) -> Result<Value, Stop>
+pub fn apply(
+    scene: &Scene,
+    walker: &Walker,
+    function: Function,
+    args: Row<Value>,
+) -> Result<Value, Stop>
     ensures { Gave (settle (applied scene.now.core.now.names function args) (here_of scene.now) (stage_of walker.now)) result (stage_of walker.now) }
 {
     match function {

@@ -51,7 +51,13 @@ fn value_behind(mut left: Row<Value>) -> Value
 }
 
 /// Stores the results of a reply, and gives the value.
-pub fn give_back(scene: &Scene, walker: &mut Walker, places: &[Located], returns: &Option<Shape>, reply: &Option<Row<Value>>) -> Result<Value, Stop>
+pub fn give_back(
+    scene: &Scene,
+    walker: &mut Walker,
+    places: &[Located],
+    returns: &Option<Shape>,
+    reply: &Option<Row<Value>>,
+) -> Result<Value, Stop>
     ensures { Gave (give_back places.now returns.now reply.now (here_of scene.now) (stage_of walker.old)) result (stage_of walker.new) }
 {
     match reply {
@@ -64,7 +70,13 @@ pub fn give_back(scene: &Scene, walker: &mut Walker, places: &[Located], returns
 }
 
 /// A call whose target and arguments are there.
-pub fn call(scene: &Scene, walker: &mut Walker, target: Cap, sent: &Row<Sent>, returns: &Option<Shape>) -> Result<Value, Stop>
+pub fn call(
+    scene: &Scene,
+    walker: &mut Walker,
+    target: Cap,
+    sent: &Row<Sent>,
+    returns: &Option<Shape>,
+) -> Result<Value, Stop>
     ensures { Gave (after_arguments target sent.now returns.now (here_of scene.now) (stage_of walker.old)) result (stage_of walker.new) }
 {
     let places = places_in(scene.alloc, sent.as_slice())?;

@@ -16,7 +16,15 @@ pub fn ensure(scene: &Scene, walker: &mut Walker, globals: &[u32], vm: Cap) -> R
     ensures { Gave (ensured globals.now vm (here_of scene.now) (stage_of walker.old)) result (stage_of walker.new) }
 {
     for global in globals {
-        ask(scene, walker, &IsReady, Request::EnsureGlobal { global: *global, vm })?;
+        ask(
+            scene,
+            walker,
+            &IsReady,
+            Request::EnsureGlobal {
+                global: *global,
+                vm,
+            },
+        )?;
     }
     Ok(())
 }
@@ -48,7 +56,13 @@ fn instance_in(reply: Option<Row<Value>>) -> Value
 }
 
 /// Makes an instance, and waits for its reply.
-pub fn create(scene: &Scene, walker: &mut Walker, resource: u32, args: Row<Value>, vm: Cap) -> Result<Value, Stop>
+pub fn create(
+    scene: &Scene,
+    walker: &mut Walker,
+    resource: u32,
+    args: Row<Value>,
+    vm: Cap,
+) -> Result<Value, Stop>
     ensures { Gave (created resource args vm (here_of scene.now) (stage_of walker.old)) result (stage_of walker.new) }
 {
     ensure(scene, walker, needs(scene.core, resource), vm)?;

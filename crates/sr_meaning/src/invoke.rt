@@ -3,7 +3,6 @@ ghost use Rattle.sr_meaning.specs.Expressions.{default_given, taken};
 ghost use Rattle.sr_meaning.specs.Places.{store_results};
 ghost use Rattle.sr_meaning.specs.Walkers.{Gave, here_of, stage_of};
 
-
 use crate::listening::{IsReply, ask};
 use crate::places::store;
 use crate::scene::Scene;
@@ -39,7 +38,13 @@ pub fn default_value(scene: &Scene, walker: &Walker, returns: &Option<Shape>) ->
 }
 
 /// Stores results in their places, in order, from one on. Hands out copies of the results that are left.
-pub fn store_from(scene: &Scene, walker: &mut Walker, places: &[Located], results: &[Value], at: usize) -> Result<Row<Value>, Stop>
+pub fn store_from(
+    scene: &Scene,
+    walker: &mut Walker,
+    places: &[Located],
+    results: &[Value],
+    at: usize,
+) -> Result<Row<Value>, Stop>
     ensures { Gave (store_results (drop at places.now) (drop at results.now) (here_of scene.now) (stage_of walker.old)) result (stage_of walker.new) }
 {
     match places.get(at) {
@@ -64,7 +69,12 @@ fn left_from(scene: &Scene, results: &[Value], at: usize) -> Result<Row<Value>, 
 }
 
 /// Copies of the results from one on, behind others.
-fn copy_from(alloc: Global, left: &mut Row<Value>, results: &[Value], at: usize) -> Result<(), NoMemory>
+fn copy_from(
+    alloc: Global,
+    left: &mut Row<Value>,
+    results: &[Value],
+    at: usize,
+) -> Result<(), NoMemory>
     ensures { OnOk result (left.new ≡ left.old ++ drop at results.now) }
 {
     match results.get(at) {

@@ -27,8 +27,22 @@ fn items_are_stored_and_loaded(rt: HostRuntime) -> Result<(), Fail> {
     assert!(rt; loaded(alloc, &new, &[Sel::At(2)])?.same(&Value::Int(7)));
     assert!(rt; loaded(alloc, &new, &[Sel::At(3)])?.same(&Value::Int(0)));
     assert!(rt; is_fault(loaded(alloc, &new, &[Sel::At(4)]), Fault::Index));
-    assert!(rt; is_fault(stored(alloc, &shape, &old, &[Sel::At(0)], &Value::Int(7)), Fault::Index));
-    assert!(rt; is_fault(fitted(alloc, &Shape::Str { most: 2 }, &Value::Str(Text::from_slice(alloc, b"abc")?)), Fault::StringLength));
+    assert!(rt;
+        is_fault(
+            stored(alloc, &shape, &old, &[Sel::At(0)], &Value::Int(7)),
+            Fault::Index
+        )
+    );
+    assert!(rt;
+        is_fault(
+            fitted(
+                alloc,
+                &Shape::Str { most: 2 },
+                &Value::Str(Text::from_slice(alloc, b"abc")?)
+            ),
+            Fault::StringLength
+        )
+    );
     let short = Value::Arr {
         dims: Dims::One { lo: 1, hi: 0 },
         items: Row::new(alloc),
