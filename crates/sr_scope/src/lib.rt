@@ -13,8 +13,6 @@ mod names;
 mod procs;
 mod program;
 mod statements;
-#[cfg(test)]
-mod tests;
 mod types;
 
 pub use program::{Names, resolve};
