@@ -1,0 +1,9 @@
+pub mod ExpressionLaws
+pub mod ExpressionPieces
+pub mod ExpressionsLocal
+pub mod TokensLocal
+pub mod TokensWhole
+pub mod Quiet
+pub mod Yields
+pub mod ExpressionsWhole
+pub mod Extends

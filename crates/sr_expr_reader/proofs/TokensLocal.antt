@@ -1,0 +1,99 @@
+-- What the readers of single tokens read.
+use Rattle.std.proofs.Common.{◌≡◌, refl, sym, ◌∙◌, ap, subst, Bool, true, false, List, [], ◌∷◌, Option, Some, None}
+use Rattle.std.specs.Prelude.{if◌then◌else◌, option_map}
+use denote.Enum.Bare.{same_true}
+use Rattle.sr_reader.specs.Reader.{one}
+use Rattle.sr_reader.proofs.Locality.{Local, IsOne, is_one, one-local, weaker}
+use Rattle.sr_value.specs.declared.place.Span.{Span}
+use Rattle.sr_tree.specs.contracts.token.Sign as signs
+use Rattle.sr_tree.specs.contracts.token.Word as words
+use Rattle.sr_tree.specs.declared.expr.BinaryOperator.{BinaryOperator}
+use Rattle.sr_tree.specs.declared.expr.Conversion.{Conversion}
+use Rattle.sr_tree.specs.declared.expr.Literal.{Literal}
+use Rattle.sr_tree.specs.declared.expr.UnaryOperator.{UnaryOperator}
+use Rattle.sr_tree.specs.declared.name.Name.{Name}
+use Rattle.sr_tree.specs.declared.token.Sign.{Sign}
+use Rattle.sr_tree.specs.declared.token.Token.{Token}
+use Rattle.sr_tree.specs.declared.token.TokenKind.{TokenKind}
+use Rattle.sr_tree.specs.declared.token.TokenKind.TheVariants as kind
+use Rattle.sr_tree.specs.declared.token.Word.{Word}
+use Rattle.sr_tree.specs.Tables.{IsSign, IsWord, IsName, name_of, literal_of, conversion_of, unary_of, binary_of}
+use Rattle.sr_tree.specs.Tests.{is_sign, is_word, is_name}
+use Rattle.sr_expr_reader.specs.Readers.{unary_at, literal_at, conversion_at}
+use Rattle.sr_expr_reader.specs.Tokens.{sign_at, word_at, name_at}
+
+pub kind_of_sign : (s : Sign) (k : TokenKind) → is_sign s k ≡ true → k ≡ kind.Sign s
+kind_of_sign s (kind.Sign found) e = ap kind.Sign (same_true signs.the_type tt found s e)
+kind_of_sign s _ e = cc
+
+pub kind_of_word : (w : Word) (k : TokenKind) → is_word w k ≡ true → k ≡ kind.Word w
+kind_of_word w (kind.Word found) e = ap kind.Word (same_true words.the_type tt found w e)
+kind_of_word w _ e = cc
+
+pub kind_of_name : (k : TokenKind) → is_name k ≡ true → k ≡ kind.Name
+kind_of_name kind.Name e = refl
+kind_of_name _ e = cc
+
+pub data ASign (s : Sign) : Span → List Token → Type 0 where
+  a_sign : (t : Token) → IsSign s t → ASign s t.span (t ∷ [])
+
+pub data AWord (w : Word) : Span → List Token → Type 0 where
+  a_word : (t : Token) → IsWord w t → AWord w t.span (t ∷ [])
+
+pub data AName : Name → List Token → Type 0 where
+  a_name : (t : Token) → IsName t → AName (name_of t) (t ∷ [])
+
+pub none_some : {A : Type 0} (a : A) → None ≡ Some a → ⊥
+none_some a e = cc
+
+pub some_some : {A : Type 0} (x a : A) → Some x ≡ Some a → x ≡ a
+some_some x a e = cc
+
+-- what a test lets pass
+passed : {A : Type 0} (P : A → Type 0) (b : Bool) (x a : A) → (b ≡ true → P x) → (if b then Some x else None) ≡ Some a → P a
+passed P true x a h e = subst P (some_some x a e) (h refl)
+passed P false x a h e = absurd (none_some a e)
+
+pub sign-local : (s : Sign) → Local (ASign s) (sign_at s)
+unfolding sign_at
+sign-local s = weaker found (one-local _)
+  where
+    found : (a : Span) (u : List Token) → IsOne (λ t. if is_sign s t.kind then Some t.span else None) a u → ASign s a u
+    found a u (is_one t e) = passed (λ x. ASign s x (t ∷ [])) (is_sign s t.kind) t.span a (λ h. a_sign t (kind_of_sign s t.kind h)) e
+
+pub word-local : (w : Word) → Local (AWord w) (word_at w)
+unfolding word_at
+word-local w = weaker found (one-local _)
+  where
+    found : (a : Span) (u : List Token) → IsOne (λ t. if is_word w t.kind then Some t.span else None) a u → AWord w a u
+    found a u (is_one t e) = passed (λ x. AWord w x (t ∷ [])) (is_word w t.kind) t.span a (λ h. a_word t (kind_of_word w t.kind h)) e
+
+pub name-local : Local AName name_at
+unfolding name_at
+name-local = weaker found (one-local _)
+  where
+    found : (a : Name) (u : List Token) → IsOne (λ t. if is_name t.kind then Some (name_of t) else None) a u → AName a u
+    found a u (is_one t e) = passed (λ x. AName x (t ∷ [])) (is_name t.kind) (name_of t) a (λ h. a_name t (kind_of_name t.kind h)) e
+
+-- a token with its span
+pub data Spanned {A : Type 0} (meaning : Token → Option A) : Span × A → List Token → Type 0 where
+  spanned : (t : Token) (a : A) → meaning t ≡ Some a → Spanned meaning (t.span, a) (t ∷ [])
+
+spanned_from : {A : Type 0} (meaning : Token → Option A) (a : Span × A) (u : List Token) → IsOne (λ t. option_map (λ x. (t.span, x)) (meaning t)) a u → Spanned meaning a u
+spanned_from {A = A} meaning a u (is_one t e) = go (meaning t) refl e
+  where
+    go : (m : Option A) → meaning t ≡ m → option_map (λ x. (t.span, x)) m ≡ Some a → Spanned meaning a (t ∷ [])
+    go (Some x) h e = subst (λ y. Spanned meaning y (t ∷ [])) (some_some (t.span, x) a e) (spanned t x h)
+    go None h e = absurd (none_some a e)
+
+pub unary-local : Local (Spanned (λ t. unary_of t.kind)) unary_at
+unfolding unary_at
+unary-local = weaker (spanned_from (λ t. unary_of t.kind)) (one-local _)
+
+pub literal-local : Local (Spanned (λ t. literal_of t.kind t.text)) literal_at
+unfolding literal_at
+literal-local = weaker (spanned_from (λ t. literal_of t.kind t.text)) (one-local _)
+
+pub conversion-local : Local (Spanned (λ t. conversion_of t.kind)) conversion_at
+unfolding conversion_at
+conversion-local = weaker (spanned_from (λ t. conversion_of t.kind)) (one-local _)

@@ -1,0 +1,26 @@
+ghost use Rattle.std.specs.Prelude.{◌≡◌, ℕ, ◌-◌, ◌<◌, ◌≤◌, suc, List, length, Ok, Err};
+ghost use Rattle.sr_reader.specs.Pieces.{IsLongest, IsDead};
+ghost use Rattle.sr_tree.specs.declared.expr.Expr.{Expr};
+ghost use Rattle.sr_tree.specs.declared.token.Token.{Token};
+ghost use Rattle.sr_tree.specs.Expressions.{SpellsExpr};
+ghost use Rattle.sr_expr_reader.specs.Readers.{readers, operand_at};
+
+/// A law of the grammar: one list of tokens has at most one expression.
+pub fn one_expression()
+    ensures { (a b : Expr) (u : List Token) → SpellsExpr 5 a u → SpellsExpr 5 b u → a ≡ b }
+{}
+
+/// A law of the readers, where they have enough turns: what is read is the longest piece from the front that spells
+/// an expression; where reading fails, there is no longest piece, and unless the place is behind the last token no
+/// list with an expression begins with the tokens up to and with the place.
+pub fn reads_longest()
+    ensures longest { (s : List Token) (a : Expr) (q : List Token)
+        → ((k : ℕ) → length s ≤ k → operand_at (readers k) 5 s ≡ Ok (a, q))
+        → IsLongest (SpellsExpr 5) s a (length s - length q) }
+    ensures none { (s : List Token) (left : ℕ)
+        → ((k : ℕ) → length s ≤ k → operand_at (readers k) 5 s ≡ Err left)
+        → (a : Expr) (count : ℕ) → IsLongest (SpellsExpr 5) s a count → ⊥ }
+    ensures dead { (s : List Token) (left : ℕ)
+        → ((k : ℕ) → length s ≤ k → operand_at (readers k) 5 s ≡ Err left) → 0 < left
+        → IsDead (SpellsExpr 5) s (suc (length s - left)) }
+{}
