@@ -50,6 +50,10 @@ pub longest : (s : List Token) (a : Expr) (q : List Token) → ((k : ℕ) → le
 unfolding reading
 longest s a q reads = laws.longest (SpellsExpr 5) reading local whole s a q reads
 
+pub within : (s : List Token) (left : ℕ) → ((k : ℕ) → length s ≤ k → operand_at (readers k) 5 s ≡ Err left) → left ≤ length s
+unfolding reading
+within s left reads = laws.within (SpellsExpr 5) reading local whole s left reads
+
 pub dead : (s : List Token) (left : ℕ) → ((k : ℕ) → length s ≤ k → operand_at (readers k) 5 s ≡ Err left) → 0 < left → IsDead (SpellsExpr 5) s (suc (length s - left))
 unfolding reading
 dead s left reads h = laws.dead (SpellsExpr 5) reading local whole s left reads h

@@ -87,6 +87,13 @@ module _ {T A : Type 0} (Spells : A → List T → Type 0) (f : ℕ → Reader T
           let again : f k w ≡ Ok (a, t ∷ g.more) = ap (λ x. f k (x ++ t ∷ g.more)) (front-is s o.front q o.splits) ∙ o.again (t ∷ g.more) (sym (ap first e)) in
           differ-in-rest g.tree a t g.more (sym (whole g.tree w g.spelled k (omega arith)) ∙ again)
 
+  -- it stops within the list
+  pub within : (s : List T) (left : ℕ) → ((k : ℕ) → length s ≤ k → f k s ≡ Err left) → left ≤ length s
+  within s left reads =
+      let o = stopped-at s left (length s) (reads (length s) (omega arith)) in
+      let c : length s ≡ length o.front + length o.rest = ap length o.splits ∙ length-append o.front o.rest in
+      omega (arith, c, o.count)
+
   -- where it stops, nothing that has a tree goes on
   pub dead : (s : List T) (left : ℕ) → ((k : ℕ) → length s ≤ k → f k s ≡ Err left) → 0 < left → IsDead Spells s (suc (length s - left))
   dead s left reads h tree more d = go (o.rest) refl

@@ -17,3 +17,7 @@ pub record IsLongest {T A : Type 0} (Spells : A → List T → Type 0) (s : List
 -- no list that has a tree begins with the first symbols, so many
 abbrev pub IsDead : {T A : Type 0} → (A → List T → Type 0) → List T → ℕ → Type 0
 IsDead Spells s count = (tree : _) (more : List _) → Spells tree (take count s ++ more) → ⊥
+
+-- one list has at most one tree
+abbrev pub HasOneTree : {T A : Type 0} → (A → List T → Type 0) → Type 0
+HasOneTree Spells = (a b : _) (u : List _) → Spells a u → Spells b u → a ≡ b

@@ -1,0 +1,37 @@
+-- Loops over tokens, as readers give them.
+use Rattle.std.proofs.Common.{◌≡◌, refl, sym, ◌∙◌, ap, ℕ, ◌<◌, ◌≤◌, Bool, true, false, List, length, Result, Ok, Err, arith}
+use Rattle.sr_reader.specs.Reader.{Reader, next_is, while}
+use Rattle.sr_reader.proofs.Loops.{while-stop, while-fail, while-go}
+use Rattle.sr_tree.specs.declared.token.Token.{Token}
+use Rattle.sr_expr_reader.specs.Readers.{Readers, readers}
+use Rattle.sr_expr_reader.proofs.Yields.{steps-readers}
+use Rattle.sr_parse_expr.specs.Gives.{Gives}
+use Rattle.sr_parse_expr.specs.Reads.{ReadsUpTo}
+use Rattle.sr_parse_expr.specs.declared.reading.ReadFail.{ReadFail}
+use Rattle.sr_parse_expr.specs.declared.reading.ReadFail.TheVariants as fail
+
+-- what a loop gives from here is what it gives from the start
+abbrev pub LeadsOn : {A : Type 0} → (A → Token → Bool) → (Readers → A → Reader Token A) → A → List Token → A → List Token → Type 0
+LeadsOn test step a s b q = (k : ℕ) → length s ≤ k → (n : ℕ) × (length q ≤ n) × (while test (step (readers k)) k a s ≡ while test (step (readers k)) n b q)
+
+module _ {X A : Type 0} (view : X → A × List Token) (test : A → Token → Bool) (step : Readers → A → Reader Token A) (a : A) (s : List Token) (b : A) (q : List Token)
+    (leads : LeadsOn test step a s b q) (shorter : length q ≤ length s) where
+  pub leads-step : (x : X) → next_is (test b) q ≡ true → ReadsUpTo view q (Ok x) (λ r. step r b) → length (view x).1 < length q
+      → LeadsOn test step a s (view x).0 (view x).1
+  leads-step x e reads lt k h =
+      let l = leads k h in
+      let w = while-go test (step (readers k)) l.0 b (view x).0 q (view x).1 l.1 e (reads k (omega (arith, h, shorter))) lt in
+      (w.0, w.1, l.2 ∙ w.2)
+
+  pub leads-fail : (e : ReadFail) → next_is (test b) q ≡ true → ReadsUpTo view q (Err e) (λ r. step r b) → ReadsUpTo view s (Err e) (λ r. while test (step r) r.steps a)
+  leads-fail (fail.Unexpected left) e reads k h =
+      let l = leads k h in
+      ap (λ n. while test (step (readers k)) n a s) (steps-readers k)
+      ∙ l.2 ∙ while-fail test (step (readers k)) l.0 b q left l.1 e (reads k (omega (arith, h, shorter)))
+  leads-fail fail.NoMemory e reads k h = tt
+
+  pub leads-end : (x : X) → view x ≡ (b, q) → next_is (test b) q ≡ false → ReadsUpTo view s (Ok x) (λ r. while test (step r) r.steps a)
+  leads-end x v e k h =
+      let l = leads k h in
+      ap (λ n. while test (step (readers k)) n a s) (steps-readers k)
+      ∙ l.2 ∙ while-stop test (step (readers k)) l.0 b q e ∙ ap Ok (sym v)

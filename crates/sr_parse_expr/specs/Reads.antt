@@ -1,0 +1,13 @@
+-- What a function of the parser promises: its answer is that of a reader, for every bound that suffices.
+use Rattle.std.specs.Prelude.{ℕ, ◌<◌, ◌≤◌, List, Result, length}
+use Rattle.sr_reader.specs.Reader.{Reader}
+use Rattle.sr_tree.specs.declared.token.Token.{Token}
+use Rattle.sr_parse_expr.specs.declared.reading.ReadFail.{ReadFail}
+use Rattle.sr_parse_expr.specs.Gives.{Gives}
+use Rattle.sr_expr_reader.specs.Readers.{Readers, readers}
+
+abbrev pub ReadsUpTo : {X A : Type 0} → (X → A × List Token) → List Token → Result X ReadFail → (Readers → Reader Token A) → Type 0
+ReadsUpTo view s result read = (k : ℕ) → length s ≤ k → Gives view result (read (readers k) s)
+
+abbrev pub ReadsBelow : {X A : Type 0} → (X → A × List Token) → List Token → Result X ReadFail → (Readers → Reader Token A) → Type 0
+ReadsBelow view s result read = (k : ℕ) → length s < k → Gives view result (read (readers k) s)

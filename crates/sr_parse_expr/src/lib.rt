@@ -1,0 +1,13 @@
+//! Reads expressions and types from tokens.
+#![tactic(auto)]
+
+mod expression;
+mod operators;
+mod parse;
+mod pieces;
+mod reading;
+
+pub use parse::{one_tree, parse_expr};
+
+#[cfg(test)]
+mod tests;

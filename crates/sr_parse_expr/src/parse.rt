@@ -1,0 +1,56 @@
+ghost use Rattle.std.specs.Prelude.{◌≡◌, ℕ, ◌+◌, ◌<◌, ◌^◌, length, drop, IfOk, IfErr};
+ghost use Rattle.sr_parse_expr.specs.Refused.{HasNoTree, IsRefusedIn, refusal_of};
+ghost use Rattle.sr_reader.specs.Pieces.{HasOneTree, IsLongest};
+ghost use Rattle.sr_tree.specs.Expressions.{SpellsExpr};
+
+use crate::expression::{LOOSEST, operand};
+use crate::reading::ReadFail;
+use sr_text::{FrontFail, Kind, Refusal};
+use sr_tree::{Expr, Token, Tokens};
+use sr_value::Place;
+use std::alloc::Global;
+
+/// Reads an expression from the token `at`, and gives its tree and the place behind it: the longest piece of the
+/// tokens that spells one, where no longer piece is the beginning of a list that does.
+///
+/// Refused as `Syntax` exactly where there is no such piece. Unless the place is that of the last token, no list of
+/// tokens with a tree begins with the tokens from `at` up to that place and with it.
+pub fn parse_expr(alloc: Global, tokens: &Tokens, at: u32) -> Result<(Expr, u32), FrontFail>
+    requires within { at < length tokens.now.items }
+    requires few { length tokens.now.items < 2 ^ 32 }
+    ensures front { IfOk result (λ x. (count : ℕ) × (x.1 ≡ at + count) × IsLongest (SpellsExpr 5) (drop at tokens.now.items) x.0 count) }
+    ensures none { IfErr result (λ e. HasNoTree (SpellsExpr 5) (drop at tokens.now.items) e) }
+    ensures dead { IfErr result (λ e. IsRefusedIn (SpellsExpr 5) tokens.now.items at e) }
+{
+    let items = tokens.items.as_slice();
+    match operand(alloc, LOOSEST, &items[at as usize..]) {
+        Ok((expr, rest)) => Ok((expr, (items.len() - rest.len()) as u32)),
+        Err(fail) => Err(refused(items, fail)),
+    }
+}
+
+/// One list of tokens spells at most one expression.
+pub fn one_tree()
+    ensures { HasOneTree (SpellsExpr 5) }
+{}
+
+/// The refusal at the token where nothing fits, or at the last one where the tokens end too early.
+fn refused(items: &[Token], fail: ReadFail) -> FrontFail
+    requires { 0 < length items.now }
+    ensures { result ≡ refusal_of items.now fail }
+{
+    match fail {
+        ReadFail::Unexpected { left } => {
+            let place = items.len().saturating_sub(left.max(1));
+            let span = items[place].span;
+            FrontFail::Refused(Refusal {
+                kind: Kind::Syntax,
+                place: Place {
+                    file: span.file,
+                    line: span.line,
+                },
+            })
+        }
+        ReadFail::NoMemory => FrontFail::NoMemory,
+    }
+}
