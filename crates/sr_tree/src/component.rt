@@ -5,13 +5,13 @@ use crate::types::{Formal, Signature};
 use sr_value::{Row, Span};
 
 /// The components of a source file in order.
-#[derive(Debug, Drop)]
+#[derive(Drop)]
 pub struct File {
     pub components: Row<Component>,
 }
 
 /// A resource or a global. Each `span` is that of the first token.
-#[derive(Debug, Drop)]
+#[derive(Drop)]
 pub enum Component {
     /// `resource name formals items end`
     Resource {
@@ -38,7 +38,7 @@ pub enum Component {
 }
 
 /// What may stand in a spec.
-#[derive(Debug, Drop)]
+#[derive(Drop)]
 pub enum SpecItem {
     Import(Import),
     Const(ConstDecl),
@@ -50,7 +50,7 @@ pub enum SpecItem {
 }
 
 /// What may stand in a component outside its spec.
-#[derive(Debug, Drop)]
+#[derive(Drop)]
 pub enum Item {
     Spec(SpecItem),
     Proc(Proc),
@@ -61,7 +61,7 @@ pub enum Item {
 }
 
 /// `proc name(formals) returns returned block end`
-#[derive(Debug, Drop)]
+#[derive(Drop)]
 pub struct Proc {
     pub span: Span,
     pub name: Name,
@@ -71,7 +71,7 @@ pub struct Proc {
 }
 
 /// `procedure name signature block end`
-#[derive(Debug, Drop)]
+#[derive(Drop)]
 pub struct Procedure {
     pub span: Span,
     pub name: Name,
@@ -80,7 +80,7 @@ pub struct Procedure {
 }
 
 /// `process name(quantifiers) block end`
-#[derive(Debug, Drop)]
+#[derive(Drop)]
 pub struct Process {
     pub span: Span,
     pub name: Name,
@@ -90,14 +90,14 @@ pub struct Process {
 }
 
 /// `final block end`
-#[derive(Debug, Drop)]
+#[derive(Drop)]
 pub struct FinalCode {
     pub span: Span,
     pub block: Row<ProcItem>,
 }
 
 /// What may stand in the block of a proc, procedure or process, and in final code.
-#[derive(Debug, Drop)]
+#[derive(Drop)]
 pub enum ProcItem {
     Const(ConstDecl),
     Var(VarDecl),

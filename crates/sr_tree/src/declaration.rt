@@ -4,14 +4,14 @@ use crate::types::{Decl, Signature, TypeTree};
 use sr_value::{Row, Span};
 
 /// `import names`
-#[derive(Debug, Drop)]
+#[derive(Drop)]
 pub struct Import {
     pub span: Span,
     pub names: Row<Name>,
 }
 
 /// `const name : ty := value`
-#[derive(Debug, Drop)]
+#[derive(Drop)]
 pub struct ConstDecl {
     pub span: Span,
     pub name: Name,
@@ -20,7 +20,7 @@ pub struct ConstDecl {
 }
 
 /// `type name = ty`
-#[derive(Debug, Drop)]
+#[derive(Drop)]
 pub struct TypeDecl {
     pub span: Span,
     pub name: Name,
@@ -28,7 +28,7 @@ pub struct TypeDecl {
 }
 
 /// `optype name = signature`
-#[derive(Debug, Drop)]
+#[derive(Drop)]
 pub struct OpTypeDecl {
     pub span: Span,
     pub name: Name,
@@ -36,14 +36,14 @@ pub struct OpTypeDecl {
 }
 
 /// `op items`
-#[derive(Debug, Drop)]
+#[derive(Drop)]
 pub struct OpDecl {
     pub span: Span,
     pub items: Row<OpItem>,
 }
 
 /// An operation that is declared.
-#[derive(Debug, Drop)]
+#[derive(Drop)]
 pub enum OpItem {
     /// `name signature`
     Signed {
@@ -60,7 +60,7 @@ pub enum OpItem {
 }
 
 /// `var decls : ty := values`
-#[derive(Debug, Drop)]
+#[derive(Drop)]
 pub struct VarDecl {
     pub span: Span,
     pub decls: Row<Decl>,
@@ -70,14 +70,14 @@ pub struct VarDecl {
 }
 
 /// `sem semaphores`
-#[derive(Debug, Drop)]
+#[derive(Drop)]
 pub struct SemDecl {
     pub span: Span,
     pub semaphores: Row<Semaphore>,
 }
 
 /// A semaphore with the value that it begins with, where one is written: `name := value`.
-#[derive(Debug, Drop)]
+#[derive(Drop)]
 pub struct Semaphore {
     pub span: Span,
     pub name: Name,

@@ -2,7 +2,7 @@ use crate::name::{Name, QualifiedName};
 use sr_value::{Boxed, Row, Span, Text};
 
 /// A literal. Numbers, characters and strings keep the bytes of their token.
-#[derive(Debug, Drop)]
+#[derive(Drop)]
 pub enum Literal {
     Number(Text),
     Char(Text),
@@ -62,7 +62,7 @@ pub enum BinaryOperator {
 }
 
 /// An expression. Each `span` is that of the first token.
-#[derive(Debug, Drop)]
+#[derive(Drop)]
 #[cycle(expressions)]
 pub enum Expr {
     Literal {
@@ -124,7 +124,7 @@ pub enum Expr {
 }
 
 /// A part of an array in brackets, which may be repeated: `value` or `[count] value`.
-#[derive(Debug, Drop)]
+#[derive(Drop)]
 #[cycle(expressions)]
 pub struct Part {
     pub span: Span,
@@ -133,7 +133,7 @@ pub struct Part {
 }
 
 /// `callee(arguments)`
-#[derive(Debug, Drop)]
+#[derive(Drop)]
 #[cycle(expressions)]
 pub struct Invocation {
     pub span: Span,
@@ -142,7 +142,7 @@ pub struct Invocation {
 }
 
 /// The making of an instance or of a machine.
-#[derive(Debug, Drop)]
+#[derive(Drop)]
 #[cycle(expressions)]
 pub enum Create {
     /// `create resource(arguments) on machine`

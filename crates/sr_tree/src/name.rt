@@ -1,14 +1,14 @@
 use sr_value::{Span, Text};
 
 /// A name where it stands.
-#[derive(Debug, Drop)]
+#[derive(Drop)]
 pub struct Name {
     pub text: Text,
     pub span: Span,
 }
 
 /// A name, or a name of a component and one of its spec: `name` or `component.name`.
-#[derive(Debug, Drop)]
+#[derive(Drop)]
 pub struct QualifiedName {
     pub span: Span,
     pub first: Name,

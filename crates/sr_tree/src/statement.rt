@@ -11,7 +11,7 @@ pub enum Direction {
 }
 
 /// `name := first to last by step st such_that`
-#[derive(Debug, Drop)]
+#[derive(Drop)]
 pub struct Quantifier {
     pub span: Span,
     pub name: Name,
@@ -30,7 +30,7 @@ pub enum ConditionWord {
 }
 
 /// The condition of an arm: `and condition` or `st condition`.
-#[derive(Debug, Drop)]
+#[derive(Drop)]
 pub struct ArmCondition {
     pub span: Span,
     pub word: ConditionWord,
@@ -38,7 +38,7 @@ pub struct ArmCondition {
 }
 
 /// A statement. Each `span` is that of the first token.
-#[derive(Debug, Drop)]
+#[derive(Drop)]
 #[cycle(statements)]
 pub enum Statement {
     Skip {
@@ -143,7 +143,7 @@ pub enum Statement {
 }
 
 /// What may stand in a block.
-#[derive(Debug, Drop)]
+#[derive(Drop)]
 #[cycle(statements)]
 pub enum BlockItem {
     Const(ConstDecl),
@@ -152,7 +152,7 @@ pub enum BlockItem {
 }
 
 /// A branch of `if` or `do`: `guard -> block`.
-#[derive(Debug, Drop)]
+#[derive(Drop)]
 #[cycle(statements)]
 pub struct Branch {
     pub span: Span,
@@ -161,7 +161,7 @@ pub struct Branch {
 }
 
 /// An arm of `in`: `operation(formals) returns returned and condition by order -> block`.
-#[derive(Debug, Drop)]
+#[derive(Drop)]
 #[cycle(statements)]
 pub struct Arm {
     pub span: Span,
@@ -174,7 +174,7 @@ pub struct Arm {
 }
 
 /// An arm of `co`: `(quantifiers) target := call invocation -> block`.
-#[derive(Debug, Drop)]
+#[derive(Drop)]
 #[cycle(statements)]
 pub struct CoArm {
     pub span: Span,

@@ -158,7 +158,7 @@ pub enum TokenKind {
 }
 
 /// A token of a file: what it is, its bytes as the file has them, and where they stand.
-#[derive(Debug, Drop)]
+#[derive(Drop)]
 pub struct Token {
     pub kind: TokenKind,
     pub text: Text,
@@ -166,7 +166,7 @@ pub struct Token {
 }
 
 /// The tokens of a file in order.
-#[derive(Debug, Drop)]
+#[derive(Drop)]
 pub struct Tokens {
     pub items: Row<Token>,
 }

@@ -3,7 +3,7 @@ use crate::name::{Name, QualifiedName};
 use sr_value::{Boxed, Row, Span};
 
 /// The bounds of one dimension.
-#[derive(Debug, Drop)]
+#[derive(Drop)]
 pub enum RangeTree {
     /// `[length]`, from 1.
     Length { span: Span, length: Expr },
@@ -16,7 +16,7 @@ pub enum RangeTree {
 }
 
 /// The dimensions of an array: `[first]` or `[first, second]`.
-#[derive(Debug, Drop)]
+#[derive(Drop)]
 pub struct DimsTree {
     pub span: Span,
     pub first: RangeTree,
@@ -24,7 +24,7 @@ pub struct DimsTree {
 }
 
 /// A name that is declared, with its dimensions where it has some.
-#[derive(Debug, Drop)]
+#[derive(Drop)]
 pub struct Decl {
     pub span: Span,
     pub name: Name,
@@ -47,7 +47,7 @@ pub enum InvocationKind {
 }
 
 /// A type. Each `span` is that of the first token.
-#[derive(Debug, Drop)]
+#[derive(Drop)]
 #[cycle(types)]
 pub enum TypeTree {
     Int {
@@ -101,7 +101,7 @@ pub enum TypeTree {
 }
 
 /// Formals of one type, or fields of a record: `var a, b[1:n] : int`.
-#[derive(Debug, Drop)]
+#[derive(Drop)]
 #[cycle(types)]
 pub struct Formal {
     pub span: Span,
@@ -111,7 +111,7 @@ pub struct Formal {
 }
 
 /// What an operation returns: `returns decl : ty`. The span is that of `returns`.
-#[derive(Debug, Drop)]
+#[derive(Drop)]
 #[cycle(types)]
 pub struct Returned {
     pub span: Span,
@@ -120,7 +120,7 @@ pub struct Returned {
 }
 
 /// The parameters of an operation, what it returns and how it may be invoked.
-#[derive(Debug, Drop)]
+#[derive(Drop)]
 #[cycle(types)]
 pub struct Signature {
     pub span: Span,
