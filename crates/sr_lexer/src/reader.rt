@@ -11,7 +11,7 @@ use sr_value::{NoMemory, Row, Span, Text};
 use std::alloc::Global;
 
 /// The tokens so far, and what decides whether the next newline is a separator.
-#[derive(Debug, Drop)]
+#[derive(Drop)]
 pub(crate) struct Reader {
     pub tokens: Row<Token>,
     /// How many `(` and `[` are open.
