@@ -1,5 +1,5 @@
 -- What reading an expression says of the pieces of tokens that spell one.
-use Rattle.std.proofs.Common.{◌≡◌, refl, sym, ◌∙◌, ap, ℕ, ◌-◌, ◌<◌, ◌≤◌, suc, Bool, true, false, List, [], ◌∷◌, ◌++◌, length, Option, Some, None, Result, Ok, Err, ◌⊎◌, inl, inr, arith}
+use Rattle.std.proofs.Common.{◌≡◌, refl, sym, ◌∙◌, ap, ℕ, ◌-◌, ◌<◌, ◌≤◌, suc, false, List, [], ◌∷◌, ◌++◌, length, Ok, Err, ◌⊎◌, inl, inr, arith}
 use Rattle.sr_reader.specs.Pieces.{GoesOn, IsLongest, IsDead}
 use Rattle.sr_reader.specs.Reader.{Reader}
 use Rattle.sr_reader.proofs.Laws as laws
@@ -8,12 +8,12 @@ use Rattle.sr_tree.specs.declared.expr.Expr.{Expr}
 use Rattle.sr_tree.specs.declared.token.Token.{Token}
 use Rattle.sr_tree.specs.Expressions.{SpellsExpr}
 use Rattle.sr_expr_reader.specs.Readers.{readers, is_operator, operation_at, operand_at}
+use Rattle.sr_expr_reader.proofs.ExpressionEdges.{end-stops}
 use Rattle.sr_expr_reader.proofs.ExpressionsLocal.{operand-local, readers-local}
 use Rattle.sr_expr_reader.proofs.ExpressionsWhole.{whole-expr}
 use Rattle.sr_expr_reader.proofs.Extends.{Extends, expr-extends}
 use Rattle.sr_expr_reader.proofs.Quiet.{QuietExpr, stops-quiet}
-use Rattle.sr_expr_reader.proofs.TokensWhole.{Stops}
-use Rattle.sr_expr_reader.proofs.Yields.{loop_stops}
+use Rattle.sr_expr_reader.proofs.Families.{loop_stops}
 
 reading : ℕ → Reader Token Expr
 reading k = operand_at (readers k) 5
@@ -21,9 +21,6 @@ reading k = operand_at (readers k) 5
 local : (k : ℕ) → Local (SpellsExpr 5) (reading k)
 unfolding reading
 local k = operand-local (readers k) (readers-local k) 5
-
-end-stops : Stops []
-end-stops = record { operator = refl; point = refl; bracket = refl; paren = refl; on = refl }
 
 whole : (a : Expr) (u : List Token) → SpellsExpr 5 a u → (k : ℕ) → length u ≤ k → reading k u ≡ Ok (a, [])
 unfolding reading

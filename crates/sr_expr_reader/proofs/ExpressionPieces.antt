@@ -1,8 +1,7 @@
 -- What each reader of a piece of an expression gives where its parts are read.
-use Rattle.std.proofs.Common.{◌≡◌, refl, sym, ◌∙◌, ap, subst, ℕ, zero, suc, ◌<◌, ◌≤◌, Bool, true, false, List, [], ◌∷◌, ◌++◌, length, Option, Some, None, Result, Ok, Err, ◌⊎◌, inl, inr, append_assoc, arith}
+use Rattle.std.proofs.Common.{◌≡◌, sym, ◌∙◌, ap, subst, ℕ, true, false, List, [], ◌∷◌, ◌++◌, Option, Some, None, Result, Ok, ◌⊎◌, inl, inr, append_assoc}
 use Rattle.std.specs.Prelude.{is_some, if◌then◌else◌}
-use Rattle.sr_reader.specs.Reader.{Reader, returned, ◌>>=◌, next_is, branch, while}
-use Rattle.sr_reader.proofs.Locality.{append-nil}
+use Rattle.sr_reader.specs.Reader.{returned, next_is}
 use Rattle.sr_value.specs.declared.place.Span.{Span}
 use Rattle.sr_tree.specs.declared.expr.BasicType.{BasicType}
 use Rattle.sr_tree.specs.declared.expr.BasicType.TheVariants as basic
@@ -20,14 +19,15 @@ use Rattle.sr_tree.specs.declared.token.Token.{Token}
 use Rattle.sr_tree.specs.declared.token.Word.TheVariants as word
 use Rattle.sr_tree.specs.Expressions as g
 use Rattle.sr_tree.specs.Expressions.{SpellsExpr, SpellsFactor, SpellsCreate, SpellsOn, SpellsPrimary, SpellsSecond, SpellsPart, SpellsMoreParts, SpellsArguments, SpellsMoreExprs, SpellsQualifiedName, expr_span, part, invocation, is_conversion_word, is_array}
-use Rattle.sr_tree.specs.Tables.{IsSign, IsWord, IsName, name_of, literal_of, basic_of, conversion_of, unary_of, binary_of, right_level, left_level}
+use Rattle.sr_tree.specs.Tables.{IsSign, IsWord, IsName, name_of, literal_of, basic_of, conversion_of, unary_of, binary_of, right_level}
 use Rattle.sr_tree.specs.Tests.{is_sign, is_word, is_name}
-use Rattle.sr_expr_reader.specs.Readers.{Readers, readers, binary_at, unary_at, literal_at, conversion_at, qualified_at, enclosed_at, is_comma, next_argument_at, more_arguments_at, arguments_at, on_at, create_at, repeated_part_at, part_at, next_part_at, more_parts_at, array_at, bracketed_at, unconverted_at, converted_at, start_at, field_at, second_at, index_at, call_at, is_callable, is_suffix, suffix_at, suffixes_at, primary_at, signed_at, pending_at, factor_at, level_of, is_operator, operation_at, operators_at, operand_at}
+use Rattle.sr_expr_reader.specs.Readers.{binary_at, unary_at, literal_at, conversion_at, qualified_at, enclosed_at, is_comma, next_argument_at, more_arguments_at, arguments_at, on_at, create_at, repeated_part_at, part_at, next_part_at, more_parts_at, array_at, bracketed_at, unconverted_at, converted_at, start_at, field_at, second_at, index_at, call_at, is_callable, is_suffix, suffix_at, suffixes_at, primary_at, signed_at, pending_at, factor_at, is_operator, operation_at, operators_at, operand_at}
 use Rattle.sr_expr_reader.specs.Tokens.{sign_at, word_at, name_at}
 use Rattle.sr_expr_reader.proofs.ExpressionsLocal.{alone}
-use Rattle.sr_expr_reader.proofs.Quiet.{QuietExpr, QuietFactor, QuietCreate, QuietOn, stops-quiet, operator-quiet, follows}
-use Rattle.sr_expr_reader.proofs.TokensWhole.{is_that_sign, is_that_word, sign-reads, word-reads, name-reads, binary-reads, unary-reads, literal-reads, conversion-reads, only_literal, basic_cases, Stops, comma-stops, paren-stops, bracket-stops, stops-operator, continues, continued-suffix, continued-paren, left-right, unary_create, IsNoPrefix, sign_starts, name_starts, literal_starts, conversion_starts, basic_starts, unary_opens}
-use Rattle.sr_expr_reader.proofs.Yields.{Yields, Below, Loops, below, below-operand, below-factor, below-primary, token_then, below_token, below_then, yields_then, below_returned, yields_returned, yields_met, yields_unmet, below_met, below_unmet, below_seq, loop_stops, loop_goes, loop_yields}
+use Rattle.sr_expr_reader.proofs.Quiet.{QuietExpr, stops-quiet}
+use Rattle.sr_expr_reader.proofs.TokensWhole.{is_that_sign, is_that_word, sign-reads, word-reads, name-reads, binary-reads, unary-reads, literal-reads, conversion-reads, only_literal, basic_cases, Stops, comma-stops, paren-stops, bracket-stops, stops-operator, unary_create, IsNoPrefix, sign_starts, name_starts, literal_starts, conversion_starts, basic_starts, unary_opens}
+use Rattle.sr_expr_reader.proofs.Families.{below, token_then, below_token, below_then, yields_then, below_returned, yields_returned, yields_met, yields_unmet, below_met, below_unmet, below_seq, loop_stops}
+use Rattle.sr_expr_reader.proofs.Yields.{Yields, Below, Loops, below-operand, loop_yields}
 
 -- first tokens
 

@@ -1,9 +1,9 @@
 -- What the readers of expressions read is spelled so by the grammar, and depends on one token behind it alone.
-use Rattle.std.proofs.Common.{◌≡◌, refl, sym, ◌∙◌, ap, subst, ℕ, zero, suc, ◌<◌, ◌≤◌, Bool, true, false, List, [], ◌∷◌, ◌++◌, Option, Some, None, append_assoc, arith}
-use Rattle.std.specs.Prelude.{if◌then◌else◌, is_some, nat_lt, nat_le, ◌&&◌}
+use Rattle.std.proofs.Common.{◌≡◌, refl, sym, ◌∙◌, ap, subst, ℕ, zero, suc, ◌≤◌, Bool, true, false, List, [], ◌∷◌, ◌++◌, Option, Some, None, append_assoc, arith}
+use Rattle.std.specs.Prelude.{if◌then◌else◌, nat_lt, nat_le, ◌&&◌}
 use Rattle.std.proofs.lemmas.Bool.{ltb-true, leb-true}
-use Rattle.sr_reader.specs.Reader.{Reader, next_is, returned, unfit, ◌>>=◌, one, branch, while}
-use Rattle.sr_reader.proofs.Locality.{Local, LocalWhere, anywhere, Then, joined, Returns, returns, IsOne, is_one, IsOneWhere, is_one_where, one-local, one-where, returned-local, unfit-local, weaker, weaker-where, then-local, then-where, branch-local, branch-where, append-nil}
+use Rattle.sr_reader.specs.Reader.{next_is}
+use Rattle.sr_reader.proofs.Locality.{Local, anywhere, Then, joined, Returns, returns, IsOneWhere, is_one_where, one-where, returned-local, unfit-local, weaker, weaker-where, then-local, then-where, branch-local, branch-where, append-nil}
 use Rattle.sr_reader.proofs.Loops.{while-local}
 use Rattle.sr_value.specs.declared.place.Span.{Span}
 use Rattle.sr_tree.specs.declared.expr.BasicType.{BasicType}
@@ -27,10 +27,9 @@ use Rattle.sr_tree.specs.declared.token.Word.TheVariants as word
 use Rattle.sr_tree.specs.Expressions as g
 use Rattle.sr_tree.specs.Expressions.{SpellsExpr, SpellsFactor, SpellsCreate, SpellsOn, SpellsPrimary, SpellsSecond, SpellsPart, SpellsMoreParts, SpellsArguments, SpellsMoreExprs, SpellsQualifiedName, expr_span, part, invocation, is_conversion_word, is_array}
 use Rattle.sr_tree.specs.Tables.{IsSign, IsWord, IsName, name_of, literal_of, basic_of, word_basic, conversion_of, word_conversion, unary_of, binary_of, right_level, left_level}
-use Rattle.sr_tree.specs.Tests.{is_sign, is_word, is_name}
-use Rattle.sr_expr_reader.specs.Readers.{Readers, readers, binary_at, unary_at, literal_at, conversion_at, qualified_at, enclosed_at, is_comma, next_argument_at, more_arguments_at, arguments_at, on_at, create_at, repeated_part_at, part_at, next_part_at, more_parts_at, array_at, bracketed_at, unconverted_at, converted_at, start_at, field_at, second_at, index_at, call_at, is_callable, is_suffix, suffix_at, suffixes_at, primary_at, signed_at, pending_at, factor_at, level_of, may_follow, is_operator, operation_at, operators_at, operand_at}
-use Rattle.sr_expr_reader.specs.Tokens.{sign_at, word_at, name_at}
-use Rattle.sr_expr_reader.proofs.TokensLocal.{ASign, a_sign, AWord, a_word, AName, a_name, Spanned, spanned, sign-local, word-local, name-local, unary-local, literal-local, conversion-local, none_some, some_some}
+use Rattle.sr_tree.specs.Tests.{is_sign}
+use Rattle.sr_expr_reader.specs.Readers.{Readers, readers, binary_at, qualified_at, enclosed_at, is_comma, next_argument_at, more_arguments_at, arguments_at, on_at, create_at, repeated_part_at, part_at, next_part_at, more_parts_at, array_at, bracketed_at, unconverted_at, converted_at, start_at, field_at, second_at, index_at, call_at, is_callable, is_suffix, suffix_at, suffixes_at, primary_at, signed_at, pending_at, factor_at, level_of, may_follow, is_operator, operation_at, operators_at, operand_at}
+use Rattle.sr_expr_reader.proofs.TokensLocal.{ASign, a_sign, AWord, a_word, AName, a_name, Spanned, spanned, sign-local, word-local, name-local, unary-local, literal-local, conversion-local, none_some, some_some, ended, into}
 
 -- the basic type that a word for a conversion is without a bracket
 abbrev pub alone : Conversion → Option BasicType
@@ -43,12 +42,6 @@ pub record LocalReaders (r : Readers) : Type 0 where
   pub operand : (limit : ℕ) → Local (SpellsExpr limit) (r.operand limit)
   pub factor : Local SpellsFactor r.factor
   pub primary : Local SpellsPrimary r.primary
-
-ended : (P : List Token → Type 0) (u : List Token) → P u → P (u ++ [])
-ended P u h = subst P (sym (append-nil u)) h
-
-into : {A : Type 0} (P : A → List Token → Type 0) (x e : A) (z : List Token) → Returns x e z → P x [] → P e z
-into P x e z returns h = h
 
 starts : (u v : List Token) (t : Token) → (u ++ v) ++ t ∷ [] ≡ u ++ (v ++ t ∷ [])
 starts u v t = append_assoc u v (t ∷ [])
@@ -295,7 +288,7 @@ module _ (r : Readers) (l : LocalReaders r) where
   create_found c u (joined (a_word t h) (machine_behind v o k i j l)) = g.machine t v o k h i j l
   create_found c u (joined (a_word t h) (resource_behind o k n i d j m)) = g.resource t o k h n i d j m
 
-  create-local : Local SpellsCreate (create_at r)
+  pub create-local : Local SpellsCreate (create_at r)
   unfolding create_at
   create-local = weaker create_found (then-local (word-local word.Create) (λ t. branch-local
       (weaker (machine_found t) (then-local (word-local word.Vm) (λ v. then-local (sign-local sign.OpenParen) (λ o. then-local (sign-local sign.CloseParen)

@@ -1,34 +1,24 @@
 -- What is spelled as an expression is read, where the token behind it continues nothing.
-use Rattle.std.proofs.Common.{◌≡◌, refl, sym, ◌∙◌, ap, subst, ℕ, zero, suc, ◌<◌, ◌≤◌, Bool, true, false, List, [], ◌∷◌, ◌++◌, length, Option, Some, None, Result, Ok, Err, ◌⊎◌, inl, inr, append_assoc, arith}
-use Rattle.std.specs.Prelude.{is_some, if◌then◌else◌}
-use Rattle.sr_reader.specs.Reader.{Reader, returned, ◌>>=◌, next_is, branch, while}
+use Rattle.std.proofs.Common.{◌≡◌, refl, sym, ◌∙◌, ap, subst, ℕ, ◌≤◌, false, List, [], ◌∷◌, ◌++◌, Option, Some, None, Result, Ok, append_assoc, arith}
+use Rattle.sr_reader.specs.Reader.{next_is}
 use Rattle.sr_reader.proofs.Locality.{append-nil}
-use Rattle.sr_value.specs.declared.place.Span.{Span}
-use Rattle.sr_tree.specs.declared.expr.BasicType.{BasicType}
-use Rattle.sr_tree.specs.declared.expr.BasicType.TheVariants as basic
-use Rattle.sr_tree.specs.declared.expr.BinaryOperator.{BinaryOperator}
-use Rattle.sr_tree.specs.declared.expr.Conversion.{Conversion}
-use Rattle.sr_tree.specs.declared.expr.Conversion.TheVariants as conversion
 use Rattle.sr_tree.specs.declared.expr.Create.{Create}
 use Rattle.sr_tree.specs.declared.expr.Create.TheVariants as create
-use Rattle.sr_tree.specs.declared.expr.Expr.{Expr, out-Expr}
+use Rattle.sr_tree.specs.declared.expr.Expr.{Expr}
 use Rattle.sr_tree.specs.declared.expr.Expr.TheVariants as expr
 use Rattle.sr_tree.specs.declared.expr.Part.{Part}
-use Rattle.sr_tree.specs.declared.name.QualifiedName.{QualifiedName}
 use Rattle.sr_tree.specs.declared.token.Sign.TheVariants as sign
 use Rattle.sr_tree.specs.declared.token.Token.{Token}
-use Rattle.sr_tree.specs.declared.token.Word.TheVariants as word
 use Rattle.sr_tree.specs.Expressions as g
 use Rattle.sr_tree.specs.Expressions.{SpellsExpr, SpellsFactor, SpellsCreate, SpellsOn, SpellsPrimary, SpellsSecond, SpellsPart, SpellsMoreParts, SpellsArguments, SpellsMoreExprs, SpellsQualifiedName, expr_span, part, invocation, is_conversion_word, is_array}
-use Rattle.sr_tree.specs.Tables.{IsSign, IsWord, IsName, name_of, literal_of, basic_of, conversion_of, unary_of, binary_of, right_level, left_level}
-use Rattle.sr_tree.specs.Tests.{is_sign, is_word, is_name}
-use Rattle.sr_expr_reader.specs.Readers.{Readers, readers, binary_at, unary_at, literal_at, conversion_at, qualified_at, enclosed_at, is_comma, next_argument_at, more_arguments_at, arguments_at, on_at, create_at, repeated_part_at, part_at, next_part_at, more_parts_at, array_at, bracketed_at, unconverted_at, converted_at, start_at, field_at, second_at, index_at, call_at, is_callable, is_suffix, suffix_at, suffixes_at, primary_at, signed_at, pending_at, factor_at, level_of, is_operator, operation_at, operators_at, operand_at}
-use Rattle.sr_expr_reader.specs.Tokens.{sign_at, word_at, name_at}
-use Rattle.sr_expr_reader.proofs.ExpressionsLocal.{alone}
+use Rattle.sr_tree.specs.Tables.{IsSign, name_of, right_level}
+use Rattle.sr_tree.specs.Tests.{is_sign}
+use Rattle.sr_expr_reader.specs.Readers.{is_comma, next_argument_at, arguments_at, on_at, create_at, repeated_part_at, part_at, next_part_at, start_at, second_at, is_suffix, suffix_at, primary_at, factor_at, is_operator, operation_at, operand_at}
 use Rattle.sr_expr_reader.proofs.Quiet.{QuietExpr, QuietFactor, QuietCreate, QuietOn, stops-quiet, operator-quiet, follows}
-use Rattle.sr_expr_reader.proofs.TokensWhole.{is_that_sign, is_that_word, sign-reads, word-reads, name-reads, binary-reads, unary-reads, literal-reads, conversion-reads, only_literal, basic_cases, Stops, comma-stops, paren-stops, bracket-stops, stops-operator, continues, continued-suffix, continued-paren, left-right, unary_create, IsNoPrefix, sign_starts, name_starts, literal_starts, conversion_starts, basic_starts, unary_opens}
-use Rattle.sr_expr_reader.proofs.Yields.{Yields, Below, Loops, below, below-operand, below-factor, below-primary, token_then, below_token, below_then, yields_then, below_returned, yields_returned, yields_met, yields_unmet, below_met, below_unmet, below_seq, loop_stops, loop_goes, loop_yields}
-use Rattle.sr_expr_reader.proofs.ExpressionPieces.{with_primary, single-is-no-array, no-second-below, second-below, both_ways, Starts, from_kind, primary-starts, create-starts, Opens, factor-opens, expr-opens, more-stops, parts-stop, second-stops, inner, whole-qualified, qualified-starts, begins, start-literal, start-name, start-bool, unconverted-yields, start-alone, conversion-word, start-basic, start-conversion, start-bracket, bracketed-group, next-argument, next-part, array-yields, once-below, repeated-yields, part-at-bracket, bracketed-repeated, bracketed-several, no-arguments, some-arguments, suffix-met, index-met, callable-met, call-met, field-yields, second-yields, index-yields, call-yields, operation-yields, factor-operand, factor-create, factor-primary, factor-unary, factor-pending, on-yields, not-on-yields, machine-yields, resource-yields}
+use Rattle.sr_expr_reader.proofs.TokensWhole.{is_that_sign, Stops, comma-stops, paren-stops, bracket-stops, stops-operator, continued-suffix, continued-paren, left-right}
+use Rattle.sr_expr_reader.proofs.Families.{loop_stops, loop_goes}
+use Rattle.sr_expr_reader.proofs.Yields.{Yields, Below, Loops, below-operand, below-factor, below-primary}
+use Rattle.sr_expr_reader.proofs.ExpressionPieces.{with_primary, single-is-no-array, no-second-below, second-below, both_ways, primary-starts, create-starts, expr-opens, more-stops, parts-stop, second-stops, inner, begins, start-literal, start-name, start-basic, start-conversion, start-bracket, bracketed-group, next-argument, next-part, once-below, repeated-yields, part-at-bracket, bracketed-repeated, bracketed-several, no-arguments, some-arguments, suffix-met, index-met, call-met, field-yields, index-yields, call-yields, operation-yields, factor-operand, factor-create, factor-primary, factor-unary, factor-pending, on-yields, not-on-yields, machine-yields, resource-yields}
 
 mutual
   unfolding QuietExpr
@@ -157,3 +147,10 @@ mutual
       (loop_goes is_comma next_argument_at es (es ++ e ∷ []) comma (u ++ (v ++ k ∷ q)) u (v ++ k ∷ q) _ refl (is_that_sign sign.Comma comma h)
       (next-argument es comma u (v ++ k ∷ q) h (inner d (v ++ k ∷ q) (more-stops m k q i) (whole-expr d 5 (omega arith))))
       (subst (λ x. Loops is_comma next_argument_at (es ++ e ∷ []) (v ++ k ∷ q) (Ok (x, k ∷ q))) (append_assoc es (e ∷ []) gs) (whole-more-exprs m (es ++ e ∷ []) k q i)))
+
+-- an expression in front of a token that can't continue it
+pub whole-operand : {e : Expr} {u : List Token} (d : SpellsExpr 5 e u) (q : List Token) → Stops q → Yields (λ r. operand_at r 5) (u ++ q) (Ok (e, q))
+whole-operand {e = e} d q st = whole-expr d 5 (omega arith) q (Ok (e, q)) (stops-quiet d q st) (loop_stops (is_operator 5) operation_at e q (stops-operator 5 e q st))
+
+pub operand-below : {e : Expr} {u : List Token} (d : SpellsExpr 5 e u) (q : List Token) → Stops q → Below (λ r. r.operand 5) (u ++ q) (Ok (e, q))
+operand-below {e = e} {u = u} d q st = below-operand 5 (u ++ q) (Ok (e, q)) (whole-operand d q st)

@@ -1,8 +1,7 @@
 -- Where the token behind an expression continues its right edge, some longer list spells an expression.
-use Rattle.std.proofs.Common.{◌≡◌, refl, sym, ◌∙◌, ap, subst, ℕ, zero, suc, ◌<◌, ◌≤◌, Bool, true, false, List, [], ◌∷◌, ◌++◌, length, Option, Some, None, ◌⊎◌, inl, inr, append_assoc, arith}
-use Rattle.std.specs.Prelude.{is_some, nat_lt, nat_le, ◌&&◌, if◌then◌else◌}
+use Rattle.std.proofs.Common.{◌≡◌, refl, sym, ◌∙◌, ap, subst, ℕ, Bool, true, false, List, [], ◌∷◌, ◌++◌, Option, Some, None, ◌⊎◌, inl, inr, append_assoc}
+use Rattle.std.specs.Prelude.{nat_lt, nat_le, if◌then◌else◌}
 use Rattle.std.proofs.lemmas.Bool.{ltb-true, leb-true}
-use Rattle.sr_reader.specs.Reader.{next_is}
 use Rattle.sr_tree.specs.declared.expr.BasicType.{BasicType}
 use Rattle.sr_tree.specs.declared.expr.BasicType.TheVariants as basic
 use Rattle.sr_tree.specs.declared.expr.BinaryOperator.{BinaryOperator}
@@ -18,7 +17,7 @@ use Rattle.sr_tree.specs.declared.token.TokenKind.TheVariants as kind
 use Rattle.sr_tree.specs.declared.token.Word.TheVariants as word
 use Rattle.sr_tree.specs.Expressions as g
 use Rattle.sr_tree.specs.Expressions.{SpellsExpr, SpellsFactor, SpellsCreate, SpellsOn, SpellsPrimary, expr_span, invocation, is_conversion_word}
-use Rattle.sr_tree.specs.Tables.{IsSign, name_of, basic_of, conversion_of, binary_of, right_level, left_level}
+use Rattle.sr_tree.specs.Tables.{IsSign, name_of, conversion_of, binary_of, right_level, left_level}
 use Rattle.sr_tree.specs.Tests.{is_sign, is_word}
 use Rattle.sr_expr_reader.specs.Readers.{level_of, may_follow, is_operator}
 use Rattle.sr_expr_reader.proofs.ExpressionsLocal.{alone, at_level, both}
@@ -27,8 +26,12 @@ use Rattle.sr_expr_reader.proofs.TokensLocal.{kind_of_sign, kind_of_word}
 use Rattle.sr_expr_reader.proofs.TokensWhole.{basic_cases, continues}
 
 -- a token of a kind
-with_kind : Token → TokenKind → Token
+pub with_kind : Token → TokenKind → Token
 with_kind t k = record { kind = k; text = []; span = t.span }
+
+pub has-kind : (t : Token) (k : TokenKind) → (with_kind t k).kind ≡ k
+unfolding with_kind
+has-kind t k = refl
 
 name-kind : (t : Token) → (with_kind t kind.Name).kind ≡ kind.Name
 unfolding with_kind

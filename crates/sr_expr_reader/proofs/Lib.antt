@@ -7,3 +7,15 @@ pub mod Quiet
 pub mod Yields
 pub mod ExpressionsWhole
 pub mod Extends
+pub mod Families
+pub mod ListsLocal
+pub mod TypesLocal
+pub mod TypesOpen
+pub mod ExpressionEdges
+pub mod TypesQuiet
+pub mod DeclsWhole
+pub mod ListsWhole
+pub mod TypePieces
+pub mod TypesWhole
+pub mod TypesExtend
+pub mod TypeLaws

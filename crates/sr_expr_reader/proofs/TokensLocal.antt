@@ -1,26 +1,21 @@
 -- What the readers of single tokens read.
-use Rattle.std.proofs.Common.{◌≡◌, refl, sym, ◌∙◌, ap, subst, Bool, true, false, List, [], ◌∷◌, Option, Some, None}
+use Rattle.std.proofs.Common.{◌≡◌, refl, sym, ap, subst, Bool, true, false, List, [], ◌∷◌, ◌++◌, Option, Some, None}
 use Rattle.std.specs.Prelude.{if◌then◌else◌, option_map}
 use denote.Enum.Bare.{same_true}
-use Rattle.sr_reader.specs.Reader.{one}
-use Rattle.sr_reader.proofs.Locality.{Local, IsOne, is_one, one-local, weaker}
+use Rattle.sr_reader.proofs.Locality.{Local, Returns, returns, IsOne, is_one, one-local, weaker, append-nil}
 use Rattle.sr_value.specs.declared.place.Span.{Span}
 use Rattle.sr_tree.specs.contracts.token.Sign as signs
 use Rattle.sr_tree.specs.contracts.token.Word as words
-use Rattle.sr_tree.specs.declared.expr.BinaryOperator.{BinaryOperator}
-use Rattle.sr_tree.specs.declared.expr.Conversion.{Conversion}
-use Rattle.sr_tree.specs.declared.expr.Literal.{Literal}
-use Rattle.sr_tree.specs.declared.expr.UnaryOperator.{UnaryOperator}
 use Rattle.sr_tree.specs.declared.name.Name.{Name}
 use Rattle.sr_tree.specs.declared.token.Sign.{Sign}
 use Rattle.sr_tree.specs.declared.token.Token.{Token}
 use Rattle.sr_tree.specs.declared.token.TokenKind.{TokenKind}
 use Rattle.sr_tree.specs.declared.token.TokenKind.TheVariants as kind
 use Rattle.sr_tree.specs.declared.token.Word.{Word}
-use Rattle.sr_tree.specs.Tables.{IsSign, IsWord, IsName, name_of, literal_of, conversion_of, unary_of, binary_of}
+use Rattle.sr_tree.specs.Tables.{IsSign, IsWord, IsName, IsSeparator, name_of, literal_of, conversion_of, unary_of}
 use Rattle.sr_tree.specs.Tests.{is_sign, is_word, is_name}
 use Rattle.sr_expr_reader.specs.Readers.{unary_at, literal_at, conversion_at}
-use Rattle.sr_expr_reader.specs.Tokens.{sign_at, word_at, name_at}
+use Rattle.sr_expr_reader.specs.Tokens.{sign_at, word_at, name_at, is_separator, separator_at}
 
 pub kind_of_sign : (s : Sign) (k : TokenKind) → is_sign s k ≡ true → k ≡ kind.Sign s
 kind_of_sign s (kind.Sign found) e = ap kind.Sign (same_true signs.the_type tt found s e)
@@ -34,6 +29,10 @@ pub kind_of_name : (k : TokenKind) → is_name k ≡ true → k ≡ kind.Name
 kind_of_name kind.Name e = refl
 kind_of_name _ e = cc
 
+pub kind_of_separator : (k : TokenKind) → is_separator k ≡ true → k ≡ kind.Separator
+kind_of_separator kind.Separator e = refl
+kind_of_separator _ e = cc
+
 pub data ASign (s : Sign) : Span → List Token → Type 0 where
   a_sign : (t : Token) → IsSign s t → ASign s t.span (t ∷ [])
 
@@ -42,6 +41,9 @@ pub data AWord (w : Word) : Span → List Token → Type 0 where
 
 pub data AName : Name → List Token → Type 0 where
   a_name : (t : Token) → IsName t → AName (name_of t) (t ∷ [])
+
+pub data ASeparator : Span → List Token → Type 0 where
+  a_separator : (t : Token) → IsSeparator t → ASeparator t.span (t ∷ [])
 
 pub none_some : {A : Type 0} (a : A) → None ≡ Some a → ⊥
 none_some a e = cc
@@ -75,11 +77,18 @@ name-local = weaker found (one-local _)
     found : (a : Name) (u : List Token) → IsOne (λ t. if is_name t.kind then Some (name_of t) else None) a u → AName a u
     found a u (is_one t e) = passed (λ x. AName x (t ∷ [])) (is_name t.kind) (name_of t) a (λ h. a_name t (kind_of_name t.kind h)) e
 
+pub separator-local : Local ASeparator separator_at
+unfolding separator_at
+separator-local = weaker found (one-local _)
+  where
+    found : (a : Span) (u : List Token) → IsOne (λ t. if is_separator t.kind then Some t.span else None) a u → ASeparator a u
+    found a u (is_one t e) = passed (λ x. ASeparator x (t ∷ [])) (is_separator t.kind) t.span a (λ h. a_separator t (kind_of_separator t.kind h)) e
+
 -- a token with its span
 pub data Spanned {A : Type 0} (meaning : Token → Option A) : Span × A → List Token → Type 0 where
   spanned : (t : Token) (a : A) → meaning t ≡ Some a → Spanned meaning (t.span, a) (t ∷ [])
 
-spanned_from : {A : Type 0} (meaning : Token → Option A) (a : Span × A) (u : List Token) → IsOne (λ t. option_map (λ x. (t.span, x)) (meaning t)) a u → Spanned meaning a u
+pub spanned_from : {A : Type 0} (meaning : Token → Option A) (a : Span × A) (u : List Token) → IsOne (λ t. option_map (λ x. (t.span, x)) (meaning t)) a u → Spanned meaning a u
 spanned_from {A = A} meaning a u (is_one t e) = go (meaning t) refl e
   where
     go : (m : Option A) → meaning t ≡ m → option_map (λ x. (t.span, x)) m ≡ Some a → Spanned meaning a (t ∷ [])
@@ -97,3 +106,11 @@ literal-local = weaker (spanned_from (λ t. literal_of t.kind t.text)) (one-loca
 pub conversion-local : Local (Spanned (λ t. conversion_of t.kind)) conversion_at
 unfolding conversion_at
 conversion-local = weaker (spanned_from (λ t. conversion_of t.kind)) (one-local _)
+
+-- nothing behind what is read
+
+pub ended : (P : List Token → Type 0) (u : List Token) → P u → P (u ++ [])
+ended P u h = subst P (sym (append-nil u)) h
+
+pub into : {A : Type 0} (P : A → List Token → Type 0) (x e : A) (z : List Token) → Returns x e z → P x [] → P e z
+into P x e z returns h = h

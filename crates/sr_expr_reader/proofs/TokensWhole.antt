@@ -1,8 +1,8 @@
 -- What the readers of single tokens give where their token stands, and which tokens end an expression.
-use Rattle.std.proofs.Common.{◌≡◌, refl, sym, ◌∙◌, ap, subst, ℕ, zero, suc, ◌<◌, ◌≤◌, Bool, true, false, List, [], ◌∷◌, ◌++◌, length, Option, Some, None, Result, Ok, Err, ◌⊎◌, inl, inr, lit≤}
+use Rattle.std.proofs.Common.{◌≡◌, refl, sym, ◌∙◌, ap, ℕ, suc, ◌≤◌, Bool, true, false, List, [], ◌∷◌, length, Option, Some, None, Ok, ◌⊎◌, inl, inr, lit≤}
 use Rattle.std.specs.Prelude.{if◌then◌else◌, option_map, is_some}
 use denote.Enum.Bare.{true_same}
-use Rattle.sr_reader.specs.Reader.{one, given, next_is}
+use Rattle.sr_reader.specs.Reader.{given, next_is}
 use Rattle.sr_tree.specs.contracts.token.Sign as signs
 use Rattle.sr_tree.specs.contracts.token.Word as words
 use Rattle.sr_tree.specs.declared.expr.BasicType.{BasicType}
@@ -24,7 +24,7 @@ use Rattle.sr_tree.specs.declared.token.Word.TheVariants as word
 use Rattle.sr_tree.specs.Expressions.{is_conversion_word}
 use Rattle.sr_tree.specs.Tables.{IsSign, IsWord, IsName, name_of, literal_of, word_literal, basic_of, word_basic, conversion_of, word_conversion, unary_of, sign_unary, word_unary, binary_of, sign_binary, word_binary, right_level, left_level}
 use Rattle.sr_tree.specs.Tests.{is_sign, is_word, is_name}
-use Rattle.sr_expr_reader.specs.Readers.{binary_at, unary_at, literal_at, conversion_at, is_callable, is_suffix, may_follow, is_operator}
+use Rattle.sr_expr_reader.specs.Readers.{binary_at, unary_at, literal_at, conversion_at, is_suffix, may_follow, is_operator}
 use Rattle.sr_expr_reader.specs.Tokens.{sign_at, word_at, name_at}
 use Rattle.sr_expr_reader.proofs.ExpressionsLocal.{alone}
 use Rattle.sr_expr_reader.proofs.TokensLocal.{none_some, some_some}

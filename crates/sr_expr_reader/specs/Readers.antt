@@ -18,7 +18,6 @@ use Rattle.sr_tree.specs.declared.expr.UnaryOperator.{UnaryOperator}
 use Rattle.sr_tree.specs.declared.name.QualifiedName.{QualifiedName}
 use Rattle.sr_tree.specs.declared.token.Sign.TheVariants as sign
 use Rattle.sr_tree.specs.declared.token.Token.{Token}
-use Rattle.sr_tree.specs.declared.token.TokenKind.{TokenKind}
 use Rattle.sr_tree.specs.declared.token.Word.TheVariants as word
 use Rattle.sr_tree.specs.Expressions.{expr_span, invocation, is_conversion_word, part}
 use Rattle.sr_tree.specs.Tables.{literal_of, conversion_of, unary_of, binary_of, right_level, left_level}

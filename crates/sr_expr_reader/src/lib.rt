@@ -1,4 +1,4 @@
-//! How expressions are read from tokens, as a parser of them is stated and proved.
+//! How expressions and types are read from tokens, as a parser of them is stated and proved.
 //!
 //! `specs/` has a reader for each rule of the grammar, and `proofs/` ties the readers to the grammar. The only
 //! functions are laws, which do nothing.
@@ -6,4 +6,4 @@
 
 mod laws;
 
-pub use laws::{one_expression, reads_longest};
+pub use laws::{one_expression, one_type, reads_longest, reads_longest_type};

@@ -7,7 +7,7 @@ mod parse;
 mod pieces;
 mod reading;
 
-pub use parse::{one_tree, parse_expr};
+pub use parse::parse_expr;
 
 #[cfg(test)]
 mod tests;

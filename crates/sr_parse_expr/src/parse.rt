@@ -1,6 +1,6 @@
 ghost use Rattle.std.specs.Prelude.{◌≡◌, ℕ, ◌+◌, ◌<◌, ◌^◌, length, drop, IfOk, IfErr};
 ghost use Rattle.sr_parse_expr.specs.Refused.{HasNoTree, IsRefusedIn, refusal_of};
-ghost use Rattle.sr_reader.specs.Pieces.{HasOneTree, IsLongest};
+ghost use Rattle.sr_reader.specs.Pieces.{IsLongest};
 ghost use Rattle.sr_tree.specs.Expressions.{SpellsExpr};
 
 use crate::expression::{LOOSEST, operand};
@@ -28,11 +28,6 @@ pub fn parse_expr(alloc: Global, tokens: &Tokens, at: u32) -> Result<(Expr, u32)
         Err(fail) => Err(refused(items, fail)),
     }
 }
-
-/// One list of tokens spells at most one expression.
-pub fn one_tree()
-    ensures { HasOneTree (SpellsExpr 5) }
-{}
 
 /// The refusal at the token where nothing fits, or at the last one where the tokens end too early.
 fn refused(items: &[Token], fail: ReadFail) -> FrontFail

@@ -1,5 +1,5 @@
 -- What a reader does with the front of a list depends on that front and on one symbol behind it.
-use Rattle.std.proofs.Common.{◌≡◌, refl, sym, ◌∙◌, ap, ℕ, Bool, true, false, List, [], ◌∷◌, ◌++◌, length, Option, Some, None, Result, Ok, Err, append_assoc}
+use Rattle.std.proofs.Common.{◌≡◌, refl, sym, ◌∙◌, ap, subst, ℕ, Bool, true, false, List, [], ◌∷◌, ◌++◌, length, Option, Some, None, Result, Ok, Err, append_assoc}
 use Rattle.std.specs.Prelude.{if◌then◌else◌}
 use Rattle.sr_reader.specs.Reader.{Reader, returned, unfit, continued, ◌>>=◌, given, one, next_is, branch}
 
@@ -34,6 +34,10 @@ pub record Local {T A : Type 0} (P : A → List T → Type 0) (r : Reader T A) :
 pub record LocalWhere {T A : Type 0} (test : T → Bool) (P : A → List T → Type 0) (r : Reader T A) : Type 0 where
   pub at : (s : List T) → next_is test s ≡ true → Outcome P r s (r s)
 
+-- the same where it fails one
+pub record LocalUnless {T A : Type 0} (test : T → Bool) (P : A → List T → Type 0) (r : Reader T A) : Type 0 where
+  pub at : (s : List T) → next_is test s ≡ false → Outcome P r s (r s)
+
 pub anywhere : {T A : Type 0} {P : A → List T → Type 0} {r : Reader T A} (test : T → Bool) → Local P r → LocalWhere test P r
 anywhere test l = record { at = λ s h. l.at s }
 
@@ -61,6 +65,14 @@ pub append-nil : {T : Type 0} (s : List T) → s ++ [] ≡ s
 append-nil [] = refl
 append-nil (t ∷ s) = ap (λ r. t ∷ r) (append-nil s)
 
+-- what holds of a list holds of it with nothing behind
+pub ended : {T : Type 0} (P : List T → Type 0) (u : List T) → P u → P (u ++ [])
+ended P u h = subst P (sym (append-nil u)) h
+
+-- what is returned, and no symbols
+pub into : {T A : Type 0} (P : A → List T → Type 0) (x e : A) (z : List T) → Returns x e z → P x [] → P e z
+into P x e z returns h = h
+
 pub returned-local : {T A : Type 0} (a : A) → Local (Returns {T = T} a) (returned a)
 returned-local a = record { at = λ s. record { front = []; splits = refl; holds = returns; again = λ z e. refl } }
 
@@ -79,6 +91,27 @@ weaker {P = P} {Q = Q} {r = r} h l = record { at = λ s. weaker-outcome P Q r s 
 pub weaker-where : {T A : Type 0} {test : T → Bool} {P Q : A → List T → Type 0} {r : Reader T A}
     → ((a : A) (u : List T) → P a u → Q a u) → LocalWhere test P r → LocalWhere test Q r
 weaker-where {P = P} {Q = Q} {r = r} h l = record { at = λ s e. weaker-outcome P Q r s h (r s) (l.at s e) }
+
+pub weaker-unless : {T A : Type 0} {test : T → Bool} {P Q : A → List T → Type 0} {r : Reader T A}
+    → ((a : A) (u : List T) → P a u → Q a u) → LocalUnless test P r → LocalUnless test Q r
+weaker-unless {P = P} {Q = Q} {r = r} h l = record { at = λ s e. weaker-outcome P Q r s h (r s) (l.at s e) }
+
+-- what was read is at least one symbol, so that the first symbol read is the one that was tested
+module _ {T A : Type 0} (test : T → Bool) (P : A → List T → Type 0) (r : Reader T A) (some : (a : A) → P a [] → ⊥) where
+  tested : (b : Bool) (s front q : List T) (a : A) → next_is test s ≡ b → s ≡ front ++ q → P a front → next_is test front ≡ b
+  tested b s [] q a e h p = absurd (some a p)
+  tested b s (t ∷ front) q a e h p = sym (ap (next_is test) h) ∙ e
+
+  first-outcome : (b : Bool) (s : List T) → next_is test s ≡ b → (x : _) → Outcome P r s x → Outcome (λ a u. P a u × (next_is test u ≡ b)) r s x
+  first-outcome b s e (Ok x) o =
+      record { front = o.front; splits = o.splits; holds = (o.holds, tested b s o.front x.1 x.0 e o.splits o.holds); again = o.again }
+  first-outcome b s e (Err left) o = o
+
+  pub where-first : LocalWhere test P r → LocalWhere test (λ a u. P a u × (next_is test u ≡ true)) r
+  where-first l = record { at = λ s e. first-outcome true s e (r s) (l.at s e) }
+
+  pub unless-first : LocalUnless test P r → LocalUnless test (λ a u. P a u × (next_is test u ≡ false)) r
+  unless-first l = record { at = λ s e. first-outcome false s e (r s) (l.at s e) }
 
 module _ {T A B : Type 0} (P : A → List T → Type 0) (Q : A → B → List T → Type 0) (r : Reader T A) (f : A → Reader T B) where
   behind : (s : List T) (a : A) (q : List T) → IsRead P r s a q → (y : _) → Outcome (Q a) (f a) q y → Outcome (Then P Q) (r >>= f) s y
@@ -189,14 +222,19 @@ module _ {T A : Type 0} (P : A → List T → Type 0) (test : T → Bool) (met u
     again = λ z h. again-there b s o.front o.rest z e o.splits h ∙ o.again z h;
   }
 
-  by_test : LocalWhere test P met → Local P unmet → (s : List T) (b : Bool) → next_is test s ≡ b → Outcome P (branch test met unmet) s (if b then met s else unmet s)
+  by_test : LocalWhere test P met → LocalUnless test P unmet → (s : List T) (b : Bool) → next_is test s ≡ b
+      → Outcome P (branch test met unmet) s (if b then met s else unmet s)
   unfolding chosen
   by_test l m s true e = reads true s e (met s) (l.at s e)
-  by_test l m s false e = reads false s e (unmet s) (m.at s)
+  by_test l m s false e = reads false s e (unmet s) (m.at s e)
 
 -- one of two
+pub branch-by : {T A : Type 0} {P : A → List T → Type 0} {test : T → Bool} {met unmet : Reader T A}
+    → LocalWhere test P met → LocalUnless test P unmet → Local P (branch test met unmet)
+branch-by {P = P} {test = test} {met = met} {unmet = unmet} l m = record { at = λ s. by_test P test met unmet l m s (next_is test s) refl }
+
 pub branch-where : {T A : Type 0} {P : A → List T → Type 0} {test : T → Bool} {met unmet : Reader T A} → LocalWhere test P met → Local P unmet → Local P (branch test met unmet)
-branch-where {P = P} {test = test} {met = met} {unmet = unmet} l m = record { at = λ s. by_test P test met unmet l m s (next_is test s) refl }
+branch-where {test = test} l m = branch-by l (record { at = λ s e. m.at s })
 
 pub branch-local : {T A : Type 0} {P : A → List T → Type 0} {test : T → Bool} {met unmet : Reader T A} → Local P met → Local P unmet → Local P (branch test met unmet)
 branch-local {test = test} l m = branch-where (anywhere test l) m

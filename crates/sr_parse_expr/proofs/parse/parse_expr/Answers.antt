@@ -1,35 +1,29 @@
 -- What is read is the longest piece; where nothing is read, there is none.
-use Rattle.std.proofs.Common.{◌≡◌, ℕ, ◌+◌, ◌-◌, ◌≤◌, sym, ap, subst, length, drop, Ok, arith}
+use Rattle.std.proofs.Common.{◌≡◌, ℕ, ◌+◌, ◌-◌, sym, ap, subst, length, drop, arith}
 use Rattle.sr_reader.specs.Pieces.{IsLongest}
 use Rattle.sr_tree.specs.Expressions.{SpellsExpr}
-use Rattle.sr_expr_reader.specs.Readers.{readers, operand_at}
-use Rattle.sr_parse_expr.specs.Gives.{Fails}
-use Rattle.sr_parse_expr.specs.Refused.{HasNoTree, IsRefusedIn, refusal_of}
-use Rattle.sr_parse_expr.proofs.Parsing.{all-behind, front_of, none_of, dead_of}
+use Rattle.sr_parse_expr.specs.Refused.{HasNoTree, IsRefusedIn}
+use Rattle.sr_parse_expr.proofs.Parsing.{expression-longest, expression-stops, front_behind, none_behind, dead_behind}
 use Rattle.sr_parse_expr.proofs.parse.parse_expr.Goals as goal
 
 pub returns-in-Ok-clause-front : goal.returns-in-Ok-clause-front
 returns-in-Ok-clause-front c =
     let e = c.as_slice-items.ensures in
     subst
-    (λ w. (x : ℕ) × (length c.as_slice-items.result.now - length c.in-Ok.rest.now ≡ c.args.at + x) × IsLongest (SpellsExpr 5) (drop c.args.at w) c.in-Ok.expr x)
-    e
-    (front_of c.as_slice-items.result.now c.args.at (omega (arith, c.requires.within, ap length e)) c.in-Ok.expr c.in-Ok.rest.now
-    (omega (arith, c.in-Ok.ensures.shorter, ap length (all-behind c.as_slice-items.result.now c.args.at)))
-    (subst (λ s. (k : ℕ) → length s ≤ k → operand_at (readers k) 5 s ≡ Ok (c.in-Ok.expr, c.in-Ok.rest.now)) (all-behind c.as_slice-items.result.now c.args.at) c.in-Ok.ensures.reads))
+    (λ w. (x : ℕ) × (length c.as_slice-items.result.now - length c.in-Ok.rest.now ≡ c.args.at + x) × IsLongest (SpellsExpr 5) (drop c.args.at w) c.in-Ok.expr x) e
+    (front_behind c.as_slice-items.result.now c.args.at (omega (arith, c.requires.within, ap length e)) expression-longest c.in-Ok.expr c.in-Ok.rest.now
+    (omega (arith, c.in-Ok.ensures.shorter)) c.in-Ok.ensures.reads)
 
 pub returns-in-Err-clause-none : goal.returns-in-Err-clause-none
 returns-in-Err-clause-none c =
     let e = c.as_slice-items.ensures in
     subst (λ w. HasNoTree (SpellsExpr 5) (drop c.args.at w) c.refused.result) e
     (subst (HasNoTree (SpellsExpr 5) (drop c.args.at c.as_slice-items.result.now)) (sym c.refused.ensures)
-    (none_of c.as_slice-items.result.now c.args.at (omega (arith, c.requires.within, ap length e)) c.in-Err.fail
-    (subst (λ s. (k : ℕ) → length s ≤ k → Fails c.in-Err.fail (operand_at (readers k) 5 s)) (all-behind c.as_slice-items.result.now c.args.at) c.in-Err.ensures.reads)))
+    (none_behind c.as_slice-items.result.now c.args.at (omega (arith, c.requires.within, ap length e)) expression-longest c.in-Err.fail c.in-Err.ensures.reads))
 
 pub returns-in-Err-clause-dead : goal.returns-in-Err-clause-dead
 returns-in-Err-clause-dead c =
     let e = c.as_slice-items.ensures in
     subst (λ w. IsRefusedIn (SpellsExpr 5) w c.args.at c.refused.result) e
     (subst (IsRefusedIn (SpellsExpr 5) c.as_slice-items.result.now c.args.at) (sym c.refused.ensures)
-    (dead_of c.as_slice-items.result.now c.args.at (omega (arith, c.requires.within, ap length e)) c.in-Err.fail
-    (subst (λ s. (k : ℕ) → length s ≤ k → Fails c.in-Err.fail (operand_at (readers k) 5 s)) (all-behind c.as_slice-items.result.now c.args.at) c.in-Err.ensures.reads)))
+    (dead_behind c.as_slice-items.result.now c.args.at (omega (arith, c.requires.within, ap length e)) expression-stops c.in-Err.fail c.in-Err.ensures.reads))

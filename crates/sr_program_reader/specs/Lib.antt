@@ -1,0 +1,4 @@
+pub mod ComponentReaders
+pub mod DeclarationReaders
+pub mod Files
+pub mod StatementReaders
