@@ -1,2 +1,3 @@
 pub mod Forever
 pub mod LawProofs
+pub mod FlatLemmas

@@ -2,10 +2,12 @@
 #![tactic(auto)]
 
 mod apply;
+mod array;
 mod call;
 mod ending;
 mod ensure;
 mod evaluated;
+mod expression;
 mod invoke;
 pub mod laws;
 mod leaf;
