@@ -7,6 +7,3 @@ mod sites;
 
 pub use laws::least_classes;
 pub use sites::partition;
-
-#[cfg(test)]
-mod tests;
