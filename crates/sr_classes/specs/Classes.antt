@@ -1,11 +1,16 @@
 -- Which operations are in one class: the least equivalence that holds for any two operations of one `in`.
-use Rattle.std.specs.Prelude.{◌≡◌, ◌↔◌, ℕ, ◌<◌, ◌≤◌, Bool, IsTrue, List, map, length, slice_index_or}
+use Rattle.std.specs.Prelude.{◌≡◌, ◌↔◌, ℕ, ◌<◌, ◌≤◌, ◌^◌, All, Bool, IsTrue, List, map, length, slice_index_or}
 use Rattle.std.specs.List.{Contains}
 use Rattle.sr_core.specs.declared.component.Core.{Core}
 
 -- the operations that each `in` has arms for
 abbrev pub groups_of : Core → List (List ℕ)
 groups_of core = map (λ site. map (λ arm. arm.op) site.arms) core.sites
+
+-- each arm names an operation, as in every well-formed core, and 32 bits number them
+pub record NamesOperations (core : Core) : Type 0 where
+  pub few : length core.operations < 2 ^ 32
+  pub named : All (λ site. All (λ arm. arm.op < length core.operations) site.arms) core.sites
 
 pub data SameClass (groups : List (List ℕ)) : ℕ → ℕ → Type 0 where
   together : {group : List ℕ} {a b : ℕ} → Contains groups group → Contains group a → Contains group b → SameClass groups a b

@@ -1,6 +1,6 @@
 //! The classes that the `in` statements of a program make.
-ghost use Rattle.std.specs.Prelude.{◌≡◌, ◌<◌, ◌^◌, ℕ, All, fold, map, length, IfOk, slice_index_or};
-ghost use Rattle.sr_classes.specs.Classes.{AreClasses, groups_of};
+ghost use Rattle.std.specs.Prelude.{◌≡◌, ◌↔◌, ◌<◌, ◌^◌, ℕ, All, IsTrue, fold, map, length, IfOk, slice_index_or};
+ghost use Rattle.sr_classes.specs.Classes.{AreClasses, NamesOperations, groups_of};
 ghost use Rattle.sr_classes.specs.Joins.{IsForest, Stands, StandsOn, all_joined, group_joined};
 
 use crate::forest::{first_of, join};
@@ -12,14 +12,46 @@ use std::alloc::Global;
 /// are each in the class of a third; every other operation is in a class of its own. The number of a class is that of
 /// its first operation.
 pub fn partition(alloc: Global, core: &Core) -> Result<Classes, NoMemory>
-    requires few { length core.now.operations < 2 ^ 32 }
-    requires named { All (λ site. All (λ arm. arm.op < length core.now.operations) site.arms) core.now.sites }
+    requires named { NamesOperations core.now }
     ensures { IfOk result (λ classes. AreClasses (groups_of core.now) (length core.now.operations) classes.of) }
 {
     let mut parents = alone(alloc, core.operations.len() as u32)?;
     join_sites(&mut parents, core.sites.as_slice());
     let of = settled(alloc, parents)?;
     Ok(Classes { of })
+}
+
+/// Whether each arm of a core names one of its operations, of which there are fewer than 2^32. It holds for every
+/// well-formed core.
+pub fn names_operations(core: &Core) -> bool
+    ensures { IsTrue result ↔ NamesOperations core.now }
+{
+    let count = core.operations.len();
+    count <= u32::MAX as usize && sites_name(core.sites.as_slice(), count)
+}
+
+/// Whether each arm of each site names one of so many operations.
+fn sites_name(sites: &[Site], count: usize) -> bool
+    ensures { IsTrue result ↔ All (λ site. All (λ arm. arm.op < count) site.arms) sites.now }
+{
+    for site in sites {
+        if !arms_name(site.arms.as_slice(), count) {
+            return false;
+        }
+    }
+    true
+}
+
+/// Whether each arm names one of so many operations.
+fn arms_name(arms: &[Arm], count: usize) -> bool
+    ensures { IsTrue result ↔ All (λ arm. arm.op < count) arms.now }
+{
+    for arm in arms {
+        if arm.op as usize >= count {
+            return false;
+        }
+    }
+    true
 }
 
 /// Operations that are all in a class of their own.
