@@ -3,7 +3,9 @@ use Rattle.std.proofs.Common.{ℕ, zero, suc, List, Result, arith}
 use Rattle.sr_tree.specs.declared.expr.Expr.{Expr}
 use Rattle.sr_tree.specs.declared.token.Token.{Token}
 use Rattle.sr_expr_reader.specs.Readers.{readers, operand_at, factor_at, primary_at}
-use Rattle.sr_parse_expr.specs.Reads.{ReadsBelow, ReadsUpTo}
+use Rattle.sr_expr_reader.specs.TypeReaders.{nested, plain_type_at}
+use Rattle.sr_tree.specs.declared.types.TypeTree.{TypeTree}
+use Rattle.sr_parse_expr.specs.Reads.{ReadsBelow, ReadsTypeBelow, ReadsTypeUpTo, ReadsUpTo}
 use Rattle.sr_parse_expr.specs.declared.reading.ReadFail.{ReadFail}
 
 module _ {X : Type 0} (view : X → Expr × List Token) (s : List Token) (result : Result X ReadFail) where
@@ -21,3 +23,9 @@ module _ {X : Type 0} (view : X → Expr × List Token) (s : List Token) (result
   unfolding readers
   below_primary h zero i = absurd (omega (arith, i))
   below_primary h (suc k) i = h k (omega (arith, i))
+
+module _ {X : Type 0} (view : X → TypeTree × List Token) (s : List Token) (result : Result X ReadFail) where
+  pub below_nested : ReadsTypeUpTo view s result (λ r. plain_type_at r) → ReadsTypeBelow view s result (λ r. r.nested)
+  unfolding nested
+  below_nested h zero i = absurd (omega (arith, i))
+  below_nested h (suc k) i = h k (omega (arith, i))

@@ -1,3 +1,4 @@
 pub mod Gives
 pub mod Reads
 pub mod Refused
+pub mod Tails

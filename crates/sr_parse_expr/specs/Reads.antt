@@ -5,9 +5,17 @@ use Rattle.sr_tree.specs.declared.token.Token.{Token}
 use Rattle.sr_parse_expr.specs.declared.reading.ReadFail.{ReadFail}
 use Rattle.sr_parse_expr.specs.Gives.{Gives}
 use Rattle.sr_expr_reader.specs.Readers.{Readers, readers}
+use Rattle.sr_expr_reader.specs.TypeReaders.{TypeReaders, type_readers}
 
 abbrev pub ReadsUpTo : {X A : Type 0} → (X → A × List Token) → List Token → Result X ReadFail → (Readers → Reader Token A) → Type 0
 ReadsUpTo view s result read = (k : ℕ) → length s ≤ k → Gives view result (read (readers k) s)
 
 abbrev pub ReadsBelow : {X A : Type 0} → (X → A × List Token) → List Token → Result X ReadFail → (Readers → Reader Token A) → Type 0
 ReadsBelow view s result read = (k : ℕ) → length s < k → Gives view result (read (readers k) s)
+
+-- the same of readers of types
+abbrev pub ReadsTypeUpTo : {X A : Type 0} → (X → A × List Token) → List Token → Result X ReadFail → (TypeReaders → Reader Token A) → Type 0
+ReadsTypeUpTo view s result read = (k : ℕ) → length s ≤ k → Gives view result (read (type_readers k) s)
+
+abbrev pub ReadsTypeBelow : {X A : Type 0} → (X → A × List Token) → List Token → Result X ReadFail → (TypeReaders → Reader Token A) → Type 0
+ReadsTypeBelow view s result read = (k : ℕ) → length s < k → Gives view result (read (type_readers k) s)

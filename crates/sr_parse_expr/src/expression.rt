@@ -20,7 +20,7 @@ pub const LOOSEST: u8 = 5;
 
 /// Reads an expression behind a token.
 #[cycle(expressions)]
-fn expression(alloc: Global, tokens: &[Token]) -> Result<(Expr, &[Token]), ReadFail>
+pub fn expression(alloc: Global, tokens: &[Token]) -> Result<(Expr, &[Token]), ReadFail>
     ensures reads { ReadsBelow (λ x. (x.0, x.1.now)) tokens.now result (λ r. r.operand 5) }
     ensures shorter { IfOk result (λ x. length x.1.now < length tokens.now) }
 {
@@ -156,7 +156,7 @@ fn signed(alloc: Global, tokens: &[Token]) -> Result<(Expr, &[Token]), ReadFail>
 /// Reads the making of an instance or of a machine.
 #[cycle(expressions)]
 #[tactic(auto, unfolding(sr_expr_reader::specs::Readers::create_at))]
-fn create(alloc: Global, tokens: &[Token]) -> Result<(Create, &[Token]), ReadFail>
+pub fn create(alloc: Global, tokens: &[Token]) -> Result<(Create, &[Token]), ReadFail>
     ensures reads { ReadsUpTo (λ x. (x.0, x.1.now)) tokens.now result (λ r. create_at r) }
     ensures shorter { IfOk result (λ x. length x.1.now < length tokens.now) }
 {
@@ -201,7 +201,7 @@ fn on_machine(alloc: Global, tokens: &[Token]) -> Result<(Option<Boxed<Expr>>, &
 /// Reads a primary: a start and what continues it.
 #[cycle(expressions)]
 #[tactic(auto, unfolding(sr_expr_reader::specs::Readers::primary_at))]
-fn primary(alloc: Global, tokens: &[Token]) -> Result<(Expr, &[Token]), ReadFail>
+pub fn primary(alloc: Global, tokens: &[Token]) -> Result<(Expr, &[Token]), ReadFail>
     ensures reads { ReadsUpTo (λ x. (x.0, x.1.now)) tokens.now result (λ r. primary_at r) }
     ensures shorter { IfOk result (λ x. length x.1.now < length tokens.now) }
 {
@@ -265,7 +265,7 @@ fn converted(alloc: Global, tokens: &[Token]) -> Result<(Expr, &[Token]), ReadFa
 /// Reads an expression in parentheses; the span is that of the opening one.
 #[cycle(expressions)]
 #[tactic(auto, unfolding(sr_expr_reader::specs::Readers::enclosed_at))]
-fn enclosed(alloc: Global, tokens: &[Token]) -> Result<((Span, Expr), &[Token]), ReadFail>
+pub fn enclosed(alloc: Global, tokens: &[Token]) -> Result<((Span, Expr), &[Token]), ReadFail>
     ensures reads { ReadsUpTo (λ x. (x.0, x.1.now)) tokens.now result (λ r. enclosed_at r) }
     ensures shorter { IfOk result (λ x. length x.1.now < length tokens.now) }
 {
@@ -470,7 +470,7 @@ fn second_index(
 /// Reads arguments in parentheses behind a primary.
 #[cycle(expressions)]
 #[tactic(auto, unfolding(sr_expr_reader::specs::Readers::call_at))]
-fn call(alloc: Global, callee: Expr, tokens: &[Token]) -> Result<(Expr, &[Token]), ReadFail>
+pub fn call(alloc: Global, callee: Expr, tokens: &[Token]) -> Result<(Expr, &[Token]), ReadFail>
     ensures reads { ReadsUpTo (λ x. (x.0, x.1.now)) tokens.now result (λ r. call_at r callee) }
     ensures shorter { IfOk result (λ x. length x.1.now < length tokens.now) }
 {
@@ -490,7 +490,7 @@ fn call(alloc: Global, callee: Expr, tokens: &[Token]) -> Result<(Expr, &[Token]
 /// Reads arguments in parentheses.
 #[cycle(expressions)]
 #[tactic(auto, unfolding(sr_expr_reader::specs::Readers::arguments_at))]
-fn arguments(alloc: Global, tokens: &[Token]) -> Result<(Row<Expr>, &[Token]), ReadFail>
+pub fn arguments(alloc: Global, tokens: &[Token]) -> Result<(Row<Expr>, &[Token]), ReadFail>
     ensures reads { ReadsUpTo (λ x. (x.0, x.1.now)) tokens.now result (λ r. arguments_at r) }
     ensures shorter { IfOk result (λ x. length x.1.now < length tokens.now) }
 {
@@ -510,7 +510,7 @@ fn arguments(alloc: Global, tokens: &[Token]) -> Result<(Row<Expr>, &[Token]), R
 /// Reads further arguments, each behind a comma.
 #[cycle(expressions)]
 #[tactic(auto, unfolding(sr_expr_reader::specs::Readers::more_arguments_at))]
-fn more_arguments(
+pub fn more_arguments(
     alloc: Global,
     first: Row<Expr>,
     tokens: &[Token],
@@ -531,7 +531,7 @@ fn more_arguments(
 /// Reads a comma and an argument, and puts it behind the others.
 #[cycle(expressions)]
 #[tactic(auto, unfolding(sr_expr_reader::specs::Readers::next_argument_at))]
-fn next_argument(
+pub fn next_argument(
     alloc: Global,
     arguments: Row<Expr>,
     tokens: &[Token],

@@ -1,13 +1,16 @@
 //! Reads expressions and types from tokens.
 #![tactic(auto)]
 
-mod expression;
+pub mod declared;
+pub mod expression;
 mod operators;
 mod parse;
-mod pieces;
-mod reading;
+pub mod pieces;
+pub mod reading;
+mod type_words;
+pub mod types;
 
-pub use parse::parse_expr;
+pub use parse::{parse_expr, parse_type};
 
 #[cfg(test)]
 mod tests;

@@ -2,7 +2,7 @@ ghost use Rattle.std.specs.Prelude.{◌≡◌, ◌<◌, length, IfOk};
 ghost use Rattle.sr_reader.specs.Reader.{next_is};
 ghost use Rattle.sr_tree.specs.Tests.{is_name, is_sign, is_word};
 ghost use Rattle.sr_parse_expr.specs.Gives.{Gives};
-ghost use Rattle.sr_expr_reader.specs.Tokens.{sign_at, word_at, name_at};
+ghost use Rattle.sr_expr_reader.specs.Tokens.{is_separator, sign_at, word_at, name_at, separator_at};
 ghost use Rattle.sr_parse_expr.specs.declared.reading.ReadFail.TheVariants.{NoMemory as out_of_memory};
 
 use sr_tree::{Name, Sign, Token, TokenKind, Word};
@@ -117,6 +117,31 @@ pub fn name(alloc: Global, tokens: &[Token]) -> Result<(Name, &[Token]), ReadFai
                 let span = first.span;
                 Ok((Name { text, span }, rest))
             }
+            _ => Err(ReadFail::Unexpected { left: tokens.len() }),
+        },
+    }
+}
+
+/// Whether the next token is a separator.
+pub fn next_is_separator(tokens: &[Token]) -> bool
+    ensures { result ≡ next_is (λ t. is_separator t.kind) tokens.now }
+{
+    match tokens {
+        [] => false,
+        [first, ..] => matches!(first.kind, TokenKind::Separator),
+    }
+}
+
+/// Reads a separator, and gives its span.
+#[tactic(auto, unfolding(sr_expr_reader::specs::Tokens::separator_at))]
+pub fn separator(tokens: &[Token]) -> Result<(Span, &[Token]), ReadFail>
+    ensures reads { Gives (λ x. (x.0, x.1.now)) result (separator_at tokens.now) }
+    ensures shorter { IfOk result (λ x. length x.1.now < length tokens.now) }
+{
+    match tokens {
+        [] => Err(ReadFail::Unexpected { left: 0 }),
+        [first, rest @ ..] => match first.kind {
+            TokenKind::Separator => Ok((first.span, rest)),
             _ => Err(ReadFail::Unexpected { left: tokens.len() }),
         },
     }

@@ -6,7 +6,8 @@ use Rattle.sr_tree.specs.declared.expr.Expr.{Expr}
 use Rattle.sr_tree.specs.declared.expr.Part.{Part}
 use Rattle.sr_tree.specs.declared.token.Token.{Token}
 use Rattle.sr_tree.specs.Tables.{right_level}
-use Rattle.sr_expr_reader.specs.Readers.{is_comma, is_operator, is_suffix, more_arguments_at, more_parts_at, next_argument_at, next_part_at, operand_at, operation_at, operators_at, suffix_at, suffixes_at}
+use Rattle.sr_expr_reader.specs.Readers.{is_comma, is_operator, is_suffix, more_arguments_at, more_parts_at, next_argument_at, next_part_at, operand_at, operation_at, operators_at, readers, suffix_at, suffixes_at}
+use Rattle.sr_expr_reader.proofs.Yields.{steps-readers}
 use Rattle.sr_parse_expr.specs.Reads.{ReadsUpTo}
 use Rattle.sr_parse_expr.proofs.Fields.{below_operand, below_factor, below_primary}
 use Rattle.sr_parse_expr.proofs.Loops.{leads-step, leads-fail, leads-end}
@@ -29,7 +30,7 @@ host-returns-clause-reads t c = below_primary _ _ _ c.primary.ensures.reads
 pub operators-more-preserved : goal.operators-more-preserved
 operators-more-preserved t c = record {
   shorter = omega (arith, c.in_ok-whole.ensures.shorter, c.more.invariant.shorter);
-  leads = leads-step (λ (x : Expr × Bor (List Token)). (x.0, x.1.now)) (is_operator c.args.limit) operation_at c.args.first c.args.tokens.now c.more.left c.more.rest.now c.more.invariant.leads c.more.invariant.shorter
+  leads = leads-step readers (λ r. r.steps) steps-readers (λ (x : Expr × Bor (List Token)). (x.0, x.1.now)) (is_operator c.args.limit) operation_at c.args.first c.args.tokens.now c.more.left c.more.rest.now c.more.invariant.leads c.more.invariant.shorter
       (c.in_ok-whole.whole, c.in_ok-whole.behind) (sym c.next_is_operator.ensures ∙ c.more-test.true) c.in_ok-whole.ensures.reads c.in_ok-whole.ensures.shorter;
 }
 
@@ -38,19 +39,19 @@ unfolding operators_at
 operators-returns-in_err-whole-clause-reads t c =
     let p = err_from_is_err_and c.from_residual.result c.from_residual.ensures.1 in
     rw (p.1, p.2)
-    (leads-fail (λ (x : Expr × Bor (List Token)). (x.0, x.1.now)) (is_operator c.args.limit) operation_at c.args.first c.args.tokens.now c.more.left c.more.rest.now c.more.invariant.leads c.more.invariant.shorter
+    (leads-fail readers (λ r. r.steps) steps-readers (λ (x : Expr × Bor (List Token)). (x.0, x.1.now)) (is_operator c.args.limit) operation_at c.args.first c.args.tokens.now c.more.left c.more.rest.now c.more.invariant.leads c.more.invariant.shorter
     c.in_err-whole.field-0.0 (sym c.next_is_operator.ensures ∙ c.more-test.true) c.in_err-whole.ensures.reads)
 
 pub operators-returns-clause-reads : goal.operators-returns-clause-reads
 unfolding operators_at
 operators-returns-clause-reads t c =
-    leads-end (λ (x : Expr × Bor (List Token)). (x.0, x.1.now)) (is_operator c.args.limit) operation_at c.args.first c.args.tokens.now c.more.left c.more.rest.now c.more.invariant.leads c.more.invariant.shorter
+    leads-end readers (λ r. r.steps) steps-readers (λ (x : Expr × Bor (List Token)). (x.0, x.1.now)) (is_operator c.args.limit) operation_at c.args.first c.args.tokens.now c.more.left c.more.rest.now c.more.invariant.leads c.more.invariant.shorter
     (c.more.left, c.more.rest) refl (sym c.next_is_operator.ensures ∙ c.more-test.false)
 
 pub more_parts-more-preserved : goal.more_parts-more-preserved
 more_parts-more-preserved t c = record {
   shorter = omega (arith, c.in_ok-more.ensures.shorter, c.more.invariant.shorter);
-  leads = leads-step (λ (x : List Part × Bor (List Token)). (x.0, x.1.now)) is_comma next_part_at c.args.first c.args.tokens.now c.more.parts c.more.rest.now c.more.invariant.leads c.more.invariant.shorter
+  leads = leads-step readers (λ r. r.steps) steps-readers (λ (x : List Part × Bor (List Token)). (x.0, x.1.now)) is_comma next_part_at c.args.first c.args.tokens.now c.more.parts c.more.rest.now c.more.invariant.leads c.more.invariant.shorter
       (c.in_ok-more.more, c.in_ok-more.behind) (sym c.next_is_sign.ensures ∙ c.more-test.true) c.in_ok-more.ensures.reads c.in_ok-more.ensures.shorter;
 }
 
@@ -59,19 +60,19 @@ unfolding more_parts_at
 more_parts-returns-in_err-more-clause-reads t c =
     let p = err_from_is_err_and c.from_residual.result c.from_residual.ensures.1 in
     rw (p.1, p.2)
-    (leads-fail (λ (x : List Part × Bor (List Token)). (x.0, x.1.now)) is_comma next_part_at c.args.first c.args.tokens.now c.more.parts c.more.rest.now c.more.invariant.leads c.more.invariant.shorter
+    (leads-fail readers (λ r. r.steps) steps-readers (λ (x : List Part × Bor (List Token)). (x.0, x.1.now)) is_comma next_part_at c.args.first c.args.tokens.now c.more.parts c.more.rest.now c.more.invariant.leads c.more.invariant.shorter
     c.in_err-more.field-0.0 (sym c.next_is_sign.ensures ∙ c.more-test.true) c.in_err-more.ensures.reads)
 
 pub more_parts-returns-clause-reads : goal.more_parts-returns-clause-reads
 unfolding more_parts_at
 more_parts-returns-clause-reads t c =
-    leads-end (λ (x : List Part × Bor (List Token)). (x.0, x.1.now)) is_comma next_part_at c.args.first c.args.tokens.now c.more.parts c.more.rest.now c.more.invariant.leads c.more.invariant.shorter
+    leads-end readers (λ r. r.steps) steps-readers (λ (x : List Part × Bor (List Token)). (x.0, x.1.now)) is_comma next_part_at c.args.first c.args.tokens.now c.more.parts c.more.rest.now c.more.invariant.leads c.more.invariant.shorter
     (c.more.parts, c.more.rest) refl (sym c.next_is_sign.ensures ∙ c.more-test.false)
 
 pub suffixes-more-preserved : goal.suffixes-more-preserved
 suffixes-more-preserved t c = record {
   shorter = omega (arith, c.in_ok-whole.ensures.shorter, c.more.invariant.shorter);
-  leads = leads-step (λ (x : Expr × Bor (List Token)). (x.0, x.1.now)) is_suffix suffix_at c.args.start c.args.tokens.now c.more.primary c.more.rest.now c.more.invariant.leads c.more.invariant.shorter
+  leads = leads-step readers (λ r. r.steps) steps-readers (λ (x : Expr × Bor (List Token)). (x.0, x.1.now)) is_suffix suffix_at c.args.start c.args.tokens.now c.more.primary c.more.rest.now c.more.invariant.leads c.more.invariant.shorter
       (c.in_ok-whole.whole, c.in_ok-whole.behind) (sym c.next_is_suffix.ensures ∙ c.more-test.true) c.in_ok-whole.ensures.reads c.in_ok-whole.ensures.shorter;
 }
 
@@ -80,19 +81,19 @@ unfolding suffixes_at
 suffixes-returns-in_err-whole-clause-reads t c =
     let p = err_from_is_err_and c.from_residual.result c.from_residual.ensures.1 in
     rw (p.1, p.2)
-    (leads-fail (λ (x : Expr × Bor (List Token)). (x.0, x.1.now)) is_suffix suffix_at c.args.start c.args.tokens.now c.more.primary c.more.rest.now c.more.invariant.leads c.more.invariant.shorter
+    (leads-fail readers (λ r. r.steps) steps-readers (λ (x : Expr × Bor (List Token)). (x.0, x.1.now)) is_suffix suffix_at c.args.start c.args.tokens.now c.more.primary c.more.rest.now c.more.invariant.leads c.more.invariant.shorter
     c.in_err-whole.field-0.0 (sym c.next_is_suffix.ensures ∙ c.more-test.true) c.in_err-whole.ensures.reads)
 
 pub suffixes-returns-clause-reads : goal.suffixes-returns-clause-reads
 unfolding suffixes_at
 suffixes-returns-clause-reads t c =
-    leads-end (λ (x : Expr × Bor (List Token)). (x.0, x.1.now)) is_suffix suffix_at c.args.start c.args.tokens.now c.more.primary c.more.rest.now c.more.invariant.leads c.more.invariant.shorter
+    leads-end readers (λ r. r.steps) steps-readers (λ (x : Expr × Bor (List Token)). (x.0, x.1.now)) is_suffix suffix_at c.args.start c.args.tokens.now c.more.primary c.more.rest.now c.more.invariant.leads c.more.invariant.shorter
     (c.more.primary, c.more.rest) refl (sym c.next_is_suffix.ensures ∙ c.more-test.false)
 
 pub more_arguments-more-preserved : goal.more_arguments-more-preserved
 more_arguments-more-preserved t c = record {
   shorter = omega (arith, c.in_ok-more.ensures.shorter, c.more.invariant.shorter);
-  leads = leads-step (λ (x : List Expr × Bor (List Token)). (x.0, x.1.now)) is_comma next_argument_at c.args.first c.args.tokens.now c.more.arguments c.more.rest.now c.more.invariant.leads c.more.invariant.shorter
+  leads = leads-step readers (λ r. r.steps) steps-readers (λ (x : List Expr × Bor (List Token)). (x.0, x.1.now)) is_comma next_argument_at c.args.first c.args.tokens.now c.more.arguments c.more.rest.now c.more.invariant.leads c.more.invariant.shorter
       (c.in_ok-more.more, c.in_ok-more.behind) (sym c.next_is_sign.ensures ∙ c.more-test.true) c.in_ok-more.ensures.reads c.in_ok-more.ensures.shorter;
 }
 
@@ -101,11 +102,11 @@ unfolding more_arguments_at
 more_arguments-returns-in_err-more-clause-reads t c =
     let p = err_from_is_err_and c.from_residual.result c.from_residual.ensures.1 in
     rw (p.1, p.2)
-    (leads-fail (λ (x : List Expr × Bor (List Token)). (x.0, x.1.now)) is_comma next_argument_at c.args.first c.args.tokens.now c.more.arguments c.more.rest.now c.more.invariant.leads c.more.invariant.shorter
+    (leads-fail readers (λ r. r.steps) steps-readers (λ (x : List Expr × Bor (List Token)). (x.0, x.1.now)) is_comma next_argument_at c.args.first c.args.tokens.now c.more.arguments c.more.rest.now c.more.invariant.leads c.more.invariant.shorter
     c.in_err-more.field-0.0 (sym c.next_is_sign.ensures ∙ c.more-test.true) c.in_err-more.ensures.reads)
 
 pub more_arguments-returns-clause-reads : goal.more_arguments-returns-clause-reads
 unfolding more_arguments_at
 more_arguments-returns-clause-reads t c =
-    leads-end (λ (x : List Expr × Bor (List Token)). (x.0, x.1.now)) is_comma next_argument_at c.args.first c.args.tokens.now c.more.arguments c.more.rest.now c.more.invariant.leads c.more.invariant.shorter
+    leads-end readers (λ r. r.steps) steps-readers (λ (x : List Expr × Bor (List Token)). (x.0, x.1.now)) is_comma next_argument_at c.args.first c.args.tokens.now c.more.arguments c.more.rest.now c.more.invariant.leads c.more.invariant.shorter
     (c.more.arguments, c.more.rest) refl (sym c.next_is_sign.ensures ∙ c.more-test.false)

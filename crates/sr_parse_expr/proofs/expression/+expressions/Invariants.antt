@@ -1,6 +1,6 @@
 -- Each function reads from fewer tokens than its caller, or stands below it.
 use Rattle.std.proofs.Common.{◌+◌, ◌*◌, ◌≤◌, length}
-use Rattle.sr_expr_reader.specs.Readers.{is_comma, is_operator, is_suffix, next_argument_at, next_part_at, operation_at, suffix_at}
+use Rattle.sr_expr_reader.specs.Readers.{is_comma, is_operator, is_suffix, next_argument_at, next_part_at, operation_at, readers, suffix_at}
 use Rattle.sr_parse_expr.proofs.Loops.{LeadsOn}
 use Rattle.sr_parse_expr.proofs.expression.+expressions.Given as goal
 
@@ -95,7 +95,7 @@ decreases-next_argument l = 64 * length l.tokens.now + 0
 abbrev pub invariant-operators-more : goal.invariant-operators-more
 invariant-operators-more l = record {
   shorter : length l.rest ≤ length l.fn.tokens;
-  leads : LeadsOn (is_operator l.limit) operation_at l.fn.first l.fn.tokens l.left l.rest;
+  leads : LeadsOn readers (is_operator l.limit) operation_at l.fn.first l.fn.tokens l.left l.rest;
 }
 
 abbrev pub decreases-operators-more : goal.decreases-operators-more
@@ -105,7 +105,7 @@ decreases-operators-more l = length l.rest
 abbrev pub invariant-more_parts-more : goal.invariant-more_parts-more
 invariant-more_parts-more l = record {
   shorter : length l.rest ≤ length l.fn.tokens;
-  leads : LeadsOn is_comma next_part_at l.fn.first l.fn.tokens l.parts l.rest;
+  leads : LeadsOn readers is_comma next_part_at l.fn.first l.fn.tokens l.parts l.rest;
 }
 
 abbrev pub decreases-more_parts-more : goal.decreases-more_parts-more
@@ -115,7 +115,7 @@ decreases-more_parts-more l = length l.rest
 abbrev pub invariant-suffixes-more : goal.invariant-suffixes-more
 invariant-suffixes-more l = record {
   shorter : length l.rest ≤ length l.fn.tokens;
-  leads : LeadsOn is_suffix suffix_at l.fn.start l.fn.tokens l.primary l.rest;
+  leads : LeadsOn readers is_suffix suffix_at l.fn.start l.fn.tokens l.primary l.rest;
 }
 
 abbrev pub decreases-suffixes-more : goal.decreases-suffixes-more
@@ -125,7 +125,7 @@ decreases-suffixes-more l = length l.rest
 abbrev pub invariant-more_arguments-more : goal.invariant-more_arguments-more
 invariant-more_arguments-more l = record {
   shorter : length l.rest ≤ length l.fn.tokens;
-  leads : LeadsOn is_comma next_argument_at l.fn.first l.fn.tokens l.arguments l.rest;
+  leads : LeadsOn readers is_comma next_argument_at l.fn.first l.fn.tokens l.arguments l.rest;
 }
 
 abbrev pub decreases-more_arguments-more : goal.decreases-more_arguments-more

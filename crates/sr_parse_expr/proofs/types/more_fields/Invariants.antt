@@ -1,0 +1,17 @@
+-- What the loop gives is what its reader gives.
+use Rattle.std.proofs.Common.{◌≤◌, length}
+use Rattle.sr_expr_reader.specs.TypeReaders.{is_separated}
+use Rattle.sr_expr_reader.specs.TypeReaders.{type_readers}
+use Rattle.sr_expr_reader.specs.TypeReaders.{next_field_at}
+use Rattle.sr_parse_expr.proofs.Loops.{LeadsOn}
+use Rattle.sr_parse_expr.proofs.types.more_fields.Given as goal
+
+-- what the loop gives from here is what it gives from the start
+abbrev pub invariant-more : goal.invariant-more
+invariant-more l = record {
+  shorter : length l.rest ≤ length l.fn.tokens;
+  leads : LeadsOn type_readers is_separated next_field_at l.fn.first l.fn.tokens l.fields l.rest;
+}
+
+abbrev pub decreases-more : goal.decreases-more
+decreases-more l = length l.rest

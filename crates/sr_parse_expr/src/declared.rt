@@ -1,0 +1,230 @@
+ghost use Rattle.std.specs.Prelude.{◌≡◌, ◌<◌, ◌≤◌, length, IfOk};
+ghost use Rattle.sr_parse_expr.specs.Gives.{Gives};
+ghost use Rattle.sr_parse_expr.specs.Reads.{ReadsUpTo};
+ghost use Rattle.sr_parse_expr.specs.Tails.{dims_behind_at, dims_closed_at};
+ghost use Rattle.sr_expr_reader.specs.TypeReaders.{decl_at, decls_at, dims_at, more_decls_at, more_names_at, names_at, next_decl_at, next_name_at, range_at, second_range_at, upper_bound_at};
+
+use crate::expression::{LOOSEST, expression, operand};
+use crate::reading::{ReadFail, name, next_is_sign, sign};
+use sr_tree::{Decl, DimsTree, Expr, Name, RangeTree, Sign, Token};
+use sr_value::{Row, Span};
+use std::alloc::Global;
+
+/// Reads names with commas between.
+#[tactic(auto, unfolding(sr_expr_reader::specs::TypeReaders::names_at))]
+pub fn names(alloc: Global, tokens: &[Token]) -> Result<(Row<Name>, &[Token]), ReadFail>
+    ensures reads { ReadsUpTo (λ x. (x.0, x.1.now)) tokens.now result (λ r. names_at r) }
+    ensures shorter { IfOk result (λ x. length x.1.now < length tokens.now) }
+{
+    let (first, rest) = name(alloc, tokens)?;
+    let mut names = Row::new(alloc);
+    names.push(first)?;
+    more_names(alloc, names, rest)
+}
+
+/// Reads further names, each behind a comma.
+#[tactic(auto, unfolding(sr_expr_reader::specs::TypeReaders::more_names_at))]
+fn more_names(
+    alloc: Global,
+    first: Row<Name>,
+    tokens: &[Token],
+) -> Result<(Row<Name>, &[Token]), ReadFail>
+    ensures reads { ReadsUpTo (λ x. (x.0, x.1.now)) tokens.now result (λ r. more_names_at r first) }
+    ensures shorter { IfOk result (λ x. length x.1.now ≤ length tokens.now) }
+{
+    let mut names = first;
+    let mut rest = tokens;
+    'more: while next_is_sign(rest, Sign::Comma) {
+        let (more, behind) = next_name(alloc, names, rest)?;
+        names = more;
+        rest = behind;
+    }
+    Ok((names, rest))
+}
+
+/// Reads a comma and a name, and puts it behind the others.
+#[tactic(auto, unfolding(sr_expr_reader::specs::TypeReaders::next_name_at))]
+fn next_name(
+    alloc: Global,
+    names: Row<Name>,
+    tokens: &[Token],
+) -> Result<(Row<Name>, &[Token]), ReadFail>
+    ensures reads { ReadsUpTo (λ x. (x.0, x.1.now)) tokens.now result (λ r. next_name_at names) }
+    ensures shorter { IfOk result (λ x. length x.1.now < length tokens.now) }
+{
+    let mut names = names;
+    let (_, rest) = sign(tokens, Sign::Comma)?;
+    let (next, rest) = name(alloc, rest)?;
+    names.push(next)?;
+    Ok((names, rest))
+}
+
+/// Reads `:` and an upper bound, or `*`, behind a lower bound.
+#[tactic(auto, unfolding(sr_expr_reader::specs::TypeReaders::upper_bound_at))]
+fn upper_bound(
+    alloc: Global,
+    low: Expr,
+    tokens: &[Token],
+) -> Result<(RangeTree, &[Token]), ReadFail>
+    ensures reads { ReadsUpTo (λ x. (x.0, x.1.now)) tokens.now result (λ r. upper_bound_at r low) }
+    ensures shorter { IfOk result (λ x. length x.1.now < length tokens.now) }
+{
+    let (_, rest) = sign(tokens, Sign::Colon)?;
+    let span = low.span();
+    if next_is_sign(rest, Sign::Star) {
+        let (_, rest) = sign(rest, Sign::Star)?;
+        Ok((RangeTree::From { span, low }, rest))
+    } else {
+        let (high, rest) = expression(alloc, rest)?;
+        Ok((RangeTree::Bounds { span, low, high }, rest))
+    }
+}
+
+/// Reads the bounds of one dimension.
+#[tactic(auto, unfolding(sr_expr_reader::specs::TypeReaders::range_at))]
+fn range(alloc: Global, tokens: &[Token]) -> Result<(RangeTree, &[Token]), ReadFail>
+    ensures reads { ReadsUpTo (λ x. (x.0, x.1.now)) tokens.now result (λ r. range_at r) }
+    ensures shorter { IfOk result (λ x. length x.1.now < length tokens.now) }
+{
+    if next_is_sign(tokens, Sign::Star) {
+        let (span, rest) = sign(tokens, Sign::Star)?;
+        return Ok((RangeTree::Any { span }, rest));
+    }
+    let (low, rest) = operand(alloc, LOOSEST, tokens)?;
+    if next_is_sign(rest, Sign::Colon) {
+        upper_bound(alloc, low, rest)
+    } else {
+        let span = low.span();
+        Ok((RangeTree::Length { span, length: low }, rest))
+    }
+}
+
+/// Reads a comma and the bounds of a second dimension, where they stand.
+#[tactic(auto, unfolding(sr_expr_reader::specs::TypeReaders::second_range_at))]
+fn second_range(alloc: Global, tokens: &[Token]) -> Result<(Option<RangeTree>, &[Token]), ReadFail>
+    ensures reads { ReadsUpTo (λ x. (x.0, x.1.now)) tokens.now result (λ r. second_range_at r) }
+    ensures shorter { IfOk result (λ x. length x.1.now ≤ length tokens.now) }
+{
+    if next_is_sign(tokens, Sign::Comma) {
+        let (_, rest) = sign(tokens, Sign::Comma)?;
+        let (second, rest) = range(alloc, rest)?;
+        Ok((Some(second), rest))
+    } else {
+        Ok((None, tokens))
+    }
+}
+
+/// Reads the dimensions of an array.
+#[tactic(auto, unfolding(sr_expr_reader::specs::TypeReaders::dims_at, crate::specs::Tails::dims_behind_at))]
+pub fn dims(alloc: Global, tokens: &[Token]) -> Result<(DimsTree, &[Token]), ReadFail>
+    ensures reads { ReadsUpTo (λ x. (x.0, x.1.now)) tokens.now result (λ r. dims_at r) }
+    ensures shorter { IfOk result (λ x. length x.1.now < length tokens.now) }
+{
+    let (span, rest) = sign(tokens, Sign::OpenBracket)?;
+    let (first, rest) = range(alloc, rest)?;
+    dims_behind(alloc, span, first, rest)
+}
+
+/// Reads the rest of the dimensions of an array, behind the first.
+#[tactic(auto, unfolding(crate::specs::Tails::dims_behind_at, crate::specs::Tails::dims_closed_at))]
+fn dims_behind(
+    alloc: Global,
+    span: Span,
+    first: RangeTree,
+    tokens: &[Token],
+) -> Result<(DimsTree, &[Token]), ReadFail>
+    ensures reads { ReadsUpTo (λ x. (x.0, x.1.now)) tokens.now result (λ r. dims_behind_at r span first) }
+    ensures shorter { IfOk result (λ x. length x.1.now < length tokens.now) }
+{
+    let (second, rest) = second_range(alloc, tokens)?;
+    dims_closed(span, first, second, rest)
+}
+
+/// Reads the closing bracket of the dimensions of an array.
+#[tactic(auto, unfolding(crate::specs::Tails::dims_closed_at))]
+fn dims_closed(
+    span: Span,
+    first: RangeTree,
+    second: Option<RangeTree>,
+    tokens: &[Token],
+) -> Result<(DimsTree, &[Token]), ReadFail>
+    ensures reads { Gives (λ x. (x.0, x.1.now)) result (dims_closed_at span first second tokens.now) }
+    ensures shorter { IfOk result (λ x. length x.1.now < length tokens.now) }
+{
+    let (_, rest) = sign(tokens, Sign::CloseBracket)?;
+    Ok((
+        DimsTree {
+            span,
+            first,
+            second,
+        },
+        rest,
+    ))
+}
+
+/// Reads a name that is declared, with its dimensions where they stand.
+#[tactic(auto, unfolding(sr_expr_reader::specs::TypeReaders::decl_at))]
+pub fn decl(alloc: Global, tokens: &[Token]) -> Result<(Decl, &[Token]), ReadFail>
+    ensures reads { ReadsUpTo (λ x. (x.0, x.1.now)) tokens.now result (λ r. decl_at r) }
+    ensures shorter { IfOk result (λ x. length x.1.now < length tokens.now) }
+{
+    let (name, rest) = name(alloc, tokens)?;
+    let span = name.span;
+    if next_is_sign(rest, Sign::OpenBracket) {
+        let (dims, rest) = dims(alloc, rest)?;
+        let dims = Some(dims);
+        Ok((Decl { span, name, dims }, rest))
+    } else {
+        let dims = None;
+        Ok((Decl { span, name, dims }, rest))
+    }
+}
+
+/// Reads declared names with commas between.
+#[tactic(auto, unfolding(sr_expr_reader::specs::TypeReaders::decls_at))]
+pub fn decls(alloc: Global, tokens: &[Token]) -> Result<(Row<Decl>, &[Token]), ReadFail>
+    ensures reads { ReadsUpTo (λ x. (x.0, x.1.now)) tokens.now result (λ r. decls_at r) }
+    ensures shorter { IfOk result (λ x. length x.1.now < length tokens.now) }
+{
+    let (first, rest) = decl(alloc, tokens)?;
+    let mut decls = Row::new(alloc);
+    decls.push(first)?;
+    more_decls(alloc, decls, rest)
+}
+
+/// Reads further declared names, each behind a comma.
+#[tactic(auto, unfolding(sr_expr_reader::specs::TypeReaders::more_decls_at))]
+fn more_decls(
+    alloc: Global,
+    first: Row<Decl>,
+    tokens: &[Token],
+) -> Result<(Row<Decl>, &[Token]), ReadFail>
+    ensures reads { ReadsUpTo (λ x. (x.0, x.1.now)) tokens.now result (λ r. more_decls_at r first) }
+    ensures shorter { IfOk result (λ x. length x.1.now ≤ length tokens.now) }
+{
+    let mut decls = first;
+    let mut rest = tokens;
+    'more: while next_is_sign(rest, Sign::Comma) {
+        let (more, behind) = next_decl(alloc, decls, rest)?;
+        decls = more;
+        rest = behind;
+    }
+    Ok((decls, rest))
+}
+
+/// Reads a comma and a declared name, and puts it behind the others.
+#[tactic(auto, unfolding(sr_expr_reader::specs::TypeReaders::next_decl_at))]
+fn next_decl(
+    alloc: Global,
+    decls: Row<Decl>,
+    tokens: &[Token],
+) -> Result<(Row<Decl>, &[Token]), ReadFail>
+    ensures reads { ReadsUpTo (λ x. (x.0, x.1.now)) tokens.now result (λ r. next_decl_at r decls) }
+    ensures shorter { IfOk result (λ x. length x.1.now < length tokens.now) }
+{
+    let mut decls = decls;
+    let (_, rest) = sign(tokens, Sign::Comma)?;
+    let (next, rest) = decl(alloc, rest)?;
+    decls.push(next)?;
+    Ok((decls, rest))
+}
