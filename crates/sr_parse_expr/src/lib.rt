@@ -11,6 +11,3 @@ mod type_words;
 pub mod types;
 
 pub use parse::{parse_expr, parse_type};
-
-#[cfg(test)]
-mod tests;
