@@ -1,3 +1,2 @@
-pub mod PartsLemmas
 pub mod Values
 pub mod Written

@@ -1,7 +1,7 @@
 -- `all_of`, from the front on.
 use Rattle.std.proofs.Common.{◌≡◌, List, [], ◌∷◌, ◌++◌, map, refl, ap, sym, ◌∙◌, append_assoc, Some, None}
 use Rattle.std.specs.Prelude.{Option}
-use Rattle.std.proofs.lemmas.List.{append-nil, get_or-map, take-map, drop-map, length-map}
+use Rattle.std.proofs.lemmas.List.{append-nil}
 use Rattle.std.specs.Option.{option_map, option_and_then}
 use Rattle.sr_top.specs.Small.{all_of}
 
@@ -29,13 +29,6 @@ unchanged : {B : Type 0} → (values : Option (List B)) → option_map (λ ys. [
 unchanged None = refl
 unchanged (Some ys) = refl
 
-map-map : {A B C : Type 0} → (f : B → C) (g : A → B) (xs : List A) → map f (map g xs) ≡ map (λ x. f (g x)) xs
-map-map f g [] = refl
-map-map f g (x ∷ xs) = ap (λ ys. f (g x) ∷ ys) (map-map f g xs)
-
 -- from no values on, they are all
-pub all_from_none : {A B C : Type 0} → (f : B → Option C) (g : A → B) (xs : List A) → all_from (λ x. f (g x)) [] xs ≡ all_of (map f (map g xs))
-all_from_none f g xs = all_from-all_of (λ x. f (g x)) [] xs ∙ unchanged (all_of (map (λ x. f (g x)) xs)) ∙ sym (ap all_of (map-map f g xs))
-
--- what a list of mapped items has
-pub ruleset of_mapped = (get_or-map, take-map, drop-map, length-map)
+pub all_from_some : {A B : Type 0} → (f : A → Option B) (xs : List A) → all_from f [] xs ≡ all_of (map f xs)
+all_from_some f xs = all_from-all_of f [] xs ∙ unchanged (all_of (map f xs))

@@ -1,16 +1,15 @@
 -- How far a run of writes has come.
-use Rattle.std.proofs.Common.{◌≡◌, ℕ, suc, ◌+◌, ◌-◌, ◌<◌, ◌≤◌, List, [], ◌∷◌, ◌++◌, length, take, get_or, refl, ap, sym, ◌∙◌, arith, length-append, inl, inr, append_assoc, subst, add-one}
-use Rattle.std.specs.Prelude.{Option, replicate, slice_index_or}
+use Rattle.std.proofs.Common.{◌≡◌, ℕ, ◌+◌, ◌<◌, ◌≤◌, List, [], ◌∷◌, ◌++◌, length, take, get_or, refl, ap, sym, ◌∙◌, arith, length-append, inl, inr, append_assoc, subst, add-one}
+use Rattle.std.specs.Prelude.{Option, replicate}
 use Rattle.std.specs.List.{concat}
 use Rattle.std.proofs.Math.Seq.{take-append-add}
 use Rattle.std.proofs.lemmas.List.{take-append-le, append-nil, take_more, take_all, get_or_default, take-replicate, length-replicate, replicate-append-replicate}
-use Rattle.std.proofs.lemmas.Grind.{common_steps}
 use Rattle.std.specs.Io.KnownBytes.{append_known}
 use Rattle.sr_ports.specs.Streams.{PutInPart}
-use Rattle.sr_ports.proofs.Growth.{append_known-nil, append_known-append}
+use Rattle.sr_ports.proofs.Growth.{append_known-append}
 use Rattle.sr_ask.specs.declared.item.Item.{Item}
 use Rattle.sr_ask.specs.declared.item.Item.TheVariants.{Step}
-use Rattle.sr_top.specs.Run.{write_items, run_items, last_items, IsWholeRun, IsCutShort, IsCutInWrite, IsCutBetween, IsUnwritten, IsWrittenInPart, IsNotMade, AddsSome}
+use Rattle.sr_top.specs.Run.{write_items, run_items, last_items, IsCutShort, IsCutInWrite, IsCutBetween, IsUnwritten, IsWrittenInPart, IsNotMade, AddsSome}
 
 -- the first `at` texts were written whole
 pub record IsWritten (texts : List (List ℕ)) (at : ℕ) (items : List Item) (before now : Option (List ℕ)) : Type 0 where

@@ -1,5 +1,5 @@
 -- Why a call of the program ends as it does.
-use Rattle.std.specs.Prelude.{◌≡◌, ℕ, ◌≤◌, List, [], length, take, Option, Some, None, IfSome, ◌⊎◌}
+use Rattle.std.specs.Prelude.{◌≡◌, ℕ, List, [], ◌∷◌, take, Option, Some, None, IfSome, ◌⊎◌}
 use Rattle.std.specs.Option.{option_map}
 use Rattle.sr_ports.specs.Faults.{Rose}
 use Rattle.sr_ports.specs.Files.{bytes_of}
@@ -8,6 +8,8 @@ use Rattle.sr_text.specs.declared.refusal.Refusal.{Refusal}
 use Rattle.sr_text.specs.declared.refusal.Kind.TheVariants.{NotBuilt}
 use Rattle.sr_top.specs.declared.report.Ending.{Ending}
 use Rattle.sr_top.specs.declared.report.Ending.TheVariants.{Done, Quiet, Stopped, Failed, Limit, Refused, NoFile, ReadFault, WriteFault, NoMemory, Usage}
+use Rattle.sr_tree.specs.declared.component.File.{File}
+use Rattle.sr_front.specs.Reading.{AreRead, AreRefused}
 use Rattle.sr_top.specs.Small.{small_texts}
 use Rattle.sr_top.specs.Run.{IsWholeRun, IsCutShort, IsCutInWrite}
 use Rattle.sr_top.specs.Words.{file_word}
@@ -52,29 +54,39 @@ pub record EndsNoFile (call : Call) (file : ℕ) : Type 0 where
   pub failed : Rose call.read_faults call.read_faults_now
   pub nothing : RunsNothing call
 
--- the file is no small text
+-- The file that the words name is a small program, which writes these texts, line by line.
+pub record IsSmall (call : Call) (texts : List (List ℕ)) : Type 0 where
+  pub bytes : List ℕ
+  pub read : Reads call bytes
+  pub trees : List File
+  pub parsed : AreRead (bytes ∷ []) trees
+  pub small : small_texts trees ≡ Some texts
+
+-- the file has a tree, but not that of a small program, and nothing else can be run yet
+pub record IsNotBuilt (bytes : List ℕ) (refusal : Refusal) : Type 0 where
+  pub trees : List File
+  pub parsed : AreRead (bytes ∷ []) trees
+  pub no_small : small_texts trees ≡ None
+  pub is : refusal ≡ record { kind = NotBuilt; place = record { file = 0; line = 1 } }
+
+-- the file was read and is refused: by a phase of reading, or since it isn't small
 pub record EndsRefused (call : Call) (refusal : Refusal) : Type 0 where
   pub bytes : List ℕ
   pub read : Reads call bytes
-  pub no_small_text : small_texts bytes ≡ None
-  pub is : refusal ≡ record { kind = NotBuilt; place = record { file = 0; line = 1 } }
+  pub why : AreRefused (bytes ∷ []) refusal ⊎ IsNotBuilt bytes refusal
   pub nothing : RunsNothing call
 
--- the file is a small text, its whole run was made, and all its output was put
+-- the file is a small program, its whole run was made, and all its output was put
 pub record EndsQuiet (call : Call) : Type 0 where
-  pub bytes : List ℕ
-  pub read : Reads call bytes
   pub texts : List (List ℕ)
-  pub small_text : small_texts bytes ≡ Some texts
+  pub small : IsSmall call texts
   pub whole : IsWholeRun texts call.items call.held call.held_now
   pub no_write_fault : call.write_faults_now ≡ call.write_faults
 
 -- the output failed: the last item is the write whose bytes weren't all put
 pub record EndsWriteFault (call : Call) : Type 0 where
-  pub bytes : List ℕ
-  pub read : Reads call bytes
   pub texts : List (List ℕ)
-  pub small_text : small_texts bytes ≡ Some texts
+  pub small : IsSmall call texts
   pub cut : IsCutInWrite texts call.items call.held call.held_now
   pub failed : Rose call.write_faults call.write_faults_now
 
@@ -87,10 +99,8 @@ pub record EndsEarly (call : Call) : Type 0 where
 
 -- memory ran out in a run
 pub record EndsShort (call : Call) : Type 0 where
-  pub bytes : List ℕ
-  pub read : Reads call bytes
   pub texts : List (List ℕ)
-  pub small_text : small_texts bytes ≡ Some texts
+  pub small : IsSmall call texts
   pub cut : IsCutShort texts call.items call.held call.held_now
   pub no_write_fault : call.write_faults_now ≡ call.write_faults
 
@@ -113,3 +123,9 @@ abbrev pub TextCause : List ℕ → List Item → Option (List ℕ) → Option (
 TextCause bytes items held held_now faults faults_now ending =
     (call : Call) → call.items ≡ items → call.held ≡ held → call.held_now ≡ held_now → call.write_faults ≡ faults → call.write_faults_now ≡ faults_now
     → Reads call bytes → HasCause call ending
+
+-- the same for trees that were read
+abbrev pub TreesCause : List File → List Item → Option (List ℕ) → Option (List ℕ) → ℕ → ℕ → Ending → Type 0
+TreesCause trees items held held_now faults faults_now ending =
+    (call : Call) (bytes : List ℕ) → call.items ≡ items → call.held ≡ held → call.held_now ≡ held_now → call.write_faults ≡ faults
+    → call.write_faults_now ≡ faults_now → Reads call bytes → AreRead (bytes ∷ []) trees → HasCause call ending

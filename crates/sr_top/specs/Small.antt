@@ -1,70 +1,33 @@
--- Small texts: a resource `main` that only writes numbers and strings.
-use Rattle.std.specs.Prelude.{ℕ, ◌+◌, ◌-◌, ◌*◌, ◌==◌, ◌&&◌, ◌||◌, not, nat_lt, nat_le, Bool, true, false, cond, if◌then◌else◌, List, [], ◌∷◌, ◌++◌, length, take, drop, map, filter, fold, codes, Option, Some, None, unwrap_or, slice_index_or}
-use Rattle.std.specs.Option.{option_map, option_and_then, option_map_or}
-use Rattle.std.specs.List.{list_all, prefix_len, suffix_len, slice_split, onto_first, flat_map}
+-- Small programs: one resource `main` whose code only writes numbers and strings.
+use Rattle.std.specs.Prelude.{ℕ, ◌&&◌, Bool, true, false, if◌then◌else◌, List, [], ◌∷◌, ◌++◌, map, codes, Option, Some, None}
+use Rattle.std.specs.Option.{option_map}
+use Rattle.std.specs.List.{flat_map}
 use Rattle.std.specs.Str.{bytes_eq}
 use Rattle.std.specs.Fmt.{decimal}
+use Rattle.sr_literal.specs.Literals.{number_of, string_of}
+use Rattle.sr_tree.specs.declared.component.Component.{Component}
+use Rattle.sr_tree.specs.declared.component.Component.TheVariants as component
+use Rattle.sr_tree.specs.declared.component.File.{File}
+use Rattle.sr_tree.specs.declared.component.Item.{Item}
+use Rattle.sr_tree.specs.declared.component.Item.TheVariants as item
+use Rattle.sr_tree.specs.declared.expr.Create.TheOpen.{Expr-F}
+use Rattle.sr_tree.specs.declared.expr.Expr.{Expr, out-Expr}
+use Rattle.sr_tree.specs.declared.expr.Invocation.{Invocation, out-Invocation}
+use Rattle.sr_tree.specs.declared.expr.Literal.{Literal}
+use Rattle.sr_tree.specs.declared.expr.Literal.TheVariants as literal
+use Rattle.sr_tree.specs.declared.statement.BlockItem.TheOpen.{Statement-F}
+use Rattle.sr_tree.specs.declared.statement.Statement.{Statement, out-Statement}
+use Rattle.sr_tree.specs.declared.types.Formal.{Formal}
 
--- a space or a tab
-abbrev pub is_blank : ℕ → Bool
-is_blank byte = (byte == 32) || (byte == 9)
+-- what a literal writes, where it is a number or a string
+abbrev pub literal_text : Literal → Option (List ℕ)
+literal_text (literal.Number digits) = option_map decimal (number_of digits)
+literal_text (literal.Str token) = Some (string_of token)
+literal_text _ = None
 
-abbrev pub without_trailing : List ℕ → List ℕ
-without_trailing bytes = take (length bytes - suffix_len is_blank bytes) bytes
-
--- without the blanks at both ends
-abbrev pub trimmed : List ℕ → List ℕ
-trimmed bytes = without_trailing (drop (prefix_len is_blank bytes) bytes)
-
-abbrev pub is_filled : List ℕ → Bool
-is_filled [] = false
-is_filled (byte ∷ bytes) = true
-
--- the lines, without blanks at their ends; lines of blanks alone are passed over
-abbrev pub text_lines : List ℕ → List (List ℕ)
-text_lines bytes = filter is_filled (map trimmed (slice_split (λ byte. byte == 10) bytes))
-
--- what follows a word at the front
-abbrev pub after_word : List ℕ → List ℕ → Option (List ℕ)
-after_word word bytes = if bytes_eq (take (length word) bytes) word then Some (drop (length word) bytes) else None
-
-abbrev pub is_spaced_main : List ℕ → Bool
-is_spaced_main bytes = nat_lt 0 (prefix_len is_blank bytes) && bytes_eq (trimmed bytes) (codes "main()")
-
--- the first line: `resource`, one or more blanks, `main()`
-abbrev pub is_head : List ℕ → Bool
-is_head line = option_map_or is_spaced_main (after_word (codes "resource") line) false
-
-abbrev pub is_digit : ℕ → Bool
-is_digit byte = nat_le 48 byte && nat_le byte 57
-
--- the number with one digit more, where an `int` holds it
-abbrev pub with_digit : ℕ → ℕ → Option ℕ
-with_digit number byte = if is_digit byte && nat_le (10 * number + (byte - 48)) 2147483647 then Some (10 * number + (byte - 48)) else None
-
-abbrev pub with_digits : ℕ → List ℕ → Option ℕ
-with_digits number [] = Some number
-with_digits number (byte ∷ bytes) = option_and_then (λ more. with_digits more bytes) (with_digit number byte)
-
--- the number that a part spells: one digit or more, of a number that an `int` holds
-abbrev pub number_in : List ℕ → Option ℕ
-number_in part = if is_filled part then with_digits 0 part else None
-
--- a byte that stands for itself in a string: a tab or a printed character, but for the quote and the backslash
-abbrev pub is_plain : ℕ → Bool
-is_plain byte = (byte == 9) || (nat_le 32 byte && nat_le byte 126 && not (byte == 34) && not (byte == 92))
-
--- what stands before a last byte
-abbrev pub before_byte : ℕ → List ℕ → Option (List ℕ)
-before_byte byte bytes = if is_filled bytes && bytes_eq (drop (length bytes - 1) bytes) (byte ∷ []) then Some (take (length bytes - 1) bytes) else None
-
--- plain bytes between two quotes
-abbrev pub quoted : List ℕ → Option (List ℕ)
-quoted part = option_and_then (λ inside. if list_all is_plain inside then Some inside else None) (option_and_then (before_byte 34) (after_word (34 ∷ []) part))
-
--- what a part of a `write` writes, where it is a number or a string
-abbrev pub part_text : List ℕ → Option (List ℕ)
-part_text part = option_map_or (λ number. Some (decimal number)) (number_in part) (quoted part)
+-- what an argument of `write` writes
+abbrev pub argument_text : Expr → Option (List ℕ)
+argument_text e = elim (out-Expr e) [ Expr-F.Literal span l ↦ literal_text l | _ ↦ None ]
 
 -- the values, where each is there
 abbrev pub all_of : {A : Type 0} → List (Option A) → Option (List A)
@@ -72,40 +35,43 @@ all_of [] = Some []
 all_of (None ∷ options) = None
 all_of (Some value ∷ options) = option_map (λ values. value ∷ values) (all_of options)
 
--- the parts between the commas that stand outside quotes; `quoted` where a quote is open
-abbrev pub parts : Bool → List ℕ → List (List ℕ)
-parts quoted [] = [] ∷ []
-parts quoted (byte ∷ bytes) = if (byte == 44) && not quoted then [] ∷ parts quoted bytes
-    else onto_first byte (parts (if byte == 34 then not quoted else quoted) bytes)
-
--- how many bytes stand before the first comma outside quotes
-abbrev pub part_len : Bool → List ℕ → ℕ
-part_len quoted [] = 0
-part_len quoted (byte ∷ bytes) = if (byte == 44) && not quoted then 0 else 1 + part_len (if byte == 34 then not quoted else quoted) bytes
-
--- the texts of the arguments, of which there may be none
-abbrev pub argument_texts : List ℕ → Option (List (List ℕ))
-argument_texts inside = if is_filled inside then all_of (map (λ part. part_text (trimmed part)) (parts false inside)) else Some []
-
 -- a line of output: the texts with a space before each but the first, and a newline
 abbrev pub output_line : List (List ℕ) → List ℕ
 output_line [] = 10 ∷ []
 output_line (text ∷ texts) = text ++ flat_map (λ other. 32 ∷ other) texts ++ 10 ∷ []
 
--- what stands between the parentheses of a `write`
-abbrev pub write_arguments : List ℕ → Option (List ℕ)
-write_arguments line = option_and_then (before_byte 41) (after_word (codes "write(") line)
+-- the name `write`
+abbrev pub is_write : Expr → Bool
+is_write e = elim (out-Expr e) [ Expr-F.Name name ↦ bytes_eq name.text (codes "write") | _ ↦ false ]
 
--- what a line writes: `write(`, arguments, `)`
-abbrev pub written : List ℕ → Option (List ℕ)
-written line = option_map output_line (option_and_then (λ inside. argument_texts (trimmed inside)) (write_arguments line))
+-- the line that an invocation of `write` writes
+abbrev pub invocation_text : Invocation → Option (List ℕ)
+invocation_text i =
+    if is_write (out-Invocation i).callee then option_map output_line (all_of (map argument_text (out-Invocation i).arguments)) else None
 
--- what the lines of a resource write: a first line, lines that write, and `end`
-abbrev pub body_texts : List (List ℕ) → Option (List (List ℕ))
-body_texts lines =
-    if nat_le 2 (length lines) && is_head (slice_index_or lines 0 []) && bytes_eq (slice_index_or lines (length lines - 1) []) (codes "end")
-    then all_of (map written (take (length lines - 1 - 1) (drop 1 lines))) else None
+-- the line that a statement writes, where it is such an invocation without the word `call`
+abbrev pub statement_text : Statement → Option (List ℕ)
+statement_text s = elim (out-Statement s) [ Statement-F.Call span with_call i ↦ if with_call then None else invocation_text i | _ ↦ None ]
 
--- what a small text writes, line by line; any other text has none
-abbrev pub small_texts : List ℕ → Option (List (List ℕ))
-small_texts bytes = if nat_le (length bytes) 1048576 then body_texts (text_lines bytes) else None
+abbrev pub item_text : Item → Option (List ℕ)
+item_text (item.Statement s) = statement_text s
+item_text _ = None
+
+abbrev pub is_empty : List Formal → Bool
+is_empty [] = true
+is_empty (formal ∷ formals) = false
+
+-- what a resource `main` without formals writes, line by line
+abbrev pub component_texts : Component → Option (List (List ℕ))
+component_texts (component.Resource span name formals items) =
+    if bytes_eq name.text (codes "main") && is_empty formals then all_of (map item_text items) else None
+component_texts _ = None
+
+abbrev pub file_texts : List Component → Option (List (List ℕ))
+file_texts (c ∷ []) = component_texts c
+file_texts _ = None
+
+-- what a small program of one file writes, line by line; any other program has none
+abbrev pub small_texts : List File → Option (List (List ℕ))
+small_texts (file ∷ []) = file_texts file.components
+small_texts _ = None

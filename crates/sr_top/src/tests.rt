@@ -96,11 +96,11 @@ const USAGE: &[u8] =
 #[test]
 fn calls_with_ports_in_memory(rt: HostRuntime) -> Result<(), Fail> {
     let hello = b"resource main()\n  write(\"hello\", 3)\nend\n";
-    let spaced = b"\t resource  \tmain() \n\n\twrite( 007 ,\"a, b\" )\n  write()\nend";
+    let spaced = b"\t resource  \tmain() \n\n\twrite( 007 ,\"a,\\tb\" )\n  write()\nend";
     let s13 = b"sr: a.sr:1: S13 NotBuilt\n";
     let cases = [
         run_case(hello, b"hello 3\n", 6),
-        run_case(spaced, b"7 a, b\n\n", 7),
+        run_case(spaced, b"7 a,\tb\n\n", 7),
         Case {
             most: 4,
             put_fails: &[2],
@@ -167,26 +167,58 @@ fn items_of_hello(rt: HostRuntime) -> Result<(), Fail> {
     Ok(())
 }
 
+/// Texts that are refused, with the kind and the line.
 #[test]
-fn texts_that_are_not_small(rt: HostRuntime) -> Result<(), Fail> {
-    let texts: [&[u8]; 12] = [
-        b"resource main()\nwrite(1)\n",
-        b"resource main()\r\nend\n",
-        b"resourcemain()\nend\n",
-        b"resource main\nend\n",
-        b"resource main()\nwrite(2147483648)\nend\n",
-        b"resource main()\nwrite(1,)\nend\n",
-        b"resource main()\nwrite(-1)\nend\n",
-        b"resource main()\nwrite(\"a\\n\")\nend\n",
-        b"resource main()\nwrite(\"a)\nend\n",
-        b"resource main()\nwrite (1)\nend\n",
-        b"resource main()\nwrites(1)\nend\n",
-        b"resource main()\nwrite(1)\nend\nend2\n",
+fn refused_texts(rt: HostRuntime) -> Result<(), Fail> {
+    let texts: [(&[u8], Kind, u32); 12] = [
+        (b"", Kind::NotBuilt, 1),
+        (b"resource main()\n  \x80\nend\n", Kind::BadByte, 2),
+        (b"resource main() # \x80\n  skip\nend\n", Kind::NotBuilt, 1),
+        (
+            b"resource main()\n  write(2147483648)\nend\n",
+            Kind::BadToken,
+            2,
+        ),
+        (b"resource main()\n  write(3\nend\n", Kind::Syntax, 3),
+        (
+            b"resource main()\n  var x : real\nend\n",
+            Kind::OutOfProfile,
+            2,
+        ),
+        (
+            b"resource main()\n  var x : real := \x80\nend\n",
+            Kind::BadByte,
+            2,
+        ),
+        (b"resource main\nend\n", Kind::Syntax, 2),
+        (b"resource main()\nwrite(1,)\nend\n", Kind::Syntax, 2),
+        (b"resource main()\nwrite(-1)\nend\n", Kind::NotBuilt, 1),
+        (b"resource main()\ncall write(1)\nend\n", Kind::NotBuilt, 1),
+        (b"resource other()\nwrite(1)\nend\n", Kind::NotBuilt, 1),
     ];
-    for text in texts {
+    for (text, kind, line) in texts {
         let (report, output, _) = called(rt.alloc(), &run_case(text, b"", 0))?;
-        assert_eq!(rt; report.ending, NOT_BUILT);
+        let place = Place { file: 0, line };
+        assert_eq!(rt; report.ending, Ending::Refused(Refusal { kind, place }));
         assert_eq!(rt; output.held().len(), 0);
+    }
+    Ok(())
+}
+
+/// The limits on a file: its bytes, and brackets in brackets.
+#[test]
+fn large_texts(rt: HostRuntime) -> Result<(), Fail> {
+    let mut spaces = Vec::new(rt.alloc());
+    spaces.resize(1_048_577, b' ')?;
+    let mut brackets = Vec::from_slice(rt.alloc(), b"resource main()\nwrite(")?;
+    for _ in 0..65 {
+        brackets.push(b'(')?;
+    }
+    for (text, line) in [(spaces, 1), (brackets, 2)] {
+        let (report, _, _) = called(rt.alloc(), &run_case(&text, b"", 0))?;
+        let place = Place { file: 0, line };
+        let kind = Kind::Large;
+        assert_eq!(rt; report.ending, Ending::Refused(Refusal { kind, place }));
     }
     Ok(())
 }

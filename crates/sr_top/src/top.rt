@@ -1,6 +1,7 @@
-ghost use Rattle.std.specs.Prelude.{◌≡◌, [], ◌∷◌, map, string_bytes, length, Some, Err};
+ghost use Rattle.std.specs.Prelude.{◌≡◌, [], ◌∷◌, map, string_bytes, IfOk, IfErr};
 ghost use Rattle.std.specs.Option.{option_to_list};
-ghost use Rattle.sr_top.specs.Causes.{Call, HasCause, TextCause};
+ghost use Rattle.sr_front.specs.Reading.{AreRead, AreRefused, IsRefusal};
+ghost use Rattle.sr_top.specs.Causes.{Call, HasCause, TextCause, TreesCause};
 ghost use Rattle.sr_text.specs.declared.refusal.Kind.TheVariants as kinds;
 ghost use Rattle.sr_top.specs.declared.report.Ending.TheVariants as endings;
 ghost use Rattle.sr_top.specs.declared.report.Side.TheVariants as sides;
@@ -13,9 +14,11 @@ use crate::run::run_writes;
 use crate::small::small_texts;
 use crate::words::file_word;
 use sr_ask::Item;
+use sr_front::read;
 use sr_ports::{Files, Gate, PortFail, Sink, Source};
-use sr_text::{Kind, Refusal};
-use sr_value::{Place, Row};
+use sr_text::{FrontFail, Kind, Refusal};
+use sr_tree::File;
+use sr_value::{Place, Row, Text};
 use std::alloc::Global;
 
 /// The bytes of a file that are read: one more than the most that it may have.
@@ -114,7 +117,7 @@ fn run_words<F: Files, O: Sink>(
         return without_items(alloc, Ending::Usage);
     };
     match files.read(alloc, name, READ_MOST) {
-        Ok(bytes) => run_text(alloc, &bytes, output),
+        Ok(bytes) => run_text(alloc, name.as_bytes(), bytes, output),
         Err(PortFail::Failed) => without_items(alloc, Ending::NoFile(0)),
         Err(PortFail::NoMemory) => without_items(alloc, Ending::NoMemory),
     }
@@ -131,11 +134,31 @@ fn without_items(alloc: Global, ending: Ending) -> Outcome
     }
 }
 
-/// Runs the text of a file.
-fn run_text<O: Sink>(alloc: Global, bytes: &[u8], output: &mut O) -> Outcome
-    ensures { TextCause bytes.now result.items (O.held output.old) (O.held output.new) (O.faults output.old) (O.faults output.new) result.ending }
+/// Reads the text of a file of this name, and runs it.
+fn run_text<O: Sink>(alloc: Global, name: &[u8], bytes: Vec<u8>, output: &mut O) -> Outcome
+    ensures { TextCause bytes.items result.items (O.held output.old) (O.held output.new) (O.faults output.old) (O.faults output.new) result.ending }
 {
-    match small_texts(alloc, bytes) {
+    match trees_of(alloc, name, bytes) {
+        Err(FrontFail::NoMemory) => without_items(alloc, Ending::NoMemory),
+        Err(FrontFail::Refused(refusal)) => without_items(alloc, Ending::Refused(refusal)),
+        Ok(trees) => run_trees(alloc, trees.as_slice(), output),
+    }
+}
+
+/// The tree of the text of a file, or its refusal.
+fn trees_of(alloc: Global, name: &[u8], bytes: Vec<u8>) -> Result<Row<File>, FrontFail>
+    ensures trees { IfOk result (AreRead (bytes.items ∷ [])) }
+    ensures refused { IfErr result (IsRefusal (AreRefused (bytes.items ∷ []))) }
+{
+    let name = Text::from_slice(alloc, name)?;
+    read(alloc, &[(name, Text::from_vec(bytes))])
+}
+
+/// Runs a small program.
+fn run_trees<O: Sink>(alloc: Global, trees: &[File], output: &mut O) -> Outcome
+    ensures { TreesCause trees.now result.items (O.held output.old) (O.held output.new) (O.faults output.old) (O.faults output.new) result.ending }
+{
+    match small_texts(alloc, trees) {
         Err(_) => without_items(alloc, Ending::NoMemory),
         Ok(None) => without_items(alloc, not_built()),
         Ok(Some(texts)) => {
@@ -150,7 +173,7 @@ fn run_text<O: Sink>(alloc: Global, bytes: &[u8], output: &mut O) -> Outcome
     }
 }
 
-/// The refusal of a text that this version can't run.
+/// The refusal of a program that this version can't run.
 fn not_built() -> Ending
     ensures { result ≡ endings.Refused (record { kind = kinds.NotBuilt; place = record { file = 0; line = 1 } }) }
 {

@@ -1,5 +1,5 @@
 -- The last items may be added in part.
-use Rattle.std.proofs.Common.{◌≡◌, inr}
+use Rattle.std.proofs.Common.{inr}
 use Rattle.sr_top.proofs.Written.{cut_at_last}
 use Rattle.sr_top.proofs.run.run_writes.Goals as goal
 

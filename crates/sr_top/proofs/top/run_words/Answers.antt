@@ -8,6 +8,6 @@ returns-in-Ok-clause-cause g c =
     (record {
       name = c.in-Some.name.now;
       named = search rules;
-      told = rw c.deref.ensures.value c.in-Ok.ensures.bytes.1;
+      told = c.in-Ok.ensures.bytes.1;
       no_read_fault = c.in-Ok.ensures.cause;
     })

@@ -1,0 +1,3 @@
+pub mod ArmSplits
+pub mod Fields
+mod Refusals

@@ -1,0 +1,4 @@
+pub mod ArmReaders
+pub mod Programs
+pub mod Reads
+pub mod Tails

@@ -1,0 +1,191 @@
+ghost use Rattle.std.specs.Prelude.{◌≡◌, ◌<◌, ◌≤◌, length, true, false, if◌then◌else◌, IfOk};
+ghost use Rattle.sr_reader.specs.Reader.{next_is};
+ghost use Rattle.sr_expr_reader.specs.Tokens.{is_separator};
+ghost use Rattle.sr_parser.specs.Reads.{ReadsStatementUpTo};
+ghost use Rattle.sr_program_reader.specs.ComponentReaders.{begins_proc_item, final_at, proc_at, proc_block_at, proc_item_at, procedure_at, process_at};
+ghost use Rattle.sr_program_reader.specs.DeclarationReaders.{items_at, next_item_at};
+
+use crate::declaration::{const_decl, op_decl, sem_decl, var_decl};
+use crate::ends::end;
+use crate::parts::{enclosed_names, returned_name};
+use crate::quantifier::optional_quantifiers;
+use crate::statement::statement;
+use crate::words::next_is_statement;
+use sr_parse_expr::reading::{ReadFail, name, next_is_separator, next_is_word, separator, word};
+use sr_parse_expr::types::signature;
+use sr_tree::{FinalCode, Proc, ProcItem, Procedure, Process, Token, Word};
+use sr_value::Row;
+use std::alloc::Global;
+
+/// Whether the next token begins an item of a block.
+fn next_is_proc_item(tokens: &[Token]) -> bool
+    ensures { result ≡ next_is (λ t. begins_proc_item t.kind) tokens.now }
+{
+    next_is_word(tokens, Word::Const)
+        || next_is_word(tokens, Word::Var)
+        || next_is_word(tokens, Word::Op)
+        || next_is_word(tokens, Word::Sem)
+        || next_is_statement(tokens)
+}
+
+/// Reads an item of the block of a proc, procedure or process, or of final code.
+#[tactic(auto, unfolding(sr_program_reader::specs::ComponentReaders::proc_item_at))]
+fn proc_item(alloc: Global, tokens: &[Token]) -> Result<(ProcItem, &[Token]), ReadFail>
+    ensures reads { ReadsStatementUpTo (λ x. (x.0, x.1.now)) tokens.now result (λ r. proc_item_at r) }
+    ensures shorter { IfOk result (λ x. length x.1.now < length tokens.now) }
+{
+    if next_is_word(tokens, Word::Const) {
+        let (decl, rest) = const_decl(alloc, tokens)?;
+        Ok((ProcItem::Const(decl), rest))
+    } else if next_is_word(tokens, Word::Var) {
+        let (decl, rest) = var_decl(alloc, tokens)?;
+        Ok((ProcItem::Var(decl), rest))
+    } else if next_is_word(tokens, Word::Op) {
+        let (decl, rest) = op_decl(alloc, tokens)?;
+        Ok((ProcItem::Op(decl), rest))
+    } else if next_is_word(tokens, Word::Sem) {
+        let (decl, rest) = sem_decl(alloc, tokens)?;
+        Ok((ProcItem::Sem(decl), rest))
+    } else {
+        let (statement, rest) = statement(alloc, tokens)?;
+        Ok((ProcItem::Statement(statement), rest))
+    }
+}
+
+/// Reads the block of a proc, procedure or process, or of final code.
+#[tactic(auto, unfolding(sr_program_reader::specs::ComponentReaders::proc_block_at, sr_program_reader::specs::DeclarationReaders::list_at))]
+fn proc_block(alloc: Global, tokens: &[Token]) -> Result<(Row<ProcItem>, &[Token]), ReadFail>
+    ensures reads { ReadsStatementUpTo (λ x. (x.0, x.1.now)) tokens.now result (λ r. proc_block_at r) }
+    ensures shorter { IfOk result (λ x. length x.1.now ≤ length tokens.now) }
+{
+    let ((block, _), rest) = proc_items(alloc, (Row::new(alloc), true), tokens)?;
+    Ok((block, rest))
+}
+
+/// Reads items of a block as long as they go on, behind others; the flag says whether one may begin here.
+#[tactic(auto, unfolding(sr_program_reader::specs::DeclarationReaders::items_at))]
+fn proc_items(
+    alloc: Global,
+    first: (Row<ProcItem>, bool),
+    tokens: &[Token],
+) -> Result<((Row<ProcItem>, bool), &[Token]), ReadFail>
+    ensures reads { ReadsStatementUpTo (λ x. (x.0, x.1.now)) tokens.now result (λ r. items_at (λ t. begins_proc_item t.kind) (proc_item_at r) r.types.expressions.steps first) }
+    ensures shorter { IfOk result (λ x. length x.1.now ≤ length tokens.now) }
+{
+    let mut state = first;
+    let mut rest = tokens;
+    'more: while block_goes_on(state.1, rest) {
+        let (more, behind) = next_proc_item(alloc, state, rest)?;
+        state = more;
+        rest = behind;
+    }
+    Ok((state, rest))
+}
+
+/// Reads a separator, behind which another may begin, or an item, behind which none may.
+#[tactic(auto, unfolding(sr_program_reader::specs::DeclarationReaders::next_item_at))]
+fn next_proc_item(
+    alloc: Global,
+    state: (Row<ProcItem>, bool),
+    tokens: &[Token],
+) -> Result<((Row<ProcItem>, bool), &[Token]), ReadFail>
+    ensures reads { ReadsStatementUpTo (λ x. (x.0, x.1.now)) tokens.now result (λ r. next_item_at (proc_item_at r) state) }
+    ensures shorter { IfOk result (λ x. length x.1.now < length tokens.now) }
+{
+    let (mut items, _) = state;
+    if next_is_separator(tokens) {
+        let (_, rest) = separator(tokens)?;
+        Ok(((items, true), rest))
+    } else {
+        let (item, rest) = proc_item(alloc, tokens)?;
+        items.push(item)?;
+        Ok(((items, false), rest))
+    }
+}
+
+/// Whether a separator stands next, or an item where one may begin.
+fn block_goes_on(may_begin: bool, tokens: &[Token]) -> bool
+    ensures { result ≡ next_is (λ t. if is_separator t.kind then true else if may_begin then begins_proc_item t.kind else false) tokens.now }
+{
+    next_is_separator(tokens) || (may_begin && next_is_proc_item(tokens))
+}
+
+/// Reads a proc.
+#[tactic(auto, unfolding(sr_program_reader::specs::ComponentReaders::proc_at))]
+pub fn proc_decl(alloc: Global, tokens: &[Token]) -> Result<(Proc, &[Token]), ReadFail>
+    ensures reads { ReadsStatementUpTo (λ x. (x.0, x.1.now)) tokens.now result (λ r. proc_at r) }
+    ensures shorter { IfOk result (λ x. length x.1.now < length tokens.now) }
+{
+    let (span, rest) = word(tokens, Word::Proc)?;
+    let (name, rest) = name(alloc, rest)?;
+    let (formals, rest) = enclosed_names(alloc, rest)?;
+    let (returned, rest) = returned_name(alloc, rest)?;
+    let (block, rest) = proc_block(alloc, rest)?;
+    let (_, rest) = end(&name, rest)?;
+    Ok((
+        Proc {
+            span,
+            name,
+            formals,
+            returned,
+            block,
+        },
+        rest,
+    ))
+}
+
+/// Reads a procedure.
+#[tactic(auto, unfolding(sr_program_reader::specs::ComponentReaders::procedure_at))]
+pub fn procedure_decl(alloc: Global, tokens: &[Token]) -> Result<(Procedure, &[Token]), ReadFail>
+    ensures reads { ReadsStatementUpTo (λ x. (x.0, x.1.now)) tokens.now result (λ r. procedure_at r) }
+    ensures shorter { IfOk result (λ x. length x.1.now < length tokens.now) }
+{
+    let (span, rest) = word(tokens, Word::Procedure)?;
+    let (name, rest) = name(alloc, rest)?;
+    let (signature, rest) = signature(alloc, rest)?;
+    let (block, rest) = proc_block(alloc, rest)?;
+    let (_, rest) = end(&name, rest)?;
+    Ok((
+        Procedure {
+            span,
+            name,
+            signature,
+            block,
+        },
+        rest,
+    ))
+}
+
+/// Reads a process.
+#[tactic(auto, unfolding(sr_program_reader::specs::ComponentReaders::process_at))]
+pub fn process_decl(alloc: Global, tokens: &[Token]) -> Result<(Process, &[Token]), ReadFail>
+    ensures reads { ReadsStatementUpTo (λ x. (x.0, x.1.now)) tokens.now result (λ r. process_at r) }
+    ensures shorter { IfOk result (λ x. length x.1.now < length tokens.now) }
+{
+    let (span, rest) = word(tokens, Word::Process)?;
+    let (name, rest) = name(alloc, rest)?;
+    let (quantifiers, rest) = optional_quantifiers(alloc, rest)?;
+    let (block, rest) = proc_block(alloc, rest)?;
+    let (_, rest) = end(&name, rest)?;
+    Ok((
+        Process {
+            span,
+            name,
+            quantifiers,
+            block,
+        },
+        rest,
+    ))
+}
+
+/// Reads final code.
+#[tactic(auto, unfolding(sr_program_reader::specs::ComponentReaders::final_at))]
+pub fn final_code(alloc: Global, tokens: &[Token]) -> Result<(FinalCode, &[Token]), ReadFail>
+    ensures reads { ReadsStatementUpTo (λ x. (x.0, x.1.now)) tokens.now result (λ r. final_at r) }
+    ensures shorter { IfOk result (λ x. length x.1.now < length tokens.now) }
+{
+    let (span, rest) = word(tokens, Word::Final)?;
+    let (block, rest) = proc_block(alloc, rest)?;
+    let (_, rest) = word(rest, Word::End)?;
+    Ok((FinalCode { span, block }, rest))
+}

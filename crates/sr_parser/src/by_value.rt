@@ -1,0 +1,104 @@
+ghost use Rattle.std.specs.Prelude.{◌≡◌, ◌<◌, ◌≤◌, length, IfOk};
+ghost use Rattle.sr_reader.specs.Reader.{next_is};
+ghost use Rattle.sr_parse_expr.specs.Reads.{ReadsTypeUpTo};
+ghost use Rattle.sr_program_reader.specs.ComponentReaders.{is_mode_by_place, more_value_formals_at, next_value_formal_at, optional_value_formals_at, value_formal_at, value_formals_at};
+
+use sr_parse_expr::reading::{
+    ReadFail, next_is_separator, next_is_sign, next_is_word, separator, sign,
+};
+use sr_parse_expr::types::formal;
+use sr_tree::{Formal, Sign, Token, Word};
+use sr_value::Row;
+use std::alloc::Global;
+
+/// Whether the next token is a word that passes a formal otherwise than by value.
+fn next_is_mode_by_place(tokens: &[Token]) -> bool
+    ensures { result ≡ next_is (λ t. is_mode_by_place t.kind) tokens.now }
+{
+    next_is_word(tokens, Word::Var) || next_is_word(tokens, Word::Res)
+}
+
+/// Reads formals of one type that are passed by value.
+#[tactic(auto, unfolding(sr_program_reader::specs::ComponentReaders::value_formal_at))]
+fn value_formal(alloc: Global, tokens: &[Token]) -> Result<(Formal, &[Token]), ReadFail>
+    ensures reads { ReadsTypeUpTo (λ x. (x.0, x.1.now)) tokens.now result (λ r. value_formal_at r) }
+    ensures shorter { IfOk result (λ x. length x.1.now < length tokens.now) }
+{
+    if next_is_mode_by_place(tokens) {
+        Err(ReadFail::Unexpected { left: tokens.len() })
+    } else {
+        formal(alloc, tokens)
+    }
+}
+
+/// Reads further such formals, each behind a separator.
+#[tactic(auto, unfolding(sr_program_reader::specs::ComponentReaders::more_value_formals_at))]
+fn more_value_formals(
+    alloc: Global,
+    first: Row<Formal>,
+    tokens: &[Token],
+) -> Result<(Row<Formal>, &[Token]), ReadFail>
+    ensures reads { ReadsTypeUpTo (λ x. (x.0, x.1.now)) tokens.now result (λ r. more_value_formals_at r first) }
+    ensures shorter { IfOk result (λ x. length x.1.now ≤ length tokens.now) }
+{
+    let mut formals = first;
+    let mut rest = tokens;
+    'more: while next_is_separator(rest) {
+        let (more, behind) = next_value_formal(alloc, formals, rest)?;
+        formals = more;
+        rest = behind;
+    }
+    Ok((formals, rest))
+}
+
+/// Reads a separator and such formals, and puts them behind the others.
+#[tactic(auto, unfolding(sr_program_reader::specs::ComponentReaders::next_value_formal_at))]
+fn next_value_formal(
+    alloc: Global,
+    formals: Row<Formal>,
+    tokens: &[Token],
+) -> Result<(Row<Formal>, &[Token]), ReadFail>
+    ensures reads { ReadsTypeUpTo (λ x. (x.0, x.1.now)) tokens.now result (λ r. next_value_formal_at r formals) }
+    ensures shorter { IfOk result (λ x. length x.1.now < length tokens.now) }
+{
+    let mut formals = formals;
+    let (_, rest) = separator(tokens)?;
+    let (next, rest) = value_formal(alloc, rest)?;
+    formals.push(next)?;
+    Ok((formals, rest))
+}
+
+/// Reads formals in parentheses that are passed by value.
+#[tactic(auto, unfolding(sr_program_reader::specs::ComponentReaders::value_formals_at))]
+pub fn value_formals(alloc: Global, tokens: &[Token]) -> Result<(Row<Formal>, &[Token]), ReadFail>
+    ensures reads { ReadsTypeUpTo (λ x. (x.0, x.1.now)) tokens.now result (λ r. value_formals_at r) }
+    ensures shorter { IfOk result (λ x. length x.1.now < length tokens.now) }
+{
+    let (_, rest) = sign(tokens, Sign::OpenParen)?;
+    let mut first = Row::new(alloc);
+    if next_is_sign(rest, Sign::CloseParen) {
+        let (_, rest) = sign(rest, Sign::CloseParen)?;
+        return Ok((first, rest));
+    }
+    let (formal, rest) = value_formal(alloc, rest)?;
+    first.push(formal)?;
+    let (formals, rest) = more_value_formals(alloc, first, rest)?;
+    let (_, rest) = sign(rest, Sign::CloseParen)?;
+    Ok((formals, rest))
+}
+
+/// Reads such formals, where they stand.
+#[tactic(auto, unfolding(sr_program_reader::specs::ComponentReaders::optional_value_formals_at))]
+pub fn optional_value_formals(
+    alloc: Global,
+    tokens: &[Token],
+) -> Result<(Row<Formal>, &[Token]), ReadFail>
+    ensures reads { ReadsTypeUpTo (λ x. (x.0, x.1.now)) tokens.now result (λ r. optional_value_formals_at r) }
+    ensures shorter { IfOk result (λ x. length x.1.now ≤ length tokens.now) }
+{
+    if next_is_sign(tokens, Sign::OpenParen) {
+        value_formals(alloc, tokens)
+    } else {
+        Ok((Row::new(alloc), tokens))
+    }
+}

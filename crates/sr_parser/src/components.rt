@@ -1,0 +1,216 @@
+ghost use Rattle.std.specs.Prelude.{◌≡◌, ◌<◌, ◌≤◌, length, true, false, if◌then◌else◌, IfOk};
+ghost use Rattle.sr_reader.specs.Reader.{next_is};
+ghost use Rattle.sr_expr_reader.specs.Tokens.{is_separator};
+ghost use Rattle.sr_parser.specs.Reads.{ReadsStatementUpTo};
+ghost use Rattle.sr_program_reader.specs.ComponentReaders.{begins_component, component_at, file_at, global_at, global_body_at, resource_at, split_resource_at, whole_resource_at};
+ghost use Rattle.sr_program_reader.specs.DeclarationReaders.{items_at, list_at, next_item_at};
+
+use crate::by_value::{optional_value_formals, value_formals};
+use crate::ends::{end, nothing_more, this_name};
+use crate::items::{global_items, resource_items};
+use crate::spec::{global_spec, resource_spec};
+use sr_parse_expr::reading::{
+    ReadFail, name, next_is_separator, next_is_sign, next_is_word, separator, word,
+};
+use sr_tree::{Component, File, Item, Name, Sign, Token, Word};
+use sr_value::{Row, Span};
+use std::alloc::Global;
+
+/// Reads what stands behind the name of a resource that isn't split.
+#[tactic(auto, unfolding(sr_program_reader::specs::ComponentReaders::whole_resource_at))]
+fn whole_resource(
+    alloc: Global,
+    span: Span,
+    name: Name,
+    tokens: &[Token],
+) -> Result<(Component, &[Token]), ReadFail>
+    ensures reads { ReadsStatementUpTo (λ x. (x.0, x.1.now)) tokens.now result (λ r. whole_resource_at r span name) }
+    ensures shorter { IfOk result (λ x. length x.1.now < length tokens.now) }
+{
+    let (formals, rest) = value_formals(alloc, tokens)?;
+    let (items, rest) = resource_items(alloc, rest)?;
+    let (_, rest) = end(&name, rest)?;
+    Ok((
+        Component::Resource {
+            span,
+            name,
+            formals,
+            items,
+        },
+        rest,
+    ))
+}
+
+/// Reads what stands behind the name of a resource that is split.
+#[tactic(auto, unfolding(sr_program_reader::specs::ComponentReaders::split_resource_at))]
+fn split_resource(
+    alloc: Global,
+    span: Span,
+    name: Name,
+    tokens: &[Token],
+) -> Result<(Component, &[Token]), ReadFail>
+    ensures reads { ReadsStatementUpTo (λ x. (x.0, x.1.now)) tokens.now result (λ r. split_resource_at r span name) }
+    ensures shorter { IfOk result (λ x. length x.1.now < length tokens.now) }
+{
+    let (spec, rest) = resource_spec(alloc, tokens)?;
+    let (_, rest) = word(rest, Word::Body)?;
+    let (_, rest) = this_name(&name, rest)?;
+    let (formals, rest) = optional_value_formals(alloc, rest)?;
+    let (items, rest) = resource_items(alloc, rest)?;
+    let (_, rest) = end(&name, rest)?;
+    Ok((
+        Component::SplitResource {
+            span,
+            name,
+            spec,
+            formals,
+            items,
+        },
+        rest,
+    ))
+}
+
+/// Reads a resource.
+#[tactic(auto, unfolding(sr_program_reader::specs::ComponentReaders::resource_at))]
+fn resource(alloc: Global, tokens: &[Token]) -> Result<(Component, &[Token]), ReadFail>
+    ensures reads { ReadsStatementUpTo (λ x. (x.0, x.1.now)) tokens.now result (λ r. resource_at r) }
+    ensures shorter { IfOk result (λ x. length x.1.now < length tokens.now) }
+{
+    let (span, rest) = word(tokens, Word::Resource)?;
+    let (name, rest) = name(alloc, rest)?;
+    if next_is_sign(rest, Sign::OpenParen) {
+        whole_resource(alloc, span, name, rest)
+    } else {
+        split_resource(alloc, span, name, rest)
+    }
+}
+
+/// Reads the body of a global, where one stands.
+#[tactic(auto, unfolding(sr_program_reader::specs::ComponentReaders::global_body_at))]
+fn global_body<'a>(
+    alloc: Global,
+    name: &Name,
+    tokens: &'a [Token],
+) -> Result<(Option<Row<Item>>, &'a [Token]), ReadFail>
+    ensures reads { ReadsStatementUpTo (λ x. (x.0, x.1.now)) tokens.now result (λ r. global_body_at r name.now) }
+    ensures shorter { IfOk result (λ x. length x.1.now ≤ length tokens.now) }
+{
+    if next_is_word(tokens, Word::Body) {
+        let (_, rest) = word(tokens, Word::Body)?;
+        let (_, rest) = this_name(name, rest)?;
+        let (items, rest) = global_items(alloc, rest)?;
+        Ok((Some(items), rest))
+    } else {
+        Ok((None, tokens))
+    }
+}
+
+/// Reads a global.
+#[tactic(auto, unfolding(sr_program_reader::specs::ComponentReaders::global_at))]
+fn global(alloc: Global, tokens: &[Token]) -> Result<(Component, &[Token]), ReadFail>
+    ensures reads { ReadsStatementUpTo (λ x. (x.0, x.1.now)) tokens.now result (λ r. global_at r) }
+    ensures shorter { IfOk result (λ x. length x.1.now < length tokens.now) }
+{
+    let (span, rest) = word(tokens, Word::Global)?;
+    let (name, rest) = name(alloc, rest)?;
+    let (spec, rest) = global_spec(alloc, rest)?;
+    let (body, rest) = global_body(alloc, &name, rest)?;
+    let (_, rest) = end(&name, rest)?;
+    Ok((
+        Component::Global {
+            span,
+            name,
+            spec,
+            body,
+        },
+        rest,
+    ))
+}
+
+/// Reads a component.
+#[tactic(auto, unfolding(sr_program_reader::specs::ComponentReaders::component_at))]
+fn component(alloc: Global, tokens: &[Token]) -> Result<(Component, &[Token]), ReadFail>
+    ensures reads { ReadsStatementUpTo (λ x. (x.0, x.1.now)) tokens.now result (λ r. component_at r) }
+    ensures shorter { IfOk result (λ x. length x.1.now < length tokens.now) }
+{
+    if next_is_word(tokens, Word::Global) {
+        global(alloc, tokens)
+    } else {
+        resource(alloc, tokens)
+    }
+}
+
+/// Whether the next token begins a component.
+fn next_is_component(tokens: &[Token]) -> bool
+    ensures { result ≡ next_is (λ t. begins_component t.kind) tokens.now }
+{
+    next_is_word(tokens, Word::Resource) || next_is_word(tokens, Word::Global)
+}
+
+/// Reads components with separators between.
+#[tactic(auto, unfolding(sr_program_reader::specs::DeclarationReaders::list_at))]
+fn component_list(alloc: Global, tokens: &[Token]) -> Result<(Row<Component>, &[Token]), ReadFail>
+    ensures reads { ReadsStatementUpTo (λ x. (x.0, x.1.now)) tokens.now result (λ r. list_at (λ t. begins_component t.kind) (component_at r) r.types.expressions.steps) }
+    ensures shorter { IfOk result (λ x. length x.1.now ≤ length tokens.now) }
+{
+    let ((components, _), rest) = components_behind(alloc, (Row::new(alloc), true), tokens)?;
+    Ok((components, rest))
+}
+
+/// Reads a file, up to the end of the tokens.
+#[tactic(auto, unfolding(sr_program_reader::specs::ComponentReaders::file_at))]
+pub fn file(alloc: Global, tokens: &[Token]) -> Result<(File, &[Token]), ReadFail>
+    ensures reads { ReadsStatementUpTo (λ x. (x.0, x.1.now)) tokens.now result (λ r. file_at r) }
+{
+    let (components, rest) = component_list(alloc, tokens)?;
+    let (_, rest) = nothing_more(rest)?;
+    Ok((File { components }, rest))
+}
+
+/// Reads components as long as they go on, behind others; the flag says whether one may begin here.
+#[tactic(auto, unfolding(sr_program_reader::specs::DeclarationReaders::items_at))]
+fn components_behind(
+    alloc: Global,
+    first: (Row<Component>, bool),
+    tokens: &[Token],
+) -> Result<((Row<Component>, bool), &[Token]), ReadFail>
+    ensures reads { ReadsStatementUpTo (λ x. (x.0, x.1.now)) tokens.now result (λ r. items_at (λ t. begins_component t.kind) (component_at r) r.types.expressions.steps first) }
+    ensures shorter { IfOk result (λ x. length x.1.now ≤ length tokens.now) }
+{
+    let mut state = first;
+    let mut rest = tokens;
+    'more: while components_go_on(state.1, rest) {
+        let (more, behind) = next_component(alloc, state, rest)?;
+        state = more;
+        rest = behind;
+    }
+    Ok((state, rest))
+}
+
+/// Reads a separator, behind which another may begin, or a component, behind which none may.
+#[tactic(auto, unfolding(sr_program_reader::specs::DeclarationReaders::next_item_at))]
+fn next_component(
+    alloc: Global,
+    state: (Row<Component>, bool),
+    tokens: &[Token],
+) -> Result<((Row<Component>, bool), &[Token]), ReadFail>
+    ensures reads { ReadsStatementUpTo (λ x. (x.0, x.1.now)) tokens.now result (λ r. next_item_at (component_at r) state) }
+    ensures shorter { IfOk result (λ x. length x.1.now < length tokens.now) }
+{
+    let (mut items, _) = state;
+    if next_is_separator(tokens) {
+        let (_, rest) = separator(tokens)?;
+        Ok(((items, true), rest))
+    } else {
+        let (item, rest) = component(alloc, tokens)?;
+        items.push(item)?;
+        Ok(((items, false), rest))
+    }
+}
+
+/// Whether a separator stands next, or a component where one may begin.
+fn components_go_on(may_begin: bool, tokens: &[Token]) -> bool
+    ensures { result ≡ next_is (λ t. if is_separator t.kind then true else if may_begin then begins_component t.kind else false) tokens.now }
+{
+    next_is_separator(tokens) || (may_begin && next_is_component(tokens))
+}

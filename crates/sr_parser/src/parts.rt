@@ -1,0 +1,216 @@
+ghost use Rattle.std.specs.Prelude.{◌≡◌, ◌<◌, ◌≤◌, length, IfOk};
+ghost use Rattle.sr_parse_expr.specs.Gives.{Gives};
+ghost use Rattle.sr_parse_expr.specs.Reads.{ReadsUpTo};
+ghost use Rattle.sr_program_reader.specs.StatementReaders.{by_at, condition_at, enclosed_names_at, invocation_at, invocation_of, invoked_at, more_places_at, named_at, next_place_at, optional_names_at, places_at, returned_name_at, status_at, such_that_at};
+
+use crate::words::{next_is_condition, read_condition_word};
+use sr_parse_expr::declared::names;
+use sr_parse_expr::expression::{LOOSEST, operand, primary};
+use sr_parse_expr::reading::{
+    ReadFail, name, next_is_name, next_is_sign, next_is_word, sign, word,
+};
+use sr_tree::{ArmCondition, Expr, Invocation, Name, Sign, Token, Word};
+use sr_value::Row;
+use std::alloc::Global;
+
+/// Reads a primary that begins with a name.
+#[tactic(auto, unfolding(sr_program_reader::specs::StatementReaders::named_at))]
+pub fn named(alloc: Global, tokens: &[Token]) -> Result<(Expr, &[Token]), ReadFail>
+    ensures reads { ReadsUpTo (λ x. (x.0, x.1.now)) tokens.now result (λ r. named_at r) }
+    ensures shorter { IfOk result (λ x. length x.1.now < length tokens.now) }
+{
+    if next_is_name(tokens) {
+        primary(alloc, tokens)
+    } else {
+        Err(ReadFail::Unexpected { left: tokens.len() })
+    }
+}
+
+/// The invocation that a primary is; refused at what stands behind it where it is none.
+#[tactic(auto, unfolding(sr_program_reader::specs::StatementReaders::invoked_at))]
+pub fn invoked(primary: Expr, tokens: &[Token]) -> Result<(Invocation, &[Token]), ReadFail>
+    ensures reads { Gives (λ x. (x.0, x.1.now)) result (invoked_at (invocation_of primary) tokens.now) }
+    ensures rest { IfOk result (λ x. x.1.now ≡ tokens.now) }
+{
+    match primary {
+        Expr::Call(invocation) => Ok((invocation, tokens)),
+        _ => Err(ReadFail::Unexpected { left: tokens.len() }),
+    }
+}
+
+/// Reads an invocation: a primary that ends in arguments.
+#[tactic(auto, unfolding(sr_program_reader::specs::StatementReaders::invocation_at))]
+pub fn invocation(alloc: Global, tokens: &[Token]) -> Result<(Invocation, &[Token]), ReadFail>
+    ensures reads { ReadsUpTo (λ x. (x.0, x.1.now)) tokens.now result (λ r. invocation_at r) }
+    ensures shorter { IfOk result (λ x. length x.1.now < length tokens.now) }
+{
+    let (primary, rest) = named(alloc, tokens)?;
+    invoked(primary, rest)
+}
+
+/// Reads an expression in parentheses, where they stand.
+#[tactic(auto, unfolding(sr_program_reader::specs::StatementReaders::status_at))]
+pub fn status(alloc: Global, tokens: &[Token]) -> Result<(Option<Expr>, &[Token]), ReadFail>
+    ensures reads { ReadsUpTo (λ x. (x.0, x.1.now)) tokens.now result (λ r. status_at r) }
+    ensures shorter { IfOk result (λ x. length x.1.now ≤ length tokens.now) }
+{
+    if next_is_sign(tokens, Sign::OpenParen) {
+        let (_, rest) = sign(tokens, Sign::OpenParen)?;
+        let (status, rest) = operand(alloc, LOOSEST, rest)?;
+        let (_, rest) = sign(rest, Sign::CloseParen)?;
+        Ok((Some(status), rest))
+    } else {
+        Ok((None, tokens))
+    }
+}
+
+/// Reads places in parentheses.
+#[tactic(auto, unfolding(sr_program_reader::specs::StatementReaders::places_at))]
+pub fn places(alloc: Global, tokens: &[Token]) -> Result<(Row<Expr>, &[Token]), ReadFail>
+    ensures reads { ReadsUpTo (λ x. (x.0, x.1.now)) tokens.now result (λ r. places_at r) }
+    ensures shorter { IfOk result (λ x. length x.1.now < length tokens.now) }
+{
+    let (_, rest) = sign(tokens, Sign::OpenParen)?;
+    let mut first = Row::new(alloc);
+    if next_is_sign(rest, Sign::CloseParen) {
+        let (_, rest) = sign(rest, Sign::CloseParen)?;
+        return Ok((first, rest));
+    }
+    let (place, rest) = primary(alloc, rest)?;
+    first.push(place)?;
+    let (places, rest) = more_places(alloc, first, rest)?;
+    let (_, rest) = sign(rest, Sign::CloseParen)?;
+    Ok((places, rest))
+}
+
+/// Reads further places, each behind a comma.
+#[tactic(auto, unfolding(sr_program_reader::specs::StatementReaders::more_places_at))]
+fn more_places(
+    alloc: Global,
+    first: Row<Expr>,
+    tokens: &[Token],
+) -> Result<(Row<Expr>, &[Token]), ReadFail>
+    ensures reads { ReadsUpTo (λ x. (x.0, x.1.now)) tokens.now result (λ r. more_places_at r first) }
+    ensures shorter { IfOk result (λ x. length x.1.now ≤ length tokens.now) }
+{
+    let mut places = first;
+    let mut rest = tokens;
+    'more: while next_is_sign(rest, Sign::Comma) {
+        let (more, behind) = next_place(alloc, places, rest)?;
+        places = more;
+        rest = behind;
+    }
+    Ok((places, rest))
+}
+
+/// Reads a comma and a place, and puts it behind the others.
+#[tactic(auto, unfolding(sr_program_reader::specs::StatementReaders::next_place_at))]
+fn next_place(
+    alloc: Global,
+    places: Row<Expr>,
+    tokens: &[Token],
+) -> Result<(Row<Expr>, &[Token]), ReadFail>
+    ensures reads { ReadsUpTo (λ x. (x.0, x.1.now)) tokens.now result (λ r. next_place_at r places) }
+    ensures shorter { IfOk result (λ x. length x.1.now < length tokens.now) }
+{
+    let mut places = places;
+    let (_, rest) = sign(tokens, Sign::Comma)?;
+    let (next, rest) = primary(alloc, rest)?;
+    places.push(next)?;
+    Ok((places, rest))
+}
+
+/// Reads `by` and an expression, where they stand.
+#[tactic(auto, unfolding(sr_program_reader::specs::StatementReaders::by_at))]
+pub fn by(alloc: Global, tokens: &[Token]) -> Result<(Option<Expr>, &[Token]), ReadFail>
+    ensures reads { ReadsUpTo (λ x. (x.0, x.1.now)) tokens.now result (λ r. by_at r) }
+    ensures shorter { IfOk result (λ x. length x.1.now ≤ length tokens.now) }
+{
+    if next_is_word(tokens, Word::By) {
+        let (_, rest) = word(tokens, Word::By)?;
+        let (step, rest) = operand(alloc, LOOSEST, rest)?;
+        Ok((Some(step), rest))
+    } else {
+        Ok((None, tokens))
+    }
+}
+
+/// Reads `st` and an expression, where they stand.
+#[tactic(auto, unfolding(sr_program_reader::specs::StatementReaders::such_that_at))]
+pub fn such_that(alloc: Global, tokens: &[Token]) -> Result<(Option<Expr>, &[Token]), ReadFail>
+    ensures reads { ReadsUpTo (λ x. (x.0, x.1.now)) tokens.now result (λ r. such_that_at r) }
+    ensures shorter { IfOk result (λ x. length x.1.now ≤ length tokens.now) }
+{
+    if next_is_word(tokens, Word::St) {
+        let (_, rest) = word(tokens, Word::St)?;
+        let (condition, rest) = operand(alloc, LOOSEST, rest)?;
+        Ok((Some(condition), rest))
+    } else {
+        Ok((None, tokens))
+    }
+}
+
+/// Reads names, where they stand.
+#[tactic(auto, unfolding(sr_program_reader::specs::StatementReaders::optional_names_at))]
+fn optional_names(alloc: Global, tokens: &[Token]) -> Result<(Row<Name>, &[Token]), ReadFail>
+    ensures reads { ReadsUpTo (λ x. (x.0, x.1.now)) tokens.now result (λ r. optional_names_at r) }
+    ensures shorter { IfOk result (λ x. length x.1.now ≤ length tokens.now) }
+{
+    if next_is_name(tokens) {
+        names(alloc, tokens)
+    } else {
+        Ok((Row::new(alloc), tokens))
+    }
+}
+
+/// Reads names in parentheses.
+#[tactic(auto, unfolding(sr_program_reader::specs::StatementReaders::enclosed_names_at))]
+pub fn enclosed_names(alloc: Global, tokens: &[Token]) -> Result<(Row<Name>, &[Token]), ReadFail>
+    ensures reads { ReadsUpTo (λ x. (x.0, x.1.now)) tokens.now result (λ r. enclosed_names_at r) }
+    ensures shorter { IfOk result (λ x. length x.1.now < length tokens.now) }
+{
+    let (_, rest) = sign(tokens, Sign::OpenParen)?;
+    let (names, rest) = optional_names(alloc, rest)?;
+    let (_, rest) = sign(rest, Sign::CloseParen)?;
+    Ok((names, rest))
+}
+
+/// Reads `returns` and a name, where they stand.
+#[tactic(auto, unfolding(sr_program_reader::specs::StatementReaders::returned_name_at))]
+pub fn returned_name(alloc: Global, tokens: &[Token]) -> Result<(Option<Name>, &[Token]), ReadFail>
+    ensures reads { Gives (λ x. (x.0, x.1.now)) result (returned_name_at tokens.now) }
+    ensures shorter { IfOk result (λ x. length x.1.now ≤ length tokens.now) }
+{
+    if next_is_word(tokens, Word::Returns) {
+        let (_, rest) = word(tokens, Word::Returns)?;
+        let (returned, rest) = name(alloc, rest)?;
+        Ok((Some(returned), rest))
+    } else {
+        Ok((None, tokens))
+    }
+}
+
+/// Reads the condition of an arm, where one stands.
+#[tactic(auto, unfolding(sr_program_reader::specs::StatementReaders::condition_at))]
+pub fn condition(
+    alloc: Global,
+    tokens: &[Token],
+) -> Result<(Option<ArmCondition>, &[Token]), ReadFail>
+    ensures reads { ReadsUpTo (λ x. (x.0, x.1.now)) tokens.now result (λ r. condition_at r) }
+    ensures shorter { IfOk result (λ x. length x.1.now ≤ length tokens.now) }
+{
+    if next_is_condition(tokens) {
+        let ((span, word), rest) = read_condition_word(tokens)?;
+        let (condition, rest) = operand(alloc, LOOSEST, rest)?;
+        Ok((
+            Some(ArmCondition {
+                span,
+                word,
+                condition,
+            }),
+            rest,
+        ))
+    } else {
+        Ok((None, tokens))
+    }
+}

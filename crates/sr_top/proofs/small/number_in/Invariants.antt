@@ -1,7 +1,0 @@
--- The digits so far make the number so far, and the others go on from it.
-use Rattle.std.proofs.Common.{◌≡◌, ◌<◌, ◌^◌, drop}
-use Rattle.sr_top.specs.Small.{with_digits}
-use Rattle.sr_top.proofs.small.number_in.Given as goal
-
-abbrev pub invariant-loop-byte : goal.invariant-loop-byte
-invariant-loop-byte l = (l.number < 2 ^ 31) × (with_digits l.number (drop l.byte-index l.part) ≡ with_digits 0 l.part)
