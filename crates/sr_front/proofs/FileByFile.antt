@@ -71,3 +71,9 @@ each Passes f Holds tells number [] mades none_left = λ k d within. absurd (ome
 each Passes f Holds tells number (x ∷ xs) [] none = elim none [ ]
 each Passes f Holds tells number (x ∷ xs) (made ∷ mades) (one_more p more) =
     All-cons Holds x xs (tells number x made p) (each Passes f Holds tells (suc number) xs mades more)
+
+-- a phase makes one thing of each file
+pub as_many : {A B : Type 0} {Passes : ℕ → A → B → Type 0} {number : ℕ} {files : List A} {mades : List B} → AllPass Passes number files mades
+    → length mades ≡ length files
+as_many none_left = refl
+as_many (one_more passed more) = ap suc (as_many more)

@@ -1,8 +1,11 @@
-//! The front of the compiler: from the bytes of the files of a program to their trees, or the refusal of the files.
+//! The front of the compiler: from the bytes of the files of a program to their trees and the meanings of their
+//! names, or the refusal of the program.
 #![tactic(auto)]
 
 mod phases;
+mod program;
 mod sources;
 
 pub use phases::MOST_BYTES;
+pub use program::{Accepted, accept};
 pub use sources::read;

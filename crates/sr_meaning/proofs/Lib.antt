@@ -1,3 +1,14 @@
+pub mod Completions
+pub mod Drops
+pub mod FlatLemmas
 pub mod Forever
 pub mod LawProofs
-pub mod FlatLemmas
+pub mod Regular
+pub mod RegularExpressions
+pub mod RegularProcesses
+pub mod RegularStatements
+pub mod RegularTrees
+pub mod RegularWhole
+pub mod Replies
+pub mod Steps
+pub mod Weights

@@ -3,8 +3,11 @@ pub mod Expressions
 pub mod Guards
 pub mod Here
 pub mod Laws
+pub mod Pieces
 pub mod Places
 pub mod Processes
 pub mod Statements
+pub mod Turns
 pub mod Values
 pub mod Walkers
+pub mod WholeLaws

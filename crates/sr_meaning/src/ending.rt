@@ -1,5 +1,5 @@
 /// How a statement ends.
-#[derive(Clone, Copy, Debug, PartialEq, Eq)]
+#[derive(Clone, Copy)]
 pub enum Ending {
     /// What follows it comes next.
     Through,

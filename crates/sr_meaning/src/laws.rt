@@ -1,4 +1,5 @@
 ghost use Rattle.sr_meaning.specs.Laws.{AsksForGood, CallsInOrder, LeftDecides, OneTurnThenTheLoop, RepliesOnce};
+ghost use Rattle.sr_meaning.specs.WholeLaws.{DoIsATurnAndTheDo, LastAskForGood, MoreTicksAskTheSame, NoRoomGained, OverTicksForGood};
 
 /// Whatever it is answered, a process asks the same again after `Finish`, after `Stop` and after `Fail`.
 pub fn last_requests_stay()
@@ -25,4 +26,29 @@ pub fn services_reply_once()
 /// A loop is one turn and then the loop.
 pub fn loop_is_a_turn_and_the_loop()
     ensures { OneTurnThenTheLoop }
+{}
+
+/// A `do` is one turn and then the `do`.
+pub fn do_is_a_turn_and_the_do()
+    ensures { DoIsATurnAndTheDo }
+{}
+
+/// No statement leaves more room for ticks than it had.
+pub fn statements_gain_no_room()
+    ensures { NoRoomGained }
+{}
+
+/// A process that is over its ticks asks nothing more.
+pub fn over_ticks_stays()
+    ensures { OverTicksForGood }
+{}
+
+/// More ticks never change an ask.
+pub fn more_ticks_change_no_ask()
+    ensures { MoreTicksAskTheSame }
+{}
+
+/// A whole process asks the same again after `Finish`, `Stop` and `Fail`.
+pub fn last_asks_stay()
+    ensures { LastAskForGood }
 {}

@@ -73,7 +73,7 @@ pub fn load(scene: &Scene, walker: &mut Walker, place: &Located) -> Result<Value
 }
 
 /// Puts a variable in place of what stood under its number.
-fn put_own(walker: &mut Walker, var: u32, own: Own)
+pub fn put_own(walker: &mut Walker, var: u32, own: Own)
     ensures { declare_own var own (stage_of walker.old) ≡ Came tt (stage_of walker.new) }
 {
     if (var as usize) < walker.own.len() {

@@ -5,7 +5,7 @@ use sr_ask::Asks;
 use sr_value::NoMemory;
 
 /// Why the walker goes no further.
-#[derive(Debug, Drop)]
+#[derive(Drop)]
 pub enum Stop {
     /// The process asks, and there is no answer; or it is over its ticks.
     Asks(Asks),

@@ -2,7 +2,7 @@ use sr_ask::{Answer, Out, Own, Service};
 use sr_value::Row;
 
 /// How far the process has come.
-#[derive(Debug, Drop)]
+#[derive(Drop)]
 pub struct Walker {
     /// The statements that it may still begin before it asks.
     pub ticks: u32,

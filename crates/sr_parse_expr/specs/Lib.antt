@@ -1,4 +1,3 @@
 pub mod Gives
 pub mod Reads
 pub mod Refused
-pub mod Tails

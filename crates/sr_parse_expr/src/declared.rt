@@ -1,13 +1,11 @@
 ghost use Rattle.std.specs.Prelude.{◌≡◌, ◌<◌, ◌≤◌, length, IfOk};
-ghost use Rattle.sr_parse_expr.specs.Gives.{Gives};
 ghost use Rattle.sr_parse_expr.specs.Reads.{ReadsUpTo};
-ghost use Rattle.sr_parse_expr.specs.Tails.{dims_behind_at, dims_closed_at};
 ghost use Rattle.sr_expr_reader.specs.TypeReaders.{decl_at, decls_at, dims_at, more_decls_at, more_names_at, names_at, next_decl_at, next_name_at, range_at, second_range_at, upper_bound_at};
 
 use crate::expression::{LOOSEST, expression, operand};
-use crate::reading::{ReadFail, name, next_is_sign, sign};
+use crate::reading::{ReadFail, name, next_is_sign, sign, sign_behind};
 use sr_tree::{Decl, DimsTree, Expr, Name, RangeTree, Sign, Token};
-use sr_value::{Row, Span};
+use sr_value::Row;
 use std::alloc::Global;
 
 /// Reads names with commas between.
@@ -69,10 +67,10 @@ fn upper_bound(
     ensures reads { ReadsUpTo (λ x. (x.0, x.1.now)) tokens.now result (λ r. upper_bound_at r low) }
     ensures shorter { IfOk result (λ x. length x.1.now < length tokens.now) }
 {
-    let (_, rest) = sign(tokens, Sign::Colon)?;
     let span = low.span();
+    let (_, low, rest) = sign_behind(low, tokens, Sign::Colon)?;
     if next_is_sign(rest, Sign::Star) {
-        let (_, rest) = sign(rest, Sign::Star)?;
+        let (_, low, rest) = sign_behind(low, rest, Sign::Star)?;
         Ok((RangeTree::From { span, low }, rest))
     } else {
         let (high, rest) = expression(alloc, rest)?;
@@ -99,59 +97,36 @@ fn range(alloc: Global, tokens: &[Token]) -> Result<(RangeTree, &[Token]), ReadF
     }
 }
 
-/// Reads a comma and the bounds of a second dimension, where they stand.
+/// Reads a comma and the bounds of a second dimension, where they stand, and hands the first ones back.
 #[tactic(auto, unfolding(sr_expr_reader::specs::TypeReaders::second_range_at))]
-fn second_range(alloc: Global, tokens: &[Token]) -> Result<(Option<RangeTree>, &[Token]), ReadFail>
-    ensures reads { ReadsUpTo (λ x. (x.0, x.1.now)) tokens.now result (λ r. second_range_at r) }
-    ensures shorter { IfOk result (λ x. length x.1.now ≤ length tokens.now) }
+fn second_range<T: Drop>(
+    alloc: Global,
+    first: T,
+    tokens: &[Token],
+) -> Result<(T, Option<RangeTree>, &[Token]), ReadFail>
+    ensures reads { ReadsUpTo (λ x. (x.1, x.2.now)) tokens.now result (λ r. second_range_at r) }
+    ensures kept { IfOk result (λ x. x.0 ≡ first) }
+    ensures shorter { IfOk result (λ x. length x.2.now ≤ length tokens.now) }
 {
     if next_is_sign(tokens, Sign::Comma) {
         let (_, rest) = sign(tokens, Sign::Comma)?;
         let (second, rest) = range(alloc, rest)?;
-        Ok((Some(second), rest))
+        Ok((first, Some(second), rest))
     } else {
-        Ok((None, tokens))
+        Ok((first, None, tokens))
     }
 }
 
 /// Reads the dimensions of an array.
-#[tactic(auto, unfolding(sr_expr_reader::specs::TypeReaders::dims_at, crate::specs::Tails::dims_behind_at))]
+#[tactic(auto, unfolding(sr_expr_reader::specs::TypeReaders::dims_at))]
 pub fn dims(alloc: Global, tokens: &[Token]) -> Result<(DimsTree, &[Token]), ReadFail>
     ensures reads { ReadsUpTo (λ x. (x.0, x.1.now)) tokens.now result (λ r. dims_at r) }
     ensures shorter { IfOk result (λ x. length x.1.now < length tokens.now) }
 {
     let (span, rest) = sign(tokens, Sign::OpenBracket)?;
     let (first, rest) = range(alloc, rest)?;
-    dims_behind(alloc, span, first, rest)
-}
-
-/// Reads the rest of the dimensions of an array, behind the first.
-#[tactic(auto, unfolding(crate::specs::Tails::dims_behind_at, crate::specs::Tails::dims_closed_at))]
-fn dims_behind(
-    alloc: Global,
-    span: Span,
-    first: RangeTree,
-    tokens: &[Token],
-) -> Result<(DimsTree, &[Token]), ReadFail>
-    ensures reads { ReadsUpTo (λ x. (x.0, x.1.now)) tokens.now result (λ r. dims_behind_at r span first) }
-    ensures shorter { IfOk result (λ x. length x.1.now < length tokens.now) }
-{
-    let (second, rest) = second_range(alloc, tokens)?;
-    dims_closed(span, first, second, rest)
-}
-
-/// Reads the closing bracket of the dimensions of an array.
-#[tactic(auto, unfolding(crate::specs::Tails::dims_closed_at))]
-fn dims_closed(
-    span: Span,
-    first: RangeTree,
-    second: Option<RangeTree>,
-    tokens: &[Token],
-) -> Result<(DimsTree, &[Token]), ReadFail>
-    ensures reads { Gives (λ x. (x.0, x.1.now)) result (dims_closed_at span first second tokens.now) }
-    ensures shorter { IfOk result (λ x. length x.1.now < length tokens.now) }
-{
-    let (_, rest) = sign(tokens, Sign::CloseBracket)?;
+    let (first, second, rest) = second_range(alloc, first, rest)?;
+    let (_, (first, second), rest) = sign_behind((first, second), rest, Sign::CloseBracket)?;
     Ok((
         DimsTree {
             span,

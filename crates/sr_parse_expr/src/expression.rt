@@ -10,7 +10,9 @@ use crate::operators::{
 use crate::pieces::{
     basic_word, field, next_is_call, next_is_suffix, pending, qualified_name, single_part,
 };
-use crate::reading::{ReadFail, name, next_is_name, next_is_sign, next_is_word, sign, word};
+use crate::reading::{
+    ReadFail, name, next_is_name, next_is_sign, next_is_word, sign, sign_behind, word,
+};
 use sr_tree::{BasicType, BinaryOperator, Create, Expr, Invocation, Part, Sign, Token, Word};
 use sr_value::{Boxed, Row, Span};
 use std::alloc::Global;
@@ -98,10 +100,10 @@ fn operation(alloc: Global, left: Expr, tokens: &[Token]) -> Result<(Expr, &[Tok
     ensures reads { ReadsUpTo (λ x. (x.0, x.1.now)) tokens.now result (λ r. operation_at r left) }
     ensures shorter { IfOk result (λ x. length x.1.now < length tokens.now) }
 {
-    let (operator, rest) = read_binary(tokens)?;
-    let (right, rest) = right_operand(alloc, operator, rest)?;
     let span = left.span();
     let left = Boxed::new(alloc, left)?;
+    let (operator, rest) = read_binary(tokens)?;
+    let (right, rest) = right_operand(alloc, operator, rest)?;
     let right = Boxed::new(alloc, right)?;
     Ok((
         Expr::Binary {
@@ -271,7 +273,7 @@ pub fn enclosed(alloc: Global, tokens: &[Token]) -> Result<((Span, Expr), &[Toke
 {
     let (span, rest) = sign(tokens, Sign::OpenParen)?;
     let (inner, rest) = expression(alloc, rest)?;
-    let (_, rest) = sign(rest, Sign::CloseParen)?;
+    let (_, inner, rest) = sign_behind(inner, rest, Sign::CloseParen)?;
     Ok(((span, inner), rest))
 }
 
@@ -296,8 +298,8 @@ fn bracketed(alloc: Global, tokens: &[Token]) -> Result<(Expr, &[Token]), ReadFa
         let (parts, rest) = next_part(alloc, parts, rest)?;
         return array(alloc, span, parts, rest);
     }
-    let (_, rest) = sign(rest, Sign::CloseParen)?;
     let inner = Boxed::new(alloc, inner)?;
+    let (_, rest) = sign(rest, Sign::CloseParen)?;
     Ok((Expr::Group { span, inner }, rest))
 }
 
@@ -342,10 +344,11 @@ fn repeated_part(alloc: Global, tokens: &[Token]) -> Result<(Part, &[Token]), Re
 {
     let (span, rest) = sign(tokens, Sign::OpenBracket)?;
     let (count, rest) = expression(alloc, rest)?;
+    let count = Boxed::new(alloc, count)?;
     let (_, rest) = sign(rest, Sign::CloseBracket)?;
     let (value, rest) = expression(alloc, rest)?;
-    let count = Some(Boxed::new(alloc, count)?);
     let value = Boxed::new(alloc, value)?;
+    let count = Some(count);
     Ok((Part { span, count, value }, rest))
 }
 
@@ -412,11 +415,12 @@ fn suffix(alloc: Global, primary: Expr, tokens: &[Token]) -> Result<(Expr, &[Tok
     ensures reads { ReadsUpTo (λ x. (x.0, x.1.now)) tokens.now result (λ r. suffix_at r primary) }
     ensures shorter { IfOk result (λ x. length x.1.now < length tokens.now) }
 {
+    let primary = Boxed::new(alloc, primary)?;
     if next_is_sign(tokens, Sign::Point) {
         field(alloc, primary, tokens)
     } else if next_is_sign(tokens, Sign::OpenBracket) {
         index(alloc, primary, tokens)
-    } else if next_is_call(&primary, tokens) {
+    } else if next_is_call(primary.get(), tokens) {
         call(alloc, primary, tokens)
     } else {
         Err(ReadFail::Unexpected { left: tokens.len() })
@@ -426,17 +430,16 @@ fn suffix(alloc: Global, primary: Expr, tokens: &[Token]) -> Result<(Expr, &[Tok
 /// Reads one or two indices in brackets behind a primary.
 #[cycle(expressions)]
 #[tactic(auto, unfolding(sr_expr_reader::specs::Readers::index_at))]
-fn index(alloc: Global, array: Expr, tokens: &[Token]) -> Result<(Expr, &[Token]), ReadFail>
+fn index(alloc: Global, array: Boxed<Expr>, tokens: &[Token]) -> Result<(Expr, &[Token]), ReadFail>
     ensures reads { ReadsUpTo (λ x. (x.0, x.1.now)) tokens.now result (λ r. index_at r array) }
     ensures shorter { IfOk result (λ x. length x.1.now < length tokens.now) }
 {
+    let span = array.get().span();
     let (_, rest) = sign(tokens, Sign::OpenBracket)?;
     let (first, rest) = expression(alloc, rest)?;
-    let (second, rest) = second_index(alloc, rest)?;
-    let (_, rest) = sign(rest, Sign::CloseBracket)?;
-    let span = array.span();
-    let array = Boxed::new(alloc, array)?;
     let first = Boxed::new(alloc, first)?;
+    let (second, rest) = second_index(alloc, rest)?;
+    let (_, second, rest) = sign_behind(second, rest, Sign::CloseBracket)?;
     Ok((
         Expr::Index {
             span,
@@ -470,13 +473,12 @@ fn second_index(
 /// Reads arguments in parentheses behind a primary.
 #[cycle(expressions)]
 #[tactic(auto, unfolding(sr_expr_reader::specs::Readers::call_at))]
-pub fn call(alloc: Global, callee: Expr, tokens: &[Token]) -> Result<(Expr, &[Token]), ReadFail>
+fn call(alloc: Global, callee: Boxed<Expr>, tokens: &[Token]) -> Result<(Expr, &[Token]), ReadFail>
     ensures reads { ReadsUpTo (λ x. (x.0, x.1.now)) tokens.now result (λ r. call_at r callee) }
     ensures shorter { IfOk result (λ x. length x.1.now < length tokens.now) }
 {
+    let span = callee.get().span();
     let (arguments, rest) = arguments(alloc, tokens)?;
-    let span = callee.span();
-    let callee = Boxed::new(alloc, callee)?;
     Ok((
         Expr::Call(Invocation {
             span,
@@ -495,12 +497,12 @@ pub fn arguments(alloc: Global, tokens: &[Token]) -> Result<(Row<Expr>, &[Token]
     ensures shorter { IfOk result (λ x. length x.1.now < length tokens.now) }
 {
     let (_, rest) = sign(tokens, Sign::OpenParen)?;
-    let mut first = Row::new(alloc);
     if next_is_sign(rest, Sign::CloseParen) {
         let (_, rest) = sign(rest, Sign::CloseParen)?;
-        return Ok((first, rest));
+        return Ok((Row::new(alloc), rest));
     }
     let (argument, rest) = expression(alloc, rest)?;
+    let mut first = Row::new(alloc);
     first.push(argument)?;
     let (arguments, rest) = more_arguments(alloc, first, rest)?;
     let (_, rest) = sign(rest, Sign::CloseParen)?;

@@ -10,4 +10,4 @@ pub mod reading;
 mod type_words;
 pub mod types;
 
-pub use parse::{parse_expr, parse_type};
+pub use parse::{parse_expr, parse_type, refused};

@@ -52,21 +52,22 @@ pub fn parse_type(alloc: Global, tokens: &Tokens, at: u32) -> Result<(TypeTree, 
 }
 
 /// The refusal at the token where nothing fits, or at the last one where the tokens end too early.
-fn refused(items: &[Token], fail: ReadFail) -> FrontFail
-    requires { 0 < length items.now }
+pub fn refused(items: &[Token], fail: ReadFail) -> FrontFail
     ensures { result ≡ refusal_of items.now fail }
 {
     match fail {
         ReadFail::Unexpected { left } => {
             let place = items.len().saturating_sub(left.max(1));
-            let span = items[place].span;
-            FrontFail::Refused(Refusal {
-                kind: Kind::Syntax,
-                place: Place {
-                    file: span.file,
-                    line: span.line,
-                },
-            })
+            match items.get(place) {
+                Some(token) => FrontFail::Refused(Refusal {
+                    kind: Kind::Syntax,
+                    place: Place {
+                        file: token.span.file,
+                        line: token.span.line,
+                    },
+                }),
+                None => FrontFail::NoMemory,
+            }
         }
         ReadFail::NoMemory => FrontFail::NoMemory,
     }

@@ -58,18 +58,21 @@ pub fn pending(alloc: Global, tokens: &[Token]) -> Result<(Expr, &[Token]), Read
 
 /// Reads a point and a name behind a primary.
 #[tactic(auto, unfolding(sr_expr_reader::specs::Readers::field_at))]
-pub fn field(alloc: Global, primary: Expr, tokens: &[Token]) -> Result<(Expr, &[Token]), ReadFail>
+pub fn field(
+    alloc: Global,
+    primary: Boxed<Expr>,
+    tokens: &[Token],
+) -> Result<(Expr, &[Token]), ReadFail>
     ensures reads { Gives (λ x. (x.0, x.1.now)) result (field_at primary tokens.now) }
     ensures shorter { IfOk result (λ x. length x.1.now < length tokens.now) }
 {
+    let span = primary.get().span();
     let (_, rest) = sign(tokens, Sign::Point)?;
     let (field, rest) = name(alloc, rest)?;
-    let span = primary.span();
-    let record = Boxed::new(alloc, primary)?;
     Ok((
         Expr::Field {
             span,
-            record,
+            record: primary,
             field,
         },
         rest,

@@ -82,6 +82,20 @@ pub fn sign(tokens: &[Token], wanted: Sign) -> Result<(Span, &[Token]), ReadFail
     }
 }
 
+/// Reads this sign behind a tree, and hands the tree back; its type is left open, so that no failure looks into it.
+pub fn sign_behind<T: Drop>(
+    tree: T,
+    tokens: &[Token],
+    wanted: Sign,
+) -> Result<(Span, T, &[Token]), ReadFail>
+    ensures reads { Gives (λ x. (x.0, x.2.now)) result (sign_at wanted tokens.now) }
+    ensures kept { IfOk result (λ x. x.1 ≡ tree) }
+    ensures shorter { IfOk result (λ x. length x.2.now < length tokens.now) }
+{
+    let (span, rest) = sign(tokens, wanted)?;
+    Ok((span, tree, rest))
+}
+
 /// Reads this word, and gives its span.
 #[tactic(auto, unfolding(sr_expr_reader::specs::Tokens::word_at))]
 pub fn word(tokens: &[Token], wanted: Word) -> Result<(Span, &[Token]), ReadFail>

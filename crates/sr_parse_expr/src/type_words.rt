@@ -142,35 +142,40 @@ fn more_kinds(alloc: Global, tokens: &[Token]) -> Result<(Row<InvocationKind>, &
     ensures reads { Gives (λ x. (x.0, x.1.now)) result (more_kinds_at tokens.now) }
     ensures shorter { IfOk result (λ x. length x.1.now < length tokens.now) }
 {
-    let mut kinds = Row::new(alloc);
     if next_is_sign(tokens, Sign::Comma) {
         let (_, rest) = sign(tokens, Sign::Comma)?;
         let (second, rest) = kind(rest)?;
         let (_, rest) = sign(rest, Sign::CloseBrace)?;
+        let mut kinds = Row::new(alloc);
         kinds.push(second)?;
         Ok((kinds, rest))
     } else {
         let (_, rest) = sign(tokens, Sign::CloseBrace)?;
-        Ok((kinds, rest))
+        Ok((Row::new(alloc), rest))
     }
 }
 
-/// Reads how an operation may be invoked, where braces stand.
+/// Reads how an operation may be invoked, where braces stand behind what it returns, and hands that back.
 #[tactic(auto, unfolding(sr_expr_reader::specs::TypeReaders::kinds_at))]
-fn kinds(alloc: Global, tokens: &[Token]) -> Result<(Row<InvocationKind>, &[Token]), ReadFail>
-    ensures reads { Gives (λ x. (x.0, x.1.now)) result (kinds_at tokens.now) }
-    ensures shorter { IfOk result (λ x. length x.1.now ≤ length tokens.now) }
+fn kinds<T: Drop>(
+    alloc: Global,
+    returned: T,
+    tokens: &[Token],
+) -> Result<(T, Row<InvocationKind>, &[Token]), ReadFail>
+    ensures reads { Gives (λ x. (x.1, x.2.now)) result (kinds_at tokens.now) }
+    ensures kept { IfOk result (λ x. x.0 ≡ returned) }
+    ensures shorter { IfOk result (λ x. length x.2.now ≤ length tokens.now) }
 {
-    let mut kinds = Row::new(alloc);
     if next_is_sign(tokens, Sign::OpenBrace) {
         let (_, rest) = sign(tokens, Sign::OpenBrace)?;
         let (first, rest) = kind(rest)?;
         let (more, rest) = more_kinds(alloc, rest)?;
+        let mut kinds = Row::new(alloc);
         kinds.push(first)?;
         kinds.push_all(more)?;
-        Ok((kinds, rest))
+        Ok((returned, kinds, rest))
     } else {
-        Ok((kinds, tokens))
+        Ok((returned, Row::new(alloc), tokens))
     }
 }
 
@@ -197,19 +202,20 @@ fn returns_open(returned: &Option<Returned>) -> bool
     }
 }
 
-/// Reads how an operation may be invoked, where braces stand that are its own.
+/// Reads how an operation may be invoked, where braces stand that are its own, and hands what it returns back.
 #[tactic(auto, unfolding(sr_expr_reader::specs::TypeReaders::own_kinds_at))]
-pub fn own_kinds<'a>(
+pub fn own_kinds(
     alloc: Global,
-    returned: &Option<Returned>,
-    tokens: &'a [Token],
-) -> Result<(Row<InvocationKind>, &'a [Token]), ReadFail>
-    ensures reads { Gives (λ x. (x.0, x.1.now)) result (own_kinds_at returned.now tokens.now) }
-    ensures shorter { IfOk result (λ x. length x.1.now ≤ length tokens.now) }
+    returned: Option<Returned>,
+    tokens: &[Token],
+) -> Result<(Option<Returned>, Row<InvocationKind>, &[Token]), ReadFail>
+    ensures reads { Gives (λ x. (x.1, x.2.now)) result (own_kinds_at returned tokens.now) }
+    ensures kept { IfOk result (λ x. x.0 ≡ returned) }
+    ensures shorter { IfOk result (λ x. length x.2.now ≤ length tokens.now) }
 {
-    if returns_open(returned) {
-        Ok((Row::new(alloc), tokens))
+    if returns_open(&returned) {
+        Ok((returned, Row::new(alloc), tokens))
     } else {
-        kinds(alloc, tokens)
+        kinds(alloc, returned, tokens)
     }
 }

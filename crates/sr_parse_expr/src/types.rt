@@ -6,7 +6,7 @@ use crate::declared::{decl, decls, dims, names};
 use crate::expression::expression;
 use crate::pieces::qualified_name;
 use crate::reading::{
-    ReadFail, next_is_separator, next_is_sign, next_is_word, separator, sign, word,
+    ReadFail, next_is_separator, next_is_sign, next_is_word, separator, sign, sign_behind, word,
 };
 use crate::type_words::{mode, next_is_basic, own_kinds, read_basic};
 use sr_tree::{Decl, Formal, PassMode, Returned, Sign, Signature, Token, TypeTree, Word};
@@ -59,7 +59,7 @@ fn string_type(alloc: Global, tokens: &[Token]) -> Result<(TypeTree, &[Token]), 
         Ok((TypeTree::Str { span, length }, rest))
     } else {
         let (length, rest) = expression(alloc, rest)?;
-        let (_, rest) = sign(rest, Sign::CloseBracket)?;
+        let (_, length, rest) = sign_behind(length, rest, Sign::CloseBracket)?;
         let length = Some(length);
         Ok((TypeTree::Str { span, length }, rest))
     }
@@ -109,7 +109,7 @@ pub fn signature(alloc: Global, tokens: &[Token]) -> Result<(Signature, &[Token]
     let (span, rest) = sign(tokens, Sign::OpenParen)?;
     let (formals, rest) = formals_behind(alloc, rest)?;
     let (returned, rest) = returned(alloc, rest)?;
-    let (kinds, rest) = own_kinds(alloc, &returned, rest)?;
+    let (returned, kinds, rest) = own_kinds(alloc, returned, rest)?;
     Ok((
         Signature {
             span,

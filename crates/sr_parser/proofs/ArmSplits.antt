@@ -13,10 +13,10 @@ use Rattle.sr_tree.specs.declared.token.Word.TheVariants as word
 use Rattle.sr_tree.specs.Expressions.{expr_span}
 use Rattle.sr_tree.specs.Tests.{is_sign, is_word}
 use Rattle.sr_expr_reader.specs.Tokens.{sign_at, word_at, name_at}
-use Rattle.sr_program_reader.specs.StatementReaders.{StatementReaders, arm_at, arrow_block_at, behind_invocation_at, behind_quantifiers_at, behind_target_at, by_at, co_arm_at, co_block_at, co_called_at, co_named_at, condition_at, enclosed_names_at, enclosed_quantifiers_at, first_of, invocation_at, invocation_of, invoked_at, named_at, returned_name_at}
+use Rattle.sr_program_reader.specs.StatementReaders.{StatementReaders, arm_at, arrow_block_at, behind_invocation_at, behind_quantifiers_at, behind_target_at, by_at, co_arm_at, co_block_at, co_called_at, co_primary_at, co_start_at, condition_at, enclosed_names_at, enclosed_quantifiers_at, first_of, invocation_at, invocation_of, invoked_at, returned_name_at}
 use Rattle.sr_parser.specs.declared.heads.ArmHead.{ArmHead}
 use Rattle.sr_parser.specs.declared.heads.CoHead.{CoHead}
-use Rattle.sr_parser.specs.ArmReaders.{arm_head_at, arm_of, called_head_at, co_arm_of, co_head_at, named_head_at, quantified_head_at, split_arm_at, split_co_arm_at, target_head_at}
+use Rattle.sr_parser.specs.ArmReaders.{arm_head_at, arm_of, called_head_at, co_arm_of, co_head_at, primary_head_at, quantified_head_at, split_arm_at, split_co_arm_at, target_head_at}
 
 module _ {A B C : Type 0} (h : B → Reader Token C) where
   -- what is read in two steps and then a third, step by step
@@ -49,11 +49,11 @@ module _ (r : StatementReaders) where
       branch-then with_block (next_is (λ t. is_word word.Call t.kind) s) _ _ _ _ (called-splits (Some span) qs (Some target) s)
       (then-then with_block (invocation_at r.types.expressions s) _ _ (λ i z. refl))
 
-  named-splits : (start : Option Span) (qs : List Quantifier) (s : List Token)
-      → continued (named_head_at r.types.expressions start qs s) with_block ≡ co_named_at r start qs s
-  unfolding named_head_at co_named_at behind_invocation_at behind_target_at co_block_at with_block
-  named-splits start qs s =
-      then-then with_block (named_at r.types.expressions s) _ _
+  primary-splits : (start : Option Span) (qs : List Quantifier) (s : List Token)
+      → continued (primary_head_at r.types.expressions start qs s) with_block ≡ co_primary_at r start qs s
+  unfolding primary_head_at co_primary_at behind_invocation_at behind_target_at co_block_at with_block
+  primary-splits start qs s =
+      then-then with_block (co_start_at start r.types.expressions s) _ _
       (λ e q. branch-then with_block (next_is (λ t. is_sign sign.Assign t.kind) q) _ _ _ _
       (then-then with_block (sign_at sign.Assign q) _ _ (λ becomes z. target-splits (first_of start (expr_span e)) qs e z))
       (then-then with_block (invoked_at (invocation_of e) q) _ _ (λ i z. refl)))
@@ -62,7 +62,7 @@ module _ (r : StatementReaders) where
       → continued (quantified_head_at r.types.expressions start qs s) with_block ≡ behind_quantifiers_at r start qs s
   unfolding quantified_head_at behind_quantifiers_at
   quantified-splits start qs s =
-      branch-then with_block (next_is (λ t. is_word word.Call t.kind) s) _ _ _ _ (called-splits start qs None s) (named-splits start qs s)
+      branch-then with_block (next_is (λ t. is_word word.Call t.kind) s) _ _ _ _ (called-splits start qs None s) (primary-splits start qs s)
 
   pub co-splits : (s : List Token) → split_co_arm_at r s ≡ co_arm_at r s
   unfolding split_co_arm_at co_head_at co_arm_at with_block behind_quantifiers_at

@@ -15,7 +15,7 @@ use Rattle.sr_tree.specs.Expressions.{expr_span}
 use Rattle.sr_tree.specs.Tests.{is_sign, is_word}
 use Rattle.sr_expr_reader.specs.Readers.{Readers}
 use Rattle.sr_expr_reader.specs.Tokens.{sign_at, word_at, name_at}
-use Rattle.sr_program_reader.specs.StatementReaders.{StatementReaders, arrow_block_at, by_at, co_block_at, condition_at, enclosed_names_at, enclosed_quantifiers_at, first_of, invocation_at, invocation_of, invoked_at, named_at, returned_name_at}
+use Rattle.sr_program_reader.specs.StatementReaders.{StatementReaders, arrow_block_at, by_at, co_block_at, co_start_at, condition_at, enclosed_names_at, enclosed_quantifiers_at, first_of, invocation_at, invocation_of, invoked_at, returned_name_at}
 use Rattle.sr_parser.specs.declared.heads.ArmHead.{ArmHead}
 use Rattle.sr_parser.specs.declared.heads.CoHead.{CoHead}
 
@@ -63,10 +63,10 @@ target_head_at r span qs target = branch (λ t. is_word word.Call t.kind) (calle
       i ← invocation_at r
       returned (record { span = span; quantifiers = qs; target = Some target; with_call = false; invocation = i }))
 
--- from its target on, or from an invocation on
-unfoldable pub named_head_at : Readers → Option Span → List Quantifier → Reader Token CoHead
-named_head_at r start qs = do
-  e ← named_at r
+-- from its first primary on, which is its target or its invocation
+unfoldable pub primary_head_at : Readers → Option Span → List Quantifier → Reader Token CoHead
+primary_head_at r start qs = do
+  e ← co_start_at start r
   branch (λ t. is_sign sign.Assign t.kind)
       (do
         becomes ← sign_at sign.Assign
@@ -77,7 +77,7 @@ named_head_at r start qs = do
 
 -- behind its quantifiers
 unfoldable pub quantified_head_at : Readers → Option Span → List Quantifier → Reader Token CoHead
-quantified_head_at r start qs = branch (λ t. is_word word.Call t.kind) (called_head_at r start qs None) (named_head_at r start qs)
+quantified_head_at r start qs = branch (λ t. is_word word.Call t.kind) (called_head_at r start qs None) (primary_head_at r start qs)
 
 -- ["(" quants ")"] [primary ":="] ["call"] invocation
 unfoldable pub co_head_at : Readers → Reader Token CoHead

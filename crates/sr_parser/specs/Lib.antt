@@ -1,4 +1,3 @@
 pub mod ArmReaders
 pub mod Programs
 pub mod Reads
-pub mod Tails

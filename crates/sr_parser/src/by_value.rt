@@ -75,12 +75,12 @@ pub fn value_formals(alloc: Global, tokens: &[Token]) -> Result<(Row<Formal>, &[
     ensures shorter { IfOk result (λ x. length x.1.now < length tokens.now) }
 {
     let (_, rest) = sign(tokens, Sign::OpenParen)?;
-    let mut first = Row::new(alloc);
     if next_is_sign(rest, Sign::CloseParen) {
         let (_, rest) = sign(rest, Sign::CloseParen)?;
-        return Ok((first, rest));
+        return Ok((Row::new(alloc), rest));
     }
     let (formal, rest) = value_formal(alloc, rest)?;
+    let mut first = Row::new(alloc);
     first.push(formal)?;
     let (formals, rest) = more_value_formals(alloc, first, rest)?;
     let (_, rest) = sign(rest, Sign::CloseParen)?;

@@ -2,10 +2,11 @@ ghost use Rattle.std.specs.Prelude.{◌≡◌, ◌<◌, ◌≤◌, length, IfOk}
 ghost use Rattle.sr_parse_expr.specs.Reads.{ReadsTypeUpTo, ReadsUpTo};
 ghost use Rattle.sr_program_reader.specs.DeclarationReaders.{const_at, import_at, initial_at, more_op_items_at, more_semaphores_at, next_op_item_at, next_semaphore_at, op_at, op_item_at, optional_type_at, optype_at, sem_at, semaphore_at, type_decl_at, values_at, var_at};
 
+use crate::behind::expression_behind;
 use sr_parse_expr::declared::{decls, names};
 use sr_parse_expr::expression::{LOOSEST, more_arguments, operand};
 use sr_parse_expr::pieces::qualified_name;
-use sr_parse_expr::reading::{ReadFail, name, next_is_sign, sign, word};
+use sr_parse_expr::reading::{ReadFail, name, next_is_sign, sign, sign_behind, word};
 use sr_parse_expr::types::{plain_type, signature, type_tree};
 use sr_tree::{
     ConstDecl, Expr, Import, OpDecl, OpItem, OpTypeDecl, SemDecl, Semaphore, Sign, Token, TypeDecl,
@@ -49,8 +50,8 @@ pub fn const_decl(alloc: Global, tokens: &[Token]) -> Result<(ConstDecl, &[Token
     let (span, rest) = word(tokens, Word::Const)?;
     let (name, rest) = name(alloc, rest)?;
     let (ty, rest) = optional_type(alloc, rest)?;
-    let (_, rest) = sign(rest, Sign::Assign)?;
-    let (value, rest) = operand(alloc, LOOSEST, rest)?;
+    let (_, ty, rest) = sign_behind(ty, rest, Sign::Assign)?;
+    let (ty, value, rest) = expression_behind(alloc, ty, rest)?;
     Ok((
         ConstDecl {
             span,
@@ -171,20 +172,26 @@ pub fn op_decl(alloc: Global, tokens: &[Token]) -> Result<(OpDecl, &[Token]), Re
     Ok((OpDecl { span, items }, rest))
 }
 
-/// Reads `:=` and the values that variables begin with, where they stand.
+/// Reads `:=` and values behind a type, where they stand, and hands the type back.
 #[tactic(auto, unfolding(sr_program_reader::specs::DeclarationReaders::values_at))]
-fn values(alloc: Global, tokens: &[Token]) -> Result<(Row<Expr>, &[Token]), ReadFail>
-    ensures reads { ReadsUpTo (λ x. (x.0, x.1.now)) tokens.now result (λ r. values_at r) }
-    ensures shorter { IfOk result (λ x. length x.1.now ≤ length tokens.now) }
+fn values<T: Drop>(
+    alloc: Global,
+    ty: T,
+    tokens: &[Token],
+) -> Result<(T, Row<Expr>, &[Token]), ReadFail>
+    ensures reads { ReadsUpTo (λ x. (x.1, x.2.now)) tokens.now result (λ r. values_at r) }
+    ensures kept { IfOk result (λ x. x.0 ≡ ty) }
+    ensures shorter { IfOk result (λ x. length x.2.now ≤ length tokens.now) }
 {
-    let mut values = Row::new(alloc);
     if next_is_sign(tokens, Sign::Assign) {
         let (_, rest) = sign(tokens, Sign::Assign)?;
         let (first, rest) = operand(alloc, LOOSEST, rest)?;
+        let mut values = Row::new(alloc);
         values.push(first)?;
-        more_arguments(alloc, values, rest)
+        let (values, rest) = more_arguments(alloc, values, rest)?;
+        Ok((ty, values, rest))
     } else {
-        Ok((values, tokens))
+        Ok((ty, Row::new(alloc), tokens))
     }
 }
 
@@ -197,7 +204,7 @@ pub fn var_decl(alloc: Global, tokens: &[Token]) -> Result<(VarDecl, &[Token]), 
     let (span, rest) = word(tokens, Word::Var)?;
     let (decls, rest) = decls(alloc, rest)?;
     let (ty, rest) = optional_type(alloc, rest)?;
-    let (values, rest) = values(alloc, rest)?;
+    let (ty, values, rest) = values(alloc, ty, rest)?;
     Ok((
         VarDecl {
             span,

@@ -1,11 +1,13 @@
 ghost use Rattle.std.specs.Prelude.{◌≡◌, ◌<◌, ◌≤◌, length, None, IfOk};
 ghost use Rattle.sr_parse_expr.specs.Reads.{ReadsUpTo};
-ghost use Rattle.sr_parser.specs.ArmReaders.{arm_head_at, arm_head_behind_at, called_head_at, co_head_at, named_head_at, quantified_head_at, target_head_at};
-ghost use Rattle.sr_program_reader.specs.StatementReaders.{first_of};
+ghost use Rattle.sr_parser.specs.ArmReaders.{arm_head_at, arm_head_behind_at, called_head_at, co_head_at, primary_head_at, quantified_head_at, target_head_at};
+ghost use Rattle.sr_program_reader.specs.StatementReaders.{co_start_at, first_of};
 
-use crate::parts::{by, condition, enclosed_names, invocation, invoked, named, returned_name};
+use crate::behind::{invocation_behind, word_behind};
+use crate::parts::{by, condition, enclosed_names, invoked, named, returned_name};
 use crate::quantifier::enclosed_quantifiers;
-use sr_parse_expr::reading::{ReadFail, name, next_is_sign, next_is_word, sign, word};
+use sr_parse_expr::expression::primary;
+use sr_parse_expr::reading::{ReadFail, name, next_is_sign, next_is_word, sign_behind};
 use sr_tree::{ArmCondition, Expr, Invocation, Name, Quantifier, Sign, Token, Word};
 use sr_value::{Row, Span};
 use std::alloc::Global;
@@ -54,7 +56,7 @@ fn arm_head_behind(
 {
     let (returned, rest) = returned_name(alloc, tokens)?;
     let (condition, rest) = condition(alloc, rest)?;
-    let (order, rest) = by(alloc, rest)?;
+    let (condition, order, rest) = by(alloc, condition, rest)?;
     Ok((
         ArmHead {
             operation,
@@ -79,8 +81,8 @@ fn called_head(
     ensures reads { ReadsUpTo (λ x. (x.0, x.1.now)) tokens.now result (λ r. called_head_at r start quantifiers target) }
     ensures shorter { IfOk result (λ x. length x.1.now < length tokens.now) }
 {
-    let (span, rest) = word(tokens, Word::Call)?;
-    let (invocation, rest) = invocation(alloc, rest)?;
+    let (span, target, rest) = word_behind(target, tokens, Word::Call)?;
+    let (target, invocation, rest) = invocation_behind(alloc, target, rest)?;
     let span = first_of(start, span);
     let with_call = true;
     Ok((
@@ -110,7 +112,7 @@ fn target_head(
     if next_is_word(tokens, Word::Call) {
         called_head(alloc, Some(span), quantifiers, Some(target), tokens)
     } else {
-        let (invocation, rest) = invocation(alloc, tokens)?;
+        let (target, invocation, rest) = invocation_behind(alloc, target, tokens)?;
         let target = Some(target);
         let with_call = false;
         Ok((
@@ -126,21 +128,37 @@ fn target_head(
     }
 }
 
+/// Reads the first primary of an arm of `co`: any behind what stands before, and else one that begins with a name.
+#[tactic(auto, unfolding(sr_program_reader::specs::StatementReaders::co_start_at))]
+fn first_primary(
+    alloc: Global,
+    before: Option<Span>,
+    tokens: &[Token],
+) -> Result<(Expr, &[Token]), ReadFail>
+    ensures reads { ReadsUpTo (λ x. (x.0, x.1.now)) tokens.now result (λ r. co_start_at before r) }
+    ensures shorter { IfOk result (λ x. length x.1.now < length tokens.now) }
+{
+    match before {
+        None => named(alloc, tokens),
+        Some(_) => primary(alloc, tokens),
+    }
+}
+
 /// Reads an arm of `co` from its target or its invocation on, up to its block.
-#[tactic(auto, unfolding(crate::specs::ArmReaders::named_head_at))]
-fn named_head(
+#[tactic(auto, unfolding(crate::specs::ArmReaders::primary_head_at))]
+fn primary_head(
     alloc: Global,
     start: Option<Span>,
     quantifiers: Row<Quantifier>,
     tokens: &[Token],
 ) -> Result<(CoHead, &[Token]), ReadFail>
-    ensures reads { ReadsUpTo (λ x. (x.0, x.1.now)) tokens.now result (λ r. named_head_at r start quantifiers) }
+    ensures reads { ReadsUpTo (λ x. (x.0, x.1.now)) tokens.now result (λ r. primary_head_at r start quantifiers) }
     ensures shorter { IfOk result (λ x. length x.1.now < length tokens.now) }
 {
-    let (primary, rest) = named(alloc, tokens)?;
+    let (primary, rest) = first_primary(alloc, start, tokens)?;
     let span = first_of(start, primary.span());
     if next_is_sign(rest, Sign::Assign) {
-        let (_, rest) = sign(rest, Sign::Assign)?;
+        let (_, primary, rest) = sign_behind(primary, rest, Sign::Assign)?;
         target_head(alloc, span, quantifiers, primary, rest)
     } else {
         let (invocation, rest) = invoked(primary, rest)?;
@@ -173,7 +191,7 @@ fn quantified_head(
     if next_is_word(tokens, Word::Call) {
         called_head(alloc, start, quantifiers, None, tokens)
     } else {
-        named_head(alloc, start, quantifiers, tokens)
+        primary_head(alloc, start, quantifiers, tokens)
     }
 }
 

@@ -7,7 +7,7 @@ use crate::words::{next_is_condition, read_condition_word};
 use sr_parse_expr::declared::names;
 use sr_parse_expr::expression::{LOOSEST, operand, primary};
 use sr_parse_expr::reading::{
-    ReadFail, name, next_is_name, next_is_sign, next_is_word, sign, word,
+    ReadFail, name, next_is_name, next_is_sign, next_is_word, sign, sign_behind, word,
 };
 use sr_tree::{ArmCondition, Expr, Invocation, Name, Sign, Token, Word};
 use sr_value::Row;
@@ -44,7 +44,7 @@ pub fn invocation(alloc: Global, tokens: &[Token]) -> Result<(Invocation, &[Toke
     ensures reads { ReadsUpTo (λ x. (x.0, x.1.now)) tokens.now result (λ r. invocation_at r) }
     ensures shorter { IfOk result (λ x. length x.1.now < length tokens.now) }
 {
-    let (primary, rest) = named(alloc, tokens)?;
+    let (primary, rest) = primary(alloc, tokens)?;
     invoked(primary, rest)
 }
 
@@ -57,7 +57,7 @@ pub fn status(alloc: Global, tokens: &[Token]) -> Result<(Option<Expr>, &[Token]
     if next_is_sign(tokens, Sign::OpenParen) {
         let (_, rest) = sign(tokens, Sign::OpenParen)?;
         let (status, rest) = operand(alloc, LOOSEST, rest)?;
-        let (_, rest) = sign(rest, Sign::CloseParen)?;
+        let (_, status, rest) = sign_behind(status, rest, Sign::CloseParen)?;
         Ok((Some(status), rest))
     } else {
         Ok((None, tokens))
@@ -71,12 +71,12 @@ pub fn places(alloc: Global, tokens: &[Token]) -> Result<(Row<Expr>, &[Token]), 
     ensures shorter { IfOk result (λ x. length x.1.now < length tokens.now) }
 {
     let (_, rest) = sign(tokens, Sign::OpenParen)?;
-    let mut first = Row::new(alloc);
     if next_is_sign(rest, Sign::CloseParen) {
         let (_, rest) = sign(rest, Sign::CloseParen)?;
-        return Ok((first, rest));
+        return Ok((Row::new(alloc), rest));
     }
     let (place, rest) = primary(alloc, rest)?;
+    let mut first = Row::new(alloc);
     first.push(place)?;
     let (places, rest) = more_places(alloc, first, rest)?;
     let (_, rest) = sign(rest, Sign::CloseParen)?;
@@ -120,33 +120,43 @@ fn next_place(
     Ok((places, rest))
 }
 
-/// Reads `by` and an expression, where they stand.
+/// Reads `by` and an expression behind a tree, where they stand, and hands the tree back.
 #[tactic(auto, unfolding(sr_program_reader::specs::StatementReaders::by_at))]
-pub fn by(alloc: Global, tokens: &[Token]) -> Result<(Option<Expr>, &[Token]), ReadFail>
-    ensures reads { ReadsUpTo (λ x. (x.0, x.1.now)) tokens.now result (λ r. by_at r) }
-    ensures shorter { IfOk result (λ x. length x.1.now ≤ length tokens.now) }
+pub fn by<T: Drop>(
+    alloc: Global,
+    tree: T,
+    tokens: &[Token],
+) -> Result<(T, Option<Expr>, &[Token]), ReadFail>
+    ensures reads { ReadsUpTo (λ x. (x.1, x.2.now)) tokens.now result (λ r. by_at r) }
+    ensures kept { IfOk result (λ x. x.0 ≡ tree) }
+    ensures shorter { IfOk result (λ x. length x.2.now ≤ length tokens.now) }
 {
     if next_is_word(tokens, Word::By) {
         let (_, rest) = word(tokens, Word::By)?;
         let (step, rest) = operand(alloc, LOOSEST, rest)?;
-        Ok((Some(step), rest))
+        Ok((tree, Some(step), rest))
     } else {
-        Ok((None, tokens))
+        Ok((tree, None, tokens))
     }
 }
 
-/// Reads `st` and an expression, where they stand.
+/// Reads `st` and an expression behind a tree, where they stand, and hands the tree back.
 #[tactic(auto, unfolding(sr_program_reader::specs::StatementReaders::such_that_at))]
-pub fn such_that(alloc: Global, tokens: &[Token]) -> Result<(Option<Expr>, &[Token]), ReadFail>
-    ensures reads { ReadsUpTo (λ x. (x.0, x.1.now)) tokens.now result (λ r. such_that_at r) }
-    ensures shorter { IfOk result (λ x. length x.1.now ≤ length tokens.now) }
+pub fn such_that<T: Drop>(
+    alloc: Global,
+    tree: T,
+    tokens: &[Token],
+) -> Result<(T, Option<Expr>, &[Token]), ReadFail>
+    ensures reads { ReadsUpTo (λ x. (x.1, x.2.now)) tokens.now result (λ r. such_that_at r) }
+    ensures kept { IfOk result (λ x. x.0 ≡ tree) }
+    ensures shorter { IfOk result (λ x. length x.2.now ≤ length tokens.now) }
 {
     if next_is_word(tokens, Word::St) {
         let (_, rest) = word(tokens, Word::St)?;
         let (condition, rest) = operand(alloc, LOOSEST, rest)?;
-        Ok((Some(condition), rest))
+        Ok((tree, Some(condition), rest))
     } else {
-        Ok((None, tokens))
+        Ok((tree, None, tokens))
     }
 }
 

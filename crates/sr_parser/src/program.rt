@@ -1,14 +1,13 @@
 ghost use Rattle.std.specs.Prelude.{◌≡◌, IfOk, IfErr};
-ghost use Rattle.sr_parse_expr.specs.Refused.{IsRefusedIn, refusal_of};
+ghost use Rattle.sr_parse_expr.specs.Refused.{IsRefusedIn};
 ghost use Rattle.sr_parser.specs.Programs.{SpellsNoFile};
 ghost use Rattle.sr_program_reader.specs.Files.{SpellsFile};
 ghost use Rattle.sr_tree.specs.Components.{Spells};
 
 use crate::components::file;
-use sr_parse_expr::reading::ReadFail;
-use sr_text::{FrontFail, Kind, Refusal};
-use sr_tree::{File, Token, Tokens};
-use sr_value::Place;
+use sr_parse_expr::refused;
+use sr_text::FrontFail;
+use sr_tree::{File, Tokens};
 use std::alloc::Global;
 
 /// Reads a source file from all its tokens.
@@ -23,28 +22,6 @@ pub fn parse(alloc: Global, tokens: &Tokens) -> Result<File, FrontFail>
     let items = tokens.items.as_slice();
     match file(alloc, items) {
         Ok((tree, _)) => Ok(tree),
-        Err(fail) => Err(refusal(items, fail)),
-    }
-}
-
-/// The refusal at the token where nothing fits, or at the last one where the tokens end too early.
-fn refusal(items: &[Token], fail: ReadFail) -> FrontFail
-    ensures { result ≡ refusal_of items.now fail }
-{
-    match fail {
-        ReadFail::Unexpected { left } => {
-            let place = items.len().saturating_sub(left.max(1));
-            match items.get(place) {
-                Some(token) => FrontFail::Refused(Refusal {
-                    kind: Kind::Syntax,
-                    place: Place {
-                        file: token.span.file,
-                        line: token.span.line,
-                    },
-                }),
-                None => FrontFail::NoMemory,
-            }
-        }
-        ReadFail::NoMemory => FrontFail::NoMemory,
+        Err(fail) => Err(refused(items, fail)),
     }
 }

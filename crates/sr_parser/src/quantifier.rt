@@ -1,60 +1,30 @@
 ghost use Rattle.std.specs.Prelude.{◌≡◌, ◌<◌, ◌≤◌, length, IfOk};
 ghost use Rattle.sr_parse_expr.specs.Reads.{ReadsUpTo};
-ghost use Rattle.sr_parser.specs.Tails.{quantifier_bounds_at, quantifier_ends_at};
 ghost use Rattle.sr_program_reader.specs.StatementReaders.{enclosed_quantifiers_at, more_quantifiers_at, next_quantifier_at, optional_quantifiers_at, quantifier_at, quantifiers_at};
 
+use crate::behind::expression_behind;
 use crate::parts::{by, such_that};
 use crate::words::read_direction;
 use sr_parse_expr::expression::{LOOSEST, operand};
 use sr_parse_expr::reading::{ReadFail, name, next_is_sign, sign};
-use sr_tree::{Direction, Expr, Name, Quantifier, Sign, Token};
+use sr_tree::{Quantifier, Sign, Token};
 use sr_value::{Row, Span};
 use std::alloc::Global;
 
 /// Reads a quantifier.
-#[tactic(auto, unfolding(sr_program_reader::specs::StatementReaders::quantifier_at, crate::specs::Tails::quantifier_bounds_at))]
+#[tactic(auto, unfolding(sr_program_reader::specs::StatementReaders::quantifier_at))]
 fn quantifier(alloc: Global, tokens: &[Token]) -> Result<(Quantifier, &[Token]), ReadFail>
     ensures reads { ReadsUpTo (λ x. (x.0, x.1.now)) tokens.now result (λ r. quantifier_at r) }
     ensures shorter { IfOk result (λ x. length x.1.now < length tokens.now) }
 {
     let (name, rest) = name(alloc, tokens)?;
+    let span = name.span;
     let (_, rest) = sign(rest, Sign::Assign)?;
     let (first, rest) = operand(alloc, LOOSEST, rest)?;
-    quantifier_bounds(alloc, name, first, rest)
-}
-
-/// Reads a quantifier behind its first value.
-#[tactic(auto, unfolding(crate::specs::Tails::quantifier_bounds_at, crate::specs::Tails::quantifier_ends_at))]
-fn quantifier_bounds(
-    alloc: Global,
-    name: Name,
-    first: Expr,
-    tokens: &[Token],
-) -> Result<(Quantifier, &[Token]), ReadFail>
-    ensures reads { ReadsUpTo (λ x. (x.0, x.1.now)) tokens.now result (λ r. quantifier_bounds_at r name first) }
-    ensures shorter { IfOk result (λ x. length x.1.now < length tokens.now) }
-{
-    let (direction, rest) = read_direction(tokens)?;
-    let (last, rest) = operand(alloc, LOOSEST, rest)?;
-    quantifier_ends(alloc, name, first, direction, last, rest)
-}
-
-/// Reads a quantifier behind its last value.
-#[tactic(auto, unfolding(crate::specs::Tails::quantifier_ends_at))]
-fn quantifier_ends(
-    alloc: Global,
-    name: Name,
-    first: Expr,
-    direction: Direction,
-    last: Expr,
-    tokens: &[Token],
-) -> Result<(Quantifier, &[Token]), ReadFail>
-    ensures reads { ReadsUpTo (λ x. (x.0, x.1.now)) tokens.now result (λ r. quantifier_ends_at r name first direction last) }
-    ensures shorter { IfOk result (λ x. length x.1.now ≤ length tokens.now) }
-{
-    let span = name.span;
-    let (step, rest) = by(alloc, tokens)?;
-    let (such_that, rest) = such_that(alloc, rest)?;
+    let (first, direction, rest) = read_direction(first, rest)?;
+    let (first, last, rest) = expression_behind(alloc, first, rest)?;
+    let ((first, last), step, rest) = by(alloc, (first, last), rest)?;
+    let ((first, last, step), such_that, rest) = such_that(alloc, (first, last, step), rest)?;
     Ok((
         Quantifier {
             span,

@@ -5,9 +5,10 @@ ghost use Rattle.sr_tree.specs.declared.statement.Statement.TheVariants as state
 ghost use Rattle.sr_tree.specs.declared.token.Word.TheVariants as words;
 ghost use Rattle.sr_program_reader.specs.StatementReaders.{assign_at, behind_primary_at, call_statement_at, create_statement_at, decrement_at, destroy_at, exchange_at, forward_at, increment_at, named_statement_at, plain_call_at, receive_at, send_at, single_at, stop_at};
 
+use crate::behind::{expression_behind, primary_behind};
 use crate::parts::{invocation, invoked, places, status};
-use sr_parse_expr::expression::{LOOSEST, create, operand, primary};
-use sr_parse_expr::reading::{ReadFail, name, next_is_sign, sign, word};
+use sr_parse_expr::expression::{create, primary};
+use sr_parse_expr::reading::{ReadFail, name, next_is_sign, sign_behind, word};
 use sr_tree::{Expr, Sign, Statement, Token, Word};
 use std::alloc::Global;
 
@@ -160,9 +161,9 @@ fn assign(alloc: Global, place: Expr, tokens: &[Token]) -> Result<(Statement, &[
     ensures reads { ReadsUpTo (λ x. (x.0, x.1.now)) tokens.now result (λ r. assign_at r place) }
     ensures shorter { IfOk result (λ x. length x.1.now < length tokens.now) }
 {
-    let (_, rest) = sign(tokens, Sign::Assign)?;
-    let (value, rest) = operand(alloc, LOOSEST, rest)?;
     let span = place.span();
+    let (_, place, rest) = sign_behind(place, tokens, Sign::Assign)?;
+    let (place, value, rest) = expression_behind(alloc, place, rest)?;
     Ok((Statement::Assign { span, place, value }, rest))
 }
 
@@ -172,9 +173,9 @@ fn exchange(alloc: Global, left: Expr, tokens: &[Token]) -> Result<(Statement, &
     ensures reads { ReadsUpTo (λ x. (x.0, x.1.now)) tokens.now result (λ r. exchange_at r left) }
     ensures shorter { IfOk result (λ x. length x.1.now < length tokens.now) }
 {
-    let (_, rest) = sign(tokens, Sign::Exchange)?;
-    let (right, rest) = primary(alloc, rest)?;
     let span = left.span();
+    let (_, left, rest) = sign_behind(left, tokens, Sign::Exchange)?;
+    let (left, right, rest) = primary_behind(alloc, left, rest)?;
     Ok((Statement::Exchange { span, left, right }, rest))
 }
 
@@ -184,8 +185,8 @@ fn increment(place: Expr, tokens: &[Token]) -> Result<(Statement, &[Token]), Rea
     ensures reads { Gives (λ x. (x.0, x.1.now)) result (increment_at place tokens.now) }
     ensures shorter { IfOk result (λ x. length x.1.now < length tokens.now) }
 {
-    let (_, rest) = sign(tokens, Sign::Increment)?;
     let span = place.span();
+    let (_, place, rest) = sign_behind(place, tokens, Sign::Increment)?;
     Ok((Statement::Increment { span, place }, rest))
 }
 
@@ -195,8 +196,8 @@ fn decrement(place: Expr, tokens: &[Token]) -> Result<(Statement, &[Token]), Rea
     ensures reads { Gives (λ x. (x.0, x.1.now)) result (decrement_at place tokens.now) }
     ensures shorter { IfOk result (λ x. length x.1.now < length tokens.now) }
 {
-    let (_, rest) = sign(tokens, Sign::Decrement)?;
     let span = place.span();
+    let (_, place, rest) = sign_behind(place, tokens, Sign::Decrement)?;
     Ok((Statement::Decrement { span, place }, rest))
 }
 

@@ -18,16 +18,20 @@ fn direction(kind: TokenKind) -> Option<Direction>
     }
 }
 
-/// Reads the word for whether a quantifier counts up or down.
+/// Reads the word for whether a quantifier counts up or down behind a tree, and hands the tree back.
 #[tactic(auto, unfolding(sr_program_reader::specs::StatementReaders::direction_at))]
-pub fn read_direction(tokens: &[Token]) -> Result<(Direction, &[Token]), ReadFail>
-    ensures reads { Gives (λ x. (x.0, x.1.now)) result (direction_at tokens.now) }
-    ensures shorter { IfOk result (λ x. length x.1.now < length tokens.now) }
+pub fn read_direction<T: Drop>(
+    tree: T,
+    tokens: &[Token],
+) -> Result<(T, Direction, &[Token]), ReadFail>
+    ensures reads { Gives (λ x. (x.1, x.2.now)) result (direction_at tokens.now) }
+    ensures kept { IfOk result (λ x. x.0 ≡ tree) }
+    ensures shorter { IfOk result (λ x. length x.2.now < length tokens.now) }
 {
     match tokens {
         [] => Err(ReadFail::Unexpected { left: 0 }),
         [first, rest @ ..] => match direction(first.kind) {
-            Some(direction) => Ok((direction, rest)),
+            Some(direction) => Ok((tree, direction, rest)),
             None => Err(ReadFail::Unexpected { left: tokens.len() }),
         },
     }

@@ -1,9 +1,11 @@
 -- What the readers of parts of statements read is spelled so, and depends on one token behind it alone.
-use Rattle.std.proofs.Common.{◌≡◌, refl, subst, true, List, [], ◌∷◌, ◌++◌, Option, Some, None, append_assoc}
+use Rattle.std.proofs.Common.{◌≡◌, refl, subst, Bool, true, false, List, [], ◌∷◌, ◌++◌, Option, Some, None, append_assoc}
+use Rattle.std.specs.Prelude.{is_some}
 use Rattle.sr_reader.specs.Reader.{next_is}
 use Rattle.sr_reader.proofs.Locality.{Local, anywhere, Then, joined, Returns, returns, IsOne, is_one, one-local, returned-local, unfit-local, weaker, weaker-where, where-first, then-local, branch-local, branch-where, ended, into}
 use Rattle.sr_value.specs.declared.place.Span.{Span}
 use Rattle.sr_tree.specs.declared.expr.Expr.{Expr}
+use Rattle.sr_tree.specs.declared.expr.Expr.TheVariants as expr
 use Rattle.sr_tree.specs.declared.expr.Invocation.{Invocation}
 use Rattle.sr_tree.specs.declared.name.Name.{Name}
 use Rattle.sr_tree.specs.declared.statement.ArmCondition.{ArmCondition}
@@ -18,7 +20,7 @@ use Rattle.sr_tree.specs.declared.token.Word.{Word}
 use Rattle.sr_tree.specs.declared.token.Word.TheVariants as word
 use Rattle.sr_tree.specs.Expressions.{SpellsExpr, SpellsPrimary}
 use Rattle.sr_tree.specs.Statements as s
-use Rattle.sr_tree.specs.Statements.{SpellsNamed, SpellsInvocation, SpellsStatus, SpellsMorePlaces, SpellsPlaces, SpellsBy, SpellsSuchThat, SpellsQuantifier, SpellsMoreQuantifiers, SpellsQuantifiers, SpellsOptionalNames, SpellsReturnedName, SpellsCondition, SpellsOptionalQuantifiers, direction_of, condition_word_of}
+use Rattle.sr_tree.specs.Statements.{SpellsNamed, SpellsInvocation, SpellsStatus, SpellsMorePlaces, SpellsPlaces, SpellsBy, SpellsSuchThat, SpellsQuantifier, SpellsMoreQuantifiers, SpellsQuantifiers, SpellsOptionalNames, SpellsReturnedName, SpellsCondition, SpellsOptionalQuantifiers, SpellsCoStart, direction_of, condition_word_of}
 use Rattle.sr_tree.specs.Tables.{IsSign, IsWord, name_of}
 use Rattle.sr_tree.specs.Tests.{is_name}
 use Rattle.sr_tree.specs.Types.{SpellsNames}
@@ -28,7 +30,7 @@ use Rattle.sr_expr_reader.proofs.ExpressionsLocal.{LocalReaders, primary-local, 
 use Rattle.sr_expr_reader.proofs.ListsLocal.{Grows, grows, list-local}
 use Rattle.sr_expr_reader.proofs.TokensLocal.{ASign, a_sign, AWord, a_word, AName, a_name, Spanned, spanned, spanned_from, sign-local, word-local, name-local, kind_of_name, none_some}
 use Rattle.sr_expr_reader.proofs.TypesLocal.{names-local}
-use Rattle.sr_program_reader.specs.StatementReaders.{token_direction, direction_at, token_condition, condition_word_at, named_at, invocation_of, invoked_at, invocation_at, status_at, next_place_at, more_places_at, places_at, by_at, such_that_at, quantifier_at, next_quantifier_at, more_quantifiers_at, quantifiers_at, enclosed_quantifiers_at, optional_quantifiers_at, optional_names_at, enclosed_names_at, returned_name_at, condition_at}
+use Rattle.sr_program_reader.specs.StatementReaders.{token_direction, direction_at, token_condition, condition_word_at, named_at, invocation_of, invoked_at, invocation_at, status_at, next_place_at, more_places_at, places_at, by_at, such_that_at, quantifier_at, next_quantifier_at, more_quantifiers_at, quantifiers_at, enclosed_quantifiers_at, optional_quantifiers_at, optional_names_at, enclosed_names_at, returned_name_at, condition_at, co_start_at}
 use Rattle.sr_program_reader.proofs.StatementStarts.{primary-some, call-only}
 
 -- ---- single tokens
@@ -102,9 +104,13 @@ invoked-local (Some i) = weaker found (returned-local i)
     found j u returns = invoked i refl
 
 -- a primary that was read, as an invocation
-pub invoked-named : {e : Expr} {u : List Token} → SpellsNamed e u → (i : Invocation) → invocation_of e ≡ Some i → SpellsInvocation i u
-invoked-named (s.named {e = e} {u = u} n h d) i f =
-    s.invocation (subst (λ x. SpellsNamed x (n ∷ u)) (call-only d i f) (s.named n h d))
+pub invoked-primary : {e : Expr} {u : List Token} → SpellsPrimary e u → (i : Invocation) → invocation_of e ≡ Some i → SpellsPrimary (expr.Call i) u
+invoked-primary {u = u} d i f = subst (λ x. SpellsPrimary x u) (call-only d i f) d
+
+pub invoked-start : {quantified : Bool} {e : Expr} {u : List Token} → SpellsCoStart quantified e u → (i : Invocation) → invocation_of e ≡ Some i
+    → SpellsCoStart quantified (expr.Call i) u
+invoked-start (s.begins_arm (s.named n h d)) i f = s.begins_arm (s.named n h (invoked-primary d i f))
+invoked-start (s.behind_quantifiers d) i f = s.behind_quantifiers (invoked-primary d i f)
 
 -- a primary whose first token was a name
 pub named-found : (e : Expr) (u : List Token) → (SpellsPrimary e u × (next_is (λ t. is_name t.kind) u ≡ true)) → SpellsNamed e u
@@ -157,18 +163,29 @@ quantifier_of n first direction last step such_that =
 module _ (r : Readers) (l : LocalReaders r) where
   -- primaries
 
-  pub named-local : Local SpellsNamed (named_at r)
+  named-local : Local SpellsNamed (named_at r)
   unfolding named_at
   named-local = branch-where
       (weaker-where named-found (where-first (λ t. is_name t.kind) SpellsPrimary (primary_at r) primary-some (anywhere (λ t. is_name t.kind) (primary-local r l))))
       (unfit-local SpellsNamed)
 
-  invocation_found : (i : Invocation) (u : List Token) → Then SpellsNamed (λ e. Invoked (invocation_of e)) i u → SpellsInvocation i u
-  invocation_found i w (joined {u = u} d (invoked j h)) = ended (SpellsInvocation j) u (invoked-named d j h)
+  began : (e : Expr) (u : List Token) → SpellsNamed e u → SpellsCoStart false e u
+  began e u d = s.begins_arm d
+
+  stood_behind : (e : Expr) (u : List Token) → SpellsPrimary e u → SpellsCoStart true e u
+  stood_behind e u d = s.behind_quantifiers d
+
+  pub start-local : (start : Option Span) → Local (SpellsCoStart (is_some start)) (co_start_at start r)
+  unfolding co_start_at
+  start-local None = weaker began named-local
+  start-local (Some before) = weaker stood_behind (primary-local r l)
+
+  invocation_found : (i : Invocation) (u : List Token) → Then SpellsPrimary (λ e. Invoked (invocation_of e)) i u → SpellsInvocation i u
+  invocation_found i w (joined {u = u} d (invoked j h)) = ended (SpellsInvocation j) u (s.invocation (invoked-primary d j h))
 
   pub invocation-local : Local SpellsInvocation (invocation_at r)
   unfolding invocation_at
-  invocation-local = weaker invocation_found (then-local named-local (λ e. invoked-local (invocation_of e)))
+  invocation-local = weaker invocation_found (then-local (primary-local r l) (λ e. invoked-local (invocation_of e)))
 
   status_found : (m : Option Expr) (u : List Token)
       → Then (ASign sign.OpenParen) (λ o. Then (SpellsExpr 5) (λ e. Then (ASign sign.CloseParen) (λ c. Returns (Some e)))) m u → SpellsStatus m u

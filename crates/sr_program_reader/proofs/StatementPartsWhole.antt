@@ -2,6 +2,7 @@
 use Rattle.std.proofs.Common.{◌≡◌, refl, sym, ◌∙◌, ap, subst, ℕ, Bool, false, List, [], ◌∷◌, ◌++◌, length, Option, Some, None, Ok, ◌⊎◌, inl, inr, append_assoc}
 use Rattle.std.specs.Prelude.{is_some, option_map}
 use Rattle.sr_reader.specs.Reader.{returned, ◌>>=◌, given, next_is}
+use Rattle.sr_value.specs.declared.place.Span.{Span}
 use Rattle.sr_tree.specs.declared.expr.Expr.{Expr}
 use Rattle.sr_tree.specs.declared.expr.Expr.TheVariants as expr
 use Rattle.sr_tree.specs.declared.expr.Invocation.{Invocation}
@@ -18,7 +19,7 @@ use Rattle.sr_tree.specs.declared.token.Word.{Word}
 use Rattle.sr_tree.specs.declared.token.Word.TheVariants as word
 use Rattle.sr_tree.specs.Expressions.{SpellsPrimary}
 use Rattle.sr_tree.specs.Statements as s
-use Rattle.sr_tree.specs.Statements.{SpellsNamed, SpellsInvocation, SpellsStatus, SpellsMorePlaces, SpellsPlaces, SpellsBy, SpellsSuchThat, SpellsQuantifier, SpellsMoreQuantifiers, SpellsQuantifiers, SpellsOptionalNames, SpellsReturnedName, SpellsCondition, SpellsOptionalQuantifiers, direction_of, condition_word_of}
+use Rattle.sr_tree.specs.Statements.{SpellsNamed, SpellsInvocation, SpellsStatus, SpellsMorePlaces, SpellsPlaces, SpellsBy, SpellsSuchThat, SpellsQuantifier, SpellsMoreQuantifiers, SpellsQuantifiers, SpellsOptionalNames, SpellsReturnedName, SpellsCondition, SpellsOptionalQuantifiers, SpellsCoStart, direction_of, condition_word_of}
 use Rattle.sr_tree.specs.Tables.{IsSign, IsWord, name_of}
 use Rattle.sr_tree.specs.Tests.{is_sign, is_word, is_name}
 use Rattle.sr_expr_reader.specs.Readers.{readers, is_suffix, suffix_at, primary_at, operand_at}
@@ -31,7 +32,7 @@ use Rattle.sr_expr_reader.proofs.Families.{YieldsIn, below, token_then, below_to
 use Rattle.sr_expr_reader.proofs.TokensLocal.{none_some}
 use Rattle.sr_expr_reader.proofs.TokensWhole.{Stops, is_that_sign, is_that_word, sign-reads, word-reads, name-reads, comma-stops, paren-stops, continues, stops-continued, continued-suffix, continued-paren}
 use Rattle.sr_expr_reader.proofs.Yields.{Yields, loop_yields}
-use Rattle.sr_program_reader.specs.StatementReaders.{token_direction, direction_at, token_condition, condition_word_at, named_at, invocation_of, invoked_at, invocation_at, status_at, next_place_at, more_places_at, places_at, by_at, such_that_at, quantifier_at, next_quantifier_at, more_quantifiers_at, quantifiers_at, enclosed_quantifiers_at, optional_quantifiers_at, optional_names_at, enclosed_names_at, returned_name_at, condition_at}
+use Rattle.sr_program_reader.specs.StatementReaders.{token_direction, direction_at, token_condition, condition_word_at, named_at, invocation_of, invoked_at, invocation_at, status_at, next_place_at, more_places_at, places_at, by_at, such_that_at, quantifier_at, next_quantifier_at, more_quantifiers_at, quantifiers_at, enclosed_quantifiers_at, optional_quantifiers_at, optional_names_at, enclosed_names_at, returned_name_at, condition_at, co_start_at}
 use Rattle.sr_program_reader.proofs.Separated.{Separated, none_behind, one_behind, Whole, is_next_sign, one_more, separated-end, separated-whole}
 use Rattle.sr_program_reader.proofs.StatementEnds.{direction-stops}
 use Rattle.sr_program_reader.proofs.StatementPartsLocal.{quantifier_of}
@@ -42,9 +43,15 @@ use Rattle.sr_program_reader.proofs.StatementStarts.{call-is-invocation}
 pub primary-yields : {e : Expr} {u : List Token} → SpellsPrimary e u → (q : List Token) → next_is continues q ≡ false → Yields primary_at (u ++ q) (Ok (e, q))
 primary-yields {e = e} d q c = whole-primary d q (Ok (e, q)) (λ x. continued-paren q c) (loop_stops is_suffix suffix_at e q (continued-suffix e q c))
 
-pub named-yields : {e : Expr} {u : List Token} → SpellsNamed e u → (q : List Token) → next_is continues q ≡ false → Yields named_at (u ++ q) (Ok (e, q))
+named-yields : {e : Expr} {u : List Token} → SpellsNamed e u → (q : List Token) → next_is continues q ≡ false → Yields named_at (u ++ q) (Ok (e, q))
 unfolding named_at
 named-yields (s.named {u = u} n h d) q c = yields_met (λ t. is_name t.kind) primary_at _ (n ∷ (u ++ q)) _ (ap is_name h) (primary-yields d q c)
+
+pub start-yields : {e : Expr} {u : List Token} (start : Option Span) → SpellsCoStart (is_some start) e u → (q : List Token) → next_is continues q ≡ false
+    → Yields (co_start_at start) (u ++ q) (Ok (e, q))
+unfolding co_start_at
+start-yields None (s.begins_arm d) q c = named-yields d q c
+start-yields (Some before) (s.behind_quantifiers d) q c = primary-yields d q c
 
 pub invoked-yields : {R : Type 0} {family : ℕ → R} (i : Invocation) (q : List Token) → YieldsIn family (λ r. invoked_at (invocation_of (expr.Call i))) q (Ok (i, q))
 unfolding invoked_at
@@ -53,7 +60,7 @@ invoked-yields i q = record { gives = λ k h. ap (λ m. invoked_at m q) (call-is
 pub invocation-yields : {i : Invocation} {u : List Token} → SpellsInvocation i u → (q : List Token) → next_is continues q ≡ false → Yields invocation_at (u ++ q) (Ok (i, q))
 unfolding invocation_at
 invocation-yields {i = i} {u = u} (s.invocation d) q c =
-    yields_then named_at (λ r e. invoked_at (invocation_of e)) u q (expr.Call i) _ (named-yields d q c) (invoked-yields i q)
+    yields_then primary_at (λ r e. invoked_at (invocation_of e)) u q (expr.Call i) _ (primary-yields d q c) (invoked-yields i q)
 
 pub status-yields : {m : Option Expr} {u : List Token} → SpellsStatus m u → (q : List Token) → next_is (λ t. is_sign sign.OpenParen t.kind) q ≡ false
     → Yields status_at (u ++ q) (Ok (m, q))

@@ -21,25 +21,25 @@ use Rattle.sr_tree.specs.declared.token.Word.{Word}
 use Rattle.sr_tree.specs.declared.token.Word.TheVariants as word
 use Rattle.sr_tree.specs.Expressions.{SpellsExpr, SpellsPrimary, expr_span}
 use Rattle.sr_tree.specs.Statements as s
-use Rattle.sr_tree.specs.Statements.{SpellsNamed, SpellsInvocation, SpellsBy, SpellsReturnedName, SpellsCondition, SpellsCallWord, SpellsTarget, SpellsOptionalNames, SpellsCoBlock, first_span}
+use Rattle.sr_tree.specs.Statements.{SpellsNamed, SpellsInvocation, SpellsBy, SpellsReturnedName, SpellsCondition, SpellsCallWord, SpellsCoStart, SpellsCoCall, SpellsOptionalNames, SpellsCoBlock, first_span}
 use Rattle.sr_tree.specs.Tables.{IsSign, IsWord, IsName, name_of}
 use Rattle.sr_tree.specs.Tests.{is_sign, is_word, is_name}
 use Rattle.sr_expr_reader.specs.Readers.{Readers, primary_at, operand_at}
 use Rattle.sr_expr_reader.specs.Tokens.{sign_at, word_at, name_at}
 use Rattle.sr_expr_reader.specs.TypeReaders.{TypeReaders, type_readers}
-use Rattle.sr_expr_reader.proofs.ExpressionEdges.{continues_expr, token-stops}
+use Rattle.sr_expr_reader.proofs.ExpressionEdges.{begins_expr, primary-begins, begins-no-word, continues_expr, token-stops}
 use Rattle.sr_expr_reader.proofs.ExpressionsWhole.{whole-operand}
 use Rattle.sr_expr_reader.proofs.Families.{YieldsIn, BelowIn, LoopsIn, below, token_then, below_token, below_then, below_seq, yields_then, below_returned, yields_returned, yields_met, yields_unmet, below_met, below_unmet, loop_stops, loop_goes, loop_within, yields_part}
 use Rattle.sr_expr_reader.proofs.TokensLocal.{kind_of_word}
 use Rattle.sr_expr_reader.proofs.TokensWhole.{Stops, is_that_sign, is_that_word, sign-reads, word-reads, name-reads, continues, stops-continued}
 use Rattle.sr_expr_reader.proofs.Yields.{Yields, steps-readers}
-use Rattle.sr_program_reader.specs.StatementReaders.{StatementReaders, statement_readers, blocks, begins_block_item, token_condition, named_at, invocation_of, invoked_at, invocation_at, by_at, enclosed_names_at, returned_name_at, condition_at, arrow_block_at, otherwise_at, is_alternative, next_alternative_at, alternatives_at, branch_at, arm_at, co_block_at, behind_invocation_at, first_of, co_called_at, behind_target_at, co_named_at, behind_quantifiers_at, single_at, assign_at, exchange_at, increment_at, decrement_at, plain_call_at, behind_primary_at, named_statement_at, closed_statement_at, operating_statement_at, worded_statement_at, statement_at, block_at}
+use Rattle.sr_program_reader.specs.StatementReaders.{StatementReaders, statement_readers, blocks, begins_block_item, token_condition, invocation_of, invoked_at, invocation_at, by_at, enclosed_names_at, returned_name_at, condition_at, arrow_block_at, otherwise_at, is_alternative, next_alternative_at, alternatives_at, branch_at, arm_at, co_block_at, behind_invocation_at, first_of, co_start_at, co_called_at, behind_target_at, co_primary_at, behind_quantifiers_at, single_at, assign_at, exchange_at, increment_at, decrement_at, plain_call_at, behind_primary_at, named_statement_at, closed_statement_at, operating_statement_at, worded_statement_at, statement_at, block_at}
 use Rattle.sr_program_reader.proofs.Lists.{ClosesList}
 use Rattle.sr_program_reader.proofs.Separated.{Separated, none_behind, one_behind}
 use Rattle.sr_program_reader.proofs.StatementEnds.{Ends, closes, closing-ends, closing-separator, closing-item, arrow-stops}
-use Rattle.sr_program_reader.proofs.StatementPartsWhole.{primary-yields, named-yields, invoked-yields, invocation-yields, by-first, by-stops, by-yields, condition-first, condition-yields, whole-enclosed-names, whole-returned-name}
-use Rattle.sr_program_reader.proofs.StatementsLocal.{branch_of, arm_of, co_arm_of, three}
-use Rattle.sr_program_reader.proofs.StatementStarts.{named-span, named-alone}
+use Rattle.sr_program_reader.proofs.StatementPartsWhole.{primary-yields, start-yields, invoked-yields, invocation-yields, by-first, by-stops, by-yields, condition-first, condition-yields, whole-enclosed-names, whole-returned-name}
+use Rattle.sr_program_reader.proofs.StatementsLocal.{branch_of, arm_of, co_arm_of, three, stored-tokens}
+use Rattle.sr_program_reader.proofs.StatementStarts.{start-span, start-alone}
 
 -- what the readers of expressions give
 pub of-expressions : {A : Type 0} (f : Readers → Reader Token A) (w : List Token) (z : Result (A × List Token) ℕ) → Yields f w z
@@ -216,8 +216,9 @@ pub co-block-behind : {m : Option (List BlockItem)} {z : List Token} → SpellsC
 co-block-behind s.no_co_block q e = record { stops = e.stops; assign = e.assign }
 co-block-behind (s.co_block {u = u} t h d) q e = record { stops = arrow-stops t (u ++ q) h; assign = ap (is_sign sign.Assign) h }
 
-named-is-name : {e : Expr} {u : List Token} → SpellsNamed e u → (q : List Token) → next_is (λ t. is_name t.kind) (u ++ q) ≡ true
-named-is-name (s.named n h d) q = ap is_name h
+start-begins : {quantified : Bool} {e : Expr} {u : List Token} → SpellsCoStart quantified e u → (q : List Token) → next_is (λ t. begins_expr t.kind) (u ++ q) ≡ true
+start-begins (s.begins_arm (s.named n h d)) q = primary-begins d q
+start-begins (s.behind_quantifiers d) q = primary-begins d q
 
 named-is-no : {e : Expr} {u : List Token} → SpellsNamed e u → (f : TokenKind → Bool) (q : List Token) → next_is (λ t. f t.kind) (u ++ q) ≡ f kind.Name
 named-is-no (s.named n h d) f q = ap f h
@@ -243,46 +244,60 @@ module _ {block : Option (List BlockItem)} (z q : List Token) (b : YieldsIn stat
   target-yields span qs place x y (s.call_word t h) d =
       yields_met _ _ _ (t ∷ (y ++ (z ++ q))) _ (is_that_word word.Call t h) (called-yields (Some span) qs (Some place) t y h d)
   target-yields {i = i} span qs place x y s.no_call_word (s.invocation d) =
-      yields_unmet _ _ _ (y ++ (z ++ q)) _ (named-is-no d (is_word word.Call) (z ++ q))
+      yields_unmet _ _ _ (y ++ (z ++ q)) _ (begins-no-word word.Call (y ++ (z ++ q)) refl (primary-begins d (z ++ q)))
       (yields_then (λ r. invocation_at r.types.expressions) _ y (z ++ q) i _
       (of-expressions invocation_at (y ++ (z ++ q)) _ (invocation-yields (s.invocation d) (z ++ q) (stops-continued (z ++ q) behind.stops)))
       (rest-yields span qs (Some place) false i))
 
-  pub behind-quantifiers-yields : {place : Option Expr} {with_call : Bool} {i : Invocation} (start : Option Span) (qs : List Quantifier) (v x y : List Token)
-      → SpellsTarget place v → SpellsCallWord with_call x → SpellsInvocation i y
-      → YieldsIn statement_readers (λ r. behind_quantifiers_at r start qs) (v ++ (x ++ (y ++ (z ++ q))))
-      (Ok (co_arm_of (first_of start (first_span (v ++ (x ++ y)))) qs place with_call i block, q))
-  unfolding behind_quantifiers_at co_named_at
-  behind-quantifiers-yields start qs v x y s.no_target (s.call_word t h) d =
-      yields_met _ _ _ (t ∷ (y ++ (z ++ q))) _ (is_that_word word.Call t h) (called-yields start qs None t y h d)
-  behind-quantifiers-yields {i = i} start qs v x y s.no_target s.no_call_word (s.invocation d) =
-      subst (λ span. YieldsIn statement_readers (λ r. behind_quantifiers_at r start qs) (y ++ (z ++ q)) (Ok (co_arm_of (first_of start span) qs None false i block, q))) (named-alone d)
-      (yields_unmet _ _ _ (y ++ (z ++ q)) _ (named-is-no d (is_word word.Call) (z ++ q))
-      (yields_then (λ r. named_at r.types.expressions) _ y (z ++ q) (expr.Call i) _
-      (of-expressions named_at (y ++ (z ++ q)) _ (named-yields d (z ++ q) (stops-continued (z ++ q) behind.stops)))
+  plain-yields : {i : Invocation} (start : Option Span) (qs : List Quantifier) (u : List Token) → SpellsCoStart (is_some start) (expr.Call i) u
+      → YieldsIn statement_readers (λ r. co_primary_at r start qs) (u ++ (z ++ q)) (Ok (co_arm_of (first_of start (expr_span (expr.Call i))) qs None false i block, q))
+  unfolding co_primary_at
+  plain-yields {i = i} start qs u d =
+      yields_then (λ r. co_start_at start r.types.expressions) _ u (z ++ q) (expr.Call i) _
+      (of-expressions (co_start_at start) (u ++ (z ++ q)) _ (start-yields start d (z ++ q) (stops-continued (z ++ q) behind.stops)))
       (yields_unmet _ _ _ (z ++ q) _ behind.assign
       (yields_then (λ r. invoked_at (invocation_of (expr.Call i))) _ [] (z ++ q) i _ (invoked-yields i (z ++ q))
-      (rest-yields (first_of start (expr_span (expr.Call i))) qs None false i)))))
-  behind-quantifiers-yields {with_call = c} {i = i} start qs v x y (s.target {e = e} {u = u} a d h) called j =
-      subst (λ w. YieldsIn statement_readers (λ r. behind_quantifiers_at r start qs) w
-      (Ok (co_arm_of (first_of start (first_span ((u ++ a ∷ []) ++ (x ++ y)))) qs (Some e) c i block, q))) (sym (append_assoc u (a ∷ []) (x ++ (y ++ (z ++ q)))))
-      (subst (λ span. YieldsIn statement_readers (λ r. behind_quantifiers_at r start qs) (u ++ a ∷ (x ++ (y ++ (z ++ q))))
-      (Ok (co_arm_of (first_of start span) qs (Some e) c i block, q))) (named-span d (a ∷ (x ++ y)) ∙ ap first_span (sym (append_assoc u (a ∷ []) (x ++ y))))
-      (yields_unmet _ _ _ (u ++ a ∷ (x ++ (y ++ (z ++ q)))) _ (named-is-no d (is_word word.Call) (a ∷ (x ++ (y ++ (z ++ q)))))
-      (yields_then (λ r. named_at r.types.expressions) _ u (a ∷ (x ++ (y ++ (z ++ q)))) e _
-      (of-expressions named_at (u ++ a ∷ (x ++ (y ++ (z ++ q)))) _ (named-yields d (a ∷ (x ++ (y ++ (z ++ q))))
+      (rest-yields (first_of start (expr_span (expr.Call i))) qs None false i)))
+
+  stored-yields : {e : Expr} {with_call : Bool} {i : Invocation} (start : Option Span) (qs : List Quantifier) (a : Token) (u x y : List Token)
+      → SpellsCoStart (is_some start) e u → IsSign sign.Assign a → SpellsCallWord with_call x → SpellsInvocation i y
+      → YieldsIn statement_readers (λ r. co_primary_at r start qs) (u ++ a ∷ (x ++ (y ++ (z ++ q))))
+      (Ok (co_arm_of (first_of start (expr_span e)) qs (Some e) with_call i block, q))
+  unfolding co_primary_at
+  stored-yields {e = e} start qs a u x y d h called j =
+      yields_then (λ r. co_start_at start r.types.expressions) _ u (a ∷ (x ++ (y ++ (z ++ q)))) e _
+      (of-expressions (co_start_at start) (u ++ a ∷ (x ++ (y ++ (z ++ q)))) _ (start-yields start d (a ∷ (x ++ (y ++ (z ++ q))))
       (stops-continued (a ∷ (x ++ (y ++ (z ++ q)))) (token-stops a (x ++ (y ++ (z ++ q))) (ap continues_expr h)))))
       (yields_met _ _ _ (a ∷ (x ++ (y ++ (z ++ q)))) _ (is_that_sign sign.Assign a h)
       (token_then (sign_at sign.Assign) _ a (x ++ (y ++ (z ++ q))) a.span _ (sign-reads sign.Assign a (x ++ (y ++ (z ++ q))) h)
-      (below _ (x ++ (y ++ (z ++ q))) _ (target-yields (first_of start (expr_span e)) qs e x y called j)))))))
+      (below _ (x ++ (y ++ (z ++ q))) _ (target-yields (first_of start (expr_span e)) qs e x y called j))))
+
+  pub behind-quantifiers-yields : {place : Option Expr} {with_call : Bool} {i : Invocation} {u : List Token} (start : Option Span) (qs : List Quantifier)
+      → SpellsCoCall (is_some start) place with_call i u
+      → YieldsIn statement_readers (λ r. behind_quantifiers_at r start qs) (u ++ (z ++ q))
+      (Ok (co_arm_of (first_of start (first_span u)) qs place with_call i block, q))
+  unfolding behind_quantifiers_at
+  behind-quantifiers-yields start qs (s.called {u = y} t h d) =
+      yields_met _ _ _ (t ∷ (y ++ (z ++ q))) _ (is_that_word word.Call t h) (called-yields start qs None t y h d)
+  behind-quantifiers-yields start qs (s.plain {i = i} {u = u} d) =
+      subst (λ span. YieldsIn statement_readers (λ r. behind_quantifiers_at r start qs) (u ++ (z ++ q)) (Ok (co_arm_of (first_of start span) qs None false i block, q))) (start-alone d)
+      (yields_unmet _ _ _ (u ++ (z ++ q)) _ (begins-no-word word.Call (u ++ (z ++ q)) refl (start-begins d (z ++ q))) (plain-yields start qs u d))
+  behind-quantifiers-yields start qs (s.stored {e = e} {with_call = c} {i = i} {u = u} {v = x} {w = y} a d h called j) =
+      subst (λ w. YieldsIn statement_readers (λ r. behind_quantifiers_at r start qs) w
+      (Ok (co_arm_of (first_of start (first_span (u ++ a ∷ (x ++ y)))) qs (Some e) c i block, q))) (sym (stored-tokens u a x y (z ++ q)))
+      (subst (λ span. YieldsIn statement_readers (λ r. behind_quantifiers_at r start qs) (u ++ a ∷ (x ++ (y ++ (z ++ q))))
+      (Ok (co_arm_of (first_of start span) qs (Some e) c i block, q))) (start-span d (a ∷ (x ++ y)))
+      (yields_unmet _ _ _ (u ++ a ∷ (x ++ (y ++ (z ++ q)))) _
+      (begins-no-word word.Call (u ++ a ∷ (x ++ (y ++ (z ++ q)))) refl (start-begins d (a ∷ (x ++ (y ++ (z ++ q))))))
+      (stored-yields start qs a u x y d h called j)))
 
 -- an arm begins with a parenthesis only where its quantifiers do
-pub no-paren : {place : Option Expr} {with_call : Bool} {i : Invocation} {v x y : List Token} → SpellsTarget place v → SpellsCallWord with_call x → SpellsInvocation i y
-    → (w : List Token) → next_is (λ t. is_sign sign.OpenParen t.kind) (v ++ (x ++ (y ++ w))) ≡ false
-no-paren s.no_target s.no_call_word (s.invocation d) w = named-is-no d (is_sign sign.OpenParen) w
-no-paren s.no_target (s.call_word t h) d w = ap (is_sign sign.OpenParen) h
-no-paren {x = x} {y = y} (s.target {u = u} a d h) c i w =
-    ap (next_is (λ t. is_sign sign.OpenParen t.kind)) (append_assoc u (a ∷ []) (x ++ (y ++ w))) ∙ named-is-no d (is_sign sign.OpenParen) (a ∷ (x ++ (y ++ w)))
+pub no-paren : {place : Option Expr} {with_call : Bool} {i : Invocation} {u : List Token} → SpellsCoCall false place with_call i u
+    → (w : List Token) → next_is (λ t. is_sign sign.OpenParen t.kind) (u ++ w) ≡ false
+no-paren (s.plain (s.begins_arm d)) w = named-is-no d (is_sign sign.OpenParen) w
+no-paren (s.called t h d) w = ap (is_sign sign.OpenParen) h
+no-paren (s.stored {u = u} {v = x} {w = y} a (s.begins_arm d) h c i) w =
+    ap (next_is (λ t. is_sign sign.OpenParen t.kind)) (append_assoc u (a ∷ (x ++ y)) w) ∙ named-is-no d (is_sign sign.OpenParen) (a ∷ ((x ++ y) ++ w))
 
 -- ---- statements
 

@@ -14,9 +14,9 @@ use Rattle.sr_tree.specs.declared.token.Word.TheVariants as word
 use Rattle.sr_tree.specs.Tests.{is_word}
 use Rattle.sr_tree.specs.Declarations as d
 use Rattle.sr_tree.specs.Expressions as g
-use Rattle.sr_tree.specs.Expressions.{SpellsPrimary, SpellsCreate, expr_span}
+use Rattle.sr_tree.specs.Expressions.{SpellsPrimary, expr_span}
 use Rattle.sr_tree.specs.Statements as s
-use Rattle.sr_tree.specs.Statements.{SpellsNamed, SpellsInvocation, SpellsStatement, SpellsBlockItem, first_span}
+use Rattle.sr_tree.specs.Statements.{SpellsNamed, SpellsCoStart, SpellsStatement, SpellsBlockItem, first_span}
 use Rattle.sr_expr_reader.proofs.TokensLocal.{some_some}
 use Rattle.sr_program_reader.specs.StatementReaders.{begins_statement, begins_block_item, invocation_of}
 
@@ -52,12 +52,13 @@ primary-some e d = go (primary-first d).splits
 pub first-span : {e : Expr} {u : List Token} → SpellsPrimary e u → (q : List Token) → expr_span e ≡ first_span (u ++ q)
 first-span d q = let f = primary-first d in f.span ∙ ap (λ x. first_span (x ++ q)) (sym f.splits)
 
--- the span of a primary that begins with a name
-pub named-span : {e : Expr} {u : List Token} → SpellsNamed e u → (q : List Token) → expr_span e ≡ first_span (u ++ q)
-named-span (s.named n h d) q = first-span d q
+-- the span of the first primary of an arm
+pub start-span : {quantified : Bool} {e : Expr} {u : List Token} → SpellsCoStart quantified e u → (q : List Token) → expr_span e ≡ first_span (u ++ q)
+start-span (s.begins_arm (s.named n h d)) q = first-span d q
+start-span (s.behind_quantifiers d) q = first-span d q
 
-pub named-alone : {e : Expr} {u : List Token} → SpellsNamed e u → expr_span e ≡ first_span u
-named-alone {u = u} d = named-span d [] ∙ ap first_span (append-nil u)
+pub start-alone : {quantified : Bool} {e : Expr} {u : List Token} → SpellsCoStart quantified e u → expr_span e ≡ first_span u
+start-alone {u = u} d = start-span d [] ∙ ap first_span (append-nil u)
 
 -- a primary that is an invocation
 pub call-is-invocation : (i : Invocation) → invocation_of (expr.Call i) ≡ Some i
@@ -85,9 +86,6 @@ call-only (g.call {p = p} {es = es} o k d n h a j) i e = call-same (g.invocation
 named-begins : {e : Expr} {u : List Token} → SpellsNamed e u → (q : List Token) → next_is (λ t. begins_statement t.kind) (u ++ q) ≡ true
 named-begins (s.named n h d) q = ap begins_statement h
 
-invocation-begins : {i : Invocation} {u : List Token} → SpellsInvocation i u → (q : List Token) → next_is (λ t. begins_statement t.kind) (u ++ q) ≡ true
-invocation-begins (s.invocation d) q = named-begins d q
-
 behind-named : {e : Expr} {u : List Token} → SpellsNamed e u → (v q : List Token) → next_is (λ t. begins_statement t.kind) ((u ++ v) ++ q) ≡ true
 behind-named {u = u} d v q = ap (next_is (λ t. begins_statement t.kind)) (append_assoc u v q) ∙ named-begins d (v ++ q)
 
@@ -98,8 +96,8 @@ statement-begins (s.next t h) q = ap begins_statement h
 statement-begins (s.returns t h) q = ap begins_statement h
 statement-begins (s.reply t h) q = ap begins_statement h
 statement-begins (s.stop t h d) q = ap begins_statement h
-statement-begins (s.call s.no_call_word d) q = invocation-begins d q
-statement-begins (s.call (s.call_word t h) d) q = ap begins_statement h
+statement-begins (s.call t h d) q = ap begins_statement h
+statement-begins (s.invoke d) q = named-begins d q
 statement-begins (s.send t h d) q = ap begins_statement h
 statement-begins (s.forward t h d) q = ap begins_statement h
 statement-begins (s.receive t n o k h i j d l) q = ap begins_statement h

@@ -1,5 +1,6 @@
 -- What the readers of statements and blocks read is spelled so, and depends on one token behind it alone.
 use Rattle.std.proofs.Common.{◌≡◌, refl, sym, ◌∙◌, ap, subst, ℕ, zero, suc, Bool, true, false, List, [], ◌∷◌, ◌++◌, Option, Some, None, append_assoc}
+use Rattle.std.specs.Prelude.{is_some}
 use Rattle.sr_reader.specs.Reader.{Reader, next_is}
 use Rattle.sr_reader.proofs.Locality.{Local, LocalWhere, anywhere, Then, joined, Returns, returns, returned-local, unfit-local, weaker, weaker-where, where-first, then-local, then-where, branch-local, branch-where, append-nil, ended, into}
 use Rattle.sr_reader.proofs.Loops.{while-local}
@@ -25,7 +26,7 @@ use Rattle.sr_tree.specs.Components.{SpellsList}
 use Rattle.sr_tree.specs.Declarations.{SpellsConst, SpellsVar}
 use Rattle.sr_tree.specs.Expressions.{SpellsExpr, SpellsPrimary, SpellsCreate, expr_span, create_span}
 use Rattle.sr_tree.specs.Statements as s
-use Rattle.sr_tree.specs.Statements.{SpellsNamed, SpellsInvocation, SpellsStatus, SpellsBy, SpellsQuantifiers, SpellsReturnedName, SpellsCondition, SpellsCallWord, SpellsTarget, SpellsStatement, SpellsBranch, SpellsMoreBranches, SpellsOtherwise, SpellsArm, SpellsMoreArms, SpellsCoBlock, SpellsCoArm, SpellsMoreCoArms, SpellsBlockItem, SpellsItems, SpellsBlock, first_span}
+use Rattle.sr_tree.specs.Statements.{SpellsNamed, SpellsInvocation, SpellsStatus, SpellsBy, SpellsQuantifiers, SpellsReturnedName, SpellsCondition, SpellsCallWord, SpellsCoStart, SpellsCoCall, SpellsStatement, SpellsBranch, SpellsMoreBranches, SpellsOtherwise, SpellsArm, SpellsMoreArms, SpellsCoBlock, SpellsCoArm, SpellsMoreCoArms, SpellsBlockItem, SpellsItems, SpellsBlock, first_span}
 use Rattle.sr_tree.specs.Tables.{IsSign, IsWord, name_of}
 use Rattle.sr_tree.specs.Tests.{is_name}
 use Rattle.sr_expr_reader.specs.Readers.{primary_at}
@@ -34,11 +35,11 @@ use Rattle.sr_expr_reader.proofs.ExpressionsLocal.{LocalReaders, create-local, p
 use Rattle.sr_expr_reader.proofs.ListsLocal.{Grows, grows, list-local}
 use Rattle.sr_expr_reader.proofs.TokensLocal.{ASign, a_sign, AWord, a_word, AName, a_name, sign-local, word-local, name-local, none_some}
 use Rattle.sr_expr_reader.proofs.TypesLocal.{LocalTypeReaders, type_readers-local}
-use Rattle.sr_program_reader.specs.StatementReaders.{StatementReaders, statement_readers, blocks, begins_block_item, invocation_of, arrow_block_at, otherwise_at, is_alternative, next_alternative_at, alternatives_at, branch_at, branches_at, arm_at, arms_at, co_block_at, behind_invocation_at, first_of, co_called_at, behind_target_at, co_named_at, behind_quantifiers_at, co_arm_at, next_co_arm_at, is_parallel, more_co_arms_at, single_at, stop_at, call_statement_at, send_at, forward_at, receive_at, destroy_at, create_statement_at, if_at, do_at, for_all_at, in_at, co_at, assign_at, exchange_at, increment_at, decrement_at, plain_call_at, behind_primary_at, named_statement_at, closed_statement_at, operating_statement_at, worded_statement_at, statement_at, block_item_at, block_at}
+use Rattle.sr_program_reader.specs.StatementReaders.{StatementReaders, statement_readers, blocks, begins_block_item, invocation_of, arrow_block_at, otherwise_at, is_alternative, next_alternative_at, alternatives_at, branch_at, branches_at, arm_at, arms_at, co_block_at, behind_invocation_at, first_of, co_called_at, behind_target_at, co_primary_at, behind_quantifiers_at, co_arm_at, next_co_arm_at, is_parallel, more_co_arms_at, single_at, stop_at, call_statement_at, send_at, forward_at, receive_at, destroy_at, create_statement_at, if_at, do_at, for_all_at, in_at, co_at, assign_at, exchange_at, increment_at, decrement_at, plain_call_at, behind_primary_at, named_statement_at, closed_statement_at, operating_statement_at, worded_statement_at, statement_at, block_item_at, block_at}
 use Rattle.sr_program_reader.proofs.DeclarationsLocal.{const-local, var-local}
 use Rattle.sr_program_reader.proofs.Lists as lists
-use Rattle.sr_program_reader.proofs.StatementPartsLocal.{EnclosedNames, enclosed_names, EnclosedPlaces, enclosed_places, EnclosedQuantifiers, enclosed_quantifiers, Invoked, invoked, invoked-local, invoked-named, named-found, enclosed-names-local, returned-name-local, named-local, invocation-local, status-local, places-local, by-local, quantifiers-local, enclosed-quantifiers-local, condition-local}
-use Rattle.sr_program_reader.proofs.StatementStarts.{primary-some, named-span, named-alone, item-begins}
+use Rattle.sr_program_reader.proofs.StatementPartsLocal.{EnclosedNames, enclosed_names, EnclosedPlaces, enclosed_places, EnclosedQuantifiers, enclosed_quantifiers, Invoked, invoked, invoked-local, invoked-primary, invoked-start, named-found, enclosed-names-local, returned-name-local, start-local, invocation-local, status-local, places-local, by-local, quantifiers-local, enclosed-quantifiers-local, condition-local}
+use Rattle.sr_program_reader.proofs.StatementStarts.{primary-some, call-only, start-span, start-alone, item-begins}
 
 -- the fields of a record of readers read what they should
 pub record LocalStatements (r : StatementReaders) : Type 0 where
@@ -181,6 +182,10 @@ abbrev pub co_arm_of : Span → List Quantifier → Option Expr → Bool → Inv
 co_arm_of span qs place with_call i block =
     roll-CoArm (record { span = span; quantifiers = qs; target = place; with_call = with_call; invocation = i; block = block })
 
+-- the tokens of a target and an invocation, grouped to the right
+pub stored-tokens : (u : List Token) (a : Token) (x y w : List Token) → (u ++ a ∷ (x ++ y)) ++ w ≡ u ++ a ∷ (x ++ (y ++ w))
+stored-tokens u a x y w = append_assoc u (a ∷ (x ++ y)) w ∙ ap (λ v. u ++ a ∷ v) (append_assoc x y w)
+
 -- ---- arms of `co`, from their end to their start
 
 data CoRest (span : Span) (qs : List Quantifier) (place : Option Expr) (with_call : Bool) (i : Invocation) : CoArm → List Token → Type 0 where
@@ -196,9 +201,9 @@ data BehindTarget (span : Span) (qs : List Quantifier) (place : Expr) : CoArm �
       → SpellsCoBlock block z → BehindTarget span qs place (co_arm_of span qs (Some place) with_call i block) (x ++ (y ++ z))
 
 data BehindQuantifiers (start : Option Span) (qs : List Quantifier) : CoArm → List Token → Type 0 where
-  behind_quantifiers : {place : Option Expr} {with_call : Bool} {i : Invocation} {block : Option (List BlockItem)} {v x y z : List Token}
-      → SpellsTarget place v → SpellsCallWord with_call x → SpellsInvocation i y → SpellsCoBlock block z
-      → BehindQuantifiers start qs (co_arm_of (first_of start (first_span (v ++ (x ++ y)))) qs place with_call i block) (v ++ (x ++ (y ++ z)))
+  behind_quantifiers : {place : Option Expr} {with_call : Bool} {i : Invocation} {block : Option (List BlockItem)} {u z : List Token}
+      → SpellsCoCall (is_some start) place with_call i u → SpellsCoBlock block z
+      → BehindQuantifiers start qs (co_arm_of (first_of start (first_span u)) qs place with_call i block) (u ++ z)
 
 co_block_found : (m : Option (List BlockItem)) (u : List Token) → Then ArrowBlock (λ is. Returns (Some is)) m u → SpellsCoBlock m u
 co_block_found m w (joined (arrow_block {is = is} {u = u} t h d) end) =
@@ -234,43 +239,45 @@ invoked_behind_target span qs place a u (joined {a = i} {u = y} d rest) = go i y
     go i y d a z (co_rest b) = behind_target s.no_call_word d b
 
 -- what stands behind the primary that an arm begins with
-data BehindNamed (start : Option Span) (qs : List Quantifier) (e : Expr) : CoArm → List Token → Type 0 where
-  behind_named : {a : CoArm} {w : List Token} → ((u : List Token) → SpellsNamed e u → BehindQuantifiers start qs a (u ++ w)) → BehindNamed start qs e a w
+data BehindStart (start : Option Span) (qs : List Quantifier) (e : Expr) : CoArm → List Token → Type 0 where
+  behind_start : {a : CoArm} {w : List Token} → ((u : List Token) → SpellsCoStart (is_some start) e u → BehindQuantifiers start qs a (u ++ w)) → BehindStart start qs e a w
 
 target_found : (start : Option Span) (qs : List Quantifier) (e : Expr) (a : CoArm) (u : List Token)
-    → Then (ASign sign.Assign) (λ b. BehindTarget (first_of start (expr_span e)) qs e) a u → BehindNamed start qs e a u
+    → Then (ASign sign.Assign) (λ b. BehindTarget (first_of start (expr_span e)) qs e) a u → BehindStart start qs e a u
 target_found start qs e a w (joined (a_sign b h) rest) = go a _ rest
   where
-    go : (a : CoArm) (w : List Token) → BehindTarget (first_of start (expr_span e)) qs e a w → BehindNamed start qs e a (b ∷ w)
-    go a w (behind_target {with_call = c} {i = i} {block = block} {x = x} {y = y} {z = z} called d rest) = behind_named (λ u n.
+    go : (a : CoArm) (w : List Token) → BehindTarget (first_of start (expr_span e)) qs e a w → BehindStart start qs e a (b ∷ w)
+    go a w (behind_target {with_call = c} {i = i} {block = block} {x = x} {y = y} {z = z} called d rest) = behind_start (λ u n.
         subst (λ k. BehindQuantifiers start qs (co_arm_of (first_of start k) qs (Some e) c i block) (u ++ b ∷ (x ++ (y ++ z))))
-        (ap first_span (append_assoc u (b ∷ []) (x ++ y)) ∙ sym (named-span n (b ∷ (x ++ y))))
-        (subst (BehindQuantifiers start qs (co_arm_of (first_of start (first_span ((u ++ b ∷ []) ++ (x ++ y)))) qs (Some e) c i block)) (append_assoc u (b ∷ []) (x ++ (y ++ z)))
-        (behind_quantifiers (s.target b n h) called d rest)))
+        (sym (start-span n (b ∷ (x ++ y))))
+        (subst (BehindQuantifiers start qs (co_arm_of (first_of start (first_span (u ++ b ∷ (x ++ y)))) qs (Some e) c i block)) (stored-tokens u b x y z)
+        (behind_quantifiers (s.stored b n h called d) rest)))
 
 plain_found : (start : Option Span) (qs : List Quantifier) (e : Expr) (a : CoArm) (u : List Token)
-    → Then (Invoked (invocation_of e)) (λ i. CoRest (first_of start (expr_span e)) qs None false i) a u → BehindNamed start qs e a u
+    → Then (Invoked (invocation_of e)) (λ i. CoRest (first_of start (expr_span e)) qs None false i) a u → BehindStart start qs e a u
 plain_found start qs e a w (joined (invoked i h) rest) = go a _ rest
   where
-    go : (a : CoArm) (z : List Token) → CoRest (first_of start (expr_span e)) qs None false i a z → BehindNamed start qs e a z
-    go a z (co_rest {block = block} rest) = behind_named (λ u n.
-        subst (λ k. BehindQuantifiers start qs (co_arm_of (first_of start k) qs None false i block) (u ++ z)) (sym (named-alone n))
-        (behind_quantifiers s.no_target s.no_call_word (invoked-named n i h) rest))
+    go : (a : CoArm) (z : List Token) → CoRest (first_of start (expr_span e)) qs None false i a z → BehindStart start qs e a z
+    go a z (co_rest {block = block} rest) = behind_start (λ u n.
+        subst (λ k. BehindQuantifiers start qs (co_arm_of (first_of start k) qs None false i block) (u ++ z)) (sym (start-alone n))
+        (behind_quantifiers (s.plain (invoked-start n i h)) rest))
 
-named_found : (start : Option Span) (qs : List Quantifier) (a : CoArm) (u : List Token) → Then SpellsNamed (BehindNamed start qs) a u → BehindQuantifiers start qs a u
-named_found start qs a u (joined {u = v} d (behind_named f)) = f v d
+start_found : (start : Option Span) (qs : List Quantifier) (a : CoArm) (u : List Token) → Then (SpellsCoStart (is_some start)) (BehindStart start qs) a u
+    → BehindQuantifiers start qs a u
+start_found start qs a u (joined {u = v} d (behind_start f)) = f v d
 
 called_found : (start : Option Span) (qs : List Quantifier) (a : CoArm) (u : List Token) → CoCalled start qs None a u → BehindQuantifiers start qs a u
-called_found start qs a u (co_called t h d b) = behind_quantifiers s.no_target (s.call_word t h) d b
+called_found start qs a u (co_called t h d b) = behind_quantifiers (s.called t h d) b
 
 with_quantifiers : (a : CoArm) (u : List Token) → Then EnclosedQuantifiers (λ x. BehindQuantifiers (Some x.0) x.1) a u → SpellsCoArm a u
 with_quantifiers a w (joined (enclosed_quantifiers {qs = qs} {u = u} o c h d i) rest) = go a _ rest
   where
     go : (a : CoArm) (z : List Token) → BehindQuantifiers (Some o.span) qs a z → SpellsCoArm a ((o ∷ (u ++ c ∷ [])) ++ z)
-    go a z (behind_quantifiers place called e rest) = s.co_arm (s.some_quantifiers o c h d i) place called e rest
+    go a z (behind_quantifiers {u = v} {z = x} e rest) =
+        subst (λ w. SpellsCoArm a (o ∷ w)) (sym (append_assoc u (c ∷ []) (v ++ x))) (s.quantified o c h d i e rest)
 
 without_quantifiers : (a : CoArm) (u : List Token) → BehindQuantifiers None [] a u → SpellsCoArm a u
-without_quantifiers a u (behind_quantifiers place called e rest) = s.co_arm s.no_quantifiers place called e rest
+without_quantifiers a u (behind_quantifiers e rest) = s.co_arm e rest
 
 -- ---- statements
 
@@ -292,7 +299,7 @@ stop_found a w (joined (a_word t h) (joined {a = m} {u = u} d end)) =
 call_found : (a : Statement) (u : List Token) → Then (AWord word.Call) (λ s. Then SpellsInvocation (λ i. Returns (statement.Call s true i))) a u → SpellsStatement a u
 call_found a w (joined (a_word t h) (joined {a = i} {u = u} d end)) =
     into (λ y z. SpellsStatement y (t ∷ (u ++ z))) (statement.Call t.span true i) a _ end
-    (ended (λ x. SpellsStatement (statement.Call t.span true i) (t ∷ x)) u (s.call (s.call_word t h) d))
+    (ended (λ x. SpellsStatement (statement.Call t.span true i) (t ∷ x)) u (s.call t h d))
 
 send_found : (a : Statement) (u : List Token) → Then (AWord word.Send) (λ s. Then SpellsInvocation (λ i. Returns (statement.Send s i))) a u → SpellsStatement a u
 send_found a w (joined (a_word t h) (joined {a = i} {u = u} d end)) =
@@ -339,11 +346,15 @@ decrement_found : (p : Expr) (a : Statement) (u : List Token) → Then (ASign si
 decrement_found p a w (joined (a_sign b h) end) =
     into (λ y z. BehindPrimary p y (b ∷ z)) (statement.Decrement (expr_span p) p) a _ end (behind_primary (λ v n. s.decrement b n h))
 
+-- a statement that is an invocation
+invoked_here : {p : Expr} {u : List Token} → SpellsNamed p u → (i : Invocation) → invocation_of p ≡ Some i → SpellsStatement (statement.Call (expr_span p) false i) u
+invoked_here (s.named {u = u} n h d) i f =
+    subst (λ x. SpellsStatement (statement.Call (expr_span x) false i) (n ∷ u)) (sym (call-only d i f)) (s.invoke (s.named n h (invoked-primary d i f)))
+
 plain_call_found : (p : Expr) (a : Statement) (u : List Token) → Then (Invoked (invocation_of p)) (λ i. Returns (statement.Call (expr_span p) false i)) a u → BehindPrimary p a u
 plain_call_found p a w (joined (invoked i h) end) =
     into (λ y z. BehindPrimary p y z) (statement.Call (expr_span p) false i) a _ end
-    (behind_primary (λ u n. ended (SpellsStatement (statement.Call (expr_span p) false i)) u
-    (subst (λ k. SpellsStatement (statement.Call k false i) u) (sym (named-alone n)) (s.call s.no_call_word (invoked-named n i h)))))
+    (behind_primary (λ u n. ended (SpellsStatement (statement.Call (expr_span p) false i)) u (invoked_here n i h)))
 
 named_statement_found : (a : Statement) (u : List Token) → Then SpellsNamed BehindPrimary a u → SpellsStatement a u
 named_statement_found a u (joined {u = v} d (behind_primary f)) = f v d
@@ -433,9 +444,9 @@ module _ (r : StatementReaders) (l : LocalStatements r) where
   behind_target-local span qs place = branch-local (weaker (called_behind_target span qs place) (co_called-local (Some span) qs (Some place)))
       (weaker (invoked_behind_target span qs place) (then-local (invocation-local r.types.expressions expressions) (λ i. co_rest-local span qs (Some place) false i)))
 
-  co_named-local : (start : Option Span) (qs : List Quantifier) → Local (BehindQuantifiers start qs) (co_named_at r start qs)
-  unfolding co_named_at
-  co_named-local start qs = weaker (named_found start qs) (then-local (named-local r.types.expressions expressions) (λ e. branch-local
+  co_named-local : (start : Option Span) (qs : List Quantifier) → Local (BehindQuantifiers start qs) (co_primary_at r start qs)
+  unfolding co_primary_at
+  co_named-local start qs = weaker (start_found start qs) (then-local (start-local r.types.expressions expressions start) (λ e. branch-local
       (weaker (target_found start qs e) (then-local (sign-local sign.Assign) (λ b. behind_target-local (first_of start (expr_span e)) qs e)))
       (weaker (plain_found start qs e) (then-local (invoked-local (invocation_of e)) (λ i. co_rest-local (first_of start (expr_span e)) qs None false i)))))
 

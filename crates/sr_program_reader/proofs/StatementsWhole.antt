@@ -5,6 +5,7 @@ use Rattle.sr_tree.specs.declared.declaration.ConstDecl.{ConstDecl}
 use Rattle.sr_tree.specs.declared.declaration.VarDecl.{VarDecl}
 use Rattle.sr_tree.specs.declared.expr.Create.{Create}
 use Rattle.sr_tree.specs.declared.expr.Expr.{Expr}
+use Rattle.sr_tree.specs.declared.expr.Expr.TheVariants as expr
 use Rattle.sr_tree.specs.declared.expr.Invocation.{Invocation}
 use Rattle.sr_tree.specs.declared.statement.Arm.{Arm}
 use Rattle.sr_tree.specs.declared.statement.BlockItem.{BlockItem}
@@ -23,9 +24,9 @@ use Rattle.sr_tree.specs.Components as c
 use Rattle.sr_tree.specs.Components.{SpellsList}
 use Rattle.sr_tree.specs.Declarations.{SpellsConst, SpellsVar}
 use Rattle.sr_tree.specs.Expressions as g
-use Rattle.sr_tree.specs.Expressions.{SpellsExpr, SpellsPrimary, SpellsCreate, expr_span, create_span}
+use Rattle.sr_tree.specs.Expressions.{SpellsPrimary, SpellsCreate, expr_span, create_span}
 use Rattle.sr_tree.specs.Statements as s
-use Rattle.sr_tree.specs.Statements.{SpellsInvocation, SpellsStatus, SpellsPlaces, SpellsQuantifiers, SpellsOptionalQuantifiers, SpellsCallWord, SpellsTarget, SpellsStatement, SpellsBranch, SpellsMoreBranches, SpellsOtherwise, SpellsArm, SpellsMoreArms, SpellsCoBlock, SpellsCoArm, SpellsMoreCoArms, SpellsBlockItem, SpellsItems, SpellsBlock, first_span}
+use Rattle.sr_tree.specs.Statements.{SpellsInvocation, SpellsStatus, SpellsPlaces, SpellsQuantifiers, SpellsNamed, SpellsCoCall, SpellsStatement, SpellsBranch, SpellsMoreBranches, SpellsOtherwise, SpellsArm, SpellsMoreArms, SpellsCoBlock, SpellsCoArm, SpellsMoreCoArms, SpellsBlockItem, SpellsItems, SpellsBlock, first_span}
 use Rattle.sr_tree.specs.Tables.{IsSign, IsWord, IsName, name_of}
 use Rattle.sr_tree.specs.Tests.{is_sign, is_word}
 use Rattle.sr_expr_reader.specs.Readers.{create_at, primary_at}
@@ -47,7 +48,7 @@ use Rattle.sr_program_reader.proofs.StatementEnds.{Ends, closes, separator-ends,
 use Rattle.sr_program_reader.proofs.StatementPartsWhole.{primary-yields, invocation-yields, status-yields, places-yields, whole-quantifiers, enclosed-quantifiers-yields}
 use Rattle.sr_program_reader.proofs.StatementPieces.{of-expressions, of-types, BlockEnds, closing-block, arrow-yields, WholeAlternative, WholeOtherwise, nothing_otherwise, block_otherwise, alternatives-yields, branch-yields, arm-yields, no-co-block, co-block-yields, co-block-behind, BehindInvocation, behind-quantifiers-yields, no-paren, worded-yields, operating-yields, closed-yields, single-yields, word-then, word-between, primary-then, assign-behind, exchange-behind, increment-behind, decrement-behind, call-behind}
 use Rattle.sr_program_reader.proofs.StatementsLocal.{co_arm_of, three}
-use Rattle.sr_program_reader.proofs.StatementStarts.{named-alone, statement-begins, item-begins}
+use Rattle.sr_program_reader.proofs.StatementStarts.{statement-begins, item-begins}
 
 -- what ends a statement ends a declaration
 pub ends-rest : (q : List Token) → Ends q → Rests q
@@ -200,12 +201,9 @@ create-yields {d = d} {u = u} x q e = go x (of-expressions create_at (u ++ q) (O
     go (g.resource {u = u} {v = v} {w = w} t o k h n i a j m) y = created-yields t (u ++ o ∷ (v ++ k ∷ w)) q h y
     go (g.machine t v o k h i j l) y = created-yields t (v ∷ o ∷ k ∷ []) q h y
 
-call-yields : {with_call : Bool} {i : Invocation} {u v : List Token} → SpellsCallWord with_call u → SpellsInvocation i v → (q : List Token) → Ends q
-    → YieldsIn statement_readers statement_at ((u ++ v) ++ q) (Ok (statement.Call (first_span (u ++ v)) with_call i, q))
-call-yields (s.call_word t h) d q e = called-yields t h d q e
-call-yields {i = i} s.no_call_word (s.invocation {u = u} d) q e =
-    subst (λ span. YieldsIn statement_readers statement_at (u ++ q) (Ok (statement.Call span false i, q))) (named-alone d)
-    (primary-then d q _ (stops-continued q e.stops) (call-behind i q e))
+invoke-yields : {i : Invocation} {u : List Token} → SpellsNamed (expr.Call i) u → (q : List Token) → Ends q
+    → YieldsIn statement_readers statement_at (u ++ q) (Ok (statement.Call (expr_span (expr.Call i)) false i, q))
+invoke-yields {i = i} d q e = primary-then d q _ (stops-continued q e.stops) (call-behind i q e)
 
 -- the same tokens, grouped otherwise
 alternatives-then : (u v x : List Token) (k : Token) (q : List Token) → ((u ++ v) ++ (x ++ k ∷ [])) ++ q ≡ (u ++ (v ++ x)) ++ k ∷ q
@@ -298,28 +296,32 @@ co-yields {b = b} {bs = bs} {u = u} {v = v} t k h i y m q =
     (separated-whole statement_readers sign.Parallel co_arm_at BlockEnds parallel-ends m (b ∷ []) (k ∷ q) e (ap (is_sign sign.Parallel) i))))
     (below_token (word_at word.Oc) _ k q k.span _ (word-reads word.Oc k q i) (below_returned (statement.Co t.span (b ∷ bs)) q))))))))))
 
--- an arm of `co` behind its quantifiers, or with none
-with-quantifiers : {qs : List Quantifier} {place : Option Expr} {with_call : Bool} {i : Invocation} {block : Option (List BlockItem)} {u v x y : List Token} (z q : List Token)
-    → SpellsOptionalQuantifiers qs u → SpellsTarget place v → SpellsCallWord with_call x → SpellsInvocation i y
-    → YieldsIn statement_readers co_block_at (z ++ q) (Ok (block, q)) → BehindInvocation (z ++ q)
-    → YieldsIn statement_readers co_arm_at ((u ++ (v ++ (x ++ (y ++ z)))) ++ q) (Ok (co_arm_of (first_span (u ++ (v ++ (x ++ y)))) qs place with_call i block, q))
+-- an arm of `co` without quantifiers
+co-arm-yields : {place : Option Expr} {with_call : Bool} {i : Invocation} {block : Option (List BlockItem)} {u : List Token} (v q : List Token)
+    → SpellsCoCall false place with_call i u → YieldsIn statement_readers co_block_at (v ++ q) (Ok (block, q)) → BehindInvocation (v ++ q)
+    → YieldsIn statement_readers co_arm_at ((u ++ v) ++ q) (Ok (co_arm_of (first_span u) [] place with_call i block, q))
 unfolding co_arm_at
-with-quantifiers {place = place} {with_call = called} {i = i} {block = block} {v = v} {x = x} {y = y} z q s.no_quantifiers to c d b behind =
-    subst (λ w. YieldsIn statement_readers co_arm_at w (Ok (co_arm_of (first_span (v ++ (x ++ y))) [] place called i block, q)))
-    (ap (λ w. v ++ w) (ap (λ w. x ++ w) (sym (append_assoc y z q)) ∙ sym (append_assoc x (y ++ z) q)) ∙ sym (append_assoc v (x ++ (y ++ z)) q))
-    (yields_unmet _ _ _ (v ++ (x ++ (y ++ (z ++ q)))) _ (no-paren to c d (z ++ q)) (behind-quantifiers-yields z q b behind None [] v x y to c d))
-with-quantifiers {place = place} {with_call = called} {i = i} {block = block} {v = v} {x = x} {y = y} z q (s.some_quantifiers {qs = qs} {u = u} o k h e j) to c d b behind =
+co-arm-yields {place = place} {with_call = called} {i = i} {block = block} {u = u} v q d b behind =
+    subst (λ w. YieldsIn statement_readers co_arm_at w (Ok (co_arm_of (first_span u) [] place called i block, q))) (sym (append_assoc u v q))
+    (yields_unmet _ _ _ (u ++ (v ++ q)) _ (no-paren d (v ++ q)) (behind-quantifiers-yields v q b behind None [] d))
+
+-- an arm of `co` behind its quantifiers
+quantified-yields : {qs : List Quantifier} {place : Option Expr} {with_call : Bool} {i : Invocation} {block : Option (List BlockItem)} {u v : List Token} (o k : Token)
+    (x q : List Token) → IsSign sign.OpenParen o → SpellsQuantifiers qs u → IsSign sign.CloseParen k → SpellsCoCall true place with_call i v
+    → YieldsIn statement_readers co_block_at (x ++ q) (Ok (block, q)) → BehindInvocation (x ++ q)
+    → YieldsIn statement_readers co_arm_at ((o ∷ (u ++ k ∷ (v ++ x))) ++ q) (Ok (co_arm_of o.span qs place with_call i block, q))
+unfolding co_arm_at
+quantified-yields {qs = qs} {place = place} {with_call = called} {i = i} {block = block} {u = u} {v = v} o k x q h e j d b behind =
     subst (λ w. YieldsIn statement_readers co_arm_at (o ∷ w) (Ok (co_arm_of o.span qs place called i block, q)))
-    (ap (λ w. u ++ k ∷ w) (ap (λ w. v ++ w) (ap (λ w. x ++ w) (sym (append_assoc y z q)) ∙ sym (append_assoc x (y ++ z) q)) ∙ sym (append_assoc v (x ++ (y ++ z)) q))
-    ∙ sym (append_assoc u (k ∷ []) ((v ++ (x ++ (y ++ z))) ++ q)) ∙ sym (append_assoc (u ++ k ∷ []) (v ++ (x ++ (y ++ z))) q))
-    (yields_met _ _ _ (o ∷ (u ++ k ∷ (v ++ (x ++ (y ++ (z ++ q)))))) _ (is_that_sign sign.OpenParen o h)
+    (ap (λ w. u ++ k ∷ w) (sym (append_assoc v x q)) ∙ sym (append_assoc u (k ∷ (v ++ x)) q))
+    (yields_met _ _ _ (o ∷ (u ++ k ∷ (v ++ (x ++ q)))) _ (is_that_sign sign.OpenParen o h)
     (subst (λ w. YieldsIn statement_readers (λ r. enclosed_quantifiers_at r.types.expressions >>= (λ a. behind_quantifiers_at r (Some a.0) a.1)) (o ∷ w)
-    (Ok (co_arm_of o.span qs place called i block, q))) (append_assoc u (k ∷ []) (v ++ (x ++ (y ++ (z ++ q)))))
-    (yields_then (λ r. enclosed_quantifiers_at r.types.expressions) _ (o ∷ (u ++ k ∷ [])) (v ++ (x ++ (y ++ (z ++ q)))) (o.span, qs) _
-    (subst (λ w. YieldsIn statement_readers (λ r. enclosed_quantifiers_at r.types.expressions) (o ∷ w) (Ok ((o.span, qs), v ++ (x ++ (y ++ (z ++ q))))))
-    (sym (append_assoc u (k ∷ []) (v ++ (x ++ (y ++ (z ++ q))))))
-    (of-expressions enclosed_quantifiers_at (o ∷ (u ++ k ∷ (v ++ (x ++ (y ++ (z ++ q)))))) _ (enclosed-quantifiers-yields e o k (v ++ (x ++ (y ++ (z ++ q)))) h j)))
-    (behind-quantifiers-yields z q b behind (Some o.span) qs v x y to c d))))
+    (Ok (co_arm_of o.span qs place called i block, q))) (append_assoc u (k ∷ []) (v ++ (x ++ q)))
+    (yields_then (λ r. enclosed_quantifiers_at r.types.expressions) _ (o ∷ (u ++ k ∷ [])) (v ++ (x ++ q)) (o.span, qs) _
+    (subst (λ w. YieldsIn statement_readers (λ r. enclosed_quantifiers_at r.types.expressions) (o ∷ w) (Ok ((o.span, qs), v ++ (x ++ q))))
+    (sym (append_assoc u (k ∷ []) (v ++ (x ++ q))))
+    (of-expressions enclosed_quantifiers_at (o ∷ (u ++ k ∷ (v ++ (x ++ q)))) _ (enclosed-quantifiers-yields e o k (v ++ (x ++ q)) h j)))
+    (behind-quantifiers-yields x q b behind (Some o.span) qs d))))
 
 -- ---- items
 
@@ -366,7 +368,8 @@ mutual
   whole-statement (s.returns t h) q e = return-yields t h q
   whole-statement (s.reply t h) q e = reply-yields t h q
   whole-statement (s.stop t h d) q e = stop-yields t h d q e
-  whole-statement (s.call c d) q e = call-yields c d q e
+  whole-statement (s.call t h d) q e = called-yields t h d q e
+  whole-statement (s.invoke d) q e = invoke-yields d q e
   whole-statement (s.send t h d) q e = send-yields t h d q e
   whole-statement (s.forward t h d) q e = forward-yields t h d q e
   whole-statement (s.receive t n o k h i j d l) q e = receive-yields t n o k h i j d l q
@@ -415,7 +418,8 @@ mutual
   whole-co-block (s.co_block {u = u} t h b) q e = co-block-yields t u q h (whole-block b q e)
 
   whole-co-arm : {a : CoArm} {u : List Token} → SpellsCoArm a u → (q : List Token) → BlockEnds q → YieldsIn statement_readers co_arm_at (u ++ q) (Ok (a, q))
-  whole-co-arm (s.co_arm {z = z} qs to c d b) q e = with-quantifiers z q qs to c d (whole-co-block b q e) (co-block-behind b q e.ends)
+  whole-co-arm (s.co_arm {v = v} d b) q e = co-arm-yields v q d (whole-co-block b q e) (co-block-behind b q e.ends)
+  whole-co-arm (s.quantified {x = x} o k h qs i d b) q e = quantified-yields o k x q h qs i d (whole-co-block b q e) (co-block-behind b q e.ends)
 
   more-co-arms : {arms : List CoArm} {v : List Token} → SpellsMoreCoArms arms v → Separated sign.Parallel (Whole statement_readers co_arm_at BlockEnds) arms v
   more-co-arms s.no_more_co_arms = none_behind

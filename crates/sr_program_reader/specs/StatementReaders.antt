@@ -100,7 +100,7 @@ invoked_at None = unfit
 -- a primary that ends in "(" [args] ")"
 unfoldable pub invocation_at : Readers → Reader Token Invocation
 invocation_at r = do
-  e ← named_at r
+  e ← primary_at r
   invoked_at (invocation_of e)
 
 -- ["(" expr ")"]
@@ -310,6 +310,11 @@ abbrev pub first_of : Option Span → Span → Span
 first_of None here = here
 first_of (Some before) here = before
 
+-- the first primary of an arm: any behind what stands before, and else one that begins with a name
+unfoldable pub co_start_at : Option Span → Readers → Reader Token Expr
+co_start_at None = named_at
+co_start_at (Some before) = primary_at
+
 -- an arm from the word `call` on
 unfoldable pub co_called_at : StatementReaders → Option Span → List Quantifier → Option Expr → Reader Token CoArm
 co_called_at r start qs target = do
@@ -324,10 +329,10 @@ behind_target_at r span qs target = branch (λ t. is_word word.Call t.kind) (co_
       i ← invocation_at r.types.expressions
       behind_invocation_at r span qs (Some target) false i)
 
--- an arm from its target on, or from an invocation on
-unfoldable pub co_named_at : StatementReaders → Option Span → List Quantifier → Reader Token CoArm
-co_named_at r start qs = do
-  e ← named_at r.types.expressions
+-- an arm from its first primary on, which is its target or its invocation
+unfoldable pub co_primary_at : StatementReaders → Option Span → List Quantifier → Reader Token CoArm
+co_primary_at r start qs = do
+  e ← co_start_at start r.types.expressions
   branch (λ t. is_sign sign.Assign t.kind)
       (do
         becomes ← sign_at sign.Assign
@@ -338,7 +343,7 @@ co_named_at r start qs = do
 
 -- an arm behind its quantifiers
 unfoldable pub behind_quantifiers_at : StatementReaders → Option Span → List Quantifier → Reader Token CoArm
-behind_quantifiers_at r start qs = branch (λ t. is_word word.Call t.kind) (co_called_at r start qs None) (co_named_at r start qs)
+behind_quantifiers_at r start qs = branch (λ t. is_word word.Call t.kind) (co_called_at r start qs None) (co_primary_at r start qs)
 
 -- ["(" quants ")"] [primary ":="] ["call"] invocation ["->" block]
 unfoldable pub co_arm_at : StatementReaders → Reader Token CoArm

@@ -8,8 +8,8 @@ use Rattle.sr_text.specs.declared.refusal.Refusal.{Refusal}
 use Rattle.sr_text.specs.declared.refusal.Kind.TheVariants.{NotBuilt}
 use Rattle.sr_top.specs.declared.report.Ending.{Ending}
 use Rattle.sr_top.specs.declared.report.Ending.TheVariants.{Done, Quiet, Stopped, Failed, Limit, Refused, NoFile, ReadFault, WriteFault, NoMemory, Usage}
-use Rattle.sr_tree.specs.declared.component.File.{File}
-use Rattle.sr_front.specs.Reading.{AreRead, AreRefused}
+use Rattle.sr_front.specs.declared.program.Accepted.{Accepted}
+use Rattle.sr_front.specs.Program.{IsAccepted, IsRefused}
 use Rattle.sr_top.specs.Small.{small_texts}
 use Rattle.sr_top.specs.Run.{IsWholeRun, IsCutShort, IsCutInWrite}
 use Rattle.sr_top.specs.Words.{file_word}
@@ -58,22 +58,22 @@ pub record EndsNoFile (call : Call) (file : ℕ) : Type 0 where
 pub record IsSmall (call : Call) (texts : List (List ℕ)) : Type 0 where
   pub bytes : List ℕ
   pub read : Reads call bytes
-  pub trees : List File
-  pub parsed : AreRead (bytes ∷ []) trees
-  pub small : small_texts trees ≡ Some texts
+  pub program : Accepted
+  pub accepted : IsAccepted (bytes ∷ []) program
+  pub small : small_texts program.trees ≡ Some texts
 
--- the file has a tree, but not that of a small program, and nothing else can be run yet
+-- the file is accepted, but it isn't a small program, and nothing else can be run yet
 pub record IsNotBuilt (bytes : List ℕ) (refusal : Refusal) : Type 0 where
-  pub trees : List File
-  pub parsed : AreRead (bytes ∷ []) trees
-  pub no_small : small_texts trees ≡ None
+  pub program : Accepted
+  pub accepted : IsAccepted (bytes ∷ []) program
+  pub no_small : small_texts program.trees ≡ None
   pub is : refusal ≡ record { kind = NotBuilt; place = record { file = 0; line = 1 } }
 
--- the file was read and is refused: by a phase of reading, or since it isn't small
+-- the file was read and is refused: as outside the language, or since it isn't small
 pub record EndsRefused (call : Call) (refusal : Refusal) : Type 0 where
   pub bytes : List ℕ
   pub read : Reads call bytes
-  pub why : AreRefused (bytes ∷ []) refusal ⊎ IsNotBuilt bytes refusal
+  pub why : IsRefused (bytes ∷ []) refusal ⊎ IsNotBuilt bytes refusal
   pub nothing : RunsNothing call
 
 -- the file is a small program, its whole run was made, and all its output was put
@@ -124,8 +124,8 @@ TextCause bytes items held held_now faults faults_now ending =
     (call : Call) → call.items ≡ items → call.held ≡ held → call.held_now ≡ held_now → call.write_faults ≡ faults → call.write_faults_now ≡ faults_now
     → Reads call bytes → HasCause call ending
 
--- the same for trees that were read
-abbrev pub TreesCause : List File → List Item → Option (List ℕ) → Option (List ℕ) → ℕ → ℕ → Ending → Type 0
-TreesCause trees items held held_now faults faults_now ending =
+-- the same for a program that was accepted
+abbrev pub ProgramCause : Accepted → List Item → Option (List ℕ) → Option (List ℕ) → ℕ → ℕ → Ending → Type 0
+ProgramCause program items held held_now faults faults_now ending =
     (call : Call) (bytes : List ℕ) → call.items ≡ items → call.held ≡ held → call.held_now ≡ held_now → call.write_faults ≡ faults
-    → call.write_faults_now ≡ faults_now → Reads call bytes → AreRead (bytes ∷ []) trees → HasCause call ending
+    → call.write_faults_now ≡ faults_now → Reads call bytes → IsAccepted (bytes ∷ []) program → HasCause call ending

@@ -25,8 +25,8 @@ struct Case<'a> {
 /// A run of two writes.
 const TWO: &[u8] = b"resource main()\n  write(\"one\")\n  write(\"two\")\nend\n";
 
-const NOT_BUILT: Ending = Ending::Refused(Refusal {
-    kind: Kind::NotBuilt,
+const NO_MAIN: Ending = Ending::Refused(Refusal {
+    kind: Kind::Main,
     place: Place { file: 0, line: 1 },
 });
 
@@ -97,7 +97,7 @@ const USAGE: &[u8] =
 fn calls_with_ports_in_memory(rt: HostRuntime) -> Result<(), Fail> {
     let hello = b"resource main()\n  write(\"hello\", 3)\nend\n";
     let spaced = b"\t resource  \tmain() \n\n\twrite( 007 ,\"a,\\tb\" )\n  write()\nend";
-    let s13 = b"sr: a.sr:1: S13 NotBuilt\n";
+    let s9 = b"sr: a.sr:1: S9 Main\n";
     let cases = [
         run_case(hello, b"hello 3\n", 6),
         run_case(spaced, b"7 a,\tb\n\n", 7),
@@ -131,7 +131,7 @@ fn calls_with_ports_in_memory(rt: HostRuntime) -> Result<(), Fail> {
             104,
             b"sr: cannot read b.sr\n",
         ),
-        early(&["run", "a.sr"], NOT_BUILT, 103, s13),
+        early(&["run", "a.sr"], NO_MAIN, 103, s9),
         early(&[], Ending::Usage, 108, USAGE),
         early(&["run"], Ending::Usage, 108, USAGE),
         early(&["run", "-x"], Ending::Usage, 108, USAGE),
@@ -171,7 +171,7 @@ fn items_of_hello(rt: HostRuntime) -> Result<(), Fail> {
 #[test]
 fn refused_texts(rt: HostRuntime) -> Result<(), Fail> {
     let texts: [(&[u8], Kind, u32); 12] = [
-        (b"", Kind::NotBuilt, 1),
+        (b"", Kind::Main, 1),
         (b"resource main()\n  \x80\nend\n", Kind::BadByte, 2),
         (b"resource main() # \x80\n  skip\nend\n", Kind::NotBuilt, 1),
         (

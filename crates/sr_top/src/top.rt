@@ -1,7 +1,8 @@
 ghost use Rattle.std.specs.Prelude.{◌≡◌, [], ◌∷◌, map, string_bytes, IfOk, IfErr};
 ghost use Rattle.std.specs.Option.{option_to_list};
-ghost use Rattle.sr_front.specs.Reading.{AreRead, AreRefused, IsRefusal};
-ghost use Rattle.sr_top.specs.Causes.{Call, HasCause, TextCause, TreesCause};
+ghost use Rattle.sr_front.specs.Program.{IsAccepted, IsRefused};
+ghost use Rattle.sr_front.specs.Reading.{IsRefusal};
+ghost use Rattle.sr_top.specs.Causes.{Call, HasCause, ProgramCause, TextCause};
 ghost use Rattle.sr_text.specs.declared.refusal.Kind.TheVariants as kinds;
 ghost use Rattle.sr_top.specs.declared.report.Ending.TheVariants as endings;
 ghost use Rattle.sr_top.specs.declared.report.Side.TheVariants as sides;
@@ -14,10 +15,9 @@ use crate::run::run_writes;
 use crate::small::small_texts;
 use crate::words::file_word;
 use sr_ask::Item;
-use sr_front::read;
+use sr_front::{Accepted, accept};
 use sr_ports::{Files, Gate, PortFail, Sink, Source};
 use sr_text::{FrontFail, Kind, Refusal};
-use sr_tree::File;
 use sr_value::{Place, Row, Text};
 use std::alloc::Global;
 
@@ -138,27 +138,27 @@ fn without_items(alloc: Global, ending: Ending) -> Outcome
 fn run_text<O: Sink>(alloc: Global, name: &[u8], bytes: Vec<u8>, output: &mut O) -> Outcome
     ensures { TextCause bytes.items result.items (O.held output.old) (O.held output.new) (O.faults output.old) (O.faults output.new) result.ending }
 {
-    match trees_of(alloc, name, bytes) {
+    match accepted(alloc, name, bytes) {
         Err(FrontFail::NoMemory) => without_items(alloc, Ending::NoMemory),
         Err(FrontFail::Refused(refusal)) => without_items(alloc, Ending::Refused(refusal)),
-        Ok(trees) => run_trees(alloc, trees.as_slice(), output),
+        Ok(program) => run_program(alloc, &program, output),
     }
 }
 
-/// The tree of the text of a file, or its refusal.
-fn trees_of(alloc: Global, name: &[u8], bytes: Vec<u8>) -> Result<Row<File>, FrontFail>
-    ensures trees { IfOk result (AreRead (bytes.items ∷ [])) }
-    ensures refused { IfErr result (IsRefusal (AreRefused (bytes.items ∷ []))) }
+/// The program that the text of a file is, or its refusal.
+fn accepted(alloc: Global, name: &[u8], bytes: Vec<u8>) -> Result<Accepted, FrontFail>
+    ensures accepted { IfOk result (IsAccepted (bytes.items ∷ [])) }
+    ensures refused { IfErr result (IsRefusal (IsRefused (bytes.items ∷ []))) }
 {
     let name = Text::from_slice(alloc, name)?;
-    read(alloc, &[(name, Text::from_vec(bytes))])
+    accept(alloc, &[(name, Text::from_vec(bytes))])
 }
 
 /// Runs a small program.
-fn run_trees<O: Sink>(alloc: Global, trees: &[File], output: &mut O) -> Outcome
-    ensures { TreesCause trees.now result.items (O.held output.old) (O.held output.new) (O.faults output.old) (O.faults output.new) result.ending }
+fn run_program<O: Sink>(alloc: Global, program: &Accepted, output: &mut O) -> Outcome
+    ensures { ProgramCause program.now result.items (O.held output.old) (O.held output.new) (O.faults output.old) (O.faults output.new) result.ending }
 {
-    match small_texts(alloc, trees) {
+    match small_texts(alloc, program.trees.as_slice()) {
         Err(_) => without_items(alloc, Ending::NoMemory),
         Ok(None) => without_items(alloc, not_built()),
         Ok(Some(texts)) => {

@@ -1,5 +1,5 @@
 -- Which lists of tokens spell which components and files.
-use Rattle.std.specs.Prelude.{◌≡◌, ◌+◌, ◌≤◌, ℕ, Bool, true, false, List, [], ◌∷◌, ◌++◌, Option, Some, None, sum_by}
+use Rattle.std.specs.Prelude.{◌≡◌, ◌≤◌, ℕ, Bool, true, false, List, [], ◌∷◌, ◌++◌, Option, Some, None, sum_by}
 use Rattle.sr_tree.specs.declared.component.Component.{Component}
 use Rattle.sr_tree.specs.declared.component.Component.TheVariants.{Resource, SplitResource, Global}
 use Rattle.sr_tree.specs.declared.component.File.{File}

@@ -14,7 +14,6 @@ use Rattle.sr_tree.specs.declared.expr.Invocation.{Invocation, out-Invocation, r
 use Rattle.sr_tree.specs.declared.expr.Literal.{Literal}
 use Rattle.sr_tree.specs.declared.expr.Part.{Part, out-Part, roll-Part}
 use Rattle.sr_tree.specs.declared.expr.UnaryOperator.{UnaryOperator}
-use Rattle.sr_tree.specs.declared.name.Name.{Name}
 use Rattle.sr_tree.specs.declared.name.QualifiedName.{QualifiedName}
 use Rattle.sr_tree.specs.declared.token.Sign.TheVariants as sign
 use Rattle.sr_tree.specs.declared.token.Token.{Token}

@@ -6,7 +6,7 @@ use Rattle.sr_tree.specs.declared.declaration.VarDecl.{VarDecl}
 use Rattle.sr_tree.specs.declared.expr.Create.{Create}
 use Rattle.sr_tree.specs.declared.expr.Expr.{Expr}
 use Rattle.sr_tree.specs.declared.expr.Expr.TheVariants as expr
-use Rattle.sr_tree.specs.declared.expr.Invocation.{Invocation, out-Invocation}
+use Rattle.sr_tree.specs.declared.expr.Invocation.{Invocation}
 use Rattle.sr_tree.specs.declared.name.Name.{Name}
 use Rattle.sr_tree.specs.declared.statement.Arm.{Arm, roll-Arm}
 use Rattle.sr_tree.specs.declared.statement.ArmCondition.{ArmCondition}
@@ -38,7 +38,7 @@ pub data SpellsNamed : Expr → List Token → Type 0 where
 
 -- invocation = a primary that ends in "(" [args] ")"
 pub data SpellsInvocation : Invocation → List Token → Type 0 where
-  invocation : {i : Invocation} {u : List Token} → SpellsNamed (expr.Call i) u → SpellsInvocation i u
+  invocation : {i : Invocation} {u : List Token} → SpellsPrimary (expr.Call i) u → SpellsInvocation i u
 
 -- ["(" expr ")"]
 pub data SpellsStatus : Option Expr → List Token → Type 0 where
@@ -126,10 +126,18 @@ pub data SpellsOptionalQuantifiers : List Quantifier → List Token → Type 0 w
   some_quantifiers : {qs : List Quantifier} {u : List Token} (opening closing : Token) → IsSign sign.OpenParen opening → SpellsQuantifiers qs u
       → IsSign sign.CloseParen closing → SpellsOptionalQuantifiers qs (opening ∷ (u ++ closing ∷ []))
 
--- [primary ":="]
-pub data SpellsTarget : Option Expr → List Token → Type 0 where
-  no_target : SpellsTarget None []
-  target : {e : Expr} {u : List Token} (becomes : Token) → SpellsNamed e u → IsSign sign.Assign becomes → SpellsTarget (Some e) (u ++ becomes ∷ [])
+-- the first primary of an arm of `co`: any behind quantifiers (true), and else one that begins with a name
+pub data SpellsCoStart : Bool → Expr → List Token → Type 0 where
+  begins_arm : {e : Expr} {u : List Token} → SpellsNamed e u → SpellsCoStart false e u
+  behind_quantifiers : {e : Expr} {u : List Token} → SpellsPrimary e u → SpellsCoStart true e u
+
+-- [primary ":="] ["call"] invocation, of which the first primary is that of the arm
+pub data SpellsCoCall (quantified : Bool) : Option Expr → Bool → Invocation → List Token → Type 0 where
+  plain : {i : Invocation} {u : List Token} → SpellsCoStart quantified (expr.Call i) u → SpellsCoCall quantified None false i u
+  called : {i : Invocation} {u : List Token} (t : Token) → IsWord word.Call t → SpellsInvocation i u → SpellsCoCall quantified None true i (t ∷ u)
+  stored : {e : Expr} {with_call : Bool} {i : Invocation} {u v w : List Token} (becomes : Token) → SpellsCoStart quantified e u
+      → IsSign sign.Assign becomes → SpellsCallWord with_call v → SpellsInvocation i w
+      → SpellsCoCall quantified (Some e) with_call i (u ++ becomes ∷ (v ++ w))
 
 -- the span of the first of some tokens
 abbrev pub first_span : List Token → Span
@@ -146,8 +154,10 @@ mutual
     returns : (t : Token) → IsWord word.Return t → SpellsStatement (statement.Return t.span) (t ∷ [])
     reply : (t : Token) → IsWord word.Reply t → SpellsStatement (statement.Reply t.span) (t ∷ [])
     stop : {e : Option Expr} {u : List Token} (t : Token) → IsWord word.Stop t → SpellsStatus e u → SpellsStatement (statement.Stop t.span e) (t ∷ u)
-    call : {i : Invocation} {with_call : Bool} {u v : List Token} → SpellsCallWord with_call u → SpellsInvocation i v
-        → SpellsStatement (statement.Call (first_span (u ++ v)) with_call i) (u ++ v)
+    call : {i : Invocation} {u : List Token} (t : Token) → IsWord word.Call t → SpellsInvocation i u
+        → SpellsStatement (statement.Call t.span true i) (t ∷ u)
+    invoke : {i : Invocation} {u : List Token} → SpellsNamed (expr.Call i) u
+        → SpellsStatement (statement.Call (expr_span (expr.Call i)) false i) u
     send : {i : Invocation} {u : List Token} (t : Token) → IsWord word.Send t → SpellsInvocation i u
         → SpellsStatement (statement.Send t.span i) (t ∷ u)
     forward : {i : Invocation} {u : List Token} (t : Token) → IsWord word.Forward t → SpellsInvocation i u
@@ -226,12 +236,17 @@ mutual
 
   -- coarm = ["(" quants ")"] [primary ":="] ["call"] invocation ["->" block]
   pub data SpellsCoArm : CoArm → List Token → Type 0 where
-    co_arm : {qs : List Quantifier} {place : Option Expr} {with_call : Bool} {i : Invocation} {block : Option (List BlockItem)}
-        {u v x y z : List Token} → SpellsOptionalQuantifiers qs u → SpellsTarget place v → SpellsCallWord with_call x → SpellsInvocation i y
-        → SpellsCoBlock block z
+    co_arm : {place : Option Expr} {with_call : Bool} {i : Invocation} {block : Option (List BlockItem)} {u v : List Token}
+        → SpellsCoCall false place with_call i u → SpellsCoBlock block v
         → SpellsCoArm
-        (roll-CoArm (record { span = first_span (u ++ (v ++ (x ++ y))); quantifiers = qs; target = place; with_call = with_call; invocation = i; block = block }))
-        (u ++ (v ++ (x ++ (y ++ z))))
+        (roll-CoArm (record { span = first_span u; quantifiers = []; target = place; with_call = with_call; invocation = i; block = block }))
+        (u ++ v)
+    quantified : {qs : List Quantifier} {place : Option Expr} {with_call : Bool} {i : Invocation} {block : Option (List BlockItem)}
+        {u v x : List Token} (opening closing : Token) → IsSign sign.OpenParen opening → SpellsQuantifiers qs u
+        → IsSign sign.CloseParen closing → SpellsCoCall true place with_call i v → SpellsCoBlock block x
+        → SpellsCoArm
+        (roll-CoArm (record { span = opening.span; quantifiers = qs; target = place; with_call = with_call; invocation = i; block = block }))
+        (opening ∷ (u ++ closing ∷ (v ++ x)))
 
   -- {"//" coarm}
   pub data SpellsMoreCoArms : List CoArm → List Token → Type 0 where

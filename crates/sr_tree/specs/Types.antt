@@ -1,13 +1,11 @@
 -- Which lists of tokens spell which types, signatures and declared names.
-use Rattle.std.specs.Prelude.{◌≡◌, Bool, true, false, List, [], ◌∷◌, ◌++◌, Option, Some, None}
+use Rattle.std.specs.Prelude.{◌≡◌, List, [], ◌∷◌, ◌++◌, Option, Some, None}
 use Rattle.sr_value.specs.declared.place.Span.{Span}
 use Rattle.sr_tree.specs.declared.expr.Expr.{Expr}
 use Rattle.sr_tree.specs.declared.name.Name.{Name}
 use Rattle.sr_tree.specs.declared.name.QualifiedName.{QualifiedName}
 use Rattle.sr_tree.specs.declared.token.Sign.TheVariants as sign
 use Rattle.sr_tree.specs.declared.token.Token.{Token}
-use Rattle.sr_tree.specs.declared.token.TokenKind.{TokenKind}
-use Rattle.sr_tree.specs.declared.token.TokenKind.TheVariants as kind
 use Rattle.sr_tree.specs.declared.token.Word.{Word}
 use Rattle.sr_tree.specs.declared.token.Word.TheVariants as word
 use Rattle.sr_tree.specs.declared.types.Decl.{Decl}

@@ -1,1 +1,12 @@
+pub mod Aggregates
+pub mod Conversions
+pub mod Equality
+pub mod Kinds
+pub mod Laws
+pub mod Operators
+pub mod Outcomes
+pub mod Parts
+pub mod Predefined
+pub mod Statics
+pub mod Storing
 pub mod Types

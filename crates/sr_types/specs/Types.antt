@@ -1,8 +1,11 @@
 -- When two types are equal, and which types a place takes.
-use Rattle.std.specs.Prelude.{◌≡◌, ◌⊎◌, Bool, true, false, IsTrue}
+use Rattle.std.specs.Prelude.{◌≡◌, ◌⊎◌, Bool, true, false, ◌&&◌, ◌||◌, IsTrue}
+use Rattle.sr_types.specs.declared.ty.Param.{Param}
+use Rattle.sr_types.specs.declared.ty.Signature.{Signature}
 use Rattle.sr_types.specs.declared.ty.Ty.{Ty, out-Ty}
 use Rattle.sr_types.specs.declared.ty.Ty.TheOpen.{Ty-F}
 use Rattle.sr_types.specs.declared.ty.Ty.TheVariants.{NullCap, Untyped}
+use Rattle.sr_types.specs.Equality.{same_type}
 
 -- A type keeps its declaration, its dimensions and type of items, its resource, or the modes, types and
 -- forms of its operations, and nothing besides: two types are equal where they are the same
@@ -26,7 +29,36 @@ layer_is_cap _ = false
 abbrev pub is_cap_type : Ty → Bool
 is_cap_type ty = layer_is_cap (out-Ty ty)
 
--- a place takes values of its own type, and one for capabilities also `null` and `noop`; what has no type
--- fits everywhere and takes everything
+abbrev pub layer_is_null : {A B C : Type 0} → Ty-F A B C → Bool
+layer_is_null Ty-F.NullCap = true
+layer_is_null _ = false
+
+-- the type of `null` and `noop`
+abbrev pub is_null_type : Ty → Bool
+is_null_type ty = layer_is_null (out-Ty ty)
+
+abbrev pub layer_is_untyped : {A B C : Type 0} → Ty-F A B C → Bool
+layer_is_untyped Ty-F.Untyped = true
+layer_is_untyped _ = false
+
+-- no type
+abbrev pub is_no_type : Ty → Bool
+is_no_type ty = layer_is_untyped (out-Ty ty)
+
+abbrev pub layer_nulls : Ty-F Ty Param Signature → Ty-F Ty Param Signature → Bool
+layer_nulls (Ty-F.Vector item) (Ty-F.Vector item') = is_null_type item && is_cap_type item'
+layer_nulls (Ty-F.Matrix item) (Ty-F.Matrix item') = is_null_type item && is_cap_type item'
+layer_nulls _ _ = false
+
+-- arrays of nothing but `null` and `noop`, and arrays of a capability type
+abbrev pub are_nulls : Ty → Ty → Bool
+are_nulls value place = layer_nulls (out-Ty value) (out-Ty place)
+
+-- a place takes values of its own type, and one for capabilities also `null` and `noop`, as items of an array too;
+-- what has no type fits everywhere and takes everything
 abbrev pub FitsType : Ty → Ty → Type 0
-FitsType value place = SameType value place ⊎ ((value ≡ NullCap) × IsTrue (is_cap_type place)) ⊎ (value ≡ Untyped) ⊎ (place ≡ Untyped)
+FitsType value place = SameType value place ⊎ ((value ≡ NullCap) × IsTrue (is_cap_type place)) ⊎ (value ≡ Untyped) ⊎ (place ≡ Untyped) ⊎ IsTrue (are_nulls value place)
+
+-- the same, as a test that computes
+abbrev pub fits_type : Ty → Ty → Bool
+fits_type value place = same_type value place || (is_no_type value || (is_no_type place || ((is_null_type value && is_cap_type place) || are_nulls value place)))

@@ -1,3 +1,6 @@
+ghost use Rattle.std.specs.Prelude.{◌≡◌, ◌↔◌, IsTrue};
+ghost use Rattle.sr_types.specs.Equality.{same_mode, same_forms};
+
 use sr_value::Compare;
 
 /// How a formal is passed.
@@ -23,13 +26,27 @@ pub enum Forms {
 }
 
 impl Compare for Mode {
-    fn same(&self, other: &Self) -> bool {
-        *self == *other
+    fn same(&self, other: &Self) -> bool
+        ensures exact { IsTrue result ↔ (self.now ≡ other.now) }
+        ensures value { result ≡ same_mode self.now other.now }
+    {
+        match self {
+            Mode::Val => matches!(other, Mode::Val),
+            Mode::Var => matches!(other, Mode::Var),
+            Mode::Res => matches!(other, Mode::Res),
+        }
     }
 }
 
 impl Compare for Forms {
-    fn same(&self, other: &Self) -> bool {
-        *self == *other
+    fn same(&self, other: &Self) -> bool
+        ensures exact { IsTrue result ↔ (self.now ≡ other.now) }
+        ensures value { result ≡ same_forms self.now other.now }
+    {
+        match self {
+            Forms::Both => matches!(other, Forms::Both),
+            Forms::Call => matches!(other, Forms::Call),
+            Forms::Send => matches!(other, Forms::Send),
+        }
     }
 }

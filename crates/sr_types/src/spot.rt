@@ -1,3 +1,6 @@
+ghost use Rattle.std.specs.Prelude.{◌≡◌, ◌↔◌, IsTrue};
+ghost use Rattle.sr_types.specs.Equality.{same_spot};
+
 use sr_value::Compare;
 
 /// The spot of the name in a declaration. No two declarations have one spot, so it stands for the
@@ -11,7 +14,10 @@ pub struct Spot {
 }
 
 impl Compare for Spot {
-    fn same(&self, other: &Self) -> bool {
-        *self == *other
+    fn same(&self, other: &Self) -> bool
+        ensures exact { IsTrue result ↔ (self.now ≡ other.now) }
+        ensures value { result ≡ same_spot self.now other.now }
+    {
+        self.file == other.file && self.byte == other.byte
     }
 }

@@ -1,4 +1,5 @@
-ghost use Rattle.std.specs.Prelude.{◌≡◌, ◌↔◌, IsTrue, IfOk};
+ghost use Rattle.std.specs.Prelude.{◌≡◌, ◌↔◌, IsTrue, IfOk, map, option_map};
+ghost use Rattle.sr_types.specs.Equality.{same_type, same_param, equal_signatures, all_same, same_returned};
 ghost use Rattle.sr_types.specs.Types.{SameType, IsEquivalence};
 
 use crate::signature::{Forms, Mode};
@@ -58,6 +59,7 @@ pub struct Signature {
 /// of their formals, what they return and the forms that they allow, and `cap vm` always. It takes no
 /// memory.
 pub fn same(a: &Ty, b: &Ty) -> bool
+    ensures value { result ≡ same_type a.now b.now }
     ensures exact { IsTrue result ↔ SameType a.now b.now }
     ensures equivalence { IsEquivalence SameType }
 {
@@ -78,7 +80,8 @@ impl Compare for Signature {
 
 #[cycle(same_types)]
 fn same_ty(mine: &Ty, theirs: &Ty) -> bool
-    ensures { IsTrue result ↔ (mine.now ≡ theirs.now) }
+    ensures value { result ≡ same_type mine.now theirs.now }
+    ensures exact { IsTrue result ↔ (mine.now ≡ theirs.now) }
 {
     match mine {
         Ty::Int => matches!(theirs, Ty::Int),
@@ -117,7 +120,8 @@ fn same_ty(mine: &Ty, theirs: &Ty) -> bool
 
 #[cycle(same_types)]
 fn same_signature(mine: &Signature, theirs: &Signature) -> bool
-    ensures { IsTrue result ↔ (mine.now ≡ theirs.now) }
+    ensures value { result ≡ equal_signatures mine.now theirs.now }
+    ensures exact { IsTrue result ↔ (mine.now ≡ theirs.now) }
 {
     if !mine.forms.same(&theirs.forms) {
         return false;
@@ -130,7 +134,8 @@ fn same_signature(mine: &Signature, theirs: &Signature) -> bool
 
 #[cycle(same_types)]
 fn same_returns(mine: &Option<Boxed<Ty>>, theirs: &Option<Boxed<Ty>>) -> bool
-    ensures { IsTrue result ↔ (mine.now ≡ theirs.now) }
+    ensures value { result ≡ same_returned (option_map same_type mine.now) theirs.now }
+    ensures exact { IsTrue result ↔ (mine.now ≡ theirs.now) }
 {
     match mine {
         None => theirs.is_none(),
@@ -143,7 +148,8 @@ fn same_returns(mine: &Option<Boxed<Ty>>, theirs: &Option<Boxed<Ty>>) -> bool
 
 #[cycle(same_types)]
 fn same_params(mine: &[Param], theirs: &[Param]) -> bool
-    ensures { IsTrue result ↔ (mine.now ≡ theirs.now) }
+    ensures value { result ≡ all_same (map same_param mine.now) theirs.now }
+    ensures exact { IsTrue result ↔ (mine.now ≡ theirs.now) }
 {
     let mut rest = theirs;
     for param in mine {

@@ -1,4 +1,4 @@
-ghost use Rattle.std.specs.Prelude.{◌≡◌, ◌+◌, ◌*◌, ◌≤◌, min, map, sum, replicate, IfOk, IfSome};
+ghost use Rattle.std.specs.Prelude.{◌≡◌, ◌+◌, ◌*◌, ◌≤◌, min, map, sum, replicate, ◌^◌, IfOk, IfSome, IsNone};
 ghost use Rattle.std.specs.List.{list_all};
 ghost use Rattle.sr_value.specs.Operators.{Answers};
 ghost use Rattle.sr_value.specs.Shapes.{in_range, extent, dims_in_range, item_count, bounds_in_range, cell_count, strings_in_range, has_size, unset_value, default_value};
@@ -153,7 +153,8 @@ impl Dims {
 
     /// The number of items of an array of these bounds, where the machine has a number for it.
     pub fn item_count(&self) -> Option<usize>
-        ensures { IfSome result (λ count. count ≡ item_count self.now) }
+        ensures counted { IfSome result (λ count. count ≡ item_count self.now) }
+        ensures too_many { IsNone result → 2 ^ 64 ≤ item_count self.now }
     {
         match *self {
             Dims::One { lo, hi } => Some(indices(lo, hi) as usize),

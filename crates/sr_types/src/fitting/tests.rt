@@ -85,3 +85,13 @@ fn types(rt: HostRuntime) -> Result<(), Fail> {
     assert!(rt; fits(&Ty::Bool, &Ty::Untyped));
     Ok(())
 }
+
+#[test]
+fn arrays_of_nulls(rt: HostRuntime) -> Result<(), Fail> {
+    let alloc = rt.alloc();
+    let nulls = Ty::Vector(Boxed::new(alloc, Ty::NullCap)?);
+    assert!(rt; fits(&nulls, &Ty::Vector(Boxed::new(alloc, Ty::Vm)?)));
+    assert!(rt; !fits(&nulls, &Ty::Vector(Boxed::new(alloc, Ty::Int)?)));
+    assert!(rt; !fits(&nulls, &Ty::Matrix(Boxed::new(alloc, Ty::Vm)?)));
+    Ok(())
+}

@@ -14,10 +14,10 @@ returns-in-Ok-clause-tree c =
 
 pub returns-in-Err-clause-none : goal.returns-in-Err-clause-none
 returns-in-Err-clause-none c =
-    subst (λ w. SpellsNoFile w c.refusal.result) c.as_slice-items.ensures
-    (subst (SpellsNoFile c.as_slice-items.result.now) (sym c.refusal.ensures) (none_of c.as_slice-items.result.now c.in-Err.fail c.in-Err.ensures.reads))
+    subst (λ w. SpellsNoFile w c.refused.result) c.as_slice-items.ensures
+    (subst (SpellsNoFile c.as_slice-items.result.now) (sym c.refused.ensures) (none_of c.as_slice-items.result.now c.in-Err.fail c.in-Err.ensures.reads))
 
 pub returns-in-Err-clause-dead : goal.returns-in-Err-clause-dead
 returns-in-Err-clause-dead c =
-    subst (λ w. IsRefusedIn SpellsFile w 0 c.refusal.result) c.as_slice-items.ensures
-    (subst (IsRefusedIn SpellsFile c.as_slice-items.result.now 0) (sym c.refusal.ensures) (dead_of c.as_slice-items.result.now c.in-Err.fail c.in-Err.ensures.reads))
+    subst (λ w. IsRefusedIn SpellsFile w 0 c.refused.result) c.as_slice-items.ensures
+    (subst (IsRefusedIn SpellsFile c.as_slice-items.result.now 0) (sym c.refused.ensures) (dead_of c.as_slice-items.result.now c.in-Err.fail c.in-Err.ensures.reads))

@@ -1,6 +1,7 @@
 -- The refusal is that of the text, and the run is that of its tree.
 use Rattle.std.proofs.Common.{[], ◌∷◌, ◌∙◌, inl, sym, subst}
-use Rattle.sr_front.specs.Reading.{AreRead, AreRefused, IsRefusal}
+use Rattle.sr_front.specs.Program.{IsRefused}
+use Rattle.sr_front.specs.Reading.{IsRefusal}
 use Rattle.sr_top.specs.Causes.{HasCause}
 use Rattle.sr_top.proofs.top.run_text.Goals as goal
 
@@ -10,7 +11,7 @@ returns-in-Err-Refused g c = λ call items held held_now faults faults_now reads
     (record {
       bytes = c.args.bytes.items;
       read = reads;
-      why = inl (subst (IsRefusal (AreRefused (c.args.bytes.items ∷ []))) c.in-Err-Refused.field-0-is c.in-Err-Refused.ensures.refused);
+      why = inl (subst (IsRefusal (IsRefused (c.args.bytes.items ∷ []))) c.in-Err-Refused.field-0-is c.in-Err-Refused.ensures.refused);
       nothing = record {
         no_items = items ∙ c.without_items-in-Err-Refused.ensures.items;
         no_output = held_now ∙ sym held;
@@ -20,5 +21,4 @@ returns-in-Err-Refused g c = λ call items held held_now faults faults_now reads
 
 pub returns-in-Ok : goal.returns-in-Ok
 returns-in-Ok g c = λ call items held held_now faults faults_now reads.
-    c.run_trees.ensures call c.args.bytes.items items held held_now faults faults_now reads
-    (subst (AreRead (c.args.bytes.items ∷ [])) (sym c.as_slice.ensures) c.in-Ok.ensures.trees)
+    c.run_program.ensures call c.args.bytes.items items held held_now faults faults_now reads c.in-Ok.ensures.accepted

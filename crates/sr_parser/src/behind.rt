@@ -1,0 +1,72 @@
+//! Reads what stands behind a tree, and hands the tree back with it. The type of the tree is left open, so that no
+//! failure looks into it.
+
+ghost use Rattle.std.specs.Prelude.{◌≡◌, ◌<◌, length, IfOk};
+ghost use Rattle.sr_parse_expr.specs.Gives.{Gives};
+ghost use Rattle.sr_parse_expr.specs.Reads.{ReadsUpTo};
+ghost use Rattle.sr_expr_reader.specs.Readers.{operand_at, primary_at};
+ghost use Rattle.sr_expr_reader.specs.Tokens.{word_at};
+ghost use Rattle.sr_program_reader.specs.StatementReaders.{invocation_at};
+
+use crate::parts::invocation;
+use sr_parse_expr::expression::{LOOSEST, operand, primary};
+use sr_parse_expr::reading::{ReadFail, word};
+use sr_tree::{Expr, Invocation, Token, Word};
+use sr_value::Span;
+use std::alloc::Global;
+
+/// Reads an expression behind a tree.
+pub fn expression_behind<T: Drop>(
+    alloc: Global,
+    tree: T,
+    tokens: &[Token],
+) -> Result<(T, Expr, &[Token]), ReadFail>
+    ensures reads { ReadsUpTo (λ x. (x.1, x.2.now)) tokens.now result (λ r. operand_at r 5) }
+    ensures kept { IfOk result (λ x. x.0 ≡ tree) }
+    ensures shorter { IfOk result (λ x. length x.2.now < length tokens.now) }
+{
+    let (expr, rest) = operand(alloc, LOOSEST, tokens)?;
+    Ok((tree, expr, rest))
+}
+
+/// Reads a primary behind a tree.
+pub fn primary_behind<T: Drop>(
+    alloc: Global,
+    tree: T,
+    tokens: &[Token],
+) -> Result<(T, Expr, &[Token]), ReadFail>
+    ensures reads { ReadsUpTo (λ x. (x.1, x.2.now)) tokens.now result (λ r. primary_at r) }
+    ensures kept { IfOk result (λ x. x.0 ≡ tree) }
+    ensures shorter { IfOk result (λ x. length x.2.now < length tokens.now) }
+{
+    let (primary, rest) = primary(alloc, tokens)?;
+    Ok((tree, primary, rest))
+}
+
+/// Reads this word behind a tree, and gives its span too.
+pub fn word_behind<T: Drop>(
+    tree: T,
+    tokens: &[Token],
+    wanted: Word,
+) -> Result<(Span, T, &[Token]), ReadFail>
+    ensures reads { Gives (λ x. (x.0, x.2.now)) result (word_at wanted tokens.now) }
+    ensures kept { IfOk result (λ x. x.1 ≡ tree) }
+    ensures shorter { IfOk result (λ x. length x.2.now < length tokens.now) }
+{
+    let (span, rest) = word(tokens, wanted)?;
+    Ok((span, tree, rest))
+}
+
+/// Reads an invocation behind a tree.
+pub fn invocation_behind<T: Drop>(
+    alloc: Global,
+    tree: T,
+    tokens: &[Token],
+) -> Result<(T, Invocation, &[Token]), ReadFail>
+    ensures reads { ReadsUpTo (λ x. (x.1, x.2.now)) tokens.now result (λ r. invocation_at r) }
+    ensures kept { IfOk result (λ x. x.0 ≡ tree) }
+    ensures shorter { IfOk result (λ x. length x.2.now < length tokens.now) }
+{
+    let (invocation, rest) = invocation(alloc, tokens)?;
+    Ok((tree, invocation, rest))
+}
