@@ -1,5 +1,5 @@
 -- What is kept of broken rules is the first of all.
-use Rattle.std.proofs.Common.{◌≡◌, ◌⊎◌, ℕ, Bool, true, false, ◌&&◌, ◌||◌, ◌<◌, ◌≤◌, eqb, ltb, List, [], ◌∷◌, Option, None, Some, MatchOption, refl, ap, sym, ◌∙◌, subst, inl, inr, if◌then◌else◌, true≢false, arith, fold}
+use Rattle.std.proofs.Common.{◌≡◌, ◌⊎◌, ℕ, Bool, true, false, ◌&&◌, ◌||◌, eqb, ltb, List, [], ◌∷◌, Option, None, Some, MatchOption, refl, ap, sym, ◌∙◌, subst, inl, inr, if◌then◌else◌, true≢false, arith}
 use Rattle.std.proofs.lemmas.Bool.Decides.{nat_tests}
 use Rattle.sr_names.specs.declared.finding.Finding.{Finding}
 use Rattle.sr_names.specs.declared.finding.Finding.TheVariants.{Use, Broken}

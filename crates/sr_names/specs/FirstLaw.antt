@@ -1,5 +1,5 @@
 -- What a list of findings leaves of its broken rules.
-use Rattle.std.specs.Prelude.{◌≡◌, ◌⊎◌, Bool, false, List, [], ◌∷◌, MatchOption}
+use Rattle.std.specs.Prelude.{◌≡◌, ◌⊎◌, false, List, [], ◌∷◌, MatchOption}
 use Rattle.sr_names.specs.declared.finding.Finding.{Finding}
 use Rattle.sr_names.specs.declared.finding.Finding.TheVariants.{Broken}
 use Rattle.sr_names.specs.declared.finding.Wrong.{Wrong}

@@ -4,21 +4,26 @@
 //! their meanings, and rules that are broken. [`Notes`] keeps the uses, and of the broken rules the first.
 #![tactic(auto)]
 
+mod cycles;
 mod finding;
 mod laws;
 mod links;
+mod marks;
 mod meaning;
 mod members;
 mod notes;
 mod place;
 mod predefined;
 mod reading;
+mod search;
 mod spot;
 mod table;
+mod targets;
 
+pub use cycles::{Import, note_cycles};
 pub use finding::{Finding, Rule, Wrong};
 pub use laws::keeps_first;
-pub use links::{Link, connected, connects_along_ways};
+pub use links::{Link, connects_along_ways};
 pub use meaning::{Decl, Meaning, Sort};
 pub use members::Members;
 pub use notes::{Notes, Uses};

@@ -2,9 +2,9 @@
 use Rattle.std.specs.Prelude.{ℕ, ◌-◌, List, [], ◌∷◌, ◌++◌, Option, Some, None, Bool, true, false, if◌then◌else◌, map, length, slice_get, unwrap_or}
 use Rattle.std.specs.Option.{option_map, option_and_then, option_to_list}
 use Rattle.sr_value.specs.declared.place.Span.{Span}
+use Rattle.sr_names.specs.declared.cycles.Import.{Import as GlobalImport}
 use Rattle.sr_names.specs.declared.finding.Finding.{Finding}
-use Rattle.sr_names.specs.declared.finding.Rule.TheVariants.{Cycle, Main}
-use Rattle.sr_names.specs.declared.links.Link.{Link}
+use Rattle.sr_names.specs.declared.finding.Rule.TheVariants.{Main}
 use Rattle.sr_names.specs.declared.meaning.Decl.{Decl}
 use Rattle.sr_names.specs.declared.meaning.Meaning.TheVariants.{Declared}
 use Rattle.sr_names.specs.declared.meaning.Sort.{Sort}
@@ -13,7 +13,6 @@ use Rattle.sr_names.specs.declared.place.Place.{Place}
 use Rattle.sr_names.specs.declared.spot.Spot.{Spot}
 use Rattle.sr_names.specs.Components.{with_members}
 use Rattle.sr_names.specs.Entries.{Entries}
-use Rattle.sr_names.specs.Links.{connects}
 use Rattle.sr_names.specs.Readings.{broken, reading, declaration}
 use Rattle.sr_names.specs.Scopes.{no_blocks}
 use Rattle.sr_names.specs.Specs.{Specs}
@@ -128,44 +127,38 @@ items_imports (item ∷ items) = item_imports item ++ items_imports items
 abbrev pub imports_of : Component → List Name
 imports_of component = specs_imports (spec_of component) ++ items_imports (body_of component)
 
+abbrev pub import_at : Spot → Spot → Span → GlobalImport
+import_at from to span = record { link = record { from = from; to = to }; span = span }
+
 -- a global imports a global
-abbrev pub link_of_sorts : Sort → Sort → Spot → Spot → Option Link
-link_of_sorts global_sort global_sort from to = Some (record { from = from; to = to })
-link_of_sorts _ _ from to = None
+abbrev pub import_of_sorts : Sort → Sort → GlobalImport → Option GlobalImport
+import_of_sorts global_sort global_sort import = Some import
+import_of_sorts _ _ import = None
 
-abbrev pub link_to : Entries → Decl → Name → Option Link
-link_to components importer name =
-    option_and_then (λ target. link_of_sorts importer.sort target.sort importer.spot target.spot) (declared_as components name.text)
+abbrev pub import_to : Entries → Decl → Name → Option GlobalImport
+import_to components importer name =
+    option_and_then (λ target. import_of_sorts importer.sort target.sort (import_at importer.spot target.spot name.span)) (declared_as components name.text)
 
-abbrev pub links_to : Entries → Decl → List Name → List Link
-links_to components importer [] = []
-links_to components importer (name ∷ names) = option_to_list (link_to components importer name) ++ links_to components importer names
+abbrev pub imports_to : Entries → Decl → List Name → List GlobalImport
+imports_to components importer [] = []
+imports_to components importer (name ∷ names) = option_to_list (import_to components importer name) ++ imports_to components importer names
 
-abbrev pub all_links : Entries → List Component → List Link
-all_links components [] = []
-all_links components (component ∷ more) = links_to components (decl_of component) (imports_of component) ++ all_links components more
+abbrev pub all_imports : Entries → List Component → List GlobalImport
+all_imports components [] = []
+all_imports components (component ∷ more) = imports_to components (decl_of component) (imports_of component) ++ all_imports components more
 
 -- the imports of globals by globals
-abbrev pub files_links : Entries → List File → List Link
-files_links components [] = []
-files_links components (file ∷ files) = all_links components file.components ++ files_links components files
+abbrev pub files_imports : Entries → List File → List GlobalImport
+files_imports components [] = []
+files_imports components (file ∷ files) = all_imports components file.components ++ files_imports components files
 
--- an import of a global by a global is on a cycle where the links lead back
-abbrev pub on_cycle : List Link → Option Link → Bool
-on_cycle links None = false
-on_cycle links (Some link) = connects links link.to link.from
+-- an import names a component of the program
+abbrev pub import_found : Entries → Name → Finding
+import_found components name = reading (option_map Declared (declared_as components name.text)) name.span
 
-abbrev pub cycle_unless : Bool → Span → List Finding
-cycle_unless is_cyclic span = if is_cyclic then broken Cycle span ∷ [] else []
-
--- an import names a component of the program, and lies on no cycle of globals
-abbrev pub import_found : Entries → List Link → Decl → Name → List Finding
-import_found components links importer name =
-    reading (option_map Declared (declared_as components name.text)) name.span ∷ cycle_unless (on_cycle links (link_to components importer name)) name.span
-
-abbrev pub imports_found : Entries → List Link → Decl → List Name → List Finding
-imports_found components links importer [] = []
-imports_found components links importer (name ∷ names) = import_found components links importer name ++ imports_found components links importer names
+abbrev pub imports_found : Entries → List Name → List Finding
+imports_found components [] = []
+imports_found components (name ∷ names) = import_found components name ∷ imports_found components names
 
 abbrev pub with_import : Entries → Name → Entries → Entries
 with_import components name visible = by (declared_as components name.text)
@@ -199,19 +192,19 @@ walked component place =
     ++ (formals_found (map formal_read (formals_of component)) (inside place None) no_blocks
     ++ items_found (body_of component) (inside place None) no_blocks))
 
-abbrev pub component_found : Entries → Specs → List Link → Component → List Finding
-component_found components specs links component =
+abbrev pub component_found : Entries → Specs → Component → List Finding
+component_found components specs component =
     own_twice component
-    ++ (imports_found components links (decl_of component) (imports_of component)
+    ++ (imports_found components (imports_of component)
     ++ walked component (place_of components specs component))
 
-abbrev pub components_found : Entries → Specs → List Link → List Component → List Finding
-components_found components specs links [] = []
-components_found components specs links (component ∷ more) = component_found components specs links component ++ components_found components specs links more
+abbrev pub components_found : Entries → Specs → List Component → List Finding
+components_found components specs [] = []
+components_found components specs (component ∷ more) = component_found components specs component ++ components_found components specs more
 
-abbrev pub files_found : Entries → Specs → List Link → List File → List Finding
-files_found components specs links [] = []
-files_found components specs links (file ∷ files) = components_found components specs links file.components ++ files_found components specs links files
+abbrev pub files_found : Entries → Specs → List File → List Finding
+files_found components specs [] = []
+files_found components specs (file ∷ files) = components_found components specs file.components ++ files_found components specs files
 
 -- main is the last component of the last file: a resource without formals
 abbrev pub last_of : {A : Type 0} → List A → Option A

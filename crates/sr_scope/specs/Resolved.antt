@@ -11,11 +11,12 @@ use Rattle.sr_names.specs.declared.finding.Rule.TheVariants.{Name, Twice, BadTyp
 use Rattle.sr_names.specs.declared.finding.Wrong.{Wrong}
 use Rattle.sr_names.specs.declared.notes.Notes.{Notes}
 use Rattle.sr_names.specs.declared.place.Place.{Place}
+use Rattle.sr_names.specs.Cycles.{cycles_found}
 use Rattle.sr_names.specs.Notes.{nothing, all_noted}
 use Rattle.sr_names.specs.Specs.{Specs}
 use Rattle.sr_tree.specs.declared.component.File.{File}
 use Rattle.sr_scope.specs.declared.program.Names.{Names}
-use Rattle.sr_scope.specs.Components.{files_collected, files_collected_twice, files_links, files_found, main_found}
+use Rattle.sr_scope.specs.Components.{files_collected, files_collected_twice, files_imports, files_found, main_found}
 
 abbrev pub no_place : Place
 no_place = record { components = []; specs = []; own = []; visible = []; within = None }
@@ -27,7 +28,9 @@ program files = files_collected files no_place
 abbrev pub findings : List File → List Finding
 findings files =
     files_collected_twice files no_place
-    ++ (main_found files ++ files_found (program files).components (program files).specs (files_links (program files).components files) files)
+    ++ (main_found files
+    ++ (cycles_found (files_imports (program files).components files)
+    ++ files_found (program files).components (program files).specs files))
 
 abbrev pub kind_of : Rule → Kind
 kind_of Name = name_kind

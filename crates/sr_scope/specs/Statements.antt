@@ -1,5 +1,5 @@
 -- What is found in statements and blocks.
-use Rattle.std.specs.Prelude.{List, [], ◌∷◌, ◌++◌, Option, Some, None, map}
+use Rattle.std.specs.Prelude.{Bool, true, false, List, [], ◌∷◌, ◌++◌, Option, Some, None, map, if◌then◌else◌}
 use Rattle.sr_names.specs.declared.finding.Finding.{Finding}
 use Rattle.sr_names.specs.declared.meaning.Sort.TheVariants.{Constant, Variable}
 use Rattle.sr_names.specs.declared.place.Blocks.{Blocks}
@@ -10,7 +10,8 @@ use Rattle.sr_tree.specs.declared.expr.Expr.{Expr}
 use Rattle.sr_tree.specs.declared.name.Name.{Name}
 use Rattle.sr_tree.specs.declared.statement.ArmCondition.{ArmCondition}
 use Rattle.sr_tree.specs.declared.statement.BlockItem.{BlockItem, fold-BlockItem}
-use Rattle.sr_tree.specs.declared.statement.Statement.{Statement, fold-Statement}
+use Rattle.sr_tree.specs.declared.statement.Quantifier.{Quantifier}
+use Rattle.sr_tree.specs.declared.statement.Statement.{Statement, fold-Statement, out-Statement}
 use Rattle.sr_tree.specs.declared.statement.Arm.{Arm, fold-Arm}
 use Rattle.sr_tree.specs.declared.statement.Branch.{Branch, fold-Branch}
 use Rattle.sr_tree.specs.declared.statement.CoArm.{CoArm, fold-CoArm}
@@ -87,6 +88,11 @@ co_arm_step arm place blocks =
     quantifiers_found arm.quantifiers place (opened blocks)
     ++ co_inner_found arm.target (invocation_found arm.invocation) arm.block place (with_quantifiers arm.quantifiers (opened blocks))
 
+-- quantifiers are a scope around their block
+abbrev pub for_all_found : List Quantifier → List Steps → Finds
+for_all_found quantifiers block place blocks =
+    quantifiers_found quantifiers place (opened blocks) ++ block_found block place (with_quantifiers quantifiers (opened blocks))
+
 abbrev pub statement_step : Statement-F Steps Finds Finds Finds Finds → Finds
 statement_step (Statement-F.Skip span) place blocks = []
 statement_step (Statement-F.Exit span) place blocks = []
@@ -104,8 +110,7 @@ statement_step (Statement-F.Increment span target) place blocks = expr_found tar
 statement_step (Statement-F.Decrement span target) place blocks = expr_found target place blocks
 statement_step (Statement-F.If span branches otherwise) place blocks = all_found branches place blocks ++ maybe_block_found otherwise place blocks
 statement_step (Statement-F.Do span branches otherwise) place blocks = all_found branches place blocks ++ maybe_block_found otherwise place blocks
-statement_step (Statement-F.ForAll span quantifiers block) place blocks =
-    quantifiers_found quantifiers place (opened blocks) ++ block_found block place (with_quantifiers quantifiers (opened blocks))
+statement_step (Statement-F.ForAll span quantifiers block) place blocks = for_all_found quantifiers block place blocks
 statement_step (Statement-F.In span arms otherwise) place blocks = all_found arms place blocks ++ maybe_block_found otherwise place blocks
 statement_step (Statement-F.Co span arms) place blocks = all_found arms place blocks
 statement_step (Statement-F.Destroy span target) place blocks = expr_found target place blocks
@@ -113,6 +118,21 @@ statement_step (Statement-F.Create span create) place blocks = create_found crea
 
 abbrev pub statement_found : Statement → Finds
 statement_found = fold-Statement Steps Finds Finds Finds Finds item_step statement_step arm_step branch_step co_arm_step
+
+-- a statement in which blocks stand
+abbrev pub holds_blocks : Statement → Bool
+holds_blocks statement = elim (out-Statement statement) [
+  | Statement-F.If span branches otherwise ↦ true
+  | Statement-F.Do span branches otherwise ↦ true
+  | Statement-F.ForAll span quantifiers block ↦ true
+  | Statement-F.In span arms otherwise ↦ true
+  | Statement-F.Co span arms ↦ true
+  | _ ↦ false
+]
+
+-- what is found in a statement in which no blocks stand
+abbrev pub plain_statement_found : Statement → Finds
+plain_statement_found statement place blocks = if holds_blocks statement then [] else statement_found statement place blocks
 
 abbrev pub item_read : BlockItem → Steps
 item_read = fold-BlockItem Steps Finds Finds Finds Finds item_step statement_step arm_step branch_step co_arm_step

@@ -1,16 +1,13 @@
 ghost use Rattle.std.specs.Prelude.{◌≡◌, ◌++◌, IfOk, OnOk};
 ghost use Rattle.sr_names.specs.Notes.{all_noted};
-ghost use Rattle.sr_names.specs.Tables.{declared_as};
-ghost use Rattle.sr_names.specs.Readings.{reading};
-ghost use Rattle.std.specs.Option.{option_map};
-ghost use Rattle.sr_scope.specs.Components.{name_of, sort_of, spec_of, formals_of, body_of, decl_of, collected, collected_twice, all_collected, all_collected_twice, files_collected, files_collected_twice, imported_names, item_imports, specs_imports, items_imports, imports_of, link_of_sorts, link_to, links_to, all_links, files_links, on_cycle, cycle_unless, import_found, imports_found, with_import, visible_to, walked, component_found, components_found, files_found};
+ghost use Rattle.sr_scope.specs.Components.{name_of, sort_of, spec_of, formals_of, body_of, decl_of, collected, collected_twice, all_collected, all_collected_twice, files_collected, files_collected_twice, imported_names, item_imports, specs_imports, items_imports, imports_of, import_at, import_of_sorts, import_to, imports_to, all_imports, files_imports, import_found, imports_found, with_import, visible_to, walked, component_found, components_found, files_found};
 ghost use Rattle.sr_scope.specs.Items.{inside};
 
 use crate::declares::declare_name;
 use crate::items::{declare_items, declare_spec, items, serve_items, spec_items};
 use crate::types::{declare_formals, formals};
 use sr_names::{
-    Blocks, Decl, Finding, Link, Meaning, Notes, Place, Rule, Sort, Spot, Table, Wrong, connected,
+    Blocks, Decl, Finding, Import, Link, Meaning, Notes, Place, Rule, Sort, Spot, Table, Wrong,
 };
 use sr_tree::{Component, File, Formal, Item, Name, SpecItem};
 use sr_value::{Duplicate, NoMemory, Row, Span};
@@ -202,14 +199,17 @@ fn imports_of(alloc: Global, component: &Component) -> Result<Row<Name>, NoMemor
     Ok(all)
 }
 
-fn link_of(importer: Decl, target: Decl) -> Option<Link>
-    ensures { result ≡ link_of_sorts importer.sort target.sort importer.spot target.spot }
+fn import_of(importer: Decl, target: Decl, span: Span) -> Option<Import>
+    ensures { result ≡ import_of_sorts importer.sort target.sort (import_at importer.spot target.spot span) }
 {
     match importer.sort {
         Sort::Global => match target.sort {
-            Sort::Global => Some(Link {
-                from: importer.spot,
-                to: target.spot,
+            Sort::Global => Some(Import {
+                link: Link {
+                    from: importer.spot,
+                    to: target.spot,
+                },
+                span,
             }),
             _ => None,
         },
@@ -217,80 +217,62 @@ fn link_of(importer: Decl, target: Decl) -> Option<Link>
     }
 }
 
-/// The link that an import is, where a global imports a global.
-fn link_to(components: &Table, importer: Decl, name: &Name) -> Option<Link>
-    ensures { result ≡ link_to components.now importer name.now }
+/// The import that a name is, where a global imports a global.
+fn import_to(components: &Table, importer: Decl, name: &Name) -> Option<Import>
+    ensures { result ≡ import_to components.now importer name.now }
 {
     let target = components.get(name.text.as_bytes())?;
-    link_of(importer, target)
+    import_of(importer, target, name.span)
 }
 
-fn push_links(
+fn push_imports(
     components: &Table,
     importer: Decl,
     names: &[Name],
-    links: &mut Row<Link>,
+    imports: &mut Row<Import>,
 ) -> Result<(), NoMemory>
-    ensures { OnOk result (links.new ≡ links.old ++ links_to components.now importer names.now) }
+    ensures { OnOk result (imports.new ≡ imports.old ++ imports_to components.now importer names.now) }
 {
     for name in names {
-        if let Some(link) = link_to(components, importer, name) {
-            links.push(link)?;
+        if let Some(import) = import_to(components, importer, name) {
+            imports.push(import)?;
         }
     }
     Ok(())
 }
 
-fn push_all_links(
+fn push_all_imports(
     alloc: Global,
     components: &Table,
     all: &[Component],
-    links: &mut Row<Link>,
+    imports: &mut Row<Import>,
 ) -> Result<(), NoMemory>
-    ensures { OnOk result (links.new ≡ links.old ++ all_links components.now all.now) }
+    ensures { OnOk result (imports.new ≡ imports.old ++ all_imports components.now all.now) }
 {
     for component in all {
         let names = imports_of(alloc, component)?;
-        push_links(components, decl_of(component), names.as_slice(), links)?;
+        push_imports(components, decl_of(component), names.as_slice(), imports)?;
     }
     Ok(())
 }
 
 /// The imports of globals by globals.
-pub fn links_of(alloc: Global, components: &Table, files: &[File]) -> Result<Row<Link>, NoMemory>
-    ensures { IfOk result (λ links. links ≡ files_links components.now files.now) }
+pub fn global_imports(
+    alloc: Global,
+    components: &Table,
+    files: &[File],
+) -> Result<Row<Import>, NoMemory>
+    ensures { IfOk result (λ imports. imports ≡ files_imports components.now files.now) }
 {
-    let mut links = Row::new(alloc);
+    let mut imports = Row::new(alloc);
     for file in files {
-        push_all_links(alloc, components, file.components.as_slice(), &mut links)?;
+        push_all_imports(alloc, components, file.components.as_slice(), &mut imports)?;
     }
-    Ok(links)
-}
-
-/// Whether a link is on a cycle of links.
-fn is_on_cycle(alloc: Global, links: &[Link], link: Option<Link>) -> Result<bool, NoMemory>
-    ensures { IfOk result (λ cyclic. cyclic ≡ on_cycle links.now link) }
-{
-    match link {
-        Some(link) => connected(alloc, links, link.to, link.from),
-        None => Ok(false),
-    }
-}
-
-fn note_cycle(notes: &mut Notes, is_cyclic: bool, span: Span) -> Result<(), NoMemory>
-    ensures { OnOk result (notes.new ≡ all_noted notes.old (cycle_unless is_cyclic span)) }
-{
-    if !is_cyclic {
-        return Ok(());
-    }
-    notes.note(Finding::Broken(Wrong {
-        rule: Rule::Cycle,
-        span,
-    }))
+    Ok(imports)
 }
 
 fn imported(components: &Table, name: &Name) -> Finding
-    ensures { result ≡ reading (option_map Meaning.Declared (declared_as components.now name.now.text)) name.now.span }
+    ensures { result ≡ import_found components.now name.now }
 {
     match components.get(name.text.as_bytes()) {
         Some(decl) => Finding::Use {
@@ -304,34 +286,12 @@ fn imported(components: &Table, name: &Name) -> Finding
     }
 }
 
-fn note_import(
-    alloc: Global,
-    components: &Table,
-    links: &[Link],
-    importer: Decl,
-    name: &Name,
-    notes: &mut Notes,
-) -> Result<(), NoMemory>
-    ensures { OnOk result (notes.new ≡ all_noted notes.old (import_found components.now links.now importer name.now)) }
-{
-    notes.note(imported(components, name))?;
-    let is_cyclic = is_on_cycle(alloc, links, link_to(components, importer, name))?;
-    note_cycle(notes, is_cyclic, name.span)
-}
-
-/// Notes what is found in the imports of a component.
-fn note_imports(
-    alloc: Global,
-    components: &Table,
-    links: &[Link],
-    importer: Decl,
-    names: &[Name],
-    notes: &mut Notes,
-) -> Result<(), NoMemory>
-    ensures { OnOk result (notes.new ≡ all_noted notes.old (imports_found components.now links.now importer names.now)) }
+/// Notes what the names in the imports of a component mean.
+fn note_imports(components: &Table, names: &[Name], notes: &mut Notes) -> Result<(), NoMemory>
+    ensures { OnOk result (notes.new ≡ all_noted notes.old (imports_found components.now names.now)) }
 {
     for name in names {
-        note_import(alloc, components, links, importer, name, notes)?;
+        notes.note(imported(components, name))?;
     }
     Ok(())
 }
@@ -402,27 +362,19 @@ fn walk(
 fn component(
     alloc: Global,
     component: &Component,
-    links: &[Link],
     place: &mut Place,
     notes: &mut Notes,
 ) -> Result<(), NoMemory>
     ensures components { OnOk result (place.new.components ≡ place.old.components) }
     ensures specs { OnOk result (place.new.specs ≡ place.old.specs) }
-    ensures noted { OnOk result (notes.new ≡ all_noted notes.old (component_found place.old.components place.old.specs links.now component.now)) }
+    ensures noted { OnOk result (notes.new ≡ all_noted notes.old (component_found place.old.components place.old.specs component.now)) }
 {
     let mut own = Table::new(alloc);
     declare_spec(alloc, spec_of(component), &mut own, notes)?;
     declare_formals(alloc, formals_of(component), &mut own, notes)?;
     declare_items(alloc, body_of(component), &mut own, notes)?;
     let names = imports_of(alloc, component)?;
-    note_imports(
-        alloc,
-        &place.components,
-        links,
-        decl_of(component),
-        names.as_slice(),
-        notes,
-    )?;
+    note_imports(&place.components, names.as_slice(), notes)?;
     place.visible = visible_to(alloc, &place.components, component, names.as_slice())?;
     place.own = own;
     place.within = None;
@@ -432,16 +384,15 @@ fn component(
 fn components(
     alloc: Global,
     components: &[Component],
-    links: &[Link],
     place: &mut Place,
     notes: &mut Notes,
 ) -> Result<(), NoMemory>
     ensures components { OnOk result (place.new.components ≡ place.old.components) }
     ensures specs { OnOk result (place.new.specs ≡ place.old.specs) }
-    ensures noted { OnOk result (notes.new ≡ all_noted notes.old (components_found place.old.components place.old.specs links.now components.now)) }
+    ensures noted { OnOk result (notes.new ≡ all_noted notes.old (components_found place.old.components place.old.specs components.now)) }
 {
     for each in components {
-        component(alloc, each, links, place, notes)?;
+        component(alloc, each, place, notes)?;
     }
     Ok(())
 }
@@ -450,15 +401,14 @@ fn components(
 pub fn walk_files(
     alloc: Global,
     files: &[File],
-    links: &[Link],
     place: &mut Place,
     notes: &mut Notes,
 ) -> Result<(), NoMemory>
     ensures specs { OnOk result (place.new.specs ≡ place.old.specs) }
-    ensures noted { OnOk result (notes.new ≡ all_noted notes.old (files_found place.old.components place.old.specs links.now files.now)) }
+    ensures noted { OnOk result (notes.new ≡ all_noted notes.old (files_found place.old.components place.old.specs files.now)) }
 {
     for file in files {
-        components(alloc, file.components.as_slice(), links, place, notes)?;
+        components(alloc, file.components.as_slice(), place, notes)?;
     }
     Ok(())
 }

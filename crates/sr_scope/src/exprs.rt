@@ -3,7 +3,7 @@ ghost use Rattle.std.specs.Option.{option_map};
 ghost use Rattle.sr_names.specs.Notes.{all_noted};
 ghost use Rattle.sr_scope.specs.Exprs.{expr_reads, create_found, invocation_found, part_found, reads_found, optional_found, all_found};
 
-use crate::names::{field, name, qualified_name};
+use crate::names::{name, note_field, qualified_name};
 use sr_names::{Blocks, Decl, Notes, Place};
 use sr_tree::{Create, Expr, Invocation, Part};
 use sr_value::{Boxed, NoMemory};
@@ -20,28 +20,17 @@ pub fn expr(
     ensures noted { OnOk result (notes.new ≡ all_noted notes.old (expr_reads expression.now place.now blocks.now).found) }
 {
     match expression {
-        Expr::Literal { .. } | Expr::BasicType { .. } => Ok(None),
-        Expr::Name(used) => name(used, place, blocks, notes),
-        Expr::Conversion { value, .. } => {
-            expr(value.get(), place, blocks, notes)?;
-            Ok(None)
-        }
-        Expr::Group { inner, .. } => {
+        Expr::Literal { .. } | Expr::BasicType { .. } => {}
+        Expr::Name(used) => return name(used, place, blocks, notes),
+        Expr::Conversion { value: inner, .. }
+        | Expr::Group { inner, .. }
+        | Expr::Unary { operand: inner, .. } => {
             expr(inner.get(), place, blocks, notes)?;
-            Ok(None)
         }
-        Expr::Parts { parts, .. } => {
-            all_parts(parts.as_slice(), place, blocks, notes)?;
-            Ok(None)
-        }
-        Expr::Field {
-            record,
-            field: member,
-            ..
-        } => {
+        Expr::Parts { parts, .. } => all_parts(parts.as_slice(), place, blocks, notes)?,
+        Expr::Field { record, field, .. } => {
             let component = expr(record.get(), place, blocks, notes)?;
-            field(component, member, place, notes)?;
-            Ok(None)
+            note_field(component, field, place, notes)?;
         }
         Expr::Index {
             array,
@@ -52,30 +41,31 @@ pub fn expr(
             expr(array.get(), place, blocks, notes)?;
             expr(first.get(), place, blocks, notes)?;
             optional(second, place, blocks, notes)?;
-            Ok(None)
         }
-        Expr::Call(invoked) => {
-            invocation(invoked, place, blocks, notes)?;
-            Ok(None)
-        }
-        Expr::Create(created) => {
-            create(created, place, blocks, notes)?;
-            Ok(None)
-        }
-        Expr::Unary { operand, .. } => {
-            expr(operand.get(), place, blocks, notes)?;
-            Ok(None)
-        }
+        Expr::Call(invocation) => note_invocation(invocation, place, blocks, notes)?,
+        Expr::Create(create) => note_create(create, place, blocks, notes)?,
         Expr::Pending { operation, .. } => {
             name(operation, place, blocks, notes)?;
-            Ok(None)
         }
         Expr::Binary { left, right, .. } => {
             expr(left.get(), place, blocks, notes)?;
             expr(right.get(), place, blocks, notes)?;
-            Ok(None)
         }
     }
+    Ok(None)
+}
+
+/// Notes what is found in an expression.
+pub fn note_expr(
+    expression: &Expr,
+    place: &Place,
+    blocks: &Blocks,
+    notes: &mut Notes,
+) -> Result<(), NoMemory>
+    ensures { OnOk result (notes.new ≡ all_noted notes.old (expr_reads expression.now place.now blocks.now).found) }
+{
+    expr(expression, place, blocks, notes)?;
+    Ok(())
 }
 
 #[cycle(exprs)]
@@ -127,7 +117,7 @@ fn all_parts(
 
 /// Notes what is found in an invocation.
 #[cycle(exprs)]
-pub fn invocation(
+pub fn note_invocation(
     invocation: &Invocation,
     place: &Place,
     blocks: &Blocks,
@@ -141,7 +131,7 @@ pub fn invocation(
 
 /// Notes what is found in the making of an instance or a machine.
 #[cycle(exprs)]
-pub fn create(
+pub fn note_create(
     create: &Create,
     place: &Place,
     blocks: &Blocks,

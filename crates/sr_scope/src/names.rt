@@ -48,13 +48,13 @@ pub fn qualified_name(
 {
     let component = name(&qualified.first, place, blocks, notes)?;
     match &qualified.second {
-        Some(second) => field(component, second, place, notes),
+        Some(second) => note_field(component, second, place, notes),
         None => Ok(()),
     }
 }
 
 /// Notes what a name means behind a point, where a component stands before it. Behind anything else it is a field.
-pub fn field(
+pub fn note_field(
     component: Option<Decl>,
     name: &Name,
     place: &Place,

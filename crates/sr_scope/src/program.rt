@@ -7,8 +7,10 @@ ghost use Rattle.std.specs.Prelude.{Some};
 ghost use Rattle.sr_scope.specs.Components.{last_component, can_be_main, main_found, start_of};
 ghost use Rattle.sr_scope.specs.Resolved.{Answers, resolved, no_place, kind_of, refusal_of, answered};
 
-use crate::components::{collect_files, links_of, walk_files};
-use sr_names::{Decl, Finding, Meaning, Members, Notes, Place, Rule, Spot, Table, Uses, Wrong};
+use crate::components::{collect_files, global_imports, walk_files};
+use sr_names::{
+    Decl, Finding, Meaning, Members, Notes, Place, Rule, Spot, Table, Uses, Wrong, note_cycles,
+};
 use sr_text::{FrontFail, Kind, Refusal};
 use sr_tree::{Component, File};
 use sr_value::{NoMemory, Row, Span};
@@ -51,14 +53,9 @@ pub fn resolve(alloc: Global, files: &Row<File>) -> Result<Names, FrontFail>
     let mut place = empty_place(alloc);
     collect_files(alloc, files.as_slice(), &mut place, &mut notes)?;
     note_main(files.as_slice(), &mut notes)?;
-    let links = links_of(alloc, &place.components, files.as_slice())?;
-    walk_files(
-        alloc,
-        files.as_slice(),
-        links.as_slice(),
-        &mut place,
-        &mut notes,
-    )?;
+    let imports = global_imports(alloc, &place.components, files.as_slice())?;
+    note_cycles(alloc, imports.as_slice(), &mut notes)?;
+    walk_files(alloc, files.as_slice(), &mut place, &mut notes)?;
     answer(notes, place.specs)
 }
 

@@ -2,16 +2,16 @@ ghost use Rattle.std.specs.Prelude.{◌≡◌, OnOk, map};
 ghost use Rattle.sr_names.specs.Notes.{all_noted};
 ghost use Rattle.sr_scope.specs.Declarations.{with_inner};
 ghost use Rattle.sr_scope.specs.Exprs.{all_found};
-ghost use Rattle.sr_scope.specs.Statements.{condition_found, statement_found, item_read, arm_found, branch_found, co_arm_found, block_found};
+ghost use Rattle.sr_scope.specs.Statements.{condition_found, statement_found, plain_statement_found, for_all_found, item_read, arm_found, branch_found, co_arm_found, block_found};
 
 use crate::declarations::{constant, quantifiers, variables};
 use crate::declares::{declare_name, declare_names, declare_returned, declare_variables};
-use crate::exprs::{create, expr, exprs, invocation};
+use crate::exprs::{expr, exprs, note_create, note_expr, note_invocation};
 use crate::names::name;
 use crate::types::maybe_expr;
 use sr_names::{Blocks, Notes, Place, Sort};
-use sr_tree::{Arm, ArmCondition, BlockItem, Branch, CoArm, Statement};
-use sr_value::NoMemory;
+use sr_tree::{Arm, ArmCondition, BlockItem, Branch, CoArm, Quantifier, Statement};
+use sr_value::{NoMemory, Row};
 use std::alloc::Global;
 
 /// Notes what is found in a statement. The scopes are then as before.
@@ -27,50 +27,6 @@ pub fn statement(
     ensures noted { OnOk result (notes.new ≡ all_noted notes.old (statement_found statement.now place.now blocks.old)) }
 {
     match statement {
-        Statement::Skip { .. }
-        | Statement::Exit { .. }
-        | Statement::Next { .. }
-        | Statement::Return { .. }
-        | Statement::Reply { .. } => Ok(()),
-        Statement::Stop { status, .. } => maybe_expr(status, place, blocks, notes),
-        Statement::Call {
-            invocation: invoked,
-            ..
-        }
-        | Statement::Send {
-            invocation: invoked,
-            ..
-        }
-        | Statement::Forward {
-            invocation: invoked,
-            ..
-        } => { invocation(invoked, place, blocks, notes) }
-        Statement::Receive {
-            operation,
-            places,
-            ..
-        } => {
-            name(operation, place, blocks, notes)?;
-            exprs(places.as_slice(), place, blocks, notes)
-        }
-        Statement::Assign {
-            place: target,
-            value,
-            ..
-        } => {
-            expr(target, place, blocks, notes)?;
-            expr(value, place, blocks, notes)?;
-            Ok(())
-        }
-        Statement::Exchange { left, right, .. } => {
-            expr(left, place, blocks, notes)?;
-            expr(right, place, blocks, notes)?;
-            Ok(())
-        }
-        Statement::Increment { place: target, .. } | Statement::Decrement { place: target, .. } => {
-            expr(target, place, blocks, notes)?;
-            Ok(())
-        }
         Statement::If {
             branches: all,
             otherwise,
@@ -89,15 +45,9 @@ pub fn statement(
         }
         Statement::ForAll {
             quantifiers: all,
-            block: items,
+            block: body,
             ..
-        } => {
-            blocks.open(alloc)?;
-            quantifiers(alloc, all.as_slice(), place, blocks, notes)?;
-            block(alloc, items.as_slice(), place, blocks, notes)?;
-            blocks.close();
-            Ok(())
-        }
+        } => { for_all(alloc, all.as_slice(), body.as_slice(), place, blocks, notes) }
         Statement::In {
             arms: all,
             otherwise,
@@ -110,15 +60,69 @@ pub fn statement(
             }
         }
         Statement::Co { arms: all, .. } => co_arms(alloc, all.as_slice(), place, blocks, notes),
-        Statement::Destroy { target, .. } => {
-            expr(target, place, blocks, notes)?;
-            Ok(())
-        }
-        Statement::Create {
-            create: created,
-            ..
-        } => create(created, place, blocks, notes),
+        _ => plain_statement(statement, place, blocks, notes),
     }
+}
+
+/// Notes what is found in a statement that holds no block, and nothing in any other.
+fn plain_statement(
+    statement: &Statement,
+    place: &Place,
+    blocks: &Blocks,
+    notes: &mut Notes,
+) -> Result<(), NoMemory>
+    ensures { OnOk result (notes.new ≡ all_noted notes.old (plain_statement_found statement.now place.now blocks.now)) }
+{
+    match statement {
+        Statement::Stop { status, .. } => maybe_expr(status, place, blocks, notes),
+        Statement::Call { invocation, .. }
+        | Statement::Send { invocation, .. }
+        | Statement::Forward { invocation, .. } => {
+            note_invocation(invocation, place, blocks, notes)
+        }
+        Statement::Receive {
+            operation,
+            places,
+            ..
+        } => {
+            name(operation, place, blocks, notes)?;
+            exprs(places.as_slice(), place, blocks, notes)
+        }
+        Statement::Assign {
+            place: left,
+            value: right,
+            ..
+        }
+        | Statement::Exchange { left, right, .. } => {
+            note_expr(left, place, blocks, notes)?;
+            note_expr(right, place, blocks, notes)
+        }
+        Statement::Increment { place: target, .. }
+        | Statement::Decrement { place: target, .. }
+        | Statement::Destroy { target, .. } => note_expr(target, place, blocks, notes),
+        Statement::Create { create, .. } => note_create(create, place, blocks, notes),
+        _ => Ok(()),
+    }
+}
+
+/// Notes what is found in quantifiers, which are a scope, and in a block within it.
+#[cycle(statements)]
+fn for_all(
+    alloc: Global,
+    all: &[Quantifier],
+    items: &[BlockItem],
+    place: &Place,
+    blocks: &mut Blocks,
+    notes: &mut Notes,
+) -> Result<(), NoMemory>
+    ensures scopes { OnOk result (blocks.new ≡ blocks.old) }
+    ensures noted { OnOk result (notes.new ≡ all_noted notes.old (for_all_found all.now (map item_read items.now) place.now blocks.old)) }
+{
+    blocks.open(alloc)?;
+    quantifiers(alloc, all, place, blocks, notes)?;
+    block(alloc, items, place, blocks, notes)?;
+    blocks.close();
+    Ok(())
 }
 
 /// Notes what is found in a block, which is a scope of its own.
@@ -279,7 +283,7 @@ fn co_arm(
     blocks.open(alloc)?;
     quantifiers(alloc, arm.quantifiers.as_slice(), place, blocks, notes)?;
     maybe_expr(&arm.target, place, blocks, notes)?;
-    invocation(&arm.invocation, place, blocks, notes)?;
+    note_invocation(&arm.invocation, place, blocks, notes)?;
     if let Some(items) = &arm.block {
         block(alloc, items.as_slice(), place, blocks, notes)?;
     }

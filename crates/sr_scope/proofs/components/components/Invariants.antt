@@ -8,4 +8,4 @@ abbrev pub invariant-loop-each : goal.invariant-loop-each
 invariant-loop-each l =
     (l.place.components ≡ l.fn.place.components)
     × (l.place.specs ≡ l.fn.place.specs)
-    × (all_noted l.notes (components_found l.fn.place.components l.fn.place.specs l.links (drop l.each-index l.components)) ≡ all_noted l.fn.notes (components_found l.fn.place.components l.fn.place.specs l.links l.components))
+    × (all_noted l.notes (components_found l.fn.place.components l.fn.place.specs (drop l.each-index l.components)) ≡ all_noted l.fn.notes (components_found l.fn.place.components l.fn.place.specs l.components))

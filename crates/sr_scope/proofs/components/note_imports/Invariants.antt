@@ -5,4 +5,4 @@ use Rattle.sr_scope.specs.Components.{imports_found}
 use Rattle.sr_scope.proofs.components.note_imports.Given as goal
 
 abbrev pub invariant-loop-name : goal.invariant-loop-name
-invariant-loop-name l = all_noted l.notes (imports_found l.components l.links l.importer (drop l.name-index l.names)) ≡ all_noted l.fn.notes (imports_found l.components l.links l.importer l.names)
+invariant-loop-name l = all_noted l.notes (imports_found l.components (drop l.name-index l.names)) ≡ all_noted l.fn.notes (imports_found l.components l.names)

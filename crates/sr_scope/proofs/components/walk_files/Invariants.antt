@@ -8,4 +8,4 @@ abbrev pub invariant-loop-file : goal.invariant-loop-file
 invariant-loop-file l =
     (l.place.components ≡ l.fn.place.components)
     × (l.place.specs ≡ l.fn.place.specs)
-    × (all_noted l.notes (files_found l.fn.place.components l.fn.place.specs l.links (drop l.file-index l.files)) ≡ all_noted l.fn.notes (files_found l.fn.place.components l.fn.place.specs l.links l.files))
+    × (all_noted l.notes (files_found l.fn.place.components l.fn.place.specs (drop l.file-index l.files)) ≡ all_noted l.fn.notes (files_found l.fn.place.components l.fn.place.specs l.files))
