@@ -1,6 +1,3 @@
-pub mod Completions
-pub mod Drops
-pub mod FlatLemmas
 pub mod Forever
 pub mod LawProofs
 pub mod Regular
@@ -9,6 +6,3 @@ pub mod RegularProcesses
 pub mod RegularStatements
 pub mod RegularTrees
 pub mod RegularWhole
-pub mod Replies
-pub mod Steps
-pub mod Weights

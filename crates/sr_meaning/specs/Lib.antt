@@ -7,7 +7,5 @@ pub mod Pieces
 pub mod Places
 pub mod Processes
 pub mod Statements
-pub mod Turns
 pub mod Values
-pub mod Walkers
 pub mod WholeLaws

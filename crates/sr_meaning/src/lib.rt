@@ -1,32 +1,9 @@
-//! What a process of an SR program asks, over the tree of its core.
+//! What a process of an SR program asks: the definition, and laws that follow from it.
 #![tactic(auto)]
 
-mod apply;
-mod array;
-mod call;
-mod co;
-mod declare;
 mod ending;
-mod endings;
-mod ensure;
 mod evaluated;
-mod expression;
-mod formals;
-mod inner;
-mod invoke;
 pub mod laws;
-mod leaf;
-mod listening;
-mod places;
-mod reading;
-mod role;
-mod scene;
-mod select;
-mod service;
-mod settle;
-mod stop;
-mod ticking;
-mod typed;
-mod values;
-mod walker;
-mod writing;
+
+pub use ending::Ending;
+pub use evaluated::{Aim, Piece, Sent};

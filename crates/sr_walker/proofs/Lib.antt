@@ -1,0 +1,4 @@
+pub mod Completions
+pub mod Executions
+pub mod Steps
+pub mod Weights

@@ -1,0 +1,73 @@
+ghost use Rattle.std.specs.Prelude.{◌≡◌, drop};
+ghost use Rattle.sr_meaning.specs.Expressions.{created, ensured, instance_in, needs_of};
+ghost use Rattle.sr_walker_expr.specs.Walkers.{Gave, here_of, stage_of};
+
+use crate::invoke::reply_to;
+use crate::listening::{IsMade, IsReady, ask};
+use crate::scene::Scene;
+use crate::stop::Stop;
+use crate::walker::Walker;
+use sr_ask::Request;
+use sr_core::Core;
+use sr_value::{Cap, Row, Value};
+
+/// Each global is asked for until it is ready.
+pub fn ensure(scene: &Scene, walker: &mut Walker, globals: &[u32], vm: Cap) -> Result<(), Stop>
+    ensures { Gave (ensured globals.now vm (here_of scene.now) (stage_of walker.old)) result (stage_of walker.new) }
+{
+    for global in globals {
+        ask(
+            scene,
+            walker,
+            &IsReady,
+            Request::EnsureGlobal {
+                global: *global,
+                vm,
+            },
+        )?;
+    }
+    Ok(())
+}
+
+/// The globals that a component needs, each after those that it imports.
+pub fn needs(core: &Core, component: u32) -> &[u32]
+    ensures { result.now ≡ needs_of core.now component }
+{
+    match core.components.get(component as usize) {
+        Some(found) => found.needs.as_slice(),
+        None => &[],
+    }
+}
+
+/// The capability that a new instance answers with.
+fn instance_in(reply: Option<Row<Value>>) -> Value
+    ensures { result ≡ instance_in reply }
+{
+    match reply {
+        None => Value::Capa(Cap::Null),
+        Some(mut values) => {
+            if values.is_empty() {
+                Value::Capa(Cap::Null)
+            } else {
+                values.remove(0)
+            }
+        }
+    }
+}
+
+/// Makes an instance, and waits for its reply.
+pub fn create(
+    scene: &Scene,
+    walker: &mut Walker,
+    resource: u32,
+    args: Row<Value>,
+    vm: Cap,
+) -> Result<Value, Stop>
+    ensures { Gave (created resource args vm (here_of scene.now) (stage_of walker.old)) result (stage_of walker.new) }
+{
+    ensure(scene, walker, needs(scene.core, resource), vm)?;
+    let request = Request::Create { resource, args, vm };
+    let name = ask(scene, walker, &IsMade, request)?;
+    let reply = reply_to(scene, walker, name)?;
+    Ok(instance_in(reply))
+}

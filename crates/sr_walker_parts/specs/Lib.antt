@@ -1,0 +1,2 @@
+pub mod StatementParts
+pub mod Turns

@@ -1,0 +1,235 @@
+ghost use Rattle.std.specs.Prelude.{◌≡◌, ◌<◌, ◌==◌, IfOk, OnOk, map, length, option_map, slice_get};
+ghost use Rattle.std.specs.List.{position};
+ghost use Rattle.std.specs.Option.{option_copied};
+ghost use Rattle.sr_ask.specs.Behaviors.{Came};
+ghost use Rattle.sr_meaning.specs.Statements.{drop_out, optional_place, own_number, push_out, set_out, set_turn, start_call, store_value, turn_now};
+ghost use Rattle.sr_walker_parts.specs.StatementParts.{call_part, take_place, took_place};
+ghost use Rattle.sr_walker_expr.specs.Walkers.{Gave, here_of, stage_of};
+
+use crate::values::int_own;
+use sr_ask::{Answer, Located, Out, Request};
+use sr_core::{CoCall, PlaceExpr, Quantifier};
+use sr_meaning::Ending;
+use sr_value::{Duplicate, NoMemory, Row, Value};
+use sr_walker_expr::{
+    IsMade, Scene, Stop, Takes, Walker, ask, cap_of, evaluate_arguments, give_back, locate,
+    places_in, put_own, store, values_in,
+};
+use std::alloc::Global;
+
+/// The place that the value of an invocation goes to, where it goes to one.
+fn optional_place(
+    scene: &Scene,
+    walker: &mut Walker,
+    place: &Option<PlaceExpr>,
+) -> Result<Option<Located>, Stop>
+    ensures { Gave (optional_place place.now (here_of scene.now) (stage_of walker.old)) result (stage_of walker.new) }
+{
+    match place {
+        None => Ok(None),
+        Some(place) => {
+            let at = locate(scene, walker, place)?;
+            Ok(Some(at))
+        }
+    }
+}
+
+/// The number that an own variable holds, or 0.
+fn own_number(walker: &Walker, var: u32) -> i32
+    ensures { result ≡ own_number walker.now.own var }
+{
+    match walker.own.get(var as usize) {
+        Some(Some(own)) => own.value.as_int().unwrap_or(0),
+        _ => 0,
+    }
+}
+
+/// The values of the quantifiers at this turn.
+fn turn_now(
+    alloc: Global,
+    walker: &Walker,
+    quantifiers: &[Quantifier],
+) -> Result<Row<i32>, NoMemory>
+    ensures { IfOk result (λ turn. turn_now quantifiers.now (stage_of walker.now) ≡ Came turn (stage_of walker.now)) }
+{
+    let mut turn = Row::new(alloc);
+    for quantifier in quantifiers {
+        turn.push(own_number(walker, quantifier.var))?;
+    }
+    Ok(turn)
+}
+
+/// One more invocation is out.
+fn push_out(walker: &mut Walker, out: Out) -> Result<(), NoMemory>
+    ensures { OnOk result (push_out out (stage_of walker.old) ≡ Came tt (stage_of walker.new)) }
+{
+    walker.out.push(out)
+}
+
+/// Makes other invocations those that are out, and hands out those before.
+pub fn set_out(walker: &mut Walker, out: Row<Out>) -> Row<Out>
+    ensures set { set_out out (stage_of walker.old) ≡ Came tt (stage_of walker.new) }
+    ensures before { result ≡ walker.old.out }
+{
+    std::mem::replace(&mut walker.out, out)
+}
+
+/// One invocation of a `co`: its place, its target, its arguments.
+pub fn start_call(
+    scene: &Scene,
+    walker: &mut Walker,
+    arm: u32,
+    call: &CoCall,
+    quantifiers: &[Quantifier],
+) -> Result<Ending, Stop>
+    ensures { Gave (start_call arm (call_part quantifiers.now call.now) (here_of scene.now) (stage_of walker.old)) result (stage_of walker.new) }
+{
+    let place = optional_place(scene, walker, &call.place)?;
+    let target = cap_of(scene, walker, &call.target)?;
+    let sent = evaluate_arguments(scene, walker, call.args.as_slice())?;
+    let request = Request::Invoke {
+        target,
+        args: values_in(scene.alloc, sent.as_slice())?,
+        wants: true,
+    };
+    let id = ask(scene, walker, &IsMade, request)?;
+    let out = Out {
+        id,
+        arm,
+        place,
+        backs: places_in(scene.alloc, sent.as_slice())?,
+        turn: turn_now(scene.alloc, walker, quantifiers)?,
+    };
+    push_out(walker, out)?;
+    Ok(Ending::Through)
+}
+
+/// A reply that was taken, by the place of its invocation among those that are out.
+#[derive(Drop)]
+pub struct PlacedReply {
+    pub at: usize,
+    pub results: Option<Row<Value>>,
+}
+
+/// `Took`, of one of the invocations that are out.
+#[derive(Drop)]
+struct IsReplyToAny {
+    ids: Row<u32>,
+}
+
+impl Takes<PlacedReply> for IsReplyToAny {
+    ghost takes = { λ form. took_place form.ids };
+
+    fn take(&self, answer: Answer) -> Option<PlacedReply> {
+        match answer {
+            Answer::Took { id, results } => placed(self.ids.as_slice(), id, results),
+            _ => None,
+        }
+    }
+}
+
+/// A reply by the place of its invocation, where that is out.
+fn placed(ids: &[u32], id: u32, results: Option<Row<Value>>) -> Option<PlacedReply>
+    ensures { result ≡ took_place ids.now (Answer.Took id results) }
+{
+    match place_of(ids, id) {
+        Some(at) => Some(PlacedReply { at, results }),
+        None => None,
+    }
+}
+
+/// The first place of a number.
+fn place_of(ids: &[u32], id: u32) -> Option<usize>
+    ensures { result ≡ position (λ i. i == id) ids.now }
+{
+    ids.iter().position(|i| *i == id)
+}
+
+/// The numbers of the invocations that are out.
+fn ids_out(alloc: Global, outs: &[Out]) -> Result<Row<u32>, NoMemory>
+    ensures { IfOk result (λ ids. ids ≡ map (λ out. out.id) outs.now) }
+{
+    let mut ids = Row::new(alloc);
+    for out in outs {
+        ids.push(out.id)?;
+    }
+    Ok(ids)
+}
+
+/// Takes the earliest reply to one of the invocations that are out.
+pub fn take_reply(scene: &Scene, walker: &mut Walker) -> Result<PlacedReply, Stop>
+    ensures taken { Gave (take_place (here_of scene.now) (stage_of walker.old)) result (stage_of walker.new) }
+    ensures within { IfOk result (λ reply. reply.at < length walker.new.out) }
+{
+    let ids = ids_out(scene.alloc, walker.out.as_slice())?;
+    let request = Request::Take {
+        ids: ids.copy(scene.alloc)?,
+    };
+    ask(scene, walker, &IsReplyToAny { ids }, request)
+}
+
+/// The arm of an invocation that is out.
+pub fn arm_out(walker: &Walker, at: usize) -> u32
+    requires { at < length walker.now.out }
+    ensures { option_map (λ out. out.arm) (slice_get walker.now.out at) ≡ Some result }
+{
+    walker.out.as_slice()[at].arm
+}
+
+/// The first invocation of a number that is out.
+fn place_out(walker: &Walker, id: u32) -> Option<usize>
+    ensures { result ≡ position (λ out. out.id == id) walker.now.out }
+{
+    walker.out.as_slice().iter().position(|out| out.id == id)
+}
+
+/// No invocation of this number is out any more.
+fn drop_out(walker: &mut Walker, id: u32)
+    ensures { drop_out id (stage_of walker.old) ≡ Came tt (stage_of walker.new) }
+{
+    'drops: while let Some(at) = place_out(walker, id) {
+        let _ = walker.out.remove(at);
+    }
+}
+
+/// Hands out an invocation that is out, and drops all of its number.
+pub fn take_out(walker: &mut Walker, at: usize) -> Out
+    requires { at < length walker.old.out }
+    ensures dropped { drop_out result.id (stage_of walker.old) ≡ Came tt (stage_of walker.new) }
+    ensures out { slice_get walker.old.out at ≡ Some result }
+{
+    let out = walker.out.remove(at);
+    drop_out(walker, out.id);
+    out
+}
+
+/// Gives quantifiers the values of an invocation again.
+pub fn set_turn(walker: &mut Walker, quantifiers: &[Quantifier], turn: &[i32])
+    ensures { set_turn quantifiers.now turn.now (stage_of walker.old) ≡ Came tt (stage_of walker.new) }
+{
+    match quantifiers {
+        [] => {}
+        [quantifier, others @ ..] => match turn {
+            [] => {}
+            [value, rest @ ..] => {
+                put_own(walker, quantifier.var, int_own(*value));
+                set_turn(walker, others, rest);
+            }
+        },
+    }
+}
+
+/// Stores the value of an invocation, where it goes to a place.
+pub fn store_value(
+    scene: &Scene,
+    walker: &mut Walker,
+    place: &Option<Located>,
+    value: Value,
+) -> Result<(), Stop>
+    ensures { Gave (store_value place.now value (here_of scene.now) (stage_of walker.old)) result (stage_of walker.new) }
+{
+    match place {
+        None => Ok(()),
+        Some(place) => store(scene, walker, place, value),
+    }
+}
