@@ -1,10 +1,8 @@
 -- Calls in expressions: of a predefined function, of a record type, or of an operation.
-use Rattle.std.specs.Prelude.{Bool, true, false, List, [], ◌∷◌, ◌++◌, Option, Some, None}
+use Rattle.std.specs.Prelude.{Bool, true, false, List, [], ◌++◌}
 use Rattle.sr_value.specs.declared.place.Span.{Span}
 use Rattle.sr_names.specs.declared.finding.Finding.{Finding}
-use Rattle.sr_names.specs.declared.finding.Rule.TheVariants.{BadType, BadUse}
-use Rattle.sr_names.specs.declared.meaning.Decl.{Decl}
-use Rattle.sr_names.specs.declared.predefined.Predefined.{Predefined}
+use Rattle.sr_names.specs.declared.finding.Rule.TheVariants.{BadUse}
 use Rattle.sr_types.specs.declared.ty.Ty.{Ty, out-Ty}
 use Rattle.sr_types.specs.declared.ty.Ty.TheOpen.{Ty-F}
 use Rattle.sr_types.specs.declared.ty.Ty.TheVariants.{Rec}

@@ -11,7 +11,7 @@ use Rattle.sr_tree.specs.declared.name.QualifiedName.{QualifiedName}
 use Rattle.sr_types.specs.declared.ty.Ty.{Ty}
 use Rattle.sr_types.specs.declared.ty.Ty.TheVariants as ty
 use Rattle.sr_types.specs.declared.typed.Outcome.{Outcome}
-use Rattle.sr_types.specs.declared.typed.Outcome.TheVariants.{Broken, Met}
+use Rattle.sr_types.specs.declared.typed.Outcome.TheVariants.{Broken}
 use Rattle.sr_types.specs.declared.typed.Static.TheVariants.{Unknown}
 use Rattle.sr_types.specs.Outcomes.{computed, met_if}
 use Rattle.sr_check_expr.specs.declared.facts.Facts.{Facts}

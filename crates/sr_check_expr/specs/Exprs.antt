@@ -1,5 +1,5 @@
 -- What is found in an expression, and what it is: one line for each construct.
-use Rattle.std.specs.Prelude.{ℕ, Bool, true, false, List, [], ◌∷◌, ◌++◌, Option, Some, None, map}
+use Rattle.std.specs.Prelude.{ℕ, false, List, [], ◌∷◌, ◌++◌, Option, Some, None, map}
 use Rattle.std.specs.Option.{option_map}
 use Rattle.sr_value.specs.declared.operator.Operator.{Operator}
 use Rattle.sr_value.specs.declared.operator.Operator.TheVariants as operator
@@ -41,7 +41,7 @@ use Rattle.sr_check_expr.specs.declared.judged.Named.{Named}
 use Rattle.sr_check_expr.specs.declared.judged.Named.TheVariants as named
 use Rattle.sr_check_expr.specs.Calls.{Called, call_judged}
 use Rattle.sr_check_expr.specs.Creating.{create_judged, machine_judged}
-use Rattle.sr_check_expr.specs.Judgements.{Judgement, plain, valued, value_found, broken_unless, settled, name_at, with_found}
+use Rattle.sr_check_expr.specs.Judgements.{Judgement, plain, value_found, broken_unless, settled, name_at, with_found}
 use Rattle.sr_check_expr.specs.LiteralTypes.{literal_typed, literal_named, basic_type}
 use Rattle.sr_check_expr.specs.Naming.{name_judged, decl_of, decl_info, field_outcome}
 

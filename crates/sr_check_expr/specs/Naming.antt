@@ -1,5 +1,5 @@
 -- What names are in expressions.
-use Rattle.std.specs.Prelude.{ℕ, List, [], ◌∷◌, ◌++◌, Option, Some, None, find}
+use Rattle.std.specs.Prelude.{ℕ, List, [], Option, Some, None, find}
 use Rattle.std.specs.Option.{option_and_then, option_map}
 use Rattle.std.specs.Str.{bytes_eq}
 use Rattle.sr_value.specs.declared.place.Span.{Span}
@@ -29,7 +29,6 @@ use Rattle.sr_check_expr.specs.declared.info.FieldInfo.{FieldInfo}
 use Rattle.sr_check_expr.specs.declared.info.Info.{Info}
 use Rattle.sr_check_expr.specs.declared.info.Info.TheVariants as info
 use Rattle.sr_check_expr.specs.declared.judged.Judged.{Judged}
-use Rattle.sr_check_expr.specs.declared.judged.Named.{Named}
 use Rattle.sr_check_expr.specs.declared.judged.Named.TheVariants as named
 use Rattle.sr_check_expr.specs.Entries.{Entries}
 use Rattle.sr_check_expr.specs.Infos.{info_at, type_spot, name_spot}

@@ -18,7 +18,6 @@ use Rattle.sr_types.specs.declared.ty.Ty.TheVariants as ty
 use Rattle.sr_types.specs.declared.typed.Outcome.{Outcome}
 use Rattle.sr_types.specs.declared.typed.Outcome.TheVariants.{Broken, Met}
 use Rattle.sr_types.specs.declared.typed.Static.TheVariants.{Unknown}
-use Rattle.sr_types.specs.declared.typed.Typed.{Typed}
 use Rattle.sr_types.specs.Outcomes.{computed, refused_typed}
 use Rattle.sr_types.specs.Predefined.{number_rule, numbers_rule, low_rule, high_rule, bound_rule, length_rule, neighbour_rule}
 use Rattle.sr_types.specs.Types.{is_no_type}

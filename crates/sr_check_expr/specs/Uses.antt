@@ -1,7 +1,7 @@
 -- What `read` and `on` ask of expressions.
 use Rattle.std.specs.Prelude.{Bool, true, false, ◌&&◌}
 use Rattle.sr_types.specs.declared.typed.Typed.{Typed}
-use Rattle.sr_types.specs.declared.ty.Ty.{Ty, out-Ty}
+use Rattle.sr_types.specs.declared.ty.Ty.{out-Ty}
 use Rattle.sr_types.specs.declared.ty.Ty.TheOpen.{Ty-F}
 
 abbrev pub layer_read : {A B C : Type 0} → Ty-F A B C → Bool

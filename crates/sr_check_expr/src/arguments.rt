@@ -92,7 +92,7 @@ pub(crate) fn note_invoked(
 }
 
 /// Whether there are as many of the one as of the other.
-pub(crate) fn as_many<A, B>(these: &[A], others: &[B]) -> bool
+pub fn as_many<A, B>(these: &[A], others: &[B]) -> bool
     ensures { result ≡ as_many these.now others.now }
 {
     these.len() == others.len()

@@ -122,7 +122,7 @@ fn optional(
 
 /// Notes what is found in expressions, and answers what they are.
 #[cycle(exprs)]
-fn all(
+pub fn all(
     alloc: Global,
     trees: &[Expr],
     facts: &Facts,

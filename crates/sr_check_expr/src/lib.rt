@@ -20,9 +20,11 @@ mod operators;
 mod uses;
 mod wholes;
 
-pub use arguments::{Invoked, is_callable, is_sendable, note_values, returned_by, takes_as_many};
+pub use arguments::{
+    Invoked, as_many, is_callable, is_sendable, note_values, returned_by, takes_as_many,
+};
 pub use calls::note_invocation;
-pub use exprs::{create, expr, invocation};
+pub use exprs::{all, create, expr, invocation};
 pub use facts::{Facts, Here};
 pub use functions::{function, note_guard};
 pub use info::{FieldInfo, Info};
