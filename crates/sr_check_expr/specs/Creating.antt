@@ -1,0 +1,90 @@
+-- The making of instances and machines.
+use Rattle.std.specs.Prelude.{Bool, true, false, List, [], ◌++◌, Option, Some, None}
+use Rattle.std.specs.Option.{option_map}
+use Rattle.sr_value.specs.declared.place.Span.{Span}
+use Rattle.sr_names.specs.declared.finding.Finding.{Finding}
+use Rattle.sr_names.specs.declared.finding.Rule.TheVariants.{BadType}
+use Rattle.sr_names.specs.declared.meaning.Decl.{Decl}
+use Rattle.sr_names.specs.Spots.{spot_of}
+use Rattle.sr_names.specs.Uses.{meaning_at}
+use Rattle.sr_tree.specs.declared.name.QualifiedName.{QualifiedName}
+use Rattle.sr_types.specs.declared.ty.Ty.{Ty}
+use Rattle.sr_types.specs.declared.ty.Ty.TheVariants as ty
+use Rattle.sr_types.specs.declared.typed.Outcome.{Outcome}
+use Rattle.sr_types.specs.declared.typed.Outcome.TheVariants.{Broken}
+use Rattle.sr_types.specs.declared.typed.Static.TheVariants.{Unknown}
+use Rattle.sr_types.specs.Outcomes.{computed, met_if}
+use Rattle.sr_check_expr.specs.declared.facts.Facts.{Facts}
+use Rattle.sr_check_expr.specs.declared.info.Info.{Info}
+use Rattle.sr_check_expr.specs.declared.info.Info.TheVariants as info
+use Rattle.sr_check_expr.specs.declared.judged.Judged.{Judged}
+use Rattle.sr_check_expr.specs.Arguments.{all_found, all_valued, invoked_found, takes_as_many}
+use Rattle.sr_check_expr.specs.Entries.{Entries}
+use Rattle.sr_check_expr.specs.Infos.{info_at, type_spot}
+use Rattle.sr_check_expr.specs.Judgements.{Judgement, broken_unless, value_found, settled, value_at, judged_of, with_found}
+use Rattle.sr_check_expr.specs.Naming.{decl_of, deciding}
+use Rattle.sr_check_expr.specs.PredefinedCalls.{guard_found, is_resource}
+use Rattle.sr_check_expr.specs.Uses.{machine_rule}
+
+abbrev pub component_type : Option Info → Option Ty
+component_type (Some (info.Component ty)) = Some ty
+component_type _ = None
+
+abbrev pub resource_if : Bool → Option Info → Option Ty
+resource_if true info = component_type info
+resource_if false info = None
+
+-- the type that the formals of a resource make; a global can't be made
+abbrev pub resource_type : Entries → Option Decl → Option Ty
+resource_type infos None = None
+resource_type infos (Some decl) = resource_if (is_resource decl.sort) (info_at infos decl.spot)
+
+abbrev pub instance_type : Option Decl → Ty
+instance_type None = ty.Untyped
+instance_type (Some decl) = ty.Resource (type_spot decl.spot)
+
+abbrev pub machine_found : Option Judgement → List Finding
+machine_found None = []
+machine_found (Some machine) = machine.found
+
+abbrev pub machine_of : Option Judgement → Option Judged
+machine_of machine = option_map (λ machine. machine.judged) machine
+
+-- what stands behind `on` is a machine
+abbrev pub machine_valued : Option Judged → List Finding
+machine_valued None = []
+machine_valued (Some machine) = value_found machine ++ broken_unless (machine_rule machine.typed) BadType machine.span
+
+-- there is an argument for each formal
+abbrev pub made_of : List Judged → Ty → Option Ty → Outcome
+made_of arguments instance None = Broken
+made_of arguments instance (Some formals) = met_if (takes_as_many formals arguments) (computed instance Unknown)
+
+abbrev pub formals_found : List Judged → Option Ty → List Finding
+formals_found arguments None = []
+formals_found arguments (Some formals) = invoked_found formals arguments
+
+abbrev pub made_found : Facts → Span → Option Ty → List Judged → Option Judged → List Finding
+made_found facts span formals arguments machine =
+    all_valued arguments ++ (machine_valued machine ++ (formals_found arguments formals ++ guard_found facts.here span))
+
+-- what is made, by its arguments and its machine
+abbrev pub instance_judged : Facts → Span → Option Decl → List Judged → Option Judged → Judgement
+instance_judged facts span resource arguments machine =
+    settled span
+    (made_found facts span (resource_type facts.infos resource) arguments machine)
+    (made_of arguments (instance_type resource) (resource_type facts.infos resource))
+
+-- the declaration that is named in a `create`
+abbrev pub resource_named : Facts → QualifiedName → Option Decl
+resource_named facts qualified = decl_of (meaning_at facts.uses (spot_of (deciding qualified).span))
+
+-- `create R(arguments) on machine`
+abbrev pub create_judged : Facts → Span → QualifiedName → List Judgement → Option Judgement → Judgement
+create_judged facts span qualified arguments machine =
+    with_found (all_found arguments ++ machine_found machine)
+    (instance_judged facts span (resource_named facts qualified) (judged_of arguments) (machine_of machine))
+
+-- `create vm()`
+abbrev pub machine_judged : Facts → Span → Judgement
+machine_judged facts span = record { found = guard_found facts.here span; judged = value_at span (computed ty.Vm Unknown) }

@@ -1,0 +1,11 @@
+pub mod Arguments
+pub mod Calls
+pub mod Creating
+pub mod Entries
+pub mod Exprs
+pub mod Infos
+pub mod Judgements
+pub mod LiteralTypes
+pub mod Naming
+pub mod PredefinedCalls
+pub mod Uses

@@ -1,0 +1,130 @@
+ghost use Rattle.std.specs.Prelude.{◌≡◌, IfOk, OnOk, option_copied};
+ghost use Rattle.sr_names.specs.Notes.{all_noted};
+ghost use Rattle.sr_check_expr.specs.Creating.{component_type, resource_type, resource_named, instance_type, machine_valued, made_of, formals_found, made_found, instance_judged, machine_judged};
+
+use crate::arguments::{note_invoked, note_values, takes_as_many};
+use crate::facts::Facts;
+use crate::functions::note_guard;
+use crate::info::Info;
+use crate::infos::{Infos, type_spot};
+use crate::judged::Judged;
+use crate::literals::known;
+use crate::marks::{note_unless, note_value, settle, value_at};
+use crate::naming::{deciding, decl_of};
+use crate::uses::may_be_machine;
+use sr_names::{Decl, Notes, Rule, Sort, Spot};
+use sr_tree::QualifiedName;
+use sr_types::{Outcome, Static, Ty, own_machine};
+use sr_value::{NoMemory, Span};
+use std::alloc::Global;
+
+/// The declaration that is named in a `create`.
+pub(crate) fn resource_named(facts: &Facts, qualified: &QualifiedName) -> Option<Decl>
+    ensures { result ≡ resource_named facts.now qualified.now }
+{
+    decl_of(facts.uses.get(Spot::of(deciding(qualified).span)))
+}
+
+fn component_type(info: Option<&Info>) -> Option<&Ty>
+    ensures { option_copied result ≡ component_type (option_copied info.entry) }
+{
+    match info {
+        Some(Info::Component(ty)) => Some(ty),
+        _ => None,
+    }
+}
+
+/// The type that the formals of a resource make; a global can't be made.
+fn resource_type(infos: &Infos, resource: Option<Decl>) -> Option<&Ty>
+    ensures { option_copied result ≡ resource_type infos.now resource }
+{
+    match resource {
+        None => None,
+        Some(decl) => match decl.sort {
+            Sort::Resource => component_type(infos.get(decl.spot)),
+            _ => None,
+        },
+    }
+}
+
+fn instance_type(resource: Option<Decl>) -> Ty
+    ensures { result ≡ instance_type resource }
+{
+    match resource {
+        None => Ty::Untyped,
+        Some(decl) => Ty::Resource(type_spot(decl.spot)),
+    }
+}
+
+/// Notes that what stands behind `on` is no machine.
+fn note_machine(notes: &mut Notes, machine: &Option<Judged>) -> Result<(), NoMemory>
+    ensures { OnOk result (notes.new ≡ all_noted notes.old (machine_valued machine.now)) }
+{
+    match machine {
+        Some(machine) => {
+            note_value(notes, machine)?;
+            let met = may_be_machine(&machine.typed);
+            note_unless(notes, met, Rule::BadType, machine.span)
+        }
+        None => Ok(()),
+    }
+}
+
+fn note_formals(
+    notes: &mut Notes,
+    arguments: &[Judged],
+    formals: Option<&Ty>,
+) -> Result<(), NoMemory>
+    ensures { OnOk result (notes.new ≡ all_noted notes.old (formals_found arguments.now (option_copied formals.entry))) }
+{
+    match formals {
+        Some(formals) => note_invoked(notes, formals, arguments),
+        None => Ok(()),
+    }
+}
+
+/// What is made, where the arguments are as many as the formals.
+fn made_of(arguments: &[Judged], instance: Ty, formals: Option<&Ty>) -> Outcome
+    ensures { result ≡ made_of arguments.now instance (option_copied formals.entry) }
+{
+    match formals {
+        Some(formals) => {
+            if takes_as_many(formals, arguments) {
+                Outcome::Met(known(instance, Static::Unknown))
+            } else {
+                Outcome::Broken
+            }
+        }
+        None => Outcome::Broken,
+    }
+}
+
+/// Notes what is found at the making of an instance, apart from its parts, and answers what it is.
+pub(crate) fn instance(
+    facts: &Facts,
+    notes: &mut Notes,
+    span: Span,
+    resource: Option<Decl>,
+    arguments: &[Judged],
+    machine: &Option<Judged>,
+) -> Result<Judged, NoMemory>
+    ensures value { IfOk result (λ judged. judged ≡ (instance_judged facts.now span resource arguments.now machine.now).judged) }
+    ensures noted { OnOk result (notes.new ≡ all_noted notes.old (instance_judged facts.now span resource arguments.now machine.now).found) }
+{
+    let formals = resource_type(&facts.infos, resource);
+    note_values(notes, arguments)?;
+    note_machine(notes, machine)?;
+    note_formals(notes, arguments, formals)?;
+    note_guard(notes, facts.here, span)?;
+    let outcome = made_of(arguments, instance_type(resource), formals);
+    settle(notes, span, outcome)
+}
+
+/// Notes what is found at the making of a machine, and answers what it is.
+pub(crate) fn new_machine(facts: &Facts, notes: &mut Notes, span: Span) -> Result<Judged, NoMemory>
+    ensures value { IfOk result (λ judged. judged ≡ (machine_judged facts.now span).judged) }
+    ensures noted { OnOk result (notes.new ≡ all_noted notes.old (machine_judged facts.now span).found) }
+{
+    note_guard(notes, facts.here, span)?;
+    Ok(value_at(span, own_machine()))
+}
