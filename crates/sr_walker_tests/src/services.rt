@@ -1,0 +1,5 @@
+//! Services, and how they are left.
+
+mod leaving;
+mod nested;
+mod replying;

@@ -1,0 +1,5 @@
+//! What comes back from the machine, and where it goes.
+
+mod reading;
+mod returning;
+mod swapping;
