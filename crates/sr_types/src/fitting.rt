@@ -58,6 +58,3 @@ fn are_nulls(value: &Ty, place: &Ty) -> bool
         _ => false,
     }
 }
-
-#[cfg(test)]
-mod tests;

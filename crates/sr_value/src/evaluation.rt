@@ -248,6 +248,3 @@ fn bytes(value: &Value) -> Option<&[u8]>
         _ => None,
     }
 }
-
-#[cfg(test)]
-mod tests;

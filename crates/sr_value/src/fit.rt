@@ -129,6 +129,3 @@ fn unless(test: bool, fault: Fault) -> Option<Fault>
 {
     if test { None } else { Some(fault) }
 }
-
-#[cfg(test)]
-mod tests;

@@ -45,6 +45,3 @@ pub use text::Text;
 pub use unset::{MOST_CELLS, default_of, has_bounds_in_range};
 pub use value::Value;
 pub use value_text::{EnumNames, text_of};
-
-#[cfg(test)]
-mod collection_tests;

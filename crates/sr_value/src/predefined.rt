@@ -262,6 +262,3 @@ pub fn string_of(alloc: Global, value: &Value, names: &EnumNames) -> Result<Valu
         _ => Ok(Value::Str(text_of(alloc, value, names)?)),
     }
 }
-
-#[cfg(test)]
-mod tests;

@@ -220,6 +220,3 @@ fn repeated(alloc: Global, value: &Value, count: usize) -> Result<Row<Value>, No
     }
     Ok(Row::from_vec(values))
 }
-
-#[cfg(test)]
-mod tests;

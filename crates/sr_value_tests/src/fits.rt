@@ -1,10 +1,4 @@
-use super::misfit;
-use crate::boxed::Boxed;
-use crate::fault::Fault;
-use crate::row::Row;
-use crate::shape::{Dims, Shape};
-use crate::text::Text;
-use crate::value::Value;
+use sr_value::{Boxed, Dims, Fault, Row, Shape, Text, Value, misfit};
 use std::test::Fail;
 
 #[test]

@@ -1,12 +1,4 @@
-use super::default_of;
-use crate::boxed::Boxed;
-use crate::capability::Cap;
-use crate::compare::Compare;
-use crate::fault::{Fault, ValueFail};
-use crate::row::Row;
-use crate::shape::{Dims, Shape};
-use crate::text::Text;
-use crate::value::Value;
+use sr_value::{Boxed, Cap, Compare, Dims, Fault, Row, Shape, Text, Value, ValueFail, default_of};
 use std::alloc::Global;
 use std::test::Fail;
 

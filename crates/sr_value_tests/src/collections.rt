@@ -1,4 +1,4 @@
-use crate::{
+use sr_value::{
     Boxed, Cap, Compare, Dims, Duplicate, EnumNames, NoMemory, Owner, Row, Shape, Text, Value,
     text_of,
 };

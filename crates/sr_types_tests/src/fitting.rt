@@ -1,7 +1,4 @@
-use super::fits;
-use crate::signature::{Forms, Mode};
-use crate::spot::Spot;
-use crate::ty::{Param, Signature, Ty, same};
+use sr_types::{Forms, Mode, Param, Signature, Spot, Ty, fits, same};
 use sr_value::{Boxed, Duplicate, Row};
 use std::alloc::Global;
 use std::test::Fail;

@@ -1,10 +1,6 @@
-use super::{MOST_BYTES, arith, unary};
-use crate::capability::{Cap, Owner};
-use crate::compare::Compare;
-use crate::fault::{Fault, ValueFail};
-use crate::operator::Operator;
-use crate::text::Text;
-use crate::value::Value;
+use sr_value::{
+    Cap, Compare, Fault, MOST_BYTES, Operator, Owner, Text, Value, ValueFail, arith, unary,
+};
 use std::alloc::Global;
 use std::test::Fail;
 

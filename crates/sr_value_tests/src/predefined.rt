@@ -1,12 +1,7 @@
-use super::{
-    Dimension, absolute, char_of, greatest, highest, int_of, least, length_of, lower_bound, lowest,
-    predecessor, string_of, successor, upper_bound,
+use sr_value::{
+    Dimension, Dims, Fault, Row, Shape, Text, Value, absolute, char_of, greatest, highest, int_of,
+    least, length_of, lower_bound, lowest, predecessor, string_of, successor, upper_bound,
 };
-use crate::fault::Fault;
-use crate::row::Row;
-use crate::shape::{Dims, Shape};
-use crate::text::Text;
-use crate::value::Value;
 use std::test::Fail;
 
 fn number(answer: Result<Value, Fault>) -> Option<Result<i32, Fault>> {
