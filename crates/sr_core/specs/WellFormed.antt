@@ -219,6 +219,7 @@ statement_ok (Statement-F.Fa place quantifiers body) at = list_all (λ q. quanti
 statement_ok (Statement-F.In place site arms otherwise) at =
     site_ok site (length arms) at && (list_all (λ block. all_pass block (within_arm at)) arms && all_pass otherwise at)
 statement_ok (Statement-F.Co place arms) at = all_pass arms at
+statement_ok (Statement-F.Sends place target count) at = expr_ok target at && expr_ok count at
 
 abbrev pub guarded_ok : Guarded-F Test Test Test → Test
 guarded_ok guarded at = expr_ok guarded.condition at && all_pass guarded.body at

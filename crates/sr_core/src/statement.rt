@@ -162,6 +162,12 @@ pub enum Statement {
         place: Place,
         arms: Row<CoArm>,
     },
+    /// The sends of a `sem`: `count` times a `send` without arguments to `target`, each a statement of its own.
+    Sends {
+        place: Place,
+        target: Expr,
+        count: Expr,
+    },
 }
 
 /// A block, and the condition under which it runs.

@@ -50,8 +50,8 @@ use Rattle.sr_meaning.specs.declared.ending.Ending.TheVariants.{Through, Left, T
 use Rattle.sr_meaning.specs.Expressions.{Meaning, choice, values_sent, places_back}
 use Rattle.sr_meaning.specs.Here.{Here, request, settle}
 use Rattle.sr_meaning.specs.Places.{own_at}
-use Rattle.sr_meaning.specs.Statements.{Completion, CoPart, action_meaning, after_turn, arguments, before, block_meaning, bump_operator, cap_expr, complete, complete_all, complete_outs, condition_meaning, continue, declaration_meaning, dims_shape, drop_out, first_true, first_value, for_values, forward_meaning, forward_unless, gives_now, in_meaning, int_own, item_shape, make, make_formals, make_returned, mark_answered, named_value, no_guard, do_meaning, do_turn, co_meaning, if_meaning, left, number_expr, optional_place, or_try, own_number, push_out, quantified, reply_meaning, reply_unless, selection_meaning, sent_behind, sent_to, served, service_for, service_meaning, set_out, set_service, set_turn, setup_meaning, site_at, spot_in, start_call, start_calls, status_meaning, store_sent, store_value, string_shape, take_one, through, time_of, took_one, truth_expr, turn_end, turn_now, wake_at, whole}
-use Rattle.sr_meaning.specs.Values.{truth_of, number_of, cap_of, values_of, texts_of, written, bounded_by, formal_shape}
+use Rattle.sr_meaning.specs.Statements.{Completion, CoPart, action_meaning, after_turn, arguments, before, block_meaning, bump_operator, cap_expr, complete, complete_all, complete_outs, condition_meaning, continue, declaration_meaning, dims_shape, drop_out, first_true, first_value, for_values, forward_meaning, forward_unless, gives_now, in_meaning, int_own, item_shape, make, make_formals, make_returned, mark_answered, named_value, no_guard, do_meaning, do_turn, co_meaning, if_meaning, left, number_expr, optional_place, or_try, own_number, push_out, quantified, reply_meaning, reply_unless, selection_meaning, sends, sends_meaning, sent_behind, sent_to, served, service_for, service_meaning, set_out, set_service, set_turn, setup_meaning, site_at, spot_in, start_call, start_calls, status_meaning, store_sent, store_value, string_shape, take_one, through, time_of, took_one, truth_expr, turn_end, turn_now, wake_at, whole}
+use Rattle.sr_meaning.specs.Values.{truth_of, number_of, cap_of, count_of, values_of, texts_of, written, bounded_by, formal_shape}
 use Rattle.sr_meaning.proofs.Regular.{Regular, RegularMeaning, AllRegular, with_limit, regular_then, regular_give, regular_equal, regular_choice, regular_service, regular_out, regular_by, regular_tick, regular_request, regular_last, regular_settle, regular_looped, regular_in_order}
 use Rattle.sr_meaning.proofs.RegularExpressions.{regular_declare, regular_load, regular_store, regular_give_back, regular_taken}
 use Rattle.sr_meaning.proofs.RegularTrees.{regular_expr, regular_exprs, regular_place, regular_arguments}
@@ -223,6 +223,17 @@ regular_action Exit here = regular_give Left
 regular_action Next here = regular_give Turned
 regular_action Return here = regular_give returned
 regular_action reply_action here = regular_through (regular_reply here)
+
+-- ---- semaphores
+
+regular_all_sends : (target : Expr) (times : ℕ) (here : Here) → Regular (λ limit. sends target times (with_limit limit here))
+regular_all_sends target zero here = regular_give tt
+regular_all_sends target (suc left) here =
+    regular_then regular_tick (λ _. regular_then (regular_action (Send target []) here) (λ _. regular_all_sends target left here))
+
+pub regular_sends : (target count : Expr) (here : Here) → Regular (λ limit. sends_meaning target count (with_limit limit here))
+regular_sends target count here =
+    regular_then (regular_number count here) (λ n. regular_then (regular_settle here (count_of n)) (λ times. regular_through (regular_all_sends target times here)))
 
 -- ---- guards
 

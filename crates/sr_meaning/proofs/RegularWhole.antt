@@ -11,7 +11,7 @@ use Rattle.sr_meaning.specs.Here.{at_line}
 use Rattle.sr_meaning.specs.Pieces.{co_part_of, guarded_of, optional_block}
 use Rattle.sr_meaning.specs.Statements.{CoPart, co_arm_meaning, guarded_meaning, left, meaning_of, statement_meaning}
 use Rattle.sr_meaning.proofs.Regular.{RegularMeaning, AllRegular, regular_then, regular_give, regular_tick}
-use Rattle.sr_meaning.proofs.RegularStatements.{EachRegular, OptionRegular, PartsRegular, regular_action, regular_block, regular_co, regular_declaration, regular_do, regular_guarded, regular_if, regular_in, regular_quantified, regular_through}
+use Rattle.sr_meaning.proofs.RegularStatements.{EachRegular, OptionRegular, PartsRegular, regular_action, regular_block, regular_co, regular_declaration, regular_do, regular_guarded, regular_if, regular_in, regular_quantified, regular_sends, regular_through}
 use Rattle.sr_meaning.proofs.RegularTrees.{regular_row}
 
 -- trees with what is known of them
@@ -54,6 +54,7 @@ regular_statement_node (Statement-F.In place site arms otherwise) = record {
   at = λ here. regular_then regular_tick (λ _. regular_in site _ _ (at_line place here) (regular_rows arms) (regular_row meaning_of otherwise));
 }
 regular_statement_node (Statement-F.Co place arms) = record { at = λ here. regular_then regular_tick (λ _. regular_co _ (at_line place here) (regular_parts arms)) }
+regular_statement_node (Statement-F.Sends place target count) = record { at = λ here. regular_sends target count (at_line place here) }
 
 regular_arm_node : (y : CoArm-F StatementWith ArmWith GuardedWith) → RegularMeaning (co_arm_meaning (map-CoArm Statement CoArm Guarded (Meaning Ending) CoPart (Meaning (Option Ending)) meaning_of co_part_of guarded_of (map-CoArm StatementWith ArmWith GuardedWith Statement CoArm Guarded (λ e. e.0) (λ e. e.0) (λ e. e.0) y))).body
 regular_arm_node y = record { at = λ here. regular_block _ here (regular_row meaning_of y.body) }

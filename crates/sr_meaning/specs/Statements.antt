@@ -69,7 +69,7 @@ use Rattle.sr_meaning.specs.declared.evaluated.Sent.{Sent}
 use Rattle.sr_meaning.specs.Expressions.{Meaning, in_order, choice, expr_meaning, place_of_expr, argument_of, values_sent, places_back, give_back, taken}
 use Rattle.sr_meaning.specs.Here.{Here, at_line, request, settle, fail}
 use Rattle.sr_meaning.specs.Places.{own_at, declare_own, load_place, store_place}
-use Rattle.sr_meaning.specs.Values.{truth_of, number_of, cap_of, nothing, values_of, texts_of, written, bounded_by, formal_shape}
+use Rattle.sr_meaning.specs.Values.{truth_of, number_of, cap_of, count_of, nothing, values_of, texts_of, written, bounded_by, formal_shape}
 
 -- ---- endings
 
@@ -517,9 +517,20 @@ co_meaning parts here stage =
     (set_out [] >>= λ _. start_calls 0 parts here >>= λ _. complete_outs parts here >>= λ ending.
     set_out stage.out >>= λ _. give (left ending)) stage
 
+-- ---- semaphores
+
+-- So many sends without arguments, each a statement begun.
+abbrev pub sends : Expr → ℕ → Meaning (Unit {0})
+sends target zero here = give tt
+sends target (suc left) here = tick >>= λ _. action_meaning (Send target []) here >>= λ _. sends target left here
+
+-- The number is evaluated once, and no send is begun before that. Below 0 it is E6.
+abbrev pub sends_meaning : Expr → Expr → Meaning Ending
+sends_meaning target count here = number_expr count here >>= λ n. settle (count_of n) here >>= λ times. through (sends target times here)
+
 -- ---- nodes
 
--- A statement is one tick, and a declaration none.
+-- A statement is one tick, and a declaration none; the sends of a `sem` are as many statements.
 abbrev pub statement_meaning : Statement-F (Meaning Ending) CoPart (Meaning (Option Ending)) → Meaning Ending
 statement_meaning (Statement-F.Declare place declaration) here = through (declaration_meaning declaration (at_line place here))
 statement_meaning (Statement-F.Act place action) here = tick >>= λ _. action_meaning action (at_line place here)
@@ -529,6 +540,7 @@ statement_meaning (Statement-F.Fa place quantifiers body) here =
     tick >>= λ _. quantified quantifiers (block_meaning body) (at_line place here) >>= λ ending. give (left ending)
 statement_meaning (Statement-F.In place site arms otherwise) here = tick >>= λ _. in_meaning site arms otherwise (at_line place here)
 statement_meaning (Statement-F.Co place arms) here = tick >>= λ _. co_meaning arms (at_line place here)
+statement_meaning (Statement-F.Sends place target count) here = sends_meaning target count (at_line place here)
 
 -- what a statement asks, and how it ends
 abbrev pub meaning_of : Statement → Meaning Ending

@@ -1,5 +1,5 @@
 -- Pieces of work, one behind the other.
-use Rattle.std.proofs.Common.{◌≡◌, ◌≢◌, ℕ, zero, suc, ◌+◌, ◌-◌, ◌*◌, ◌<◌, ℤ, List, ◌∷◌, length, map, Option, option_map, Some, None, refl, sym, ap, ◌∙◌, arith}
+use Rattle.std.proofs.Common.{◌≡◌, ◌≢◌, ℕ, zero, suc, ◌+◌, ◌-◌, ◌*◌, ◌<◌, ℤ, List, [], ◌∷◌, length, map, Option, option_map, Some, None, refl, sym, ap, ◌∙◌, arith}
 use Rattle.std.specs.List.{slice_get}
 use Rattle.std.proofs.lemmas.List.{length-map}
 use Rattle.std.proofs.lemmas.Option.{slice_get-map}
@@ -9,6 +9,7 @@ use Rattle.sr_ask.specs.Behaviors.{Stage, Outcome, Came, Stops, Doing, give, and
 use Rattle.sr_ask.specs.declared.forms.Selection.{Selection}
 use Rattle.sr_ask.specs.declared.request.Request.TheVariants.{Select}
 use Rattle.sr_core.specs.declared.expression.Expr.{Expr}
+use Rattle.sr_core.specs.declared.statement.Action.TheVariants.{Send}
 use Rattle.sr_core.specs.declared.statement.CoArm.{CoArm, out-CoArm}
 use Rattle.sr_core.specs.declared.statement.Guarded.{Guarded}
 use Rattle.sr_core.specs.declared.statement.Statement.{Statement}
@@ -20,7 +21,7 @@ use Rattle.sr_meaning.specs.declared.ending.Ending.TheVariants.{Through, Left, T
 use Rattle.sr_meaning.specs.Expressions.{Meaning, choice, in_order}
 use Rattle.sr_meaning.specs.Here.{Here, request}
 use Rattle.sr_meaning.specs.Places.{set_own}
-use Rattle.sr_meaning.specs.Statements.{CoPart, before, block_meaning, co_arm_meaning, complete, complete_all, condition_meaning, continue, for_values, guarded_meaning, in_meaning, int_own, meaning_of, named_value, quantified, selection_meaning, site_at, start_call, start_calls, statement_meaning, take_one}
+use Rattle.sr_meaning.specs.Statements.{CoPart, action_meaning, before, block_meaning, co_arm_meaning, complete, complete_all, condition_meaning, continue, for_values, guarded_meaning, in_meaning, int_own, meaning_of, named_value, quantified, selection_meaning, sends, site_at, start_call, start_calls, statement_meaning, take_one}
 use Rattle.sr_walker_parts.specs.Turns.{listed_from, value_from}
 use Rattle.sr_walker_parts.specs.declared.values.Values.{Values}
 use Rattle.sr_meaning.specs.Pieces.{co_part_of, guarded_of, optional_block}
@@ -57,6 +58,15 @@ turns_step zero turn stage above = absurd (omega arith)
 turns_step (suc most) turn stage above =
     let back : most ≡ suc most - 1 = omega arith in
     ap (λ n. and_then (tick stage) (λ _ begun. and_then (turn begun) (λ end. turned end (turns n turn)))) back
+
+-- the next send, and then the others
+pub sends_step : (target : Expr) (left : ℕ) (here : Here) (stage : Stage) → 0 < left
+    → sends target left here stage
+    ≡ and_then (tick stage) (λ _ begun. and_then (action_meaning (Send target []) here begun) (λ _. sends target (left - 1) here))
+sends_step target zero here stage above = absurd (omega arith)
+sends_step target (suc left) here stage above =
+    let back : left ≡ suc left - 1 = omega arith in
+    ap (λ n. and_then (tick stage) (λ _ begun. and_then (action_meaning (Send target []) here begun) (λ _. sends target n here))) back
 
 -- the next reply, and then the others
 pub complete_step : (count : ℕ) (parts : List CoPart) (here : Here) (stage : Stage) → 0 < count

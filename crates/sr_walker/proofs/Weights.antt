@@ -27,6 +27,7 @@ statement_weight (Statement-F.Do place guards otherwise) = 6 + (sum guards + opt
 statement_weight (Statement-F.Fa place quantifiers body) = 4 + (3 * length quantifiers + block_of_weights body)
 statement_weight (Statement-F.In place site arms otherwise) = 5 + (sum (map block_of_weights arms) + block_of_weights otherwise)
 statement_weight (Statement-F.Co place arms) = 6 + sum arms
+statement_weight (Statement-F.Sends place target count) = 1
 
 abbrev pub co_arm_weight : CoArm-F ℕ ℕ ℕ → ℕ
 co_arm_weight arm = 3 + (3 * length arm.quantifiers + block_of_weights arm.body)

@@ -44,7 +44,8 @@ fn evaluate_only(scene: &Scene, walker: &mut Walker, expr: &Expr) -> Result<Endi
     Ok(Ending::Through)
 }
 
-fn send(
+/// `send`, with its arguments from left to right.
+pub fn send(
     scene: &Scene,
     walker: &mut Walker,
     target: &Expr,

@@ -6,6 +6,7 @@ mod endings;
 mod inner;
 mod process;
 mod role;
+mod sends;
 mod statement;
 
 pub use process::tree_ask;

@@ -11,6 +11,7 @@ ghost use Rattle.sr_walker_expr.specs.Walkers.{Gave, here_of, stage_of};
 use crate::action::act;
 use crate::endings::{after_turn, left, served};
 use crate::inner::Inner;
+use crate::sends::run_sends;
 use sr_ask::{Asks, Pick, Selection};
 use sr_core::{Action, Arm, CoArm, Declaration, Guarded, Quantifier, Scope, Statement};
 use sr_meaning::Ending;
@@ -77,6 +78,11 @@ pub fn run(scene: &Scene, walker: &mut Walker, statement: &Statement) -> Result<
             otherwise.as_slice(),
         ),
         Statement::Co { place, arms } => run_co(scene, walker, *place, arms.as_slice()),
+        Statement::Sends {
+            place,
+            target,
+            count,
+        } => run_sends(scene, walker, *place, target, count),
     }
 }
 

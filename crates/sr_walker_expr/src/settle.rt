@@ -95,7 +95,7 @@ pub fn member(scene: &Scene, walker: &Walker, op: u32, cap: Cap) -> Result<Value
     }
 }
 
-/// How often a part of a bracketed list is repeated.
+/// How often a part of a bracketed list is repeated, or a semaphore is sent to.
 pub fn count(scene: &Scene, walker: &Walker, number: i32) -> Result<u32, Stop>
     ensures { Gave (settle (count_of number) (here_of scene.now) (stage_of walker.now)) result (stage_of walker.now) }
 {

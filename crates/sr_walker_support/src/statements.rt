@@ -42,6 +42,15 @@ pub fn send(
     act(line, Action::Send { target, args })
 }
 
+/// The sends of a `sem` with a number as its value.
+pub fn sends(line: u32, op: u32, count: i32) -> Result<Statement, NoMemory> {
+    Ok(Statement::Sends {
+        place: at(line),
+        target: operation(op),
+        count: number(count),
+    })
+}
+
 /// `forward op(args)`
 pub fn forward(
     line: u32,

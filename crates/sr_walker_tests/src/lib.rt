@@ -4,6 +4,8 @@
 #[cfg(test)]
 mod loops;
 #[cfg(test)]
+mod semaphores;
+#[cfg(test)]
 mod services;
 #[cfg(test)]
 mod stores;
