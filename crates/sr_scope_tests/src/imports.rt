@@ -52,14 +52,6 @@ pub const GLOBALS: &[Case<'_>] = &[
         b"global G\n  op write(n : int)\nend\nresource main()\n  import G\n  write(1)\nend\n",
         b"G 5>1, write 6>2, ",
     ),
-    (
-        b"global G\n  const c := 1\nend\nglobal H\n  const c := 2\nend\nresource main()\n  import H\n  write(c)\nend\n",
-        b"H 8>4, write 9>0, c 9>5, ",
-    ),
-    (
-        b"global G\n  op max()\nend\nglobal H\nend\nresource main()\n  import H\n  write(max(1, 2))\nend\n",
-        b"H 7>4, write 8>0, max 8>0, ",
-    ),
 ];
 
 /// Names of two imported components, and of components that stand later.
@@ -71,10 +63,6 @@ pub const AMBIGUOUS_AND_EARLY: &[Case<'_>] = &[
     (
         b"resource R\n  type t = int\nbody R()\nend\nglobal G\n  type t = int\nend\nresource main()\n  import R, G\n  var x : t\nend\n",
         b"S4 Name 10",
-    ),
-    (
-        b"global G\n  const c := 1\nend\nglobal H\n  const c := 2\nend\nglobal I\n  const c := 3\nend\nresource main()\n  import G, I\n  write(c)\nend\n",
-        b"S4 Name 12",
     ),
     (
         b"global G\n  op max()\nend\nglobal H\n  op max()\nend\nresource main()\n  import G, H\n  write(max(1, 2))\nend\n",
