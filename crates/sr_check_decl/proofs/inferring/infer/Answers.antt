@@ -2,7 +2,7 @@
 use Rattle.std.proofs.Common.{◌≡◌, ◌<◌, ◌-◌, ◌+◌, false, map, length, ap, sym, ◌∙◌, arith, rules}
 use Rattle.sr_check_expr.specs.declared.facts.Facts.{Facts}
 use Rattle.sr_check_decl.specs.Waits.{seen}
-use Rattle.sr_check_decl.specs.Inferring.{round, rounds}
+use Rattle.sr_check_decl.specs.Inferring.{rounds}
 use Rattle.sr_check_decl.proofs.Rounds.{rounds_step, rounds_stay}
 use Rattle.sr_check_decl.proofs.inferring.infer.Goals as goal
 
