@@ -1,6 +1,9 @@
 -- What is declared before and behind a wave.
-use Rattle.std.proofs.Common.{◌≡◌, ◌⊎◌, inl, inr, ℕ, suc, zero, Bool, true, false, not, ◌&&◌, ◌||◌, true≢false, List, [], ◌∷◌, ◌++◌, length, take, Option, Some, None, is_some, refl, sym, ◌∙◌, ap, subst, arith}
+use Rattle.std.proofs.Common.{◌≡◌, ◌⊎◌, inl, inr, ℕ, ◌<◌, ◌≤◌, suc, zero, Bool, true, false, not, ◌&&◌, ◌||◌, true≢false, List, [], ◌∷◌, ◌++◌, length, take, Option, Some, None, is_some, option_map, map, leb, refl, sym, ◌∙◌, ap, subst, arith}
 use Rattle.std.specs.List.{filter, list_any, list_all, slice_get, slice_set}
+use Rattle.std.proofs.lemmas.Bool.{leb-true, leb-false}
+use Rattle.std.proofs.lemmas.List.{take_all}
+use Rattle.std.proofs.lemmas.Option.{slice_get-map}
 use Rattle.sr_value.specs.declared.place.Span.{Span}
 use Rattle.sr_names.specs.declared.meaning.Decl.{Decl}
 use Rattle.sr_names.specs.declared.spot.Spot.{Spot}
@@ -11,9 +14,10 @@ use Rattle.sr_names.proofs.LinkLemmas.{same_spot-refl, same_spot-eq}
 use Rattle.sr_check_expr.specs.declared.facts.Facts.{Facts}
 use Rattle.sr_check_expr.specs.declared.info.Info.{Info}
 use Rattle.sr_check_expr.specs.Naming.{decl_of}
-use Rattle.sr_check_decl.specs.Inferring.{settled, all_settled, can_settle}
+use Rattle.sr_check_decl.specs.Picked.{if_settling, settling}
+use Rattle.sr_check_decl.specs.Inferring.{is_settled, settled, all_settled, can_settle}
 use Rattle.sr_check_decl.specs.NamesIn.{is_named_declared, is_declared, is_ready, names_in}
-use Rattle.sr_check_decl.specs.Needs.{needed_by, needs_among, needs_in, is_known, are_known, row_is_known, FirstAreKnown}
+use Rattle.sr_check_decl.specs.Needs.{needed_by, needs_among, needs_in, is_known, are_known, row_is_known, known_at, FirstAreKnown}
 use Rattle.sr_check_decl.specs.Variables.{declare}
 use Rattle.sr_check_decl.specs.Waiting.{Waiting}
 use Rattle.sr_check_decl.proofs.Tests.{and_left, and_right, both, either, or_left, or_right, true_or_false, not_true, none_some, any-filter, all-weaker, one-fails}
@@ -120,6 +124,32 @@ first_known-stays ws facts [] (n ∷ counts) h = absurd h
 first_known-stays ws facts (r ∷ rows) [] h = absurd h
 first_known-stays ws facts (r ∷ rows) (n ∷ counts) h =
     (all-weaker (is_known facts) (is_known (all_settled ws facts)) (λ spot e. known_stays ws facts spot e) (take n r) h.0, first_known-stays ws facts rows counts h.1)
+
+-- all are declared where none is met that isn't
+pub known-by : (facts : Facts) (spots : List Spot) (first : ℕ) → are_known facts (take first spots) ≡ true → (first < length spots → are_known facts spots ≡ false)
+    → leb (length spots) first ≡ are_known facts spots
+known-by facts spots first passed met = by (leb (length spots) first) refl
+  where
+    by : (b : Bool) → leb (length spots) first ≡ b → leb (length spots) first ≡ are_known facts spots
+    by true e =
+        let long : length spots ≤ first = leb-true (length spots) first e in
+        e ∙ sym (sym (ap (λ (ss : List Spot). are_known facts ss) (take_all first spots long)) ∙ passed)
+    by false e =
+        let short : first < length spots = leb-false (length spots) first e in
+        e ∙ sym (met short)
+
+-- ---- what is picked
+
+pub row-at : (facts : Facts) (rows : List (List Spot)) (waiting : List Waiting) (place : ℕ) (w : Waiting) → rows ≡ map (needs_in facts.uses) waiting → Some w ≡ slice_get waiting place
+    → known_at facts rows place ≡ are_known facts (needs_in facts.uses w)
+row-at facts rows waiting place w are is =
+    ap (λ rs. row_is_known facts (slice_get rs place)) are ∙ ap (row_is_known facts) (slice_get-map (needs_in facts.uses) waiting place ∙ ap (option_map (needs_in facts.uses)) (sym is))
+
+pub picks-settled : (facts : Facts) (w : Waiting) → is_settled facts w ≡ true → settling facts (Some w) ≡ None
+picks-settled facts w e = ap (λ b. if_settling (not b && is_ready facts w.value) w) e
+
+pub picks-known : (facts : Facts) (w : Waiting) (b : Bool) → is_settled facts w ≡ false → are_known facts (needs_in facts.uses w) ≡ b → settling facts (Some w) ≡ if_settling b w
+picks-known facts w b e known = ap (λ a. if_settling (not a && is_ready facts w.value) w) e ∙ ap (λ a. if_settling a w) (ready-known facts (names_in w.value) ∙ known)
 
 -- ---- what a wave makes ready
 

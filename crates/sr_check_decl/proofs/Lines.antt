@@ -68,3 +68,13 @@ module _ (facts after : Facts) (waiting ws : List Waiting) (rows : List (List Sp
           let noted = names-are-noted rows i (needs_in facts.uses w) named.spot row named.named in
           same i ∙ ap (λ vs. has_place (needers_behind (with_all_needs [] 0 rows) vs) i) is-wave
           ∙ behind-has (with_all_needs [] 0 rows) (filter (can_settle facts) waiting) named.spot i named.settles noted
+
+-- the same where the values stand for one another
+pub lined-on : (facts after : Facts) (waiting ws : List Waiting) (rows new_rows first : List (List Spot)) (counts new places found next : List ℕ) (needers : List (Spot × List ℕ))
+    → Lined facts waiting rows counts places → rows ≡ first → needers ≡ with_all_needs [] 0 first → ws ≡ picked facts waiting places → new_rows ≡ rows → FirstAreKnown facts new_rows new
+    → after ≡ all_settled ws facts → found ≡ needers_behind needers ws → IsStrictlySortedBy nat_cmp next → ((place : ℕ) → has_place next place ≡ has_place found place)
+    → Lined after waiting new_rows new next
+lined-on facts after waiting ws rows new_rows first counts new places found next needers lined are_first are_needers picks same known settles are_found rising has =
+    subst (λ rs. Lined after waiting rs new next) (sym same)
+    (lined-next facts after waiting ws rows counts places lined picks settles new next (subst (λ rs. FirstAreKnown facts rs new) same known) rising
+    (λ place. has place ∙ ap (λ ps. has_place ps place) (are_found ∙ ap (λ ns. needers_behind ns ws) (are_needers ∙ ap (λ rs. with_all_needs [] 0 rs) (sym are_first)))))

@@ -76,10 +76,17 @@ fn pick<'a>(
     ensures known { FirstAreKnown facts.now needs.new.spots needs.new.known }
 {
     match all.get(place) {
-        Some(waiting) if needs.are_known(facts, place) && !is_settled(facts, waiting) => {
-            Some(*waiting)
+        None => None,
+        Some(waiting) => {
+            if is_settled(facts, waiting) {
+                return None;
+            }
+            if needs.are_known(facts, place) {
+                Some(*waiting)
+            } else {
+                None
+            }
         }
-        _ => None,
     }
 }
 

@@ -94,14 +94,17 @@ impl Needs {
         ensures same { self.new.spots ≡ self.old.spots }
         ensures known { FirstAreKnown facts.now self.new.spots self.new.known }
     {
-        match (self.spots.get(place), self.known.get(place).copied()) {
-            (Some(spots), Some(from)) => {
-                let first = first_unknown(facts, spots.as_slice(), from);
-                let count = spots.len();
-                self.known.replace(place, first);
-                first >= count
-            }
-            _ => true,
+        match self.known.get(place).copied() {
+            None => true,
+            Some(from) => match self.spots.get(place) {
+                None => true,
+                Some(spots) => {
+                    let first = first_unknown(facts, spots.as_slice(), from);
+                    let count = spots.len();
+                    self.known.replace(place, first);
+                    count <= first
+                }
+            },
         }
     }
 }
