@@ -1,5 +1,5 @@
 -- What is declared before and behind a wave.
-use Rattle.std.proofs.Common.{◌≡◌, ◌⊎◌, inl, inr, ℕ, ◌<◌, ◌≤◌, suc, zero, Bool, true, false, not, ◌&&◌, ◌||◌, true≢false, List, [], ◌∷◌, ◌++◌, length, take, Option, Some, None, is_some, option_map, map, leb, refl, sym, ◌∙◌, ap, subst, arith}
+use Rattle.std.proofs.Common.{◌≡◌, ◌⊎◌, inl, inr, ℕ, ◌<◌, ◌≤◌, suc, zero, Bool, true, false, not, ◌&&◌, true≢false, List, [], ◌∷◌, ◌++◌, length, take, Option, Some, None, is_some, option_map, map, leb, refl, sym, ◌∙◌, ap}
 use Rattle.std.specs.List.{filter, list_any, list_all, slice_get, slice_set}
 use Rattle.std.proofs.lemmas.Bool.{leb-true, leb-false}
 use Rattle.std.proofs.lemmas.List.{take_all}
@@ -20,7 +20,7 @@ use Rattle.sr_check_decl.specs.NamesIn.{is_named_declared, is_declared, is_ready
 use Rattle.sr_check_decl.specs.Needs.{needed_by, needs_among, needs_in, is_known, are_known, row_is_known, known_at, FirstAreKnown}
 use Rattle.sr_check_decl.specs.Variables.{declare}
 use Rattle.sr_check_decl.specs.Waiting.{Waiting}
-use Rattle.sr_check_decl.proofs.Tests.{and_left, and_right, both, either, or_left, or_right, true_or_false, not_true, none_some, any-filter, all-weaker, one-fails}
+use Rattle.sr_check_decl.proofs.Tests.{and_left, and_right, either, or_left, or_right, true_or_false, not_true, none_some, any-filter, all-weaker, one-fails}
 
 -- uses stay as they are
 pub uses_stay : (ws : List Waiting) (facts : Facts) → (all_settled ws facts).uses ≡ facts.uses

@@ -1,14 +1,13 @@
 -- The places at which declarations may have their types next, from wave to wave.
-use Rattle.std.proofs.Common.{◌≡◌, ℕ, ◌+◌, ◌-◌, ◌<◌, suc, zero, true, List, [], ◌∷◌, map, length, get_or, Option, Some, None, option_map, refl, sym, ◌∙◌, ap, subst, arith}
-use Rattle.std.specs.List.{filter, list_any, slice_get}
+use Rattle.std.proofs.Common.{◌≡◌, ℕ, ◌<◌, suc, zero, true, List, [], ◌∷◌, map, length, get_or, Some, option_map, sym, ◌∙◌, ap, subst, arith}
+use Rattle.std.specs.List.{filter, slice_get}
 use Rattle.std.specs.List.Sorted.{IsStrictlySortedBy}
 use Rattle.std.specs.Ordering.{nat_cmp}
 use Rattle.std.proofs.lemmas.Option.{slice_get-map}
 use Rattle.sr_names.specs.declared.spot.Spot.{Spot}
-use Rattle.sr_names.specs.Spots.{same_spot}
 use Rattle.sr_check_expr.specs.declared.facts.Facts.{Facts}
-use Rattle.sr_check_decl.specs.Inferring.{all_settled, can_settle, wave, waves}
-use Rattle.sr_check_decl.specs.Needers.{needers_of, with_all_needs, needers_behind, has_place}
+use Rattle.sr_check_decl.specs.Inferring.{all_settled, can_settle, wave}
+use Rattle.sr_check_decl.specs.Needers.{with_all_needs, needers_behind, has_place}
 use Rattle.sr_check_decl.specs.Needs.{needs_in, FirstAreKnown}
 use Rattle.sr_check_decl.specs.Picked.{picked}
 use Rattle.sr_check_decl.specs.Waiting.{Waiting}
@@ -37,8 +36,8 @@ lined-first facts waiting rows counts places are known long each = record {
   known = known;
   rising = sorted-below places (λ k low. each k (omega (arith, low, long)));
   covers = λ i w is can.
-    let within = slice_get-within waiting i w is in
-    has-below places (λ k low. each k (omega (arith, low, long))) i (omega (arith, within, long));
+      let within = slice_get-within waiting i w is in
+      has-below places (λ k low. each k (omega (arith, low, long))) i (omega (arith, within, long));
 }
 
 module _ (facts after : Facts) (waiting ws : List Waiting) (rows : List (List Spot)) (counts places : List ℕ) (lined : Lined facts waiting rows counts places) (picks : ws ≡ picked facts waiting places)

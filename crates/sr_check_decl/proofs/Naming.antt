@@ -1,7 +1,6 @@
 -- Which declarations name a declaration.
-use Rattle.std.proofs.Common.{◌≡◌, ◌⊎◌, inl, inr, ℕ, ◌+◌, suc, zero, Bool, true, false, ◌||◌, eqb, true≢false, List, [], ◌∷◌, ◌++◌, Option, Some, None, unwrap_or, refl, sym, ◌∙◌, ap, subst, arith, if◌then◌else◌}
+use Rattle.std.proofs.Common.{◌≡◌, ◌⊎◌, inl, inr, ℕ, ◌+◌, suc, zero, Bool, true, false, eqb, true≢false, List, [], ◌∷◌, ◌++◌, Some, unwrap_or, refl, sym, ◌∙◌, ap, arith, if◌then◌else◌}
 use Rattle.std.specs.List.{list_any, slice_get}
-use Rattle.std.specs.Map.{lookup}
 use Rattle.std.proofs.lemmas.Bool.{eq-eqb}
 use Rattle.indexmap.specs.IndexMap.{insert_entry}
 use Rattle.sr_names.specs.declared.spot.Spot.{Spot}
@@ -10,7 +9,7 @@ use Rattle.sr_names.proofs.Marking.{entry-same, entry-other, same_spot-cases}
 use Rattle.sr_names.proofs.LinkLemmas.{same_spot-eq, same_spot-refl}
 use Rattle.sr_check_decl.specs.Needers.{needers_of, with_needer, with_needs, with_all_needs, needers_behind, has_place}
 use Rattle.sr_check_decl.specs.Waiting.{Waiting}
-use Rattle.sr_check_decl.proofs.Tests.{either, or_left, or_right, true_or_false, none_some, any-left, any-right}
+use Rattle.sr_check_decl.proofs.Tests.{either, or_left, true_or_false, none_some, any-left, any-right}
 
 -- of two entries of a spot the second stays
 pub insert-twice : {V : Type 0} (entries : List (Spot × V)) (spot : Spot) (first second : V) → insert_entry same_spot (insert_entry same_spot entries spot first) spot second ≡ insert_entry same_spot entries spot second

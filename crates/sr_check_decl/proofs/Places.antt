@@ -1,7 +1,7 @@
 -- Places of a list in order, and what is picked at them.
-use Rattle.std.proofs.Common.{◌≡◌, ◌≢◌, ◌⊎◌, inl, inr, ℕ, ◌+◌, ◌-◌, ◌<◌, ◌≤◌, suc, zero, Bool, true, false, not, ◌||◌, cond, eqb, true≢false, List, [], ◌∷◌, ◌++◌, length, get_or, Option, Some, None, refl, sym, ◌∙◌, ap, subst, arith}
-use Rattle.std.specs.List.{filter, filter_map, cons_option, list_any, slice_get, dedup, dedup_from}
-use Rattle.std.specs.List.Sorted.{IsStrictlySortedBy, IsStrictlyIncreasing}
+use Rattle.std.proofs.Common.{◌≡◌, ◌≢◌, ◌⊎◌, inl, inr, ℕ, ◌+◌, ◌-◌, ◌<◌, ◌≤◌, suc, Bool, true, false, ◌||◌, cond, eqb, true≢false, List, [], ◌∷◌, length, get_or, Some, refl, sym, ◌∙◌, ap, subst, arith}
+use Rattle.std.specs.List.{filter, filter_map, cons_option, slice_get, dedup, dedup_from}
+use Rattle.std.specs.List.Sorted.{IsStrictlySortedBy}
 use Rattle.std.specs.Ordering.{nat_cmp}
 use Rattle.std.proofs.lemmas.Bool.{eqb-true, eqb-false, eq-eqb}
 use Rattle.std.proofs.lemmas.Map.Keys.{sorted_tail, below_from_sorted, sorted_from_strictly_increasing}
@@ -10,7 +10,7 @@ use Rattle.sr_check_decl.specs.Inferring.{can_settle}
 use Rattle.sr_check_decl.specs.Needers.{has_place}
 use Rattle.sr_check_decl.specs.Picked.{if_settling, settling, picked}
 use Rattle.sr_check_decl.specs.Waiting.{Waiting}
-use Rattle.sr_check_decl.proofs.Tests.{either, or_left, or_right, true_or_false, any-at}
+use Rattle.sr_check_decl.proofs.Tests.{either, true_or_false, any-at}
 
 -- each is above those before it, and the first isn't below a number
 abbrev Above : ℕ → List ℕ → Type 0

@@ -1,5 +1,5 @@
 -- What has no type and names only what is declared is picked.
-use Rattle.std.proofs.Common.{◌≡◌, true, false, map, Some, None, option_map, ap, sym, ◌∙◌}
+use Rattle.std.proofs.Common.{◌≡◌, true, false, map, Some, option_map, ap, sym, ◌∙◌}
 use Rattle.std.specs.List.{slice_get}
 use Rattle.std.proofs.lemmas.Option.{slice_get-map}
 use Rattle.sr_check_decl.specs.Waits.{seen}

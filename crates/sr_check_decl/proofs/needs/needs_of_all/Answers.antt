@@ -1,5 +1,5 @@
 -- One list more.
-use Rattle.std.proofs.Common.{◌≡◌, ◌+◌, ◌++◌, [], ◌∷◌, List, ℕ, map, drop, ap, sym, ◌∙◌, subst, append_assoc}
+use Rattle.std.proofs.Common.{◌+◌, ◌++◌, [], ◌∷◌, List, ℕ, map, drop, ap, sym, ◌∙◌, subst, append_assoc}
 use Rattle.std.proofs.lemmas.List.{at_drop_more}
 use Rattle.sr_names.specs.declared.spot.Spot.{Spot}
 use Rattle.sr_check_decl.specs.declared.waiting.Waits.{Waits}
@@ -17,13 +17,13 @@ loop-waiting-preserved c =
     let rest : List (List Spot) = map (needs_in uses) (map seen (drop (i + 1) all)) in
     record {
       spots =
-        ap (λ rows. rows ++ rest) c.in_ok-push.ensures.ok
-        ∙ append_assoc spots (c.in_ok-needs_in.field-0 ∷ []) rest
-        ∙ ap (λ row. spots ++ row ∷ rest) (c.in_ok-needs_in.ensures ∙ ap (λ (w : Waits). needs_in uses (seen w)) c.waiting-item.is)
-        ∙ ap (λ rows. spots ++ rows) (sym (at_drop_more (λ (ws : List Waits). map (needs_in uses) (map seen ws)) all i c.waiting-item.result c.loop-waiting-test.true))
-        ∙ c.loop-waiting.invariant.spots;
+          ap (λ rows. rows ++ rest) c.in_ok-push.ensures.ok
+          ∙ append_assoc spots (c.in_ok-needs_in.field-0 ∷ []) rest
+          ∙ ap (λ row. spots ++ row ∷ rest) (c.in_ok-needs_in.ensures ∙ ap (λ (w : Waits). needs_in uses (seen w)) c.waiting-item.is)
+          ∙ ap (λ rows. spots ++ rows) (sym (at_drop_more (λ (ws : List Waits). map (needs_in uses) (map seen ws)) all i c.waiting-item.result c.loop-waiting-test.true))
+          ∙ c.loop-waiting.invariant.spots;
       known =
-        subst (λ (rows : List (List Spot)). FirstAreKnown c.args.facts.now rows c.push-in-loop-waiting.new.self) (sym c.in_ok-push.ensures.ok)
-        (subst (λ (counts : List ℕ). FirstAreKnown c.args.facts.now (spots ++ c.in_ok-needs_in.field-0 ∷ []) counts) (sym c.in_ok-push-2.ensures.ok)
-        (first_known-push c.args.facts.now spots c.loop-waiting.needs.known c.in_ok-needs_in.field-0 c.loop-waiting.invariant.known));
+          subst (λ (rows : List (List Spot)). FirstAreKnown c.args.facts.now rows c.push-in-loop-waiting.new.self) (sym c.in_ok-push.ensures.ok)
+          (subst (λ (counts : List ℕ). FirstAreKnown c.args.facts.now (spots ++ c.in_ok-needs_in.field-0 ∷ []) counts) (sym c.in_ok-push-2.ensures.ok)
+          (first_known-push c.args.facts.now spots c.loop-waiting.needs.known c.in_ok-needs_in.field-0 c.loop-waiting.invariant.known));
     }

@@ -1,5 +1,5 @@
 -- What is known of the first of a list stays known, and is known of more.
-use Rattle.std.proofs.Common.{◌≡◌, ◌<◌, List, ℕ, None, true, false, length, leb, ap, sym, ◌∙◌, subst, take}
+use Rattle.std.proofs.Common.{◌≡◌, ◌<◌, List, ℕ, true, false, length, leb, ap, sym, ◌∙◌, subst, take}
 use Rattle.sr_names.specs.declared.spot.Spot.{Spot}
 use Rattle.sr_check_decl.specs.Needs.{are_known, row_is_known, FirstAreKnown}
 use Rattle.sr_check_decl.proofs.Known.{first_known-at, first_known-none, first_known-set, known-by}
