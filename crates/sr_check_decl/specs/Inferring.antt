@@ -1,5 +1,6 @@
 -- Constants and variables without a type get that of their value.
 use Rattle.std.specs.Prelude.{ℕ, suc, zero, Bool, true, false, not, ◌&&◌, List, [], ◌∷◌, None, is_some, length}
+use Rattle.std.specs.List.{filter}
 use Rattle.sr_names.specs.Noted.{Meanings}
 use Rattle.sr_names.specs.Specs.{Specs}
 use Rattle.sr_tree.specs.declared.component.File.{File}
@@ -27,28 +28,29 @@ info_by false in_spec value = variable (type_of_value value.ty)
 abbrev pub waiting_info : Facts → Waiting → Info
 waiting_info facts waiting = info_by waiting.is_constant waiting.in_spec (judge_expr waiting.value facts).judged.typed
 
-abbrev pub settled_if : Bool → Facts → Waiting → Facts
-settled_if true facts waiting = declare facts waiting.spot (waiting_info (standing facts waiting.component) waiting)
-settled_if false facts waiting = facts
+-- its value is looked at where it stands
+abbrev pub settled : Facts → Waiting → Facts
+settled facts waiting = declare facts waiting.spot (waiting_info (standing facts waiting.component) waiting)
 
--- a declaration has its type where all that its value names has one
+abbrev pub all_settled : List Waiting → Facts → Facts
+all_settled [] facts = facts
+all_settled (waiting ∷ more) facts = all_settled more (settled facts waiting)
+
+-- a declaration can have its type where all that its value names has one
 abbrev pub can_settle : Facts → Waiting → Bool
 can_settle facts waiting = not (is_settled facts waiting) && is_ready facts waiting.value
 
-abbrev pub settled_one : Facts → Waiting → Facts
-settled_one facts waiting = settled_if (can_settle facts waiting) facts waiting
+-- in a wave all get their types that can have one before it
+abbrev pub wave : List Waiting → Facts → Facts
+wave waiting facts = all_settled (filter (can_settle facts) waiting) facts
 
-abbrev pub round : List Waiting → Facts → Facts
-round [] facts = facts
-round (waiting ∷ more) facts = round more (settled_one facts waiting)
+abbrev pub waves : ℕ → List Waiting → Facts → Facts
+waves zero waiting facts = facts
+waves (suc n) waiting facts = waves n waiting (wave waiting facts)
 
-abbrev pub rounds : ℕ → List Waiting → Facts → Facts
-rounds zero waiting facts = facts
-rounds (suc n) waiting facts = rounds n waiting (round waiting facts)
-
--- as many rounds as there are declarations settle all that can be settled
+-- as many waves as there are declarations settle all that can be settled
 abbrev pub inferred : List Waiting → Facts → Facts
-inferred waiting facts = rounds (length waiting) waiting facts
+inferred waiting facts = waves (length waiting) waiting facts
 
 -- what wasn't settled has no type, and refuses nothing more
 abbrev pub given_up_if : Bool → Facts → Waiting → Facts

@@ -10,6 +10,8 @@ mod declaring;
 mod inferring;
 mod kind;
 mod names_in;
+mod needers;
+mod needs;
 mod operations;
 mod parts;
 mod ranges;

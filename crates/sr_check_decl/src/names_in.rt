@@ -1,10 +1,7 @@
 ghost use Rattle.std.specs.Prelude.{◌≡◌, ◌++◌, IfOk, OnOk, map};
-ghost use Rattle.std.specs.Option.{option_map, option_copied};
-ghost use Rattle.sr_check_decl.specs.NamesIn.{names_in, names_in_create, names_in_invocation, names_in_part, concat_spans, maybe_spans, is_declared, is_named_declared, is_ready};
-ghost use Rattle.std.specs.List.{list_all};
+ghost use Rattle.std.specs.Option.{option_map};
+ghost use Rattle.sr_check_decl.specs.NamesIn.{names_in, names_in_create, names_in_invocation, names_in_part, concat_spans, maybe_spans};
 
-use sr_check_expr::{Facts, decl_of};
-use sr_names::{Decl, Spot};
 use sr_tree::{Create, Expr, Invocation, Part};
 use sr_value::{Boxed, NoMemory, Row, Span};
 use std::alloc::Global;
@@ -116,33 +113,4 @@ pub(crate) fn names_in(alloc: Global, tree: &Expr) -> Result<Row<Span>, NoMemory
     let mut names = Row::new(alloc);
     push_names(tree, &mut names)?;
     Ok(names)
-}
-
-fn is_declared(facts: &Facts, decl: Option<Decl>) -> bool
-    ensures { result ≡ is_declared facts.now decl }
-{
-    match decl {
-        Some(decl) => facts.infos.get(decl.spot).is_some(),
-        None => true,
-    }
-}
-
-fn is_named_declared(facts: &Facts, span: Span) -> bool
-    ensures { result ≡ is_named_declared facts.now span }
-{
-    is_declared(facts, decl_of(facts.uses.get(Spot::of(span))))
-}
-
-fn are_declared(facts: &Facts, names: &[Span]) -> bool
-    ensures { result ≡ list_all (is_named_declared facts.now) names.now }
-{
-    names.iter().all(|span| is_named_declared(facts, *span))
-}
-
-/// Whether all that an expression names is declared.
-pub(crate) fn is_ready(alloc: Global, facts: &Facts, tree: &Expr) -> Result<bool, NoMemory>
-    ensures { IfOk result (λ ready. ready ≡ is_ready facts.now tree.now) }
-{
-    let names = names_in(alloc, tree)?;
-    Ok(are_declared(facts, names.as_slice()))
 }
