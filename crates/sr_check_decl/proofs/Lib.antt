@@ -1,0 +1,6 @@
+pub mod Known
+pub mod Lines
+pub mod Naming
+pub mod Places
+pub mod Tests
+pub mod Waves

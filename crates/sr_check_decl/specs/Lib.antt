@@ -1,0 +1,15 @@
+pub mod Bounds
+pub mod Circles
+pub mod Constants
+pub mod Declarations
+pub mod Declaring
+pub mod Inferring
+pub mod NamesIn
+pub mod Needers
+pub mod Needs
+pub mod Parts
+pub mod Picked
+pub mod TypeTrees
+pub mod Variables
+pub mod Waiting
+pub mod Waits
