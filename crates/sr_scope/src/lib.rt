@@ -15,4 +15,4 @@ mod program;
 mod statements;
 mod types;
 
-pub use program::{Names, resolve};
+pub use program::{Names, refusal_of, resolve};

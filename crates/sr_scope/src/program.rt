@@ -137,7 +137,8 @@ fn kind_of(rule: Rule) -> Kind
     }
 }
 
-fn refusal_of(wrong: Wrong) -> Refusal
+/// The refusal of a program that breaks a rule.
+pub fn refusal_of(wrong: Wrong) -> Refusal
     ensures { result ≡ refusal_of wrong }
 {
     Refusal {

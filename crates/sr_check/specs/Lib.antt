@@ -1,0 +1,12 @@
+pub mod Checked
+pub mod Components
+pub mod Contexts
+pub mod Invoking
+pub mod Procs
+pub mod Quantifying
+pub mod Receiving
+pub mod Results
+pub mod Services
+pub mod Statements
+pub mod Storing
+pub mod Uses

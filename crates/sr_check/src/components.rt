@@ -1,0 +1,161 @@
+ghost use Rattle.std.specs.Prelude.{◌≡◌, [], OnOk, IfOk};
+ghost use Rattle.sr_names.specs.Notes.{all_noted};
+ghost use Rattle.sr_check.specs.Components.{item_read, items_read, proc_entered, item_procs, items_procs, head_found, component_within, component_read, components_read, files_read};
+
+use crate::around::Procs;
+use crate::operation::Operation;
+use crate::procs::{beginning, final_code, proc, procedure, process};
+use crate::services::operation_named;
+use crate::serving::Serving;
+use crate::statements::statement;
+use sr_check_decl::{
+    all_formals, body_of, component_decl, formals_of, note_spec_item, note_spec_items, spec_of,
+    stand,
+};
+use sr_check_expr::Facts;
+use sr_names::{Notes, Spot};
+use sr_tree::{Component, File, Item};
+use sr_value::{NoMemory, Span};
+use std::alloc::Global;
+
+/// Notes what is found in an item of a component. What is declared in its code is then known.
+fn item(
+    alloc: Global,
+    item: &Item,
+    procs: &Procs,
+    facts: &mut Facts,
+    notes: &mut Notes,
+) -> Result<(), NoMemory>
+    ensures known { OnOk result (facts.new ≡ (item_read procs.now item.now facts.old).facts) }
+    ensures noted { OnOk result (notes.new ≡ all_noted notes.old (item_read procs.now item.now facts.old).found) }
+{
+    match item {
+        Item::Spec(inner) => note_spec_item(alloc, facts, notes, false, inner),
+        Item::Proc(inner) => proc(alloc, inner, procs, facts, notes),
+        Item::Procedure(inner) => procedure(alloc, inner, procs, facts, notes),
+        Item::Process(inner) => process(alloc, inner, procs, facts, notes),
+        Item::Final(inner) => final_code(alloc, inner, procs, facts, notes),
+        Item::Statement(inner) => {
+            let around = beginning(procs, Serving::SetsUp);
+            statement(alloc, inner, &around, facts, notes)
+        }
+    }
+}
+
+fn items(
+    alloc: Global,
+    items: &[Item],
+    procs: &Procs,
+    facts: &mut Facts,
+    notes: &mut Notes,
+) -> Result<(), NoMemory>
+    ensures known { OnOk result (facts.new ≡ (items_read procs.now items.now facts.old).facts) }
+    ensures noted { OnOk result (notes.new ≡ all_noted notes.old (items_read procs.now items.now facts.old).found) }
+{
+    for each in items {
+        item(alloc, each, procs, facts, notes)?;
+    }
+    Ok(())
+}
+
+fn enter_proc(procs: &mut Procs, operation: Option<Operation>, span: Span) -> Result<(), NoMemory>
+    ensures { OnOk result (procs.new ≡ proc_entered operation span procs.old) }
+{
+    match operation {
+        None => Ok(()),
+        Some(operation) => procs.insert(operation.spot, span),
+    }
+}
+
+fn enter_item(alloc: Global, facts: &Facts, item: &Item, procs: &mut Procs) -> Result<(), NoMemory>
+    ensures { OnOk result (procs.new ≡ item_procs facts.now item.now procs.old) }
+{
+    match item {
+        Item::Proc(proc) => {
+            let operation = operation_named(alloc, facts, &proc.name)?;
+            enter_proc(procs, operation, proc.span)
+        }
+        Item::Procedure(procedure) => {
+            procs.insert(Spot::of(procedure.name.span), procedure.span)
+        }
+        Item::Process(process) => procs.insert(Spot::of(process.name.span), process.span),
+        Item::Spec(_) | Item::Final(_) | Item::Statement(_) => Ok(()),
+    }
+}
+
+/// Puts the procs among items in, by the operations that they serve.
+fn enter_items(
+    alloc: Global,
+    facts: &Facts,
+    items: &[Item],
+    procs: &mut Procs,
+) -> Result<(), NoMemory>
+    ensures { OnOk result (procs.new ≡ items_procs facts.now items.now procs.old) }
+{
+    for item in items {
+        enter_item(alloc, facts, item, procs)?;
+    }
+    Ok(())
+}
+
+/// Notes what is found in the spec and the formals of a component.
+fn note_head(
+    alloc: Global,
+    component: &Component,
+    facts: &Facts,
+    notes: &mut Notes,
+) -> Result<(), NoMemory>
+    ensures { OnOk result (notes.new ≡ all_noted notes.old (head_found component.now facts.now)) }
+{
+    note_spec_items(alloc, facts, notes, spec_of(component))?;
+    all_formals(alloc, formals_of(component), facts, notes, false)?;
+    Ok(())
+}
+
+/// Notes what is found in a component. What is declared in its code is then known.
+fn component(
+    alloc: Global,
+    component: &Component,
+    facts: &mut Facts,
+    notes: &mut Notes,
+) -> Result<(), NoMemory>
+    ensures known { OnOk result (facts.new ≡ (component_read component.now facts.old).facts) }
+    ensures noted { OnOk result (notes.new ≡ all_noted notes.old (component_read component.now facts.old).found) }
+{
+    stand(facts, component_decl(component));
+    note_head(alloc, component, facts, notes)?;
+    let mut procs = Procs::new(alloc);
+    enter_items(alloc, facts, body_of(component), &mut procs)?;
+    items(alloc, body_of(component), &procs, facts, notes)
+}
+
+fn components(
+    alloc: Global,
+    components: &[Component],
+    facts: &mut Facts,
+    notes: &mut Notes,
+) -> Result<(), NoMemory>
+    ensures known { OnOk result (facts.new ≡ (components_read components.now facts.old).facts) }
+    ensures noted { OnOk result (notes.new ≡ all_noted notes.old (components_read components.now facts.old).found) }
+{
+    for each in components {
+        component(alloc, each, facts, notes)?;
+    }
+    Ok(())
+}
+
+/// Notes what is found in the components of files. What is declared in their code is then known.
+pub(crate) fn files(
+    alloc: Global,
+    files: &[File],
+    facts: &mut Facts,
+    notes: &mut Notes,
+) -> Result<(), NoMemory>
+    ensures known { OnOk result (facts.new ≡ (files_read files.now facts.old).facts) }
+    ensures noted { OnOk result (notes.new ≡ all_noted notes.old (files_read files.now facts.old).found) }
+{
+    for file in files {
+        components(alloc, file.components.as_slice(), facts, notes)?;
+    }
+    Ok(())
+}

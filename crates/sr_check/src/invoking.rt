@@ -1,0 +1,373 @@
+ghost use Rattle.std.specs.Prelude.{◌≡◌, ◌++◌, [], IfOk, OnOk};
+ghost use Rattle.std.specs.Option.{option_copied};
+ghost use Rattle.sr_names.specs.Notes.{all_noted};
+ghost use Rattle.sr_check_expr.specs.Calls.{parts_found};
+ghost use Rattle.sr_check_expr.specs.Exprs.{judge_invocation};
+ghost use Rattle.sr_check.specs.Contexts.{context_of};
+ghost use Rattle.sr_check.specs.Invoking.{is_operation_name, callee_rule, invoked_found, written_found, named_operation, semaphore_found, p_found, v_found, function_called, called_found, call_found, send_found, is_serving, served_type, same_results, forward_found, may_reply, started_found, result_found, place_found};
+
+use crate::around::Around;
+use crate::operation::Operation;
+use crate::results::same_results;
+use crate::services::{note_service, operation_by};
+use crate::serving::Serving;
+use crate::uses::may_be_output;
+use sr_check_expr::{
+    Facts, Invoked, Judged, Named, expr, function, invocation, is_callable, is_sendable, known,
+    note_invocation, note_unless, note_value, note_values, returned_by, takes_as_many,
+};
+use sr_names::{Notes, Predefined, Rule};
+use sr_tree::{Expr, Invocation};
+use sr_types::{Static, Ty, may_store};
+use sr_value::{NoMemory, Span};
+use std::alloc::Global;
+
+/// Whether what is named may be an operation.
+fn is_operation_name(named: &Named) -> bool
+    ensures { result ≡ is_operation_name named.now }
+{
+    !matches!(named, Named::Predefined(_) | Named::Type(_))
+}
+
+/// Whether a callee is an operation with as many formals as there are arguments.
+fn may_be_invoked(callee: &Judged, arguments: &[Judged]) -> bool
+    ensures { result ≡ callee_rule callee.now arguments.now }
+{
+    is_operation_name(&callee.named) && takes_as_many(&callee.typed.ty, arguments)
+}
+
+/// Notes what is found at an invocation as a statement, in a form that its operation allows or not.
+fn note_invoked(
+    facts: &Facts,
+    notes: &mut Notes,
+    span: Span,
+    allowed: bool,
+    callee: &Judged,
+    arguments: &[Judged],
+) -> Result<(), NoMemory>
+    ensures { OnOk result (notes.new ≡ all_noted notes.old (invoked_found facts.now span allowed callee.now arguments.now)) }
+{
+    note_invocation(facts, notes, span, callee, arguments)?;
+    note_unless(
+        notes,
+        may_be_invoked(callee, arguments),
+        Rule::BadType,
+        span,
+    )?;
+    note_unless(notes, allowed, Rule::BadUse, span)
+}
+
+/// Notes the arguments that have no text.
+fn note_written(notes: &mut Notes, arguments: &[Judged]) -> Result<(), NoMemory>
+    ensures { OnOk result (notes.new ≡ all_noted notes.old (written_found arguments.now)) }
+{
+    for argument in arguments {
+        note_unless(
+            notes,
+            may_be_output(&argument.typed),
+            Rule::BadType,
+            argument.span,
+        )?;
+    }
+    Ok(())
+}
+
+/// The operation that an expression names.
+fn named_operation(
+    alloc: Global,
+    facts: &Facts,
+    named: &Named,
+) -> Result<Option<Operation>, NoMemory>
+    ensures { IfOk result (λ operation. operation ≡ named_operation facts.now named.now) }
+{
+    match named {
+        Named::Operation(spot) => operation_by(alloc, *spot, facts.infos.get(*spot)),
+        _ => Ok(None),
+    }
+}
+
+fn note_semaphore(
+    facts: &Facts,
+    around: &Around<'_>,
+    notes: &mut Notes,
+    span: Span,
+    operation: &Option<Operation>,
+) -> Result<(), NoMemory>
+    ensures { OnOk result (notes.new ≡ all_noted notes.old (semaphore_found (context_of around.now facts.now) span operation.now)) }
+{
+    match operation {
+        None => note_unless(notes, false, Rule::BadType, span),
+        Some(operation) => {
+            note_unless(
+                notes,
+                takes_as_many(&operation.ty, &[]),
+                Rule::BadType,
+                span,
+            )?;
+            note_service(facts, around.procs, notes, span, operation)
+        }
+    }
+}
+
+/// Notes what is found at `P(s)`, apart from its arguments.
+fn note_p(
+    alloc: Global,
+    facts: &Facts,
+    around: &Around<'_>,
+    notes: &mut Notes,
+    span: Span,
+    arguments: &[Judged],
+) -> Result<(), NoMemory>
+    ensures { OnOk result (notes.new ≡ all_noted notes.old (p_found (context_of around.now facts.now) span arguments.now)) }
+{
+    match arguments {
+        [semaphore] => {
+            let operation = named_operation(alloc, facts, &semaphore.named)?;
+            note_semaphore(facts, around, notes, span, &operation)
+        }
+        _ => note_unless(notes, false, Rule::BadType, span),
+    }
+}
+
+/// Notes what is found at `V(e)`.
+fn note_v(
+    facts: &Facts,
+    notes: &mut Notes,
+    span: Span,
+    arguments: &[Judged],
+) -> Result<(), NoMemory>
+    ensures { OnOk result (notes.new ≡ all_noted notes.old (v_found facts.now span arguments.now)) }
+{
+    match arguments {
+        [callee] => {
+            note_invoked(
+                facts,
+                notes,
+                span,
+                is_sendable(&callee.typed.ty),
+                callee,
+                &[],
+            )
+        }
+        _ => note_unless(notes, false, Rule::BadType, span),
+    }
+}
+
+/// Notes what is found at a call of a predefined function as a statement.
+fn note_function(
+    alloc: Global,
+    facts: &Facts,
+    around: &Around<'_>,
+    notes: &mut Notes,
+    span: Span,
+    name: Predefined,
+    arguments: &[Judged],
+) -> Result<(), NoMemory>
+    ensures { OnOk result (notes.new ≡ all_noted notes.old (function_called (context_of around.now facts.now) span name arguments.now)) }
+{
+    match name {
+        Predefined::Write | Predefined::Writes => {
+            note_values(notes, arguments)?;
+            note_written(notes, arguments)
+        }
+        Predefined::Read => {
+            function(alloc, facts, notes, span, name, arguments)?;
+            Ok(())
+        }
+        Predefined::P => {
+            note_values(notes, arguments)?;
+            note_p(alloc, facts, around, notes, span, arguments)
+        }
+        Predefined::V => note_v(facts, notes, span, arguments),
+        _ => {
+            note_values(notes, arguments)?;
+            note_unless(notes, false, Rule::BadType, span)
+        }
+    }
+}
+
+/// Notes what is found at a call as a statement, apart from its parts.
+fn note_called(
+    alloc: Global,
+    facts: &Facts,
+    around: &Around<'_>,
+    notes: &mut Notes,
+    span: Span,
+    parts: &Invoked,
+) -> Result<(), NoMemory>
+    ensures { OnOk result (notes.new ≡ all_noted notes.old (called_found (context_of around.now facts.now) span parts.now.callee parts.now.arguments parts.now.callee.named)) }
+{
+    let arguments = parts.arguments.as_slice();
+    match &parts.callee.named {
+        Named::Predefined(name) => {
+            note_function(alloc, facts, around, notes, span, *name, arguments)
+        }
+        _ => {
+            let allowed = is_callable(&parts.callee.typed.ty);
+            note_invoked(facts, notes, span, allowed, &parts.callee, arguments)
+        }
+    }
+}
+
+/// Notes what is found at `call f(a)`, whose result is left.
+pub(crate) fn note_call(
+    alloc: Global,
+    facts: &Facts,
+    around: &Around<'_>,
+    notes: &mut Notes,
+    span: Span,
+    tree: &Invocation,
+) -> Result<(), NoMemory>
+    ensures { OnOk result (notes.new ≡ all_noted notes.old (call_found (context_of around.now facts.now) span (judge_invocation tree.now facts.now))) }
+{
+    let parts = invocation(alloc, tree, facts, notes)?;
+    note_called(alloc, facts, around, notes, span, &parts)
+}
+
+/// Notes what is found at `send f(a)`.
+pub(crate) fn note_send(
+    alloc: Global,
+    facts: &Facts,
+    notes: &mut Notes,
+    span: Span,
+    tree: &Invocation,
+) -> Result<(), NoMemory>
+    ensures { OnOk result (notes.new ≡ all_noted notes.old (send_found facts.now span (judge_invocation tree.now facts.now))) }
+{
+    let parts = invocation(alloc, tree, facts, notes)?;
+    let allowed = is_sendable(&parts.callee.typed.ty);
+    note_invoked(
+        facts,
+        notes,
+        span,
+        allowed,
+        &parts.callee,
+        parts.arguments.as_slice(),
+    )
+}
+
+fn is_serving(serving: Serving) -> bool
+    ensures { result ≡ is_serving serving }
+{
+    matches!(serving, Serving::Serves(_))
+}
+
+/// Whether what an operation gives back is what the one that is served gives back.
+fn gives_same(alloc: Global, facts: &Facts, serving: Serving, callee: &Ty) -> Result<bool, NoMemory>
+    ensures { IfOk result (λ same. same ≡ same_results (served_type facts.now serving) callee.now) }
+{
+    match serving {
+        Serving::Serves(spot) => match operation_by(alloc, spot, facts.infos.get(spot))? {
+            Some(operation) => same_types(alloc, &operation.ty, callee),
+            None => Ok(true),
+        },
+        _ => Ok(true),
+    }
+}
+
+fn same_types(alloc: Global, own: &Ty, callee: &Ty) -> Result<bool, NoMemory>
+    ensures { IfOk result (λ same. same ≡ same_results own.now callee.now) }
+{
+    match own {
+        Ty::Op(own) => match callee {
+            Ty::Op(callee) => same_results(alloc, own, callee),
+            _ => Ok(true),
+        },
+        _ => Ok(true),
+    }
+}
+
+/// Notes what is found at `forward g(a)`.
+pub(crate) fn note_forward(
+    alloc: Global,
+    facts: &Facts,
+    around: &Around<'_>,
+    notes: &mut Notes,
+    span: Span,
+    tree: &Invocation,
+) -> Result<(), NoMemory>
+    ensures { OnOk result (notes.new ≡ all_noted notes.old (forward_found (context_of around.now facts.now) span (judge_invocation tree.now facts.now))) }
+{
+    let parts = invocation(alloc, tree, facts, notes)?;
+    note_invoked(
+        facts,
+        notes,
+        span,
+        true,
+        &parts.callee,
+        parts.arguments.as_slice(),
+    )?;
+    note_unless(notes, is_serving(around.serving), Rule::BadUse, span)?;
+    let same = gives_same(alloc, facts, around.serving, &parts.callee.typed.ty)?;
+    note_unless(notes, same, Rule::BadType, span)
+}
+
+/// Whether `reply` may stand there.
+pub(crate) fn may_reply(serving: Serving) -> bool
+    ensures { result ≡ may_reply serving }
+{
+    !matches!(serving, Serving::Ends)
+}
+
+/// Notes where what an arm of `co` gives back isn't stored to its place.
+fn note_result(
+    notes: &mut Notes,
+    target: &Judged,
+    returned: Option<Ty>,
+    span: Span,
+) -> Result<(), NoMemory>
+    ensures { OnOk result (notes.new ≡ all_noted notes.old (result_found target.now returned span)) }
+{
+    match returned {
+        None => note_unless(notes, false, Rule::BadType, span),
+        Some(ty) => {
+            let met = may_store(&target.typed, &known(ty, Static::Unknown));
+            note_unless(notes, met, Rule::BadType, target.span)
+        }
+    }
+}
+
+/// Notes what is found at the place of an arm of `co`.
+fn note_target(
+    alloc: Global,
+    facts: &Facts,
+    notes: &mut Notes,
+    target: &Option<Expr>,
+    parts: &Invoked,
+    span: Span,
+) -> Result<(), NoMemory>
+    ensures { OnOk result (notes.new ≡ all_noted notes.old (place_found facts.now target.now parts.now.callee.typed.ty span)) }
+{
+    match target {
+        None => Ok(()),
+        Some(target) => {
+            let target = expr(alloc, target, facts, notes)?;
+            note_value(notes, &target)?;
+            let returned = returned_by(alloc, &parts.callee.typed.ty)?;
+            note_result(notes, &target, returned, span)
+        }
+    }
+}
+
+/// Notes what is found at the place and the invocation of an arm of `co`.
+pub(crate) fn note_started(
+    alloc: Global,
+    facts: &Facts,
+    notes: &mut Notes,
+    target: &Option<Expr>,
+    tree: &Invocation,
+) -> Result<(), NoMemory>
+    ensures { OnOk result (notes.new ≡ all_noted notes.old (started_found facts.now target.now (judge_invocation tree.now facts.now))) }
+{
+    let parts = invocation(alloc, tree, facts, notes)?;
+    let allowed = is_callable(&parts.callee.typed.ty);
+    note_invoked(
+        facts,
+        notes,
+        tree.span,
+        allowed,
+        &parts.callee,
+        parts.arguments.as_slice(),
+    )?;
+    note_target(alloc, facts, notes, target, &parts, tree.span)
+}

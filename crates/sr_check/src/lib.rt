@@ -1,0 +1,24 @@
+//! The rules of kinds and types: whether a program whose names have meanings meets them, and what is known of it
+//! then.
+//!
+//! Each construct has findings, the rules that it breaks, in the order of the text; what is declared is threaded
+//! through them. [`check`] answers the first rule that is broken, or all that is declared: with it the type and the
+//! static value of each expression are what [`sr_check_expr::expr`] gives.
+#![tactic(auto)]
+
+mod around;
+mod components;
+mod invoking;
+mod operation;
+mod procs;
+mod program;
+mod quantifying;
+mod receiving;
+mod results;
+mod services;
+mod serving;
+mod statements;
+mod storing;
+mod uses;
+
+pub use program::check;

@@ -1,0 +1,203 @@
+ghost use Rattle.std.specs.Prelude.{◌≡◌, OnOk, IfOk, is_some};
+ghost use Rattle.sr_names.specs.Notes.{all_noted};
+ghost use Rattle.sr_check_expr.specs.declared.facts.Facts.{Facts};
+ghost use Rattle.sr_check.specs.Contexts.{context_of};
+ghost use Rattle.sr_check.specs.Components.{proc_item_read, block_read, beginning, proc_rules, proc_read, returned_declared, signed_declared, procedure_read, quantifiers_formal, process_read, final_read};
+
+use crate::around::{Around, Procs};
+use crate::operation::Operation;
+use crate::quantifying::quantifiers;
+use crate::services::{bind_operation, is_own, may_head, operation_named, spot_or};
+use crate::serving::Serving;
+use crate::statements::{local_const, local_var, statement};
+use sr_check_decl::{
+    NamedParam, Signed, declare, declare_name, declare_operations, declare_params,
+    declare_semaphores, note_operations, note_semaphores, signature, variable,
+};
+use sr_check_expr::{Facts, note_unless};
+use sr_names::{Notes, Rule, Spot};
+use sr_tree::{FinalCode, Proc, ProcItem, Procedure, Process, Quantifier};
+use sr_types::Ty;
+use sr_value::{Duplicate, NoMemory};
+use std::alloc::Global;
+
+/// Notes what is found in an item of a proc, and declares what it declares.
+fn proc_item(
+    alloc: Global,
+    item: &ProcItem,
+    around: &Around<'_>,
+    facts: &mut Facts,
+    notes: &mut Notes,
+) -> Result<(), NoMemory>
+    ensures known { OnOk result (facts.new ≡ (proc_item_read item.now (context_of around.now facts.old)).facts) }
+    ensures noted { OnOk result (notes.new ≡ all_noted notes.old (proc_item_read item.now (context_of around.now facts.old)).found) }
+{
+    match item {
+        ProcItem::Const(tree) => local_const(alloc, facts, notes, tree),
+        ProcItem::Var(tree) => local_var(alloc, facts, notes, tree),
+        ProcItem::Op(tree) => {
+            note_operations(alloc, facts, notes, tree.items.as_slice())?;
+            declare_operations(alloc, facts, true, tree.items.as_slice())
+        }
+        ProcItem::Sem(tree) => {
+            note_semaphores(alloc, facts, notes, tree.semaphores.as_slice())?;
+            declare_semaphores(alloc, facts, true, tree.semaphores.as_slice())
+        }
+        ProcItem::Statement(inner) => statement(alloc, inner, around, facts, notes),
+    }
+}
+
+/// Notes what is found in the block of a proc.
+fn proc_block(
+    alloc: Global,
+    items: &[ProcItem],
+    around: &Around<'_>,
+    facts: &mut Facts,
+    notes: &mut Notes,
+) -> Result<(), NoMemory>
+    ensures known { OnOk result (facts.new ≡ (block_read items.now (context_of around.now facts.old)).facts) }
+    ensures noted { OnOk result (notes.new ≡ all_noted notes.old (block_read items.now (context_of around.now facts.old)).found) }
+{
+    for item in items {
+        proc_item(alloc, item, around, facts, notes)?;
+    }
+    Ok(())
+}
+
+/// What is around code of its own: no loop.
+pub(crate) fn beginning(procs: &Procs, serving: Serving) -> Around<'_>
+    ensures { (facts : Facts) → context_of result facts ≡ beginning procs.now serving facts }
+{
+    Around {
+        procs,
+        serving,
+        in_loop: false,
+    }
+}
+
+/// Notes what is found at the head of a proc.
+fn note_proc(
+    facts: &Facts,
+    notes: &mut Notes,
+    tree: &Proc,
+    operation: &Option<Operation>,
+) -> Result<(), NoMemory>
+    ensures { OnOk result (notes.new ≡ all_noted notes.old (proc_rules facts.now tree.now operation.now)) }
+{
+    match operation {
+        None => note_unless(notes, false, Rule::BadType, tree.span),
+        Some(operation) => {
+            let met = may_head(
+                tree.formals.as_slice(),
+                tree.returned.is_some(),
+                &operation.ty,
+            );
+            note_unless(notes, met, Rule::BadType, tree.span)?;
+            note_unless(notes, is_own(facts, operation), Rule::BadUse, tree.span)
+        }
+    }
+}
+
+/// Notes what is found in a proc.
+pub(crate) fn proc(
+    alloc: Global,
+    tree: &Proc,
+    procs: &Procs,
+    facts: &mut Facts,
+    notes: &mut Notes,
+) -> Result<(), NoMemory>
+    ensures known { OnOk result (facts.new ≡ (proc_read procs.now tree.now facts.old).facts) }
+    ensures noted { OnOk result (notes.new ≡ all_noted notes.old (proc_read procs.now tree.now facts.old).found) }
+{
+    let operation = operation_named(alloc, facts, &tree.name)?;
+    note_proc(facts, notes, tree, &operation)?;
+    bind_operation(
+        alloc,
+        facts,
+        tree.formals.as_slice(),
+        &tree.returned,
+        &operation,
+    )?;
+    let served = spot_or(Spot::of(tree.name.span), &operation);
+    let around = beginning(procs, Serving::Serves(served));
+    proc_block(alloc, tree.block.as_slice(), &around, facts, notes)
+}
+
+fn declare_returned(
+    alloc: Global,
+    facts: &mut Facts,
+    returned: &Option<NamedParam>,
+) -> Result<(), NoMemory>
+    ensures { OnOk result (facts.new ≡ returned_declared returned.now facts.old) }
+{
+    match returned {
+        None => Ok(()),
+        Some(param) => declare(facts, param.spot, variable(param.ty.copy(alloc)?)),
+    }
+}
+
+fn declare_signed(alloc: Global, facts: &mut Facts, signed: &Signed) -> Result<(), NoMemory>
+    ensures { OnOk result (facts.new ≡ signed_declared signed.now facts.old) }
+{
+    declare_params(alloc, facts, signed.params.as_slice())?;
+    declare_returned(alloc, facts, &signed.returned)
+}
+
+/// Notes what is found in a procedure.
+pub(crate) fn procedure(
+    alloc: Global,
+    tree: &Procedure,
+    procs: &Procs,
+    facts: &mut Facts,
+    notes: &mut Notes,
+) -> Result<(), NoMemory>
+    ensures known { OnOk result (facts.new ≡ (procedure_read procs.now tree.now facts.old).facts) }
+    ensures noted { OnOk result (notes.new ≡ all_noted notes.old (procedure_read procs.now tree.now facts.old).found) }
+{
+    let signed = signature(alloc, &tree.signature, facts, notes)?;
+    declare_signed(alloc, facts, &signed)?;
+    let around = beginning(procs, Serving::Serves(Spot::of(tree.name.span)));
+    proc_block(alloc, tree.block.as_slice(), &around, facts, notes)
+}
+
+/// In the body of a process the names of its quantifiers are formals.
+fn declare_formals(facts: &mut Facts, trees: &[Quantifier]) -> Result<(), NoMemory>
+    ensures { OnOk result (facts.new ≡ quantifiers_formal trees.now facts.old) }
+{
+    for tree in trees {
+        declare_name(facts, &tree.name, variable(Ty::Int))?;
+    }
+    Ok(())
+}
+
+/// Notes what is found in a process.
+pub(crate) fn process(
+    alloc: Global,
+    tree: &Process,
+    procs: &Procs,
+    facts: &mut Facts,
+    notes: &mut Notes,
+) -> Result<(), NoMemory>
+    ensures known { OnOk result (facts.new ≡ (process_read procs.now tree.now facts.old).facts) }
+    ensures noted { OnOk result (notes.new ≡ all_noted notes.old (process_read procs.now tree.now facts.old).found) }
+{
+    quantifiers(alloc, facts, notes, tree.quantifiers.as_slice())?;
+    declare_formals(facts, tree.quantifiers.as_slice())?;
+    let around = beginning(procs, Serving::Serves(Spot::of(tree.name.span)));
+    proc_block(alloc, tree.block.as_slice(), &around, facts, notes)
+}
+
+/// Notes what is found in final code.
+pub(crate) fn final_code(
+    alloc: Global,
+    tree: &FinalCode,
+    procs: &Procs,
+    facts: &mut Facts,
+    notes: &mut Notes,
+) -> Result<(), NoMemory>
+    ensures known { OnOk result (facts.new ≡ (final_read procs.now tree.now facts.old).facts) }
+    ensures noted { OnOk result (notes.new ≡ all_noted notes.old (final_read procs.now tree.now facts.old).found) }
+{
+    let around = beginning(procs, Serving::Ends);
+    proc_block(alloc, tree.block.as_slice(), &around, facts, notes)
+}

@@ -1,0 +1,84 @@
+ghost use Rattle.std.specs.Prelude.{◌≡◌, OnOk};
+ghost use Rattle.sr_names.specs.Notes.{all_noted};
+ghost use Rattle.sr_check.specs.Contexts.{context_of};
+ghost use Rattle.sr_check.specs.Receiving.{received_rule, received_found, takes_all, receive_by, receive_found};
+
+use crate::around::Around;
+use crate::operation::Operation;
+use crate::services::{note_service, operation_named, params_of};
+use sr_check_expr::{Facts, Judged, all, as_many, note_unless, note_values};
+use sr_names::{Notes, Rule};
+use sr_tree::{Expr, Name};
+use sr_types::{Param, Ty, Typed, fits};
+use sr_value::{NoMemory, Span};
+use std::alloc::Global;
+
+/// Whether a formal of this type may be assigned to a place.
+fn may_receive(place: &Typed, ty: &Ty) -> bool
+    ensures { result ≡ received_rule place.now ty.now }
+{
+    place.is_place && fits(ty, &place.ty)
+}
+
+/// Notes the places that don't take their formals.
+fn note_received(notes: &mut Notes, params: &[Param], places: &[Judged]) -> Result<(), NoMemory>
+    ensures { OnOk result (notes.new ≡ all_noted notes.old (received_found params.now places.now)) }
+{
+    let mut rest = places;
+    for param in params {
+        match rest {
+            [] => return Ok(()),
+            [first, others @ ..] => {
+                let met = may_receive(&first.typed, &param.ty);
+                note_unless(notes, met, Rule::BadType, first.span)?;
+                rest = others;
+            }
+        }
+    }
+    Ok(())
+}
+
+/// Whether there is a place for each formal.
+fn takes_all(ty: &Ty, places: &[Judged]) -> bool
+    ensures { result ≡ takes_all ty.now places.now }
+{
+    ty.is_untyped() || as_many(params_of(ty), places)
+}
+
+fn note_operation(
+    facts: &Facts,
+    around: &Around<'_>,
+    notes: &mut Notes,
+    span: Span,
+    places: &[Judged],
+    operation: &Option<Operation>,
+) -> Result<(), NoMemory>
+    ensures { OnOk result (notes.new ≡ all_noted notes.old (receive_by (context_of around.now facts.now) span places.now operation.now)) }
+{
+    match operation {
+        None => note_unless(notes, false, Rule::BadType, span),
+        Some(operation) => {
+            note_unless(notes, takes_all(&operation.ty, places), Rule::BadType, span)?;
+            note_received(notes, params_of(&operation.ty), places)?;
+            note_service(facts, around.procs, notes, span, operation)
+        }
+    }
+}
+
+/// Notes what is found at `receive operation(places)`.
+pub(crate) fn note_receive(
+    alloc: Global,
+    facts: &Facts,
+    around: &Around<'_>,
+    notes: &mut Notes,
+    span: Span,
+    name: &Name,
+    places: &[Expr],
+) -> Result<(), NoMemory>
+    ensures { OnOk result (notes.new ≡ all_noted notes.old (receive_found (context_of around.now facts.now) span name.now places.now)) }
+{
+    let places = all(alloc, places, facts, notes)?;
+    note_values(notes, places.as_slice())?;
+    let operation = operation_named(alloc, facts, name)?;
+    note_operation(facts, around, notes, span, places.as_slice(), &operation)
+}

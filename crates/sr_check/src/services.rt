@@ -1,0 +1,286 @@
+ghost use Rattle.std.specs.Prelude.{◌≡◌, ◌++◌, IfOk, OnOk, is_some};
+ghost use Rattle.std.specs.Option.{option_copied};
+ghost use Rattle.sr_names.specs.Notes.{all_noted};
+ghost use Rattle.sr_check.specs.Services.{operation_by, operation_at, decl_named, operation_named, is_local_info, is_shared_info, is_local_name, is_shared_name, params_of, both_or_none, head_rule, is_own, later_of, proc_found, service_found, head_found, names_bound, returned_bound, service_bound, type_of, spot_or, returns_of, type_or_none};
+
+use crate::around::Procs;
+use crate::operation::Operation;
+use sr_check_decl::{declare_name, variable};
+use sr_check_expr::{Facts, Info, as_many, decl_info, decl_of, note_unless};
+use sr_names::{Decl, Finding, Notes, Rule, Spot, Wrong};
+use sr_tree::Name;
+use sr_types::{Param, Ty};
+use sr_value::{Boxed, Duplicate, NoMemory, Span};
+use std::alloc::Global;
+
+/// The operation that is declared at a spot as this.
+pub(crate) fn operation_by(
+    alloc: Global,
+    spot: Spot,
+    info: Option<&Info>,
+) -> Result<Option<Operation>, NoMemory>
+    ensures { IfOk result (λ operation. operation ≡ operation_by spot (option_copied info.entry)) }
+{
+    match info {
+        Some(
+            Info::Operation {
+                ty,
+                component,
+                is_local,
+            },
+        ) => Ok(Some(Operation {
+            spot,
+            ty: ty.copy(alloc)?,
+            component: *component,
+            is_local: *is_local,
+        })),
+        _ => Ok(None),
+    }
+}
+
+fn operation_at(
+    alloc: Global,
+    facts: &Facts,
+    decl: Option<Decl>,
+) -> Result<Option<Operation>, NoMemory>
+    ensures { IfOk result (λ operation. operation ≡ operation_at facts.now decl) }
+{
+    match decl {
+        None => Ok(None),
+        Some(decl) => operation_by(alloc, decl.spot, facts.infos.get(decl.spot)),
+    }
+}
+
+fn decl_named(facts: &Facts, name: &Name) -> Option<Decl>
+    ensures { result ≡ decl_named facts.now name.now }
+{
+    decl_of(facts.uses.get(Spot::of(name.span)))
+}
+
+/// The operation that a name means.
+pub(crate) fn operation_named(
+    alloc: Global,
+    facts: &Facts,
+    name: &Name,
+) -> Result<Option<Operation>, NoMemory>
+    ensures { IfOk result (λ operation. operation ≡ operation_named facts.now name.now) }
+{
+    operation_at(alloc, facts, decl_named(facts, name))
+}
+
+fn is_local_info(info: Option<&Info>) -> bool
+    ensures { result ≡ is_local_info (option_copied info.entry) }
+{
+    match info {
+        Some(Info::Operation { is_local, .. }) => *is_local,
+        _ => false,
+    }
+}
+
+fn is_shared_info(info: Option<&Info>) -> bool
+    ensures { result ≡ is_shared_info (option_copied info.entry) }
+{
+    match info {
+        Some(Info::Operation { is_local, .. }) => !*is_local,
+        _ => false,
+    }
+}
+
+/// Whether a name means an operation of a proc.
+pub(crate) fn is_local_name(facts: &Facts, name: &Name) -> bool
+    ensures { result ≡ is_local_name facts.now name.now }
+{
+    is_local_info(decl_info(&facts.infos, decl_named(facts, name)))
+}
+
+/// Whether a name means an operation of a component.
+pub(crate) fn is_shared_name(facts: &Facts, name: &Name) -> bool
+    ensures { result ≡ is_shared_name facts.now name.now }
+{
+    is_shared_info(decl_info(&facts.infos, decl_named(facts, name)))
+}
+
+/// The formals of an operation of this type.
+pub(crate) fn params_of(ty: &Ty) -> &[Param]
+    ensures { result.now ≡ params_of ty.now }
+{
+    match ty {
+        Ty::Op(signature) => signature.params.as_slice(),
+        _ => &[],
+    }
+}
+
+/// Whether an operation of this type is serviced with as many names as it has formals, and with `returns` exactly
+/// where it returns.
+pub(crate) fn may_head<T>(names: &[T], returns: bool, ty: &Ty) -> bool
+    ensures { result ≡ head_rule names.now returns ty.now }
+{
+    match ty {
+        Ty::Op(signature) => {
+            as_many(names, signature.params.as_slice()) && returns == signature.returns.is_some()
+        }
+        _ => true,
+    }
+}
+
+/// Whether an operation is of the component in which something stands.
+pub(crate) fn is_own(facts: &Facts, operation: &Operation) -> bool
+    ensures { result ≡ is_own facts.now operation.now }
+{
+    operation.component == facts.here.component.spot
+}
+
+/// Of two places that disagree the later one.
+fn later_of(a: Span, b: Span) -> Span
+    ensures { result ≡ later_of a b }
+{
+    if Spot::of(a).is_before(Spot::of(b)) {
+        b
+    } else {
+        a
+    }
+}
+
+/// Notes that an operation is serviced by a proc and at a span.
+fn note_proc(notes: &mut Notes, span: Span, proc: Option<Span>) -> Result<(), NoMemory>
+    ensures { OnOk result (notes.new ≡ all_noted notes.old (proc_found span proc)) }
+{
+    match proc {
+        None => Ok(()),
+        Some(proc) => notes.note(Finding::Broken(Wrong {
+            rule: Rule::BadUse,
+            span: later_of(proc, span),
+        })),
+    }
+}
+
+/// Notes what is found where an operation is serviced at a span, by statements.
+pub(crate) fn note_service(
+    facts: &Facts,
+    procs: &Procs,
+    notes: &mut Notes,
+    span: Span,
+    operation: &Operation,
+) -> Result<(), NoMemory>
+    ensures { OnOk result (notes.new ≡ all_noted notes.old (service_found facts.now procs.now span operation.now)) }
+{
+    note_unless(notes, is_own(facts, operation), Rule::BadUse, span)?;
+    note_proc(notes, span, procs.get(operation.spot))
+}
+
+/// Notes what is found at the head of a service at a span.
+pub(crate) fn note_head<T>(
+    facts: &Facts,
+    procs: &Procs,
+    notes: &mut Notes,
+    span: Span,
+    formals: &[T],
+    returns: bool,
+    operation: &Option<Operation>,
+) -> Result<(), NoMemory>
+    ensures { OnOk result (notes.new ≡ all_noted notes.old (head_found facts.now procs.now span formals.now returns operation.now)) }
+{
+    match operation {
+        None => note_unless(notes, false, Rule::BadType, span),
+        Some(operation) => {
+            let met = may_head(formals, returns, &operation.ty);
+            note_unless(notes, met, Rule::BadType, span)?;
+            note_service(facts, procs, notes, span, operation)
+        }
+    }
+}
+
+/// Declares the formals of a service, by the names that stand for them.
+fn bind_names(
+    alloc: Global,
+    facts: &mut Facts,
+    names: &[Name],
+    params: &[Param],
+) -> Result<(), NoMemory>
+    ensures { OnOk result (facts.new ≡ names_bound names.now params.now facts.old) }
+{
+    let mut rest = params;
+    for name in names {
+        match rest {
+            [] => declare_name(facts, name, variable(Ty::Untyped))?,
+            [first, others @ ..] => {
+                declare_name(facts, name, variable(first.ty.copy(alloc)?))?;
+                rest = others;
+            }
+        }
+    }
+    Ok(())
+}
+
+fn bind_returned(
+    alloc: Global,
+    facts: &mut Facts,
+    name: &Option<Name>,
+    ty: &Ty,
+) -> Result<(), NoMemory>
+    ensures { OnOk result (facts.new ≡ returned_bound name.now (returns_of ty.now) facts.old) }
+{
+    match name {
+        None => Ok(()),
+        Some(name) => declare_name(facts, name, variable(returned_type(alloc, ty)?)),
+    }
+}
+
+/// The type of what an operation of this type returns.
+fn returned_type(alloc: Global, ty: &Ty) -> Result<Ty, NoMemory>
+    ensures { IfOk result (λ returned. returned ≡ type_or_none (returns_of ty.now)) }
+{
+    match ty {
+        Ty::Op(signature) => copied_or_none(alloc, &signature.returns),
+        _ => Ok(Ty::Untyped),
+    }
+}
+
+fn copied_or_none(alloc: Global, ty: &Option<Boxed<Ty>>) -> Result<Ty, NoMemory>
+    ensures { IfOk result (λ copied. copied ≡ type_or_none ty.now) }
+{
+    match ty {
+        Some(ty) => ty.get().copy(alloc),
+        None => Ok(Ty::Untyped),
+    }
+}
+
+/// Declares what is known within a service of an operation of this type.
+pub(crate) fn bind_service(
+    alloc: Global,
+    facts: &mut Facts,
+    formals: &[Name],
+    returned: &Option<Name>,
+    ty: &Ty,
+) -> Result<(), NoMemory>
+    ensures { OnOk result (facts.new ≡ service_bound formals.now returned.now ty.now facts.old) }
+{
+    bind_names(alloc, facts, formals, params_of(ty))?;
+    bind_returned(alloc, facts, returned, ty)
+}
+
+/// Declares what is known within a service of an operation, where a name means one.
+pub(crate) fn bind_operation(
+    alloc: Global,
+    facts: &mut Facts,
+    formals: &[Name],
+    returned: &Option<Name>,
+    operation: &Option<Operation>,
+) -> Result<(), NoMemory>
+    ensures { OnOk result (facts.new ≡ service_bound formals.now returned.now (type_of operation.now) facts.old) }
+{
+    match operation {
+        Some(operation) => bind_service(alloc, facts, formals, returned, &operation.ty),
+        None => bind_service(alloc, facts, formals, returned, &Ty::Untyped),
+    }
+}
+
+/// The operation that is served, or what stands for it.
+pub(crate) fn spot_or(spot: Spot, operation: &Option<Operation>) -> Spot
+    ensures { result ≡ spot_or spot operation.now }
+{
+    match operation {
+        Some(operation) => operation.spot,
+        None => spot,
+    }
+}

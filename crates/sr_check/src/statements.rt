@@ -1,0 +1,460 @@
+ghost use Rattle.std.specs.Prelude.{◌≡◌, true, false, OnOk, map, is_some};
+ghost use Rattle.std.specs.Option.{option_map};
+ghost use Rattle.std.specs.List.{list_any};
+ghost use Rattle.sr_names.specs.Notes.{all_noted};
+ghost use Rattle.sr_names.specs.Spots.{spot_of};
+ghost use Rattle.sr_check.specs.Contexts.{context_of, in_order, looping, with_facts};
+ghost use Rattle.sr_check.specs.Uses.{choice_rule};
+ghost use Rattle.sr_check.specs.Quantifying.{maybe_with};
+ghost use Rattle.sr_check_decl.specs.Constants.{const_found};
+ghost use Rattle.sr_check_decl.specs.Variables.{var_found, local_var};
+ghost use Rattle.sr_check.specs.Services.{operation_named, is_local_name, is_shared_name};
+ghost use Rattle.sr_check.specs.Statements.{local_const, maybe_block, guards_found, condition_found, arm_context, arm_inner, is_mixture, mixture_found, arms_at, store_found, plain_found, statement_read, block_item_read, arm_read, branch_read, co_arm_read, guarding};
+
+use crate::around::Around;
+use crate::invoking::{may_reply, note_call, note_forward, note_send, note_started};
+use crate::quantifying::{note_condition, quantifiers};
+use crate::receiving::note_receive;
+use crate::services::{
+    bind_operation, is_local_name, is_shared_name, note_head, operation_named, spot_or,
+};
+use crate::serving::Serving;
+use crate::storing::{note_assign, note_counter, note_destroy, note_exchange, note_stop};
+use crate::uses::may_choose;
+use sr_check_decl::{constant, declare_locals, declare_name, note_variables};
+use sr_check_expr::{Facts, Here, Info, create, expr, note_unless, note_value};
+use sr_names::{Notes, Rule, Spot};
+use sr_tree::{Arm, ArmCondition, BlockItem, Branch, CoArm, ConstDecl, Expr, Statement, VarDecl};
+use sr_value::{NoMemory, Row, Span};
+use std::alloc::Global;
+
+/// Notes what is found in a constant of a block, and declares it.
+pub(crate) fn local_const(
+    alloc: Global,
+    facts: &mut Facts,
+    notes: &mut Notes,
+    tree: &ConstDecl,
+) -> Result<(), NoMemory>
+    ensures known { OnOk result (facts.new ≡ local_const tree.now facts.old) }
+    ensures noted { OnOk result (notes.new ≡ all_noted notes.old (const_found false facts.old tree.now)) }
+{
+    let typed = constant(alloc, facts, notes, false, tree)?;
+    declare_name(facts, &tree.name, Info::Value(typed))
+}
+
+/// Notes what is found in variables of a block, and declares them.
+pub(crate) fn local_var(
+    alloc: Global,
+    facts: &mut Facts,
+    notes: &mut Notes,
+    tree: &VarDecl,
+) -> Result<(), NoMemory>
+    ensures known { OnOk result (facts.new ≡ local_var tree.now facts.old) }
+    ensures noted { OnOk result (notes.new ≡ all_noted notes.old (var_found facts.old tree.now)) }
+{
+    note_variables(alloc, facts, notes, tree)?;
+    declare_locals(alloc, facts, tree)
+}
+
+/// Within a loop or a `co`.
+fn looping<'a>(around: &Around<'a>) -> Around<'a>
+    ensures { result ≡ record around.now { in_loop = true } }
+{
+    Around {
+        procs: around.procs,
+        serving: around.serving,
+        in_loop: true,
+    }
+}
+
+/// Within a service.
+fn serving_for<'a>(around: &Around<'a>, operation: Spot) -> Around<'a>
+    ensures { result ≡ record around.now { serving = Serving.Serves operation } }
+{
+    Around {
+        procs: around.procs,
+        serving: Serving::Serves(operation),
+        in_loop: around.in_loop,
+    }
+}
+
+fn note_arm_condition(
+    alloc: Global,
+    facts: &Facts,
+    notes: &mut Notes,
+    tree: &Option<ArmCondition>,
+) -> Result<(), NoMemory>
+    ensures { OnOk result (notes.new ≡ all_noted notes.old (condition_found facts.now tree.now)) }
+{
+    match tree {
+        None => Ok(()),
+        Some(written) => note_condition(alloc, facts, notes, &written.condition),
+    }
+}
+
+/// Notes what is found in what stands behind `by`.
+fn note_order(
+    alloc: Global,
+    facts: &Facts,
+    notes: &mut Notes,
+    tree: &Option<Expr>,
+) -> Result<(), NoMemory>
+    ensures { OnOk result (notes.new ≡ all_noted notes.old (maybe_with choice_rule facts.now tree.now)) }
+{
+    match tree {
+        None => Ok(()),
+        Some(written) => {
+            let order = expr(alloc, written, facts, notes)?;
+            note_value(notes, &order)?;
+            note_unless(notes, may_choose(&order.typed), Rule::BadType, order.span)
+        }
+    }
+}
+
+/// Notes what is found in what an arm says behind `and` or `st`, and `by`.
+fn note_guards(
+    alloc: Global,
+    facts: &mut Facts,
+    notes: &mut Notes,
+    condition: &Option<ArmCondition>,
+    order: &Option<Expr>,
+) -> Result<(), NoMemory>
+    ensures known { OnOk result (facts.new ≡ facts.old) }
+    ensures noted { OnOk result (notes.new ≡ all_noted notes.old (guards_found facts.old condition.now order.now)) }
+{
+    let here = facts.here;
+    facts.here = Here {
+        component: here.component,
+        in_guard: true,
+    };
+    note_arm_condition(alloc, facts, notes, condition)?;
+    note_order(alloc, facts, notes, order)?;
+    facts.here = here;
+    Ok(())
+}
+
+/// Whether some arm services an operation of the proc.
+fn some_local(facts: &Facts, arms: &[Arm]) -> bool
+    ensures { result ≡ list_any (λ arm. is_local_name facts.now arm.operation) (map arm_read arms.now) }
+{
+    for arm in arms {
+        if is_local_name(facts, &arm.operation) {
+            return true;
+        }
+    }
+    false
+}
+
+/// Whether some arm services an operation of the component.
+fn some_shared(facts: &Facts, arms: &[Arm]) -> bool
+    ensures { result ≡ list_any (λ arm. is_shared_name facts.now arm.operation) (map arm_read arms.now) }
+{
+    for arm in arms {
+        if is_shared_name(facts, &arm.operation) {
+            return true;
+        }
+    }
+    false
+}
+
+/// Notes an `in` over operations of the component and of the proc.
+fn note_mixture(facts: &Facts, notes: &mut Notes, span: Span, arms: &[Arm]) -> Result<(), NoMemory>
+    ensures { OnOk result (notes.new ≡ all_noted notes.old (mixture_found facts.now span (map arm_read arms.now))) }
+{
+    let met = !(some_local(facts, arms) && some_shared(facts, arms));
+    note_unless(notes, met, Rule::BadUse, span)
+}
+
+/// Notes what is found in a statement that stores, ends an instance or makes one, and nothing in any other.
+fn store_statement(
+    alloc: Global,
+    tree: &Statement,
+    facts: &Facts,
+    notes: &mut Notes,
+) -> Result<(), NoMemory>
+    ensures { OnOk result (notes.new ≡ all_noted notes.old (store_found tree.now facts.now)) }
+{
+    match tree {
+        Statement::Assign { span, place, value } => {
+            note_assign(alloc, facts, notes, *span, place, value)
+        }
+        Statement::Exchange { span, left, right } => {
+            note_exchange(alloc, facts, notes, *span, left, right)
+        }
+        Statement::Increment { span, place } | Statement::Decrement { span, place } => {
+            note_counter(alloc, facts, notes, *span, place)
+        }
+        Statement::Destroy { span, target } => note_destroy(alloc, facts, notes, *span, target),
+        Statement::Create {
+            create: created,
+            ..
+        } => {
+            create(alloc, created, facts, notes)?;
+            Ok(())
+        }
+        _ => Ok(()),
+    }
+}
+
+/// Notes what is found in a statement in which no others stand, and nothing in any other.
+fn plain_statement(
+    alloc: Global,
+    tree: &Statement,
+    around: &Around<'_>,
+    facts: &Facts,
+    notes: &mut Notes,
+) -> Result<(), NoMemory>
+    ensures { OnOk result (notes.new ≡ all_noted notes.old (plain_found tree.now (context_of around.now facts.now))) }
+{
+    match tree {
+        Statement::Exit { span } | Statement::Next { span } => {
+            note_unless(notes, around.in_loop, Rule::BadUse, *span)
+        }
+        Statement::Reply { span } => {
+            note_unless(notes, may_reply(around.serving), Rule::BadUse, *span)
+        }
+        Statement::Stop { span, status } => note_stop(alloc, facts, notes, *span, status),
+        Statement::Call {
+            span,
+            invocation,
+            ..
+        } => note_call(alloc, facts, around, notes, *span, invocation),
+        Statement::Send { span, invocation } => note_send(alloc, facts, notes, *span, invocation),
+        Statement::Forward { span, invocation } => {
+            note_forward(alloc, facts, around, notes, *span, invocation)
+        }
+        Statement::Receive {
+            span,
+            operation,
+            places,
+        } => note_receive(
+            alloc,
+            facts,
+            around,
+            notes,
+            *span,
+            operation,
+            places.as_slice(),
+        ),
+        _ => store_statement(alloc, tree, facts, notes),
+    }
+}
+
+/// Notes what is found in a statement. What is declared in it is then known.
+#[cycle(statements)]
+pub(crate) fn statement(
+    alloc: Global,
+    tree: &Statement,
+    around: &Around<'_>,
+    facts: &mut Facts,
+    notes: &mut Notes,
+) -> Result<(), NoMemory>
+    ensures known { OnOk result (facts.new ≡ (statement_read tree.now (context_of around.now facts.old)).facts) }
+    ensures noted { OnOk result (notes.new ≡ all_noted notes.old (statement_read tree.now (context_of around.now facts.old)).found) }
+{
+    match tree {
+        Statement::If {
+            branches: all,
+            otherwise,
+            ..
+        } => {
+            branches(alloc, all.as_slice(), around, facts, notes)?;
+            maybe_block(alloc, otherwise, around, facts, notes)
+        }
+        Statement::Do {
+            branches: all,
+            otherwise,
+            ..
+        } => {
+            let within = looping(around);
+            branches(alloc, all.as_slice(), &within, facts, notes)?;
+            maybe_block(alloc, otherwise, &within, facts, notes)
+        }
+        Statement::ForAll {
+            quantifiers: all,
+            block: items,
+            ..
+        } => {
+            quantifiers(alloc, facts, notes, all.as_slice())?;
+            block(alloc, items.as_slice(), &looping(around), facts, notes)
+        }
+        Statement::In {
+            span,
+            arms: all,
+            otherwise,
+        } => {
+            note_mixture(facts, notes, *span, all.as_slice())?;
+            arms(alloc, all.as_slice(), *span, around, facts, notes)?;
+            maybe_block(alloc, otherwise, around, facts, notes)
+        }
+        Statement::Co { arms: all, .. } => co_arms(alloc, all.as_slice(), around, facts, notes),
+        _ => plain_statement(alloc, tree, around, facts, notes),
+    }
+}
+
+/// Notes what is found in a block that may be left out.
+#[cycle(statements)]
+fn maybe_block(
+    alloc: Global,
+    items: &Option<Row<BlockItem>>,
+    around: &Around<'_>,
+    facts: &mut Facts,
+    notes: &mut Notes,
+) -> Result<(), NoMemory>
+    ensures known { OnOk result (facts.new ≡ (maybe_block (option_map (map block_item_read) items.now) (context_of around.now facts.old)).facts) }
+    ensures noted { OnOk result (notes.new ≡ all_noted notes.old (maybe_block (option_map (map block_item_read) items.now) (context_of around.now facts.old)).found) }
+{
+    match items {
+        Some(items) => block(alloc, items.as_slice(), around, facts, notes),
+        None => Ok(()),
+    }
+}
+
+/// Notes what is found in a block.
+#[cycle(statements)]
+fn block(
+    alloc: Global,
+    items: &[BlockItem],
+    around: &Around<'_>,
+    facts: &mut Facts,
+    notes: &mut Notes,
+) -> Result<(), NoMemory>
+    ensures known { OnOk result (facts.new ≡ (in_order (map block_item_read items.now) (context_of around.now facts.old)).facts) }
+    ensures noted { OnOk result (notes.new ≡ all_noted notes.old (in_order (map block_item_read items.now) (context_of around.now facts.old)).found) }
+{
+    for item in items {
+        block_item(alloc, item, around, facts, notes)?;
+    }
+    Ok(())
+}
+
+#[cycle(statements)]
+fn block_item(
+    alloc: Global,
+    item: &BlockItem,
+    around: &Around<'_>,
+    facts: &mut Facts,
+    notes: &mut Notes,
+) -> Result<(), NoMemory>
+    ensures known { OnOk result (facts.new ≡ (block_item_read item.now (context_of around.now facts.old)).facts) }
+    ensures noted { OnOk result (notes.new ≡ all_noted notes.old (block_item_read item.now (context_of around.now facts.old)).found) }
+{
+    match item {
+        BlockItem::Const(tree) => local_const(alloc, facts, notes, tree),
+        BlockItem::Var(tree) => local_var(alloc, facts, notes, tree),
+        BlockItem::Statement(inner) => statement(alloc, inner, around, facts, notes),
+    }
+}
+
+#[cycle(statements)]
+fn branches(
+    alloc: Global,
+    trees: &[Branch],
+    around: &Around<'_>,
+    facts: &mut Facts,
+    notes: &mut Notes,
+) -> Result<(), NoMemory>
+    ensures known { OnOk result (facts.new ≡ (in_order (map branch_read trees.now) (context_of around.now facts.old)).facts) }
+    ensures noted { OnOk result (notes.new ≡ all_noted notes.old (in_order (map branch_read trees.now) (context_of around.now facts.old)).found) }
+{
+    for tree in trees {
+        branch(alloc, tree, around, facts, notes)?;
+    }
+    Ok(())
+}
+
+#[cycle(statements)]
+fn branch(
+    alloc: Global,
+    tree: &Branch,
+    around: &Around<'_>,
+    facts: &mut Facts,
+    notes: &mut Notes,
+) -> Result<(), NoMemory>
+    ensures known { OnOk result (facts.new ≡ (branch_read tree.now (context_of around.now facts.old)).facts) }
+    ensures noted { OnOk result (notes.new ≡ all_noted notes.old (branch_read tree.now (context_of around.now facts.old)).found) }
+{
+    note_condition(alloc, facts, notes, &tree.guard)?;
+    block(alloc, tree.block.as_slice(), around, facts, notes)
+}
+
+#[cycle(statements)]
+fn arms(
+    alloc: Global,
+    trees: &[Arm],
+    span: Span,
+    around: &Around<'_>,
+    facts: &mut Facts,
+    notes: &mut Notes,
+) -> Result<(), NoMemory>
+    ensures known { OnOk result (facts.new ≡ (in_order (arms_at span (map arm_read trees.now)) (context_of around.now facts.old)).facts) }
+    ensures noted { OnOk result (notes.new ≡ all_noted notes.old (in_order (arms_at span (map arm_read trees.now)) (context_of around.now facts.old)).found) }
+{
+    for tree in trees {
+        arm(alloc, tree, span, around, facts, notes)?;
+    }
+    Ok(())
+}
+
+/// Notes what is found in an arm of an `in` that stands at a span.
+#[cycle(statements)]
+fn arm(
+    alloc: Global,
+    tree: &Arm,
+    span: Span,
+    around: &Around<'_>,
+    facts: &mut Facts,
+    notes: &mut Notes,
+) -> Result<(), NoMemory>
+    ensures known { OnOk result (facts.new ≡ ((arm_read tree.now).steps span (context_of around.now facts.old)).facts) }
+    ensures noted { OnOk result (notes.new ≡ all_noted notes.old ((arm_read tree.now).steps span (context_of around.now facts.old)).found) }
+{
+    let formals = tree.formals.as_slice();
+    let operation = operation_named(alloc, facts, &tree.operation)?;
+    note_head(
+        facts,
+        around.procs,
+        notes,
+        span,
+        formals,
+        tree.returned.is_some(),
+        &operation,
+    )?;
+    bind_operation(alloc, facts, formals, &tree.returned, &operation)?;
+    note_guards(alloc, facts, notes, &tree.condition, &tree.order)?;
+    let within = serving_for(around, spot_or(Spot::of(tree.operation.span), &operation));
+    block(alloc, tree.block.as_slice(), &within, facts, notes)
+}
+
+#[cycle(statements)]
+fn co_arms(
+    alloc: Global,
+    trees: &[CoArm],
+    around: &Around<'_>,
+    facts: &mut Facts,
+    notes: &mut Notes,
+) -> Result<(), NoMemory>
+    ensures known { OnOk result (facts.new ≡ (in_order (map co_arm_read trees.now) (context_of around.now facts.old)).facts) }
+    ensures noted { OnOk result (notes.new ≡ all_noted notes.old (in_order (map co_arm_read trees.now) (context_of around.now facts.old)).found) }
+{
+    for tree in trees {
+        co_arm(alloc, tree, around, facts, notes)?;
+    }
+    Ok(())
+}
+
+#[cycle(statements)]
+fn co_arm(
+    alloc: Global,
+    tree: &CoArm,
+    around: &Around<'_>,
+    facts: &mut Facts,
+    notes: &mut Notes,
+) -> Result<(), NoMemory>
+    ensures known { OnOk result (facts.new ≡ (co_arm_read tree.now (context_of around.now facts.old)).facts) }
+    ensures noted { OnOk result (notes.new ≡ all_noted notes.old (co_arm_read tree.now (context_of around.now facts.old)).found) }
+{
+    quantifiers(alloc, facts, notes, tree.quantifiers.as_slice())?;
+    note_started(alloc, facts, notes, &tree.target, &tree.invocation)?;
+    maybe_block(alloc, &tree.block, &looping(around), facts, notes)
+}

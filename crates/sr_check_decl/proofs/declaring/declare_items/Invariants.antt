@@ -1,0 +1,7 @@
+-- What is declared so far and what the rest declares are what all declare.
+use Rattle.std.proofs.Common.{◌≡◌, drop}
+use Rattle.sr_check_decl.specs.Declaring.{items_declared}
+use Rattle.sr_check_decl.proofs.declaring.declare_items.Given as goal
+
+abbrev pub invariant-loop-item : goal.invariant-loop-item
+invariant-loop-item l = items_declared (drop l.item-index l.items) l.tally ≡ items_declared l.items l.fn.tally

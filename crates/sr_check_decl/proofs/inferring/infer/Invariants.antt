@@ -1,0 +1,8 @@
+-- The rounds so far and the rounds that are left are all rounds.
+use Rattle.std.proofs.Common.{◌≡◌, map, length, ◌-◌}
+use Rattle.sr_check_decl.specs.Waits.{seen}
+use Rattle.sr_check_decl.specs.Inferring.{rounds, inferred}
+use Rattle.sr_check_decl.proofs.inferring.infer.Given as goal
+
+abbrev pub invariant-loop-_round : goal.invariant-loop-_round
+invariant-loop-_round l = rounds (length l.all - l._round) (map seen l.all) l.facts ≡ inferred (map seen l.all) l.fn.facts

@@ -1,0 +1,74 @@
+-- Constants: what is found in their declarations, and what they are.
+use Rattle.std.specs.Prelude.{Bool, true, false, not, ◌&&◌, ◌||◌, List, [], ◌++◌, Option, Some, None, if◌then◌else◌}
+use Rattle.std.specs.Option.{option_map}
+use Rattle.sr_names.specs.declared.finding.Finding.{Finding}
+use Rattle.sr_names.specs.declared.finding.Rule.TheVariants.{BadType}
+use Rattle.sr_tree.specs.declared.declaration.ConstDecl.{ConstDecl}
+use Rattle.sr_tree.specs.declared.types.TypeTree.{TypeTree}
+use Rattle.sr_types.specs.declared.ty.Ty.{Ty}
+use Rattle.sr_types.specs.declared.ty.Ty.TheVariants as ty
+use Rattle.sr_types.specs.declared.typed.Static.{Static}
+use Rattle.sr_types.specs.declared.typed.Static.TheVariants.{Unknown, Known, Faults}
+use Rattle.sr_types.specs.declared.typed.Typed.{Typed}
+use Rattle.sr_types.specs.Outcomes.{computed}
+use Rattle.sr_types.specs.Types.{fits_type, is_no_type, is_null_type}
+use Rattle.sr_check_expr.specs.declared.facts.Facts.{Facts}
+use Rattle.sr_check_expr.specs.declared.judged.Judged.{Judged}
+use Rattle.sr_check_expr.specs.Exprs.{judge_expr}
+use Rattle.sr_check_expr.specs.Judgements.{valued, broken_unless}
+use Rattle.sr_check_decl.specs.declared.kind.Kind.{Kind}
+use Rattle.sr_check_decl.specs.TypeTrees.{free_bounds, type_kinded}
+
+abbrev pub is_static : Static → Bool
+is_static (Known value) = true
+is_static _ = false
+
+abbrev pub is_fault : Static → Bool
+is_fault (Faults fault) = true
+is_fault _ = false
+
+-- the type that is written, where one is
+abbrev pub written_kind : Facts → Option TypeTree → Option Kind
+written_kind facts ty = option_map (λ tree. (type_kinded tree facts free_bounds).kind) ty
+
+abbrev pub written_found : Facts → Option TypeTree → List Finding
+written_found facts None = []
+written_found facts (Some tree) = (type_kinded tree facts free_bounds).found
+
+-- the value of a constant has its type, if it has one, and is no `null` otherwise
+abbrev pub has_type_of : Option Kind → Typed → Bool
+has_type_of None value = not (is_null_type value.ty)
+has_type_of (Some kind) value = fits_type value.ty kind.ty
+
+-- besides, to evaluate it is no fault where it is static, and a constant of a spec is static
+abbrev pub const_rule : Bool → Option Kind → Typed → Bool
+const_rule in_spec kind value =
+    is_no_type value.ty || (has_type_of kind value && (not (is_fault value.value) && (not in_spec || is_static value.value)))
+
+abbrev pub known_if : Bool → Static → Static
+known_if true value = value
+known_if false value = Unknown
+
+-- what has the type of its value has none where that is `null`
+abbrev pub type_of_value : Ty → Ty
+type_of_value own = if is_null_type own then ty.Untyped else own
+
+abbrev pub const_type : Option Kind → Ty → Ty
+const_type None ty = type_of_value ty
+const_type (Some kind) ty = kind.ty
+
+-- what a constant is: of its own type, if it has one, and of the type of its value otherwise
+abbrev pub const_typed : Bool → Option Kind → Typed → Typed
+const_typed in_spec kind value = computed (const_type kind value.ty) (known_if (const_rule in_spec kind value) value.value)
+
+abbrev pub const_of : Bool → Facts → ConstDecl → Typed
+const_of in_spec facts constant = const_typed in_spec (written_kind facts constant.ty) (judge_expr constant.value facts).judged.typed
+
+abbrev pub const_value_found : Bool → Option Kind → Judged → List Finding
+const_value_found in_spec kind value = broken_unless (const_rule in_spec kind value.typed) BadType value.span
+
+abbrev pub const_found : Bool → Facts → ConstDecl → List Finding
+const_found in_spec facts constant =
+    written_found facts constant.ty
+    ++ (valued (judge_expr constant.value facts)
+    ++ const_value_found in_spec (written_kind facts constant.ty) (judge_expr constant.value facts).judged)

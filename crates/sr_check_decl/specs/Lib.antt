@@ -1,0 +1,12 @@
+pub mod Bounds
+pub mod Circles
+pub mod Constants
+pub mod Declarations
+pub mod Declaring
+pub mod Inferring
+pub mod NamesIn
+pub mod Parts
+pub mod TypeTrees
+pub mod Variables
+pub mod Waiting
+pub mod Waits

@@ -1,0 +1,99 @@
+ghost use Rattle.std.specs.Prelude.{◌≡◌, ◌++◌, IfOk, OnOk, map};
+ghost use Rattle.sr_names.specs.Notes.{all_noted};
+ghost use Rattle.sr_check_decl.specs.Waits.{seen};
+ghost use Rattle.sr_check_decl.specs.Inferring.{is_settled};
+ghost use Rattle.sr_check_decl.specs.Circles.{leads_to, leads_of, leads_unless, leads_left, refused_by, circles_found};
+
+use crate::inferring::is_settled;
+use crate::names_in::names_in;
+use crate::waiting::Waits;
+use sr_check_expr::{Facts, decl_of, note_unless};
+use sr_names::{Decl, Import, Link, Notes, Rule, Spot, Wrong, note_cycles};
+use sr_value::{NoMemory, Row, Span};
+use std::alloc::Global;
+
+fn push_lead(
+    leads: &mut Row<Import>,
+    waiting: &Waits<'_>,
+    decl: Option<Decl>,
+) -> Result<(), NoMemory>
+    ensures { OnOk result (leads.new ≡ leads.old ++ leads_to (seen waiting.now) decl) }
+{
+    match decl {
+        None => Ok(()),
+        Some(decl) => leads.push(Import {
+            link: Link {
+                from: waiting.spot,
+                to: decl.spot,
+            },
+            span: waiting.span,
+        }),
+    }
+}
+
+fn push_leads(
+    facts: &Facts,
+    leads: &mut Row<Import>,
+    waiting: &Waits<'_>,
+    names: &[Span],
+) -> Result<(), NoMemory>
+    ensures { OnOk result (leads.new ≡ leads.old ++ leads_of facts.now (seen waiting.now) names.now) }
+{
+    for name in names {
+        push_lead(leads, waiting, decl_of(facts.uses.get(Spot::of(*name))))?;
+    }
+    Ok(())
+}
+
+fn push_left(
+    alloc: Global,
+    facts: &Facts,
+    leads: &mut Row<Import>,
+    waiting: &Waits<'_>,
+) -> Result<(), NoMemory>
+    ensures { OnOk result (leads.new ≡ leads.old ++ leads_unless (is_settled facts.now (seen waiting.now)) facts.now (seen waiting.now)) }
+{
+    if is_settled(facts, waiting) {
+        return Ok(());
+    }
+    let names = names_in(alloc, waiting.value)?;
+    push_leads(facts, leads, waiting, names.as_slice())
+}
+
+/// What the values of the declarations name that have no type.
+pub(crate) fn leads_left(
+    alloc: Global,
+    facts: &Facts,
+    all: &[Waits<'_>],
+) -> Result<Row<Import>, NoMemory>
+    ensures { IfOk result (λ leads. leads ≡ leads_left facts.now (map seen all.now)) }
+{
+    let mut leads = Row::new(alloc);
+    for waiting in all {
+        push_left(alloc, facts, &mut leads, waiting)?;
+    }
+    Ok(leads)
+}
+
+/// Notes the first declaration that is refused.
+fn note_refused(notes: &mut Notes, first: Option<Wrong>) -> Result<(), NoMemory>
+    ensures { OnOk result (notes.new ≡ all_noted notes.old (refused_by first)) }
+{
+    match first {
+        None => Ok(()),
+        Some(wrong) => note_unless(notes, false, Rule::BadType, wrong.span),
+    }
+}
+
+/// Notes the first declaration that leads to itself.
+pub(crate) fn note_circles(
+    alloc: Global,
+    notes: &mut Notes,
+    leads: &[Import],
+) -> Result<(), NoMemory>
+    ensures { OnOk result (notes.new ≡ all_noted notes.old (circles_found leads.now)) }
+{
+    let mut circles = Notes::new(alloc);
+    note_cycles(alloc, leads, &mut circles)?;
+    note_refused(notes, circles.first)
+}

@@ -1,0 +1,129 @@
+ghost use Rattle.std.specs.Prelude.{◌≡◌, IfOk, OnOk};
+ghost use Rattle.sr_names.specs.Notes.{all_noted};
+ghost use Rattle.sr_check_decl.specs.Constants.{is_static, is_fault, written_kind, written_found, has_type_of, const_rule, known_if, type_of_value, const_type, const_typed, const_of, const_value_found, const_found};
+
+use crate::kind::Kind;
+use crate::written::{FREE, type_kind};
+use sr_check_expr::{Facts, Judged, expr, note_unless, note_value};
+use sr_names::{Notes, Rule};
+use sr_tree::{ConstDecl, TypeTree};
+use sr_types::{Static, Ty, Typed, fits};
+use sr_value::NoMemory;
+use std::alloc::Global;
+
+/// Whether a value is known before the run.
+pub(crate) fn is_static(value: &Static) -> bool
+    ensures { result ≡ is_static value.now }
+{
+    matches!(value, Static::Known(_))
+}
+
+fn is_fault(value: &Static) -> bool
+    ensures { result ≡ is_fault value.now }
+{
+    matches!(value, Static::Faults(_))
+}
+
+/// Notes what is found in the type that is written, where one is, and answers it.
+pub(crate) fn written_kind(
+    alloc: Global,
+    facts: &Facts,
+    notes: &mut Notes,
+    tree: &Option<TypeTree>,
+) -> Result<Option<Kind>, NoMemory>
+    ensures value { IfOk result (λ kind. kind ≡ written_kind facts.now tree.now) }
+    ensures noted { OnOk result (notes.new ≡ all_noted notes.old (written_found facts.now tree.now)) }
+{
+    match tree {
+        None => Ok(None),
+        Some(written) => Ok(Some(type_kind(alloc, written, facts, notes, FREE)?)),
+    }
+}
+
+/// Whether a value has the type of its constant, or is no `null` where that has none.
+fn has_type_of(kind: &Option<Kind>, value: &Typed) -> bool
+    ensures { result ≡ has_type_of kind.now value.now }
+{
+    match kind {
+        None => !matches!(&value.ty, Ty::NullCap),
+        Some(kind) => fits(&value.ty, &kind.ty),
+    }
+}
+
+/// Whether a constant may have this value.
+fn may_be_const(in_spec: bool, kind: &Option<Kind>, value: &Typed) -> bool
+    ensures { result ≡ const_rule in_spec kind.now value.now }
+{
+    if value.ty.is_untyped() {
+        return true;
+    }
+    has_type_of(kind, value) && !is_fault(&value.value) && (!in_spec || is_static(&value.value))
+}
+
+/// What has the type of its value has none where that is `null`.
+pub(crate) fn type_of_value(ty: Ty) -> Ty
+    ensures { result ≡ type_of_value ty }
+{
+    match ty {
+        Ty::NullCap => Ty::Untyped,
+        _ => ty,
+    }
+}
+
+fn const_type(kind: Option<Kind>, ty: Ty) -> Ty
+    ensures { result ≡ const_type kind ty }
+{
+    match kind {
+        None => type_of_value(ty),
+        Some(kind) => kind.ty,
+    }
+}
+
+fn known_if(met: bool, value: Static) -> Static
+    ensures { result ≡ known_if met value }
+{
+    if met { value } else { Static::Unknown }
+}
+
+/// What a constant is by its value.
+pub(crate) fn const_typed(in_spec: bool, kind: Option<Kind>, value: Typed) -> Typed
+    ensures { result ≡ const_typed in_spec kind value }
+{
+    let met = may_be_const(in_spec, &kind, &value);
+    Typed {
+        ty: const_type(kind, value.ty),
+        is_place: false,
+        value: known_if(met, value.value),
+    }
+}
+
+/// Notes where a constant may not have this value.
+fn note_const(
+    notes: &mut Notes,
+    in_spec: bool,
+    kind: &Option<Kind>,
+    value: &Judged,
+) -> Result<(), NoMemory>
+    ensures { OnOk result (notes.new ≡ all_noted notes.old (const_value_found in_spec kind.now value.now)) }
+{
+    let met = may_be_const(in_spec, kind, &value.typed);
+    note_unless(notes, met, Rule::BadType, value.span)
+}
+
+/// Notes what is found in the declaration of a constant, and answers what the constant is.
+pub fn constant(
+    alloc: Global,
+    facts: &Facts,
+    notes: &mut Notes,
+    in_spec: bool,
+    tree: &ConstDecl,
+) -> Result<Typed, NoMemory>
+    ensures value { IfOk result (λ typed. typed ≡ const_of in_spec facts.now tree.now) }
+    ensures noted { OnOk result (notes.new ≡ all_noted notes.old (const_found in_spec facts.now tree.now)) }
+{
+    let kind = written_kind(alloc, facts, notes, &tree.ty)?;
+    let judged = expr(alloc, &tree.value, facts, notes)?;
+    note_value(notes, &judged)?;
+    note_const(notes, in_spec, &kind, &judged)?;
+    Ok(const_typed(in_spec, kind, judged.typed))
+}

@@ -1,0 +1,361 @@
+ghost use Rattle.std.specs.Prelude.{◌≡◌, [], None, IfOk, OnOk, map};
+ghost use Rattle.sr_check_decl.specs.TypeTrees.{type_kinded, fixed_bounds};
+ghost use Rattle.sr_check_decl.specs.Declaring.{declared_if, const_declared, untyped_vars_declared, var_declared, literal_info, literals_declared, enumeration_declared, field_info, fields_of, type_declared, spec_item_declared, item_declared, spec_items_declared, items_declared, params_declared, making_type, component_formals, with_formals, head_declared, behind_spec, component_declared, components_declared, files_declared, components_named, files_named, no_facts, program_declared, declare_name, at_facts, nowhere};
+
+use crate::constants::{constant, is_static};
+use crate::kind::NamedParam;
+use crate::operations::{
+    declare_operations, declare_optype, declare_procedure, declare_semaphore, declare_semaphores,
+};
+use crate::parts::{body_of, component_decl, formals_of, name_of, spec_of};
+use crate::signatures::{are_refused, params_of};
+use crate::tally::{Tally, count_of, declare, declare_name, next, stand, variable};
+use crate::variables::{declare_variables, may_be_untyped};
+use crate::written::{FIXED, FREE, all_formals, type_kind};
+use sr_check_expr::{Facts, FieldInfo, Here, Info, Infos, type_spot};
+use sr_names::{Decl, Members, Notes, Sort, Spot, Uses};
+use sr_tree::{
+    Component, ConstDecl, File, Formal, Item, Name, SpecItem, TypeDecl, TypeTree, VarDecl,
+};
+use sr_types::{Forms, Signature, Static, Ty, Typed};
+use sr_value::{Duplicate, NoMemory, Row, Value};
+use std::alloc::Global;
+
+fn declare_if(facts: &mut Facts, met: bool, name: &Name, typed: Typed) -> Result<(), NoMemory>
+    ensures { OnOk result (facts.new ≡ declared_if met name.now typed facts.old) }
+{
+    if !met {
+        return Ok(());
+    }
+    declare_name(facts, name, Info::Value(typed))
+}
+
+/// Declares a constant that has a type, or whose value is known before the run.
+fn declare_constant(
+    alloc: Global,
+    facts: &mut Facts,
+    in_spec: bool,
+    tree: &ConstDecl,
+) -> Result<(), NoMemory>
+    ensures { OnOk result (facts.new ≡ const_declared in_spec tree.now facts.old) }
+{
+    let typed = constant(alloc, facts, &mut Notes::new(alloc), in_spec, tree)?;
+    let met = tree.ty.is_some() || is_static(&typed.value);
+    declare_if(facts, met, &tree.name, typed)
+}
+
+/// Declares variables that have a type, or can't have one.
+fn declare_var(alloc: Global, facts: &mut Facts, tree: &VarDecl) -> Result<(), NoMemory>
+    ensures { OnOk result (facts.new ≡ var_declared tree.now facts.old) }
+{
+    let decls = tree.decls.as_slice();
+    match &tree.ty {
+        None => {
+            if may_be_untyped(decls, tree.values.as_slice()) {
+                return Ok(());
+            }
+            declare_variables(alloc, facts, &Ty::Untyped, decls)
+        }
+        Some(written) => {
+            let kind = type_kind(alloc, written, facts, &mut Notes::new(alloc), FREE)?;
+            declare_variables(alloc, facts, &kind.ty, decls)
+        }
+    }
+}
+
+/// What a literal of an enumeration is declared as.
+fn literal(enumeration: Spot, number: u32, index: u32) -> Info
+    ensures { result ≡ literal_info enumeration number index }
+{
+    Info::Value(Typed {
+        ty: Ty::Enum(type_spot(enumeration)),
+        is_place: false,
+        value: Static::Known(Value::Enum {
+            ty: number,
+            at: index,
+        }),
+    })
+}
+
+/// Declares the literals of an enumeration.
+fn declare_literals(
+    facts: &mut Facts,
+    enumeration: Spot,
+    number: u32,
+    literals: &[Name],
+) -> Result<(), NoMemory>
+    ensures { OnOk result (facts.new ≡ literals_declared enumeration number 0 literals.now facts.old) }
+{
+    let mut index = 0;
+    for name in literals {
+        declare_name(facts, name, literal(enumeration, number, index))?;
+        index = next(index)?;
+    }
+    Ok(())
+}
+
+fn declare_enumeration(tally: &mut Tally, name: &Name, literals: &[Name]) -> Result<(), NoMemory>
+    ensures { OnOk result (tally.new ≡ enumeration_declared name.now literals.now tally.old) }
+{
+    let number = tally.enumerations;
+    let info = Info::Enumeration {
+        number,
+        literals: count_of(literals)?,
+    };
+    declare_name(&mut tally.facts, name, info)?;
+    tally.enumerations = next(number)?;
+    declare_literals(&mut tally.facts, Spot::of(name.span), number, literals)
+}
+
+fn field_info(alloc: Global, param: &NamedParam) -> Result<FieldInfo, NoMemory>
+    ensures { IfOk result (λ field. field ≡ field_info param.now) }
+{
+    Ok(FieldInfo {
+        name: param.name.copy(alloc)?,
+        ty: param.ty.copy(alloc)?,
+    })
+}
+
+fn field_infos(alloc: Global, params: &[NamedParam]) -> Result<Row<FieldInfo>, NoMemory>
+    ensures { IfOk result (λ fields. fields ≡ map field_info params.now) }
+{
+    let mut fields = Row::new(alloc);
+    for param in params {
+        fields.push(field_info(alloc, param)?)?;
+    }
+    Ok(fields)
+}
+
+fn fields_of(alloc: Global, facts: &Facts, trees: &[Formal]) -> Result<Row<FieldInfo>, NoMemory>
+    ensures { IfOk result (λ fields. fields ≡ fields_of facts.now trees.now) }
+{
+    let params = all_formals(alloc, trees, facts, &mut Notes::new(alloc), true)?;
+    field_infos(alloc, params.as_slice())
+}
+
+fn declare_record(
+    alloc: Global,
+    facts: &mut Facts,
+    name: &Name,
+    trees: &[Formal],
+) -> Result<(), NoMemory>
+    ensures { OnOk result (facts.new ≡ declare_name facts.old name.now (Info.Record (fields_of facts.old trees.now))) }
+{
+    let fields = fields_of(alloc, facts, trees)?;
+    declare_name(facts, name, Info::Record(fields))
+}
+
+fn declare_named_type(alloc: Global, facts: &mut Facts, tree: &TypeDecl) -> Result<(), NoMemory>
+    ensures { OnOk result (facts.new ≡ declare_name facts.old tree.now.name (Info.«Type» (type_kinded tree.now.ty facts.old fixed_bounds).kind.ty)) }
+{
+    let kind = type_kind(alloc, &tree.ty, facts, &mut Notes::new(alloc), FIXED)?;
+    declare_name(facts, &tree.name, Info::Type(kind.ty))
+}
+
+/// Declares a type, and the literals of an enumeration.
+fn declare_type(alloc: Global, tally: &mut Tally, tree: &TypeDecl) -> Result<(), NoMemory>
+    ensures { OnOk result (tally.new ≡ type_declared tree.now tally.old) }
+{
+    match &tree.ty {
+        TypeTree::Enum { literals, .. } => {
+            declare_enumeration(tally, &tree.name, literals.as_slice())
+        }
+        TypeTree::Rec { fields, .. } => {
+            declare_record(alloc, &mut tally.facts, &tree.name, fields.as_slice())
+        }
+        _ => declare_named_type(alloc, &mut tally.facts, tree),
+    }
+}
+
+fn declare_spec_item(
+    alloc: Global,
+    tally: &mut Tally,
+    in_spec: bool,
+    item: &SpecItem,
+) -> Result<(), NoMemory>
+    ensures { OnOk result (tally.new ≡ spec_item_declared in_spec item.now tally.old) }
+{
+    match item {
+        SpecItem::Import(_) => Ok(()),
+        SpecItem::Const(tree) => declare_constant(alloc, &mut tally.facts, in_spec, tree),
+        SpecItem::Type(tree) => declare_type(alloc, tally, tree),
+        SpecItem::OpType(tree) => declare_optype(alloc, &mut tally.facts, tree),
+        SpecItem::Op(tree) => {
+            declare_operations(alloc, &mut tally.facts, false, tree.items.as_slice())
+        }
+        SpecItem::Var(tree) => declare_var(alloc, &mut tally.facts, tree),
+        SpecItem::Sem(tree) => {
+            declare_semaphores(alloc, &mut tally.facts, false, tree.semaphores.as_slice())
+        }
+    }
+}
+
+fn declare_item(alloc: Global, tally: &mut Tally, item: &Item) -> Result<(), NoMemory>
+    ensures { OnOk result (tally.new ≡ item_declared item.now tally.old) }
+{
+    match item {
+        Item::Spec(inner) => declare_spec_item(alloc, tally, false, inner),
+        Item::Procedure(tree) => {
+            declare_procedure(alloc, &mut tally.facts, &tree.name, &tree.signature)
+        }
+        Item::Process(tree) => declare_semaphore(alloc, &mut tally.facts, false, &tree.name),
+        Item::Proc(_) | Item::Final(_) | Item::Statement(_) => Ok(()),
+    }
+}
+
+fn declare_spec(alloc: Global, tally: &mut Tally, items: &[SpecItem]) -> Result<(), NoMemory>
+    ensures { OnOk result (tally.new ≡ spec_items_declared items.now tally.old) }
+{
+    for item in items {
+        declare_spec_item(alloc, tally, true, item)?;
+    }
+    Ok(())
+}
+
+fn declare_items(alloc: Global, tally: &mut Tally, items: &[Item]) -> Result<(), NoMemory>
+    ensures { OnOk result (tally.new ≡ items_declared items.now tally.old) }
+{
+    for item in items {
+        declare_item(alloc, tally, item)?;
+    }
+    Ok(())
+}
+
+pub fn declare_params(
+    alloc: Global,
+    facts: &mut Facts,
+    params: &[NamedParam],
+) -> Result<(), NoMemory>
+    ensures { OnOk result (facts.new ≡ params_declared params.now facts.old) }
+{
+    for param in params {
+        declare(facts, param.spot, variable(param.ty.copy(alloc)?))?;
+    }
+    Ok(())
+}
+
+/// What makes an instance takes arguments like an operation of these formals.
+fn making_type(alloc: Global, params: &[NamedParam]) -> Result<Ty, NoMemory>
+    ensures { IfOk result (λ ty. ty ≡ making_type params.now) }
+{
+    if are_refused(params) {
+        return Ok(Ty::Untyped);
+    }
+    Ok(Ty::Op(Signature {
+        params: params_of(alloc, params)?,
+        returns: None,
+        forms: Forms::Both,
+    }))
+}
+
+fn with_formals(
+    alloc: Global,
+    facts: &mut Facts,
+    name: &Name,
+    params: &[NamedParam],
+) -> Result<(), NoMemory>
+    ensures { OnOk result (facts.new ≡ with_formals name.now params.now facts.old) }
+{
+    let info = Info::Component(making_type(alloc, params)?);
+    declare_name(facts, name, info)?;
+    declare_params(alloc, facts, params)
+}
+
+/// Declares a component by its formals, and these.
+fn declare_head(alloc: Global, facts: &mut Facts, component: &Component) -> Result<(), NoMemory>
+    ensures { OnOk result (facts.new ≡ head_declared component.now facts.old) }
+{
+    let mut aside = Notes::new(alloc);
+    let params = all_formals(alloc, formals_of(component), facts, &mut aside, false)?;
+    with_formals(alloc, facts, name_of(component), params.as_slice())
+}
+
+fn declare_component(
+    alloc: Global,
+    tally: &mut Tally,
+    component: &Component,
+) -> Result<(), NoMemory>
+    ensures { OnOk result (tally.new ≡ component_declared component.now tally.old) }
+{
+    stand(&mut tally.facts, component_decl(component));
+    declare_spec(alloc, tally, spec_of(component))?;
+    declare_head(alloc, &mut tally.facts, component)?;
+    declare_items(alloc, tally, body_of(component))
+}
+
+fn declare_components(
+    alloc: Global,
+    tally: &mut Tally,
+    components: &[Component],
+) -> Result<(), NoMemory>
+    ensures { OnOk result (tally.new ≡ components_declared components.now tally.old) }
+{
+    for component in components {
+        declare_component(alloc, tally, component)?;
+    }
+    Ok(())
+}
+
+fn declare_files(alloc: Global, tally: &mut Tally, files: &[File]) -> Result<(), NoMemory>
+    ensures { OnOk result (tally.new ≡ files_declared files.now tally.old) }
+{
+    for file in files {
+        declare_components(alloc, tally, file.components.as_slice())?;
+    }
+    Ok(())
+}
+
+fn name_components(facts: &mut Facts, components: &[Component]) -> Result<(), NoMemory>
+    ensures { OnOk result (facts.new ≡ components_named components.now facts.old) }
+{
+    for component in components {
+        declare_name(facts, name_of(component), Info::Component(Ty::Untyped))?;
+    }
+    Ok(())
+}
+
+fn name_files(facts: &mut Facts, files: &[File]) -> Result<(), NoMemory>
+    ensures { OnOk result (facts.new ≡ files_named files.now facts.old) }
+{
+    for file in files {
+        name_components(facts, file.components.as_slice())?;
+    }
+    Ok(())
+}
+
+/// Nothing is declared, and what follows stands in no component.
+fn no_facts(alloc: Global, uses: Uses, specs: Members) -> Facts
+    ensures { result ≡ no_facts uses specs }
+{
+    Facts {
+        uses,
+        specs,
+        infos: Infos::new(alloc),
+        here: Here {
+            component: Decl {
+                sort: Sort::Global,
+                spot: Spot { file: 0, from: 0 },
+            },
+            in_guard: false,
+        },
+    }
+}
+
+/// What is declared outside of procs and blocks, as far as it has a type of its own.
+pub(crate) fn program_declared(
+    alloc: Global,
+    uses: Uses,
+    specs: Members,
+    files: &[File],
+) -> Result<Facts, NoMemory>
+    ensures { IfOk result (λ facts. facts ≡ program_declared uses specs files.now) }
+{
+    let mut facts = no_facts(alloc, uses, specs);
+    name_files(&mut facts, files)?;
+    let mut tally = Tally {
+        facts,
+        enumerations: 0,
+    };
+    declare_files(alloc, &mut tally, files)?;
+    Ok(tally.facts)
+}

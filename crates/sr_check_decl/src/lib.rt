@@ -1,0 +1,36 @@
+//! The rules of types and declarations over finished trees: what types are written, what declarations declare, and
+//! what is found in them.
+#![tactic(auto)]
+
+mod bounds;
+mod circles;
+mod constants;
+mod declarations;
+mod declaring;
+mod inferring;
+mod kind;
+mod names_in;
+mod operations;
+mod parts;
+mod ranges;
+mod signatures;
+mod tally;
+mod types;
+mod values;
+mod variables;
+mod waiting;
+mod written;
+
+pub use constants::constant;
+pub use declarations::{note_operations, note_semaphores, note_spec_item, note_spec_items};
+pub use declaring::declare_params;
+pub use inferring::program;
+pub use kind::{Bounding, Kind, NamedParam, Signed};
+pub use operations::{declare_operations, declare_semaphores, semaphore_type};
+pub use parts::{body_of, component_decl, formals_of, name_of, spec_of};
+pub use signatures::signature_type;
+pub use tally::{declare, declare_name, stand, variable};
+pub use types::decl_type;
+pub use values::{as_many, exprs};
+pub use variables::{declare_locals, declare_variables, note_variables};
+pub use written::{all_formals, signature, type_kind};

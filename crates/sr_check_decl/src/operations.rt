@@ -1,0 +1,187 @@
+ghost use Rattle.std.specs.Prelude.{◌≡◌, [], None, IfOk, OnOk};
+ghost use Rattle.std.specs.Option.{option_copied};
+ghost use Rattle.sr_names.specs.Notes.{all_noted};
+ghost use Rattle.sr_check_decl.specs.Declarations.{op_found};
+ghost use Rattle.sr_check_decl.specs.TypeTrees.{signature_read, signature_type};
+ghost use Rattle.sr_check_decl.specs.Declaring.{declare_name, operation, optype_of, or_untyped, op_type, op_item_name, ops_declared, semaphore_type, semaphore_declared, sems_declared, procedure_declared, optype_declared};
+
+use crate::kind::Kind;
+use crate::signatures::signature_type;
+use crate::tally::declare_name;
+use crate::types::named_decl;
+use crate::written::signature;
+use sr_check_expr::{Facts, Info, decl_info, note_unless};
+use sr_names::{Notes, Rule};
+use sr_tree::{Name, OpItem, OpTypeDecl, Semaphore, Signature};
+use sr_types::{Forms, Ty};
+use sr_value::{Duplicate, NoMemory, Row, Span};
+use std::alloc::Global;
+
+/// What an operation of this type is declared as where something stands.
+fn operation(facts: &Facts, is_local: bool, ty: Ty) -> Info
+    ensures { result ≡ operation facts.now is_local ty }
+{
+    Info::Operation {
+        ty,
+        component: facts.here.component.spot,
+        is_local,
+    }
+}
+
+/// The type that the type of an operation is, where this is one.
+fn optype_of(info: Option<&Info>) -> Option<&Ty>
+    ensures { option_copied result ≡ optype_of (option_copied info.entry) }
+{
+    match info {
+        Some(Info::OpType(ty)) => Some(ty),
+        _ => None,
+    }
+}
+
+fn or_untyped(alloc: Global, ty: Option<&Ty>) -> Result<Ty, NoMemory>
+    ensures { IfOk result (λ whole. whole ≡ or_untyped (option_copied ty.entry)) }
+{
+    match ty {
+        Some(ty) => ty.copy(alloc),
+        None => Ok(Ty::Untyped),
+    }
+}
+
+/// The type that a signature makes, with what is found in it.
+pub(crate) fn signed_type(
+    alloc: Global,
+    facts: &Facts,
+    notes: &mut Notes,
+    tree: &Signature,
+) -> Result<Ty, NoMemory>
+    ensures value { IfOk result (λ ty. ty ≡ signature_type (signature_read tree.now facts.now).signed) }
+    ensures noted { OnOk result (notes.new ≡ all_noted notes.old (signature_read tree.now facts.now).found) }
+{
+    let signed = signature(alloc, tree, facts, notes)?;
+    signature_type(alloc, &signed)
+}
+
+/// Notes what is found in the signature of an operation, or in the name of its type, and answers its type.
+pub(crate) fn op_type(
+    alloc: Global,
+    facts: &Facts,
+    notes: &mut Notes,
+    item: &OpItem,
+) -> Result<Ty, NoMemory>
+    ensures value { IfOk result (λ ty. ty ≡ op_type facts.now item.now) }
+    ensures noted { OnOk result (notes.new ≡ all_noted notes.old (op_found facts.now item.now)) }
+{
+    match item {
+        OpItem::Signed {
+            signature: written,
+            ..
+        } => signed_type(alloc, facts, notes, written),
+        OpItem::Typed { span, optype, .. } => {
+            let named = optype_of(decl_info(&facts.infos, named_decl(facts, optype)));
+            note_unless(notes, named.is_some(), Rule::BadType, *span)?;
+            or_untyped(alloc, named)
+        }
+    }
+}
+
+fn op_item_name(item: &OpItem) -> &Name
+    ensures { result.now ≡ op_item_name item.now }
+{
+    match item {
+        OpItem::Signed { name, .. } => name,
+        OpItem::Typed { name, .. } => name,
+    }
+}
+
+fn declare_operation(
+    alloc: Global,
+    facts: &mut Facts,
+    is_local: bool,
+    item: &OpItem,
+) -> Result<(), NoMemory>
+    ensures { OnOk result (facts.new ≡ declare_name facts.old (op_item_name item.now) (operation facts.old is_local (op_type facts.old item.now))) }
+{
+    let ty = op_type(alloc, facts, &mut Notes::new(alloc), item)?;
+    let info = operation(facts, is_local, ty);
+    declare_name(facts, op_item_name(item), info)
+}
+
+/// Declares operations.
+pub fn declare_operations(
+    alloc: Global,
+    facts: &mut Facts,
+    is_local: bool,
+    items: &[OpItem],
+) -> Result<(), NoMemory>
+    ensures { OnOk result (facts.new ≡ ops_declared is_local items.now facts.old) }
+{
+    for item in items {
+        declare_operation(alloc, facts, is_local, item)?;
+    }
+    Ok(())
+}
+
+/// The type of a semaphore, and of the operation of a process: it has no formals, and may be sent to alone.
+pub fn semaphore_type(alloc: Global) -> Ty
+    ensures { result ≡ semaphore_type }
+{
+    Ty::Op(sr_types::Signature {
+        params: Row::new(alloc),
+        returns: None,
+        forms: Forms::Send,
+    })
+}
+
+/// Declares a semaphore, or the operation of a process.
+pub(crate) fn declare_semaphore(
+    alloc: Global,
+    facts: &mut Facts,
+    is_local: bool,
+    name: &Name,
+) -> Result<(), NoMemory>
+    ensures { OnOk result (facts.new ≡ semaphore_declared is_local name.now facts.old) }
+{
+    let info = operation(facts, is_local, semaphore_type(alloc));
+    declare_name(facts, name, info)
+}
+
+/// Declares semaphores.
+pub fn declare_semaphores(
+    alloc: Global,
+    facts: &mut Facts,
+    is_local: bool,
+    semaphores: &[Semaphore],
+) -> Result<(), NoMemory>
+    ensures { OnOk result (facts.new ≡ sems_declared is_local semaphores.now facts.old) }
+{
+    for semaphore in semaphores {
+        declare_semaphore(alloc, facts, is_local, &semaphore.name)?;
+    }
+    Ok(())
+}
+
+/// Declares the operation of a procedure.
+pub(crate) fn declare_procedure(
+    alloc: Global,
+    facts: &mut Facts,
+    name: &Name,
+    tree: &Signature,
+) -> Result<(), NoMemory>
+    ensures { OnOk result (facts.new ≡ procedure_declared name.now tree.now facts.old) }
+{
+    let ty = signed_type(alloc, facts, &mut Notes::new(alloc), tree)?;
+    let info = operation(facts, false, ty);
+    declare_name(facts, name, info)
+}
+
+/// Declares the type of an operation.
+pub(crate) fn declare_optype(
+    alloc: Global,
+    facts: &mut Facts,
+    tree: &OpTypeDecl,
+) -> Result<(), NoMemory>
+    ensures { OnOk result (facts.new ≡ optype_declared tree.now facts.old) }
+{
+    let ty = signed_type(alloc, facts, &mut Notes::new(alloc), &tree.signature)?;
+    declare_name(facts, &tree.name, Info::OpType(ty))
+}

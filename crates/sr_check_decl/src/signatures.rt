@@ -1,0 +1,144 @@
+ghost use Rattle.std.specs.Prelude.{◌≡◌, IfOk, map};
+ghost use Rattle.std.specs.Option.{option_map};
+ghost use Rattle.sr_check_decl.specs.TypeTrees.{mode_of, formal_bounds, param_of, formals_of, is_call, forms_by, forms_of, is_refused_return, are_refused, params_of, whole_signature, signature_type};
+
+use crate::kind::{Bounding, NamedParam, Signed};
+use crate::types::decl_type;
+use sr_names::Spot;
+use sr_tree::{Decl, InvocationKind, PassMode};
+use sr_types::{Forms, Mode, Param, Signature, Ty};
+use sr_value::{Boxed, Duplicate, NoMemory, Row, Text};
+use std::alloc::Global;
+
+/// How an argument is passed: by value where no word is written.
+pub(crate) fn mode_of(written: Option<PassMode>) -> Mode
+    ensures { result ≡ mode_of written }
+{
+    match written {
+        None | Some(PassMode::Val) => Mode::Val,
+        Some(PassMode::Var) => Mode::Var,
+        Some(PassMode::Res) => Mode::Res,
+    }
+}
+
+/// Where the type of a formal or a field stands: `*` is for formals alone, and not for `res` ones.
+pub(crate) fn formal_bounds(is_field: bool, mode: Mode) -> Bounding
+    ensures { result ≡ formal_bounds is_field mode }
+{
+    Bounding {
+        fixed: true,
+        takes_star: !is_field && !matches!(mode, Mode::Res),
+    }
+}
+
+/// A formal or a field of this type, apart from its own dims.
+pub(crate) fn param_of(
+    alloc: Global,
+    mode: Mode,
+    ty: &Ty,
+    decl: &Decl,
+) -> Result<NamedParam, NoMemory>
+    ensures { IfOk result (λ param. param ≡ param_of mode ty.now decl.now) }
+{
+    Ok(NamedParam {
+        name: Text::from_slice(alloc, decl.name.text.as_bytes())?,
+        spot: Spot::of(decl.name.span),
+        mode,
+        ty: decl_type(alloc, &decl.dims, ty)?,
+    })
+}
+
+/// The formals or fields of this type.
+pub(crate) fn formals_of(
+    alloc: Global,
+    mode: Mode,
+    ty: &Ty,
+    decls: &[Decl],
+) -> Result<Row<NamedParam>, NoMemory>
+    ensures { IfOk result (λ params. params ≡ formals_of mode ty.now decls.now) }
+{
+    let mut params = Row::new(alloc);
+    for decl in decls {
+        params.push(param_of(alloc, mode, ty, decl)?)?;
+    }
+    Ok(params)
+}
+
+/// The forms that a signature allows: both where no braces are written.
+pub(crate) fn forms_of(kinds: &[InvocationKind]) -> Forms
+    ensures { result ≡ forms_of kinds.now }
+{
+    let calls = kinds.iter().any(|kind| is_call(*kind));
+    let sends = kinds.iter().any(|kind| !is_call(*kind));
+    forms_by(calls, sends)
+}
+
+fn is_call(kind: InvocationKind) -> bool
+    ensures { result ≡ is_call kind }
+{
+    matches!(kind, InvocationKind::Call)
+}
+
+fn forms_by(calls: bool, sends: bool) -> Forms
+    ensures { result ≡ forms_by calls sends }
+{
+    if calls == sends {
+        return Forms::Both;
+    }
+    if calls { Forms::Call } else { Forms::Send }
+}
+
+/// Whether some of these were refused.
+pub(crate) fn are_refused(params: &[NamedParam]) -> bool
+    ensures { result ≡ are_refused params.now }
+{
+    params.iter().any(|param| param.ty.is_untyped())
+}
+
+fn is_refused_return(returned: &Option<NamedParam>) -> bool
+    ensures { result ≡ is_refused_return returned.now }
+{
+    match returned {
+        Some(param) => param.ty.is_untyped(),
+        None => false,
+    }
+}
+
+pub(crate) fn params_of(alloc: Global, params: &[NamedParam]) -> Result<Row<Param>, NoMemory>
+    ensures { IfOk result (λ row. row ≡ params_of params.now) }
+{
+    let mut row = Row::new(alloc);
+    for param in params {
+        row.push(Param {
+            mode: param.mode,
+            ty: param.ty.copy(alloc)?,
+        })?;
+    }
+    Ok(row)
+}
+
+fn returned_type(
+    alloc: Global,
+    returned: &Option<NamedParam>,
+) -> Result<Option<Boxed<Ty>>, NoMemory>
+    ensures { IfOk result (λ ty. ty ≡ option_map (λ param. param.ty) returned.now) }
+{
+    match returned {
+        Some(param) => Ok(Some(Boxed::new(alloc, param.ty.copy(alloc)?)?)),
+        None => Ok(None),
+    }
+}
+
+/// The type of the capabilities for operations of a signature; none where a part of it was refused.
+pub fn signature_type(alloc: Global, signed: &Signed) -> Result<Ty, NoMemory>
+    ensures { IfOk result (λ ty. ty ≡ signature_type signed.now) }
+{
+    if are_refused(signed.params.as_slice()) || is_refused_return(&signed.returned) {
+        return Ok(Ty::Untyped);
+    }
+    Ok(Ty::Op(Signature {
+        params: params_of(alloc, signed.params.as_slice())?,
+        returns: returned_type(alloc, &signed.returned)?,
+        forms: signed.forms,
+    }))
+}
