@@ -38,10 +38,6 @@ ends_in_range (Some lo) (Some hi) = in_range lo hi
 ends_in_range (Some lo) None = true
 ends_in_range None hi = true
 
--- the bounds of an array that must be static
-abbrev pub fixed_bounds_rule : Typed → Typed → Bool
-fixed_bounds_rule lo hi = fixed_int_rule lo && (fixed_int_rule hi && ends_in_range (static_int lo.value) (static_int hi.value))
-
 abbrev pub layer_item_type : {A B C : Type 0} → Ty-F A B C → Bool
 layer_item_type (Ty-F.Vector item) = false
 layer_item_type (Ty-F.Matrix item) = false

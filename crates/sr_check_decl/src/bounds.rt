@@ -1,5 +1,5 @@
 ghost use Rattle.std.specs.Prelude.{◌≡◌};
-ghost use Rattle.sr_check_decl.specs.Bounds.{int_rule, static_int, fixed_length_rule, fixed_bounds_rule, fixed_int_rule, ends_in_range, item_type_rule, is_length};
+ghost use Rattle.sr_check_decl.specs.Bounds.{int_rule, static_int, fixed_length_rule, fixed_int_rule, ends_in_range, item_type_rule, is_length};
 
 use sr_types::{Static, Ty, Typed, may_be_int};
 
@@ -38,14 +38,6 @@ fn is_fixed_length(length: Option<i32>) -> bool
         Some(number) => 0 <= number,
         None => false,
     }
-}
-
-/// Whether two expressions may be the bounds of an array where they must be static: the higher isn't
-/// below the lower by more than 1.
-pub fn may_be_fixed_bounds(lo: &Typed, hi: &Typed) -> bool
-    ensures { result ≡ fixed_bounds_rule lo.now hi.now }
-{
-    may_be_fixed(lo) && may_be_fixed(hi) && are_in_range(known_int(&lo.value), known_int(&hi.value))
 }
 
 /// Whether an expression may be one bound where it must be static.

@@ -221,6 +221,7 @@ fn declare_items(alloc: Global, tally: &mut Tally, items: &[Item]) -> Result<(),
     Ok(())
 }
 
+/// Declares formals, under their types.
 pub fn declare_params(
     alloc: Global,
     facts: &mut Facts,

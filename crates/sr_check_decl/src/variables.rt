@@ -7,9 +7,8 @@ use crate::constants::type_of_value;
 use crate::kind::Kind;
 use crate::tally::{declare_name, variable};
 use crate::types::{decl_type, note_decls};
-use crate::values::{as_many, exprs};
 use crate::written::{FREE, type_kind};
-use sr_check_expr::{Facts, Judged, note_unless, note_values};
+use sr_check_expr::{Facts, Judged, all, as_many, note_unless, note_values};
 use sr_names::{Notes, Rule};
 use sr_tree::{Decl, DimsTree, TypeTree, VarDecl};
 use sr_types::{Ty, fits};
@@ -176,7 +175,7 @@ pub fn note_variables(
 ) -> Result<(), NoMemory>
     ensures { OnOk result (notes.new ≡ all_noted notes.old (var_found facts.now tree.now)) }
 {
-    let values = exprs(alloc, tree.values.as_slice(), facts, notes)?;
+    let values = all(alloc, tree.values.as_slice(), facts, notes)?;
     note_values(notes, values.as_slice())?;
     note_rules(alloc, facts, notes, tree, values.as_slice())
 }
@@ -199,7 +198,7 @@ fn vars_type(alloc: Global, facts: &Facts, tree: &VarDecl) -> Result<Kind, NoMem
     match &tree.ty {
         Some(written) => type_kind(alloc, written, facts, &mut aside, FREE),
         None => {
-            let values = exprs(alloc, tree.values.as_slice(), facts, &mut aside)?;
+            let values = all(alloc, tree.values.as_slice(), facts, &mut aside)?;
             let ty = type_by_values(alloc, values.as_slice())?;
             Ok(Kind {
                 span: tree.span,
