@@ -150,11 +150,19 @@ fn several_components(rt: HostRuntime) -> Result<(), Fail> {
     check_programs(&rt, rt.alloc(), COMPONENTS)
 }
 
+/// The file that a refusal stands in; the first where there is none.
+fn file_of(refusal: Option<Refusal>) -> u32 {
+    match refusal {
+        Some(refusal) => refusal.place.file,
+        None => 0,
+    }
+}
+
 /// Compares what is told of programs of several files with what is written beside them.
 fn check_files(rt: &impl Abort, alloc: Global, cases: &[FilesCase<'_>]) -> Result<(), Fail> {
     for (texts, file, told) in cases {
         let refusal = refusal_of(rt, alloc, texts)?;
-        let found_file = refusal.map_or(0, |refusal| refusal.place.file);
+        let found_file = file_of(refusal);
         let found = tell_refusal(alloc, refusal, 0)?;
         assert!(rt;
             found.as_bytes() == *told && found_file == *file,
