@@ -20,7 +20,6 @@ use Rattle.sr_tree.specs.declared.declaration.Semaphore.{Semaphore}
 use Rattle.sr_tree.specs.declared.declaration.TypeDecl.{TypeDecl}
 use Rattle.sr_tree.specs.declared.declaration.OpTypeDecl.{OpTypeDecl}
 use Rattle.sr_tree.specs.declared.declaration.VarDecl.{VarDecl}
-use Rattle.sr_tree.specs.declared.expr.Expr.{Expr}
 use Rattle.sr_tree.specs.declared.name.Name.{Name}
 use Rattle.sr_tree.specs.declared.types.Decl.{Decl as DeclTree}
 use Rattle.sr_tree.specs.declared.types.Formal.{Formal}

@@ -1,5 +1,5 @@
 -- Constants and variables without a type get that of their value.
-use Rattle.std.specs.Prelude.{ℕ, suc, zero, Bool, true, false, not, ◌&&◌, List, [], ◌∷◌, Option, None, is_some, length}
+use Rattle.std.specs.Prelude.{ℕ, suc, zero, Bool, true, false, not, ◌&&◌, List, [], ◌∷◌, None, is_some, length}
 use Rattle.sr_names.specs.Noted.{Meanings}
 use Rattle.sr_names.specs.Specs.{Specs}
 use Rattle.sr_tree.specs.declared.component.File.{File}

@@ -1,5 +1,5 @@
 -- The parts of components.
-use Rattle.std.specs.Prelude.{List, [], Option, unwrap_or}
+use Rattle.std.specs.Prelude.{List, [], unwrap_or}
 use Rattle.sr_names.specs.declared.meaning.Decl.{Decl}
 use Rattle.sr_names.specs.declared.meaning.Sort.{Sort}
 use Rattle.sr_names.specs.declared.meaning.Sort.TheVariants.{Resource as resource_sort, Global as global_sort}

@@ -9,7 +9,6 @@ use Rattle.sr_names.specs.declared.meaning.Decl.{Decl}
 use Rattle.sr_names.specs.Spots.{spot_of}
 use Rattle.sr_names.specs.Uses.{meaning_at}
 use Rattle.sr_tree.specs.declared.expr.Expr.{Expr}
-use Rattle.sr_tree.specs.declared.name.Name.{Name}
 use Rattle.sr_tree.specs.declared.name.QualifiedName.{QualifiedName}
 use Rattle.sr_tree.specs.declared.types.Decl.{Decl as DeclTree}
 use Rattle.sr_tree.specs.declared.types.DimsTree.{DimsTree}

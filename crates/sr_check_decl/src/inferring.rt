@@ -83,7 +83,7 @@ fn infer(alloc: Global, facts: &mut Facts, all: &[Waits<'_>]) -> Result<(), NoMe
 {
     for _round in 0..all.len() {
         if !settle_all(alloc, facts, all)? {
-            break;
+            return Ok(());
         }
     }
     Ok(())

@@ -1,4 +1,5 @@
-ghost use Rattle.std.specs.Prelude.{◌≡◌, IfOk, map};
+ghost use Rattle.std.specs.Prelude.{◌≡◌, IfOk, map, not};
+ghost use Rattle.std.specs.List.{list_any};
 ghost use Rattle.std.specs.Option.{option_map};
 ghost use Rattle.sr_check_decl.specs.TypeTrees.{mode_of, formal_bounds, param_of, formals_of, is_call, forms_by, forms_of, is_refused_return, are_refused, params_of, whole_signature, signature_type};
 
@@ -68,9 +69,19 @@ pub(crate) fn formals_of(
 pub(crate) fn forms_of(kinds: &[InvocationKind]) -> Forms
     ensures { result ≡ forms_of kinds.now }
 {
-    let calls = kinds.iter().any(|kind| is_call(*kind));
-    let sends = kinds.iter().any(|kind| !is_call(*kind));
-    forms_by(calls, sends)
+    forms_by(has_calls(kinds), has_sends(kinds))
+}
+
+fn has_calls(kinds: &[InvocationKind]) -> bool
+    ensures { result ≡ list_any is_call kinds.now }
+{
+    kinds.iter().any(|kind| is_call(*kind))
+}
+
+fn has_sends(kinds: &[InvocationKind]) -> bool
+    ensures { result ≡ list_any (λ kind. not (is_call kind)) kinds.now }
+{
+    kinds.iter().any(|kind| !is_call(*kind))
 }
 
 fn is_call(kind: InvocationKind) -> bool

@@ -4,5 +4,5 @@ use Rattle.sr_check_decl.specs.Waits.{seen}
 use Rattle.sr_check_decl.specs.Inferring.{rounds, inferred}
 use Rattle.sr_check_decl.proofs.inferring.infer.Given as goal
 
-abbrev pub invariant-loop-_round : goal.invariant-loop-_round
-invariant-loop-_round l = rounds (length l.all - l._round) (map seen l.all) l.facts ≡ inferred (map seen l.all) l.fn.facts
+abbrev pub invariant-loop-round : goal.invariant-loop-round
+invariant-loop-round l = rounds (length l.all - l._round) (map seen l.all) l.facts ≡ inferred (map seen l.all) l.fn.facts
