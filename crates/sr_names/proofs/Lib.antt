@@ -1,3 +1,5 @@
+pub mod DeclarerLemmas
+pub mod DeclaringLemmas
 pub mod FirstLemmas
 pub mod Grouping
 pub mod LinkLemmas
@@ -6,3 +8,4 @@ pub mod Places
 pub mod Searching
 pub mod ShownLemmas
 pub mod TableLemmas
+pub mod VisibleLemmas

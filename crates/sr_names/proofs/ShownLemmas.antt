@@ -1,13 +1,12 @@
 -- How many components show a name, one component after another.
-use Rattle.std.proofs.Common.{◌≡◌, ℕ, zero, suc, ◌+◌, List, [], ◌∷◌, ◌++◌, Option, None, Some, take, slice_get, refl, ap, sym, ◌∙◌, add-one}
-use Rattle.std.specs.Option.{option_to_list, option_map, option_and_then}
+use Rattle.std.proofs.Common.{◌≡◌, ℕ, zero, suc, ◌+◌, true, List, [], ◌∷◌, ◌++◌, Option, None, Some, take, drop, slice_get, refl, ap, sym, ◌∙◌, add-one, take-append-drop, true≢false}
+use Rattle.std.proofs.lemmas.List.Elements.{filter_map-append}
+use Rattle.std.specs.Option.{option_to_list, option_and_then}
 use Rattle.std.specs.List.{filter_map, cons_option}
 use Rattle.sr_names.specs.declared.meaning.Decl.{Decl}
 use Rattle.sr_names.specs.declared.place.Shown.{Shown}
-use Rattle.sr_names.specs.Entries.{Entries}
-use Rattle.sr_names.specs.Scopes.{candidates, shown}
-use Rattle.sr_names.specs.Shown.{counted, met}
-use Rattle.sr_names.specs.Specs.{Specs}
+use Rattle.sr_names.specs.declared.place.Shown.TheVariants.{Nowhere, Once, Often}
+use Rattle.sr_names.specs.Shown.{counted, is_often, met}
 
 -- one component more
 counted-more : (decls : List Decl) (more : Option Decl) → counted (decls ++ option_to_list more) ≡ met (counted decls) more
@@ -32,28 +31,33 @@ filter_map-next h [] (suc i) = refl
 filter_map-next h (x ∷ xs) zero = cons_option-last (h x)
 filter_map-next h (x ∷ xs) (suc i) = cons_option-append (h x) _ _ _ (filter_map-next h xs i)
 
-and_then-map : {X Y Z : Type 0} (f : X → Y) (h : Y → Option Z) (o : Option X) → option_and_then (λ x. h (f x)) o ≡ option_and_then h (option_map f o)
-and_then-map f h None = refl
-and_then-map f h (Some x) = refl
+-- what is counted up to and with the item at a place
+counted-next : {X : Type 0} (gives : X → Option Decl) (items : List X) (i : ℕ) (seen after : Shown) (more : Option Decl) → seen ≡ counted (filter_map gives (take i items))
+    → more ≡ option_and_then gives (slice_get items i) → after ≡ met seen more → after ≡ counted (filter_map gives (take (i + 1) items))
+counted-next gives items i seen after more before is e =
+    e ∙ ap (λ s. met s more) before ∙ ap (met (counted (filter_map gives (take i items)))) is
+    ∙ sym (ap (λ n. counted (filter_map gives (take n items))) (add-one i) ∙ ap counted (filter_map-next gives items i) ∙ counted-more _ _)
 
--- what is counted up to and with the component at a place
-pub counted-next : (specs : Specs) (visible : Entries) (name : List ℕ) (i : ℕ) (at : Option Decl) → at ≡ option_map (λ entry. entry.1) (slice_get visible i)
-    → counted (candidates specs (take (i + 1) visible) name) ≡ met (counted (candidates specs (take i visible) name)) (option_and_then (λ component. shown specs component name) at)
-counted-next specs visible name i at is =
-    ap (λ n. counted (candidates specs (take n visible) name)) (add-one i)
-    ∙ ap counted (filter_map-next (λ component. shown specs component.1 name) visible i)
-    ∙ counted-more _ _
-    ∙ ap (met (counted (candidates specs (take i visible) name))) (and_then-map (λ entry. entry.1) (λ component. shown specs component name) (slice_get visible i) ∙ ap (option_and_then (λ component. shown specs component name)) (sym is))
+met-none : (seen : Shown) → met seen None ≡ seen
+met-none Nowhere = refl
+met-none (Once decl) = refl
+met-none Often = refl
 
-module _ (specs : Specs) (visible : Entries) (name : List ℕ) (i : ℕ) (at : Option Decl) (here : at ≡ option_map (λ entry. entry.1) (slice_get visible i))
-    (seen after : Shown) (before : seen ≡ counted (candidates specs (take i visible) name)) where
-  pub counted-some : (component : Decl) (more : Option Decl) → at ≡ Some component → more ≡ shown specs component name → after ≡ met seen more
-      → after ≡ counted (candidates specs (take (i + 1) visible) name)
-  counted-some component more is shows e =
-      e ∙ ap (λ s. met s more) before ∙ ap (met (counted (candidates specs (take i visible) name))) (shows ∙ sym (ap (option_and_then (λ c. shown specs c name)) is))
-      ∙ sym (counted-next specs visible name i at here)
+often-append : (decls more : List Decl) → is_often (counted decls) ≡ true → counted decls ≡ counted (decls ++ more)
+often-append [] more h = absurd (true≢false (sym h))
+often-append (first ∷ []) more h = absurd (true≢false (sym h))
+often-append (first ∷ second ∷ decls) more h = refl
 
-  pub counted-none : at ≡ None → after ≡ seen → after ≡ counted (candidates specs (take (i + 1) visible) name)
-  counted-none is e =
-      e ∙ before ∙ sym (ap (λ o. met (counted (candidates specs (take i visible) name)) (option_and_then (λ c. shown specs c name) o)) is)
-      ∙ sym (counted-next specs visible name i at here)
+module _ {X : Type 0} (gives : X → Option Decl) (items : List X) (i : ℕ) (seen after : Shown) (before : seen ≡ counted (filter_map gives (take i items))) (at : Option X) (here : at ≡ slice_get items i) where
+  pub counted-some : (item : X) (more : Option Decl) → at ≡ Some item → more ≡ gives item → after ≡ met seen more → after ≡ counted (filter_map gives (take (i + 1) items))
+  counted-some item more is shows e = counted-next gives items i seen after more before (shows ∙ sym (ap (option_and_then gives) is) ∙ ap (option_and_then gives) here) e
+
+  pub counted-none : at ≡ None → after ≡ seen → after ≡ counted (filter_map gives (take (i + 1) items))
+  counted-none is e = counted-next gives items i seen after None before (sym (ap (option_and_then gives) is) ∙ ap (option_and_then gives) here) (e ∙ sym (met-none seen))
+
+-- more than one of the first are more than one of all
+pub often-all : {X : Type 0} (gives : X → Option Decl) (items : List X) (n : ℕ) (seen : Shown) → seen ≡ counted (filter_map gives (take n items)) → is_often seen ≡ true → seen ≡ counted (filter_map gives items)
+often-all gives items n seen is often =
+    is
+    ∙ often-append (filter_map gives (take n items)) (filter_map gives (drop n items)) (sym (ap is_often is) ∙ often)
+    ∙ ap counted (sym (filter_map-append gives (take n items) (drop n items)) ∙ ap (filter_map gives) (take-append-drop n items))

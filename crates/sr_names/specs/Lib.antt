@@ -1,5 +1,6 @@
 pub mod Components
 pub mod Cycles
+pub mod Declarers
 pub mod Entries
 pub mod FirstLaw
 pub mod Firsts
@@ -19,3 +20,4 @@ pub mod Spots
 pub mod Tables
 pub mod Targets
 pub mod Uses
+pub mod Visible

@@ -12,12 +12,12 @@ use Rattle.sr_names.specs.declared.place.Shown.TheVariants.{Nowhere, Once, Often
 use Rattle.sr_names.specs.declared.spot.Spot.{Spot}
 use Rattle.sr_names.specs.Shown.{counted}
 use Rattle.sr_names.specs.Components.{member_named}
-use Rattle.sr_names.specs.Entries.{Entries}
 use Rattle.sr_names.specs.Predefined.{predefined_named}
 use Rattle.sr_names.specs.Sorts.{needs_order, is_hidden}
 use Rattle.sr_names.specs.Specs.{Specs}
 use Rattle.sr_names.specs.Spots.{same_spot, spot_before}
 use Rattle.sr_names.specs.Tables.{declared_as}
+use Rattle.sr_names.specs.Visible.{component_at}
 
 abbrev pub or_else : {A : Type 0} → Option A → Option A → Option A
 or_else (Some x) other = Some x
@@ -51,14 +51,22 @@ abbrev pub shown : Specs → Decl → List ℕ → Option Decl
 shown specs component name = option_and_then (λ decl. if is_hidden component.sort decl.sort then None else Some decl) (member_named specs component.spot name)
 
 -- what the visible components show as a name
-abbrev pub candidates : Specs → Entries → List ℕ → List Decl
-candidates specs visible name = filter_map (λ component. shown specs component.1 name) visible
+abbrev pub candidates : Specs → List Decl → List ℕ → List Decl
+candidates specs visible name = filter_map (λ component. shown specs component name) visible
+
+-- what the component that is known by a spot shows, if it is visible
+abbrev pub shown_at : Specs → List Decl → List ℕ → Spot → Option Decl
+shown_at specs visible name spot = option_and_then (λ component. shown specs component name) (component_at visible spot)
 
 -- a name that one imported component shows means that; two make it ambiguous; where none does it may be predefined
 abbrev pub from_imports : Option Spot → List ℕ → Spot → Shown → Option Meaning
 from_imports within name at Nowhere = option_map Predefined (predefined_named name)
 from_imports within name at (Once decl) = ready within at decl
 from_imports within name at Often = None
+
+-- the visible component of a name
+abbrev pub visible_named : Place → List ℕ → Option Decl
+visible_named place name = option_and_then (λ component. component_at place.visible component.spot) (declared_as place.components name)
 
 -- the component's own names go first, then the names of visible components, then what these show
 abbrev pub outside : Place → List ℕ → Spot → Option Meaning
@@ -70,7 +78,7 @@ outside place name at = by_own (declared_as place.own name)
 
     by_own : Option Decl → Option Meaning
     by_own (Some decl) = ready place.within at decl
-    by_own None = by_visible (declared_as place.visible name)
+    by_own None = by_visible (visible_named place name)
 
 -- what a name means that is used at a spot
 abbrev pub denotes : Place → Blocks → List ℕ → Spot → Option Meaning

@@ -5,6 +5,7 @@
 #![tactic(auto)]
 
 mod cycles;
+mod declarers;
 mod finding;
 mod laws;
 mod links;
@@ -17,8 +18,10 @@ mod predefined;
 mod reading;
 mod search;
 mod spot;
+mod spots;
 mod table;
 mod targets;
+mod visible;
 
 pub use cycles::{Import, note_cycles};
 pub use finding::{Finding, Rule, Wrong};
@@ -31,4 +34,6 @@ pub use place::{Blocks, Place};
 pub use predefined::Predefined;
 pub use reading::{declare, read, read_member};
 pub use spot::Spot;
+pub use spots::Spots;
 pub use table::Table;
+pub use visible::Visible;

@@ -5,7 +5,9 @@ use crate::meaning::{Decl, Meaning, Sort};
 use crate::members::Members;
 use crate::predefined::Predefined;
 use crate::spot::Spot;
+use crate::spots::Spots;
 use crate::table::Table;
+use crate::visible::Visible;
 use sr_value::{NoMemory, Row};
 use std::alloc::Global;
 use std::mem;
@@ -38,9 +40,10 @@ impl Blocks {
         self.outer.push(around)
     }
 
-    /// Ends the innermost scope: the one around it is the innermost again.
+    /// Ends the innermost scope: the one around it is the innermost again. Where there is none around it nothing changes.
     pub fn close(&mut self)
-        ensures { (inner : Entries) (outer : List Entries) → self.old.outer ≡ outer ++ inner ∷ [] → self.new ≡ record { inner = inner; outer = outer } }
+        ensures unchanged { self.old.outer ≡ [] → self.new ≡ self.old }
+        ensures closed { (inner : Entries) (outer : List Entries) → self.old.outer ≡ outer ++ inner ∷ [] → self.new ≡ record { inner = inner; outer = outer } }
     {
         if let Some(around) = self.outer.pop() {
             self.inner = around;
@@ -73,7 +76,7 @@ pub struct Place {
     /// What this component declares, in its spec and its body.
     pub own: Table,
     /// The components whose names can be used: this one and those that it imports.
-    pub visible: Table,
+    pub visible: Visible,
     /// The constant or type of this component in whose declaration the place is.
     pub within: Option<Spot>,
 }
@@ -87,10 +90,13 @@ enum Shown {
 }
 
 impl Place {
-    ghost use Rattle.std.specs.Prelude.{Some, None, map};
+    ghost use Rattle.std.specs.Prelude.{Some, None, map, length};
+    ghost use Rattle.std.specs.List.{IsDistinct, filter_map};
     ghost use Rattle.std.specs.Option.{option_and_then};
-    ghost use Rattle.sr_names.specs.Scopes.{denotes, outside, from_imports, ready, shown, member, candidates};
+    ghost use Rattle.sr_names.specs.Declarers.{AreDeclarers};
+    ghost use Rattle.sr_names.specs.Scopes.{denotes, outside, visible_named, from_imports, ready, shown, shown_at, member, candidates};
     ghost use Rattle.sr_names.specs.Shown.{counted};
+    ghost use Rattle.sr_names.specs.Spots.{same_spot};
 
     /// What a name means that is used at a spot: by the innermost scope that declares it, else by the component,
     /// else as the name of a component, else by the one imported component that shows it, else as predefined.
@@ -116,11 +122,18 @@ impl Place {
     {
         match self.own.get(name) {
             Some(decl) => self.ready(decl, spot),
-            None => match self.visible.get(name) {
+            None => match self.visible_named(name) {
                 Some(component) => Some(Meaning::Declared(component)),
                 None => self.imported(name, spot),
             },
         }
+    }
+
+    fn visible_named(&self, name: &[u8]) -> Option<Decl>
+        ensures { result ≡ visible_named self.now name.now }
+    {
+        let component = self.components.get(name)?;
+        self.visible.get(component.spot)
     }
 
     fn imported(&self, name: &[u8], spot: Spot) -> Option<Meaning>
@@ -156,13 +169,55 @@ impl Place {
         Some(decl)
     }
 
+    /// What a component shows as a name, if it is visible and known by a spot.
+    fn shown_at(&self, spot: Spot, name: &[u8]) -> Option<Decl>
+        ensures { result ≡ shown_at self.now.specs self.now.visible name.now spot }
+    {
+        self.shown(self.visible.get(spot)?, name)
+    }
+
+    /// How many visible components show a name. It looks through the visible components, or through those whose
+    /// specs have the name, whichever are fewer.
     fn shown_by_imports(&self, name: &[u8]) -> Shown
+        ensures { result ≡ counted (candidates self.now.specs self.now.visible name.now) }
+    {
+        match self.specs.declarers(name) {
+            None => Shown::Nowhere,
+            Some(declarers) => {
+                if declarers.len() < self.visible.len() {
+                    self.shown_by_declarers(declarers, name)
+                } else {
+                    self.shown_by_visible(name)
+                }
+            }
+        }
+    }
+
+    fn shown_by_visible(&self, name: &[u8]) -> Shown
         ensures { result ≡ counted (candidates self.now.specs self.now.visible name.now) }
     {
         let mut shown = Shown::Nowhere;
         for index in 0..self.visible.len() {
+            if shown.is_often() {
+                return shown;
+            }
             if let Some(component) = self.visible.at(index) {
                 shown = shown.and(self.shown(component, name));
+            }
+        }
+        shown
+    }
+
+    fn shown_by_declarers(&self, declarers: &Spots, name: &[u8]) -> Shown
+        ensures { result ≡ counted (filter_map (shown_at self.now.specs self.now.visible name.now) declarers.now) }
+    {
+        let mut shown = Shown::Nowhere;
+        for index in 0..declarers.len() {
+            if shown.is_often() {
+                return shown;
+            }
+            if let Some(spot) = declarers.at(index) {
+                shown = shown.and(self.shown_at(spot, name));
             }
         }
         shown
@@ -170,7 +225,16 @@ impl Place {
 }
 
 impl Shown {
-    ghost use Rattle.sr_names.specs.Shown.{met};
+    ghost use Rattle.sr_names.specs.Shown.{is_often, met};
+
+    fn is_often(&self) -> bool
+        ensures { result ≡ is_often self.now }
+    {
+        match self {
+            Shown::Nowhere | Shown::Once(_) => false,
+            Shown::Often => true,
+        }
+    }
 
     /// With what one more component shows.
     fn and(self, more: Option<Decl>) -> Shown

@@ -1,5 +1,5 @@
 ghost use Rattle.std.specs.Prelude.{◌≡◌, [], not, is_some, length, slice_get, IfOk, OnOk};
-ghost use Rattle.std.specs.Option.{option_map};
+ghost use Rattle.std.specs.Option.{option_copied, option_map};
 ghost use Rattle.sr_names.specs.Tables.{declared_as, with_decl};
 
 use crate::meaning::Decl;
@@ -52,6 +52,14 @@ impl Table {
     {
         let (_, decl) = self.entries.get_index(index)?;
         Some(*decl)
+    }
+
+    /// The name at a place, counted from 0.
+    pub fn name_at(&self, index: usize) -> Option<&[u8]>
+        ensures { option_copied result ≡ option_map (λ entry. entry.0) (slice_get self.now index) }
+    {
+        let (name, _) = self.entries.get_index(index)?;
+        Some(name.as_slice())
     }
 
     /// Declares a name, unless this scope has it already, and says whether it is new.

@@ -17,7 +17,8 @@ use Rattle.sr_names.specs.Readings.{broken, reading, declaration}
 use Rattle.sr_names.specs.Scopes.{no_blocks}
 use Rattle.sr_names.specs.Specs.{Specs}
 use Rattle.sr_names.specs.Spots.{spot_of}
-use Rattle.sr_names.specs.Tables.{declared_as, with_decl}
+use Rattle.sr_names.specs.Tables.{declared_as}
+use Rattle.sr_names.specs.Visible.{with_component}
 use Rattle.sr_tree.specs.declared.component.Component.{Component}
 use Rattle.sr_tree.specs.declared.component.Component.TheVariants.{Resource, SplitResource, Global}
 use Rattle.sr_tree.specs.declared.component.File.{File}
@@ -160,20 +161,20 @@ abbrev pub imports_found : Entries → List Name → List Finding
 imports_found components [] = []
 imports_found components (name ∷ names) = import_found components name ∷ imports_found components names
 
-abbrev pub with_import : Entries → Name → Entries → Entries
+abbrev pub with_import : Entries → Name → List Decl → List Decl
 with_import components name visible = by (declared_as components name.text)
   where
-    by : Option Decl → Entries
+    by : Option Decl → List Decl
     by None = visible
-    by (Some decl) = with_decl visible name.text decl
+    by (Some component) = with_component visible component
 
-abbrev pub with_imports : Entries → List Name → Entries → Entries
+abbrev pub with_imports : Entries → List Name → List Decl → List Decl
 with_imports components [] visible = visible
 with_imports components (name ∷ names) visible = with_imports components names (with_import components name visible)
 
 -- the components whose names a component can use: itself and what it imports
-abbrev pub visible_to : Entries → Component → Entries
-visible_to components component = with_imports components (imports_of component) (with_decl [] (name_of component).text (decl_of component))
+abbrev pub visible_to : Entries → Component → List Decl
+visible_to components component = with_imports components (imports_of component) (with_component [] (decl_of component))
 
 abbrev pub place_of : Entries → Specs → Component → Place
 place_of components specs component = record {

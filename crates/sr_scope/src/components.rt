@@ -7,7 +7,8 @@ use crate::declares::declare_name;
 use crate::items::{declare_items, declare_spec, items, serve_items, spec_items};
 use crate::types::{declare_formals, formals};
 use sr_names::{
-    Blocks, Decl, Finding, Import, Link, Meaning, Notes, Place, Rule, Sort, Spot, Table, Wrong,
+    Blocks, Decl, Finding, Import, Link, Meaning, Notes, Place, Rule, Sort, Spot, Table, Visible,
+    Wrong,
 };
 use sr_tree::{Component, File, Formal, Item, Name, SpecItem};
 use sr_value::{Duplicate, NoMemory, Row, Span};
@@ -94,7 +95,7 @@ fn collect_component(
     )?;
     let mut spec = Table::new(alloc);
     declare_spec(alloc, spec_of(component), &mut spec, notes)?;
-    place.specs.insert(Spot::of(name.span), spec)
+    place.specs.insert(alloc, Spot::of(name.span), spec)
 }
 
 fn collect_components(
@@ -296,18 +297,13 @@ fn note_imports(components: &Table, names: &[Name], notes: &mut Notes) -> Result
     Ok(())
 }
 
-fn import(
-    alloc: Global,
-    components: &Table,
-    name: &Name,
-    visible: &mut Table,
-) -> Result<(), NoMemory>
+fn import(components: &Table, name: &Name, visible: &mut Visible) -> Result<(), NoMemory>
     ensures { OnOk result (visible.new ≡ with_import components.now name.now visible.old) }
 {
-    if let Some(decl) = components.get(name.text.as_bytes()) {
-        let _ = visible.declare(alloc, name.text.as_bytes(), decl)?;
+    match components.get(name.text.as_bytes()) {
+        Some(decl) => visible.add(decl),
+        None => Ok(()),
     }
-    Ok(())
 }
 
 /// The components whose names a component can use.
@@ -316,18 +312,14 @@ fn visible_to(
     components: &Table,
     component: &Component,
     names: &[Name],
-) -> Result<Table, NoMemory>
+) -> Result<Visible, NoMemory>
     requires { names.now ≡ imports_of component.now }
     ensures { IfOk result (λ visible. visible ≡ visible_to components.now component.now) }
 {
-    let mut visible = Table::new(alloc);
-    let _ = visible.declare(
-        alloc,
-        name_of(component).text.as_bytes(),
-        decl_of(component),
-    )?;
+    let mut visible = Visible::new(alloc);
+    visible.add(decl_of(component))?;
     for name in names {
-        import(alloc, components, name, &mut visible)?;
+        import(components, name, &mut visible)?;
     }
     Ok(visible)
 }

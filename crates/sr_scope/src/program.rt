@@ -9,7 +9,8 @@ ghost use Rattle.sr_scope.specs.Resolved.{Answers, resolved, no_place, kind_of, 
 
 use crate::components::{collect_files, global_imports, walk_files};
 use sr_names::{
-    Decl, Finding, Meaning, Members, Notes, Place, Rule, Spot, Table, Uses, Wrong, note_cycles,
+    Decl, Finding, Meaning, Members, Notes, Place, Rule, Spot, Table, Uses, Visible, Wrong,
+    note_cycles,
 };
 use sr_text::{FrontFail, Kind, Refusal};
 use sr_tree::{Component, File};
@@ -66,7 +67,7 @@ fn empty_place(alloc: Global) -> Place
         components: Table::new(alloc),
         specs: Members::new(alloc),
         own: Table::new(alloc),
-        visible: Table::new(alloc),
+        visible: Visible::new(alloc),
         within: None,
     }
 }
@@ -137,7 +138,7 @@ fn kind_of(rule: Rule) -> Kind
     }
 }
 
-/// The refusal of a program that breaks a rule.
+/// The refusal of a program that breaks a rule, by its kind and its line.
 pub fn refusal_of(wrong: Wrong) -> Refusal
     ensures { result ≡ refusal_of wrong }
 {
