@@ -1,5 +1,4 @@
 ghost use Rattle.std.specs.Prelude.{◌≡◌, true, false, OnOk, map, is_some};
-ghost use Rattle.std.specs.Option.{option_map};
 ghost use Rattle.std.specs.List.{list_any};
 ghost use Rattle.sr_names.specs.Notes.{all_noted};
 ghost use Rattle.sr_names.specs.Spots.{spot_of};
@@ -9,7 +8,7 @@ ghost use Rattle.sr_check.specs.Quantifying.{maybe_with};
 ghost use Rattle.sr_check_decl.specs.Constants.{const_found};
 ghost use Rattle.sr_check_decl.specs.Variables.{var_found, local_var};
 ghost use Rattle.sr_check.specs.Services.{operation_named, is_local_name, is_shared_name};
-ghost use Rattle.sr_check.specs.Statements.{local_const, maybe_block, guards_found, condition_found, arm_context, arm_inner, is_mixture, mixture_found, arms_at, store_found, plain_found, statement_read, block_item_read, arm_read, branch_read, co_arm_read, guarding};
+ghost use Rattle.sr_check.specs.Statements.{local_const, guards_found, condition_found, arm_context, arm_inner, is_mixture, mixture_found, arms_at, store_found, plain_found, statement_read, block_item_read, arm_read, branch_read, co_arm_read, guarding};
 
 use crate::around::Around;
 use crate::invoking::{may_reply, note_call, note_forward, note_send, note_started};
@@ -25,7 +24,7 @@ use sr_check_decl::{constant, declare_locals, declare_name, note_variables};
 use sr_check_expr::{Facts, Here, Info, create, expr, note_unless, note_value};
 use sr_names::{Notes, Rule, Spot};
 use sr_tree::{Arm, ArmCondition, BlockItem, Branch, CoArm, ConstDecl, Expr, Statement, VarDecl};
-use sr_value::{NoMemory, Row, Span};
+use sr_value::{NoMemory, Span};
 use std::alloc::Global;
 
 /// Notes what is found in a constant of a block, and declares it.
@@ -259,7 +258,10 @@ pub(crate) fn statement(
             ..
         } => {
             branches(alloc, all.as_slice(), around, facts, notes)?;
-            maybe_block(alloc, otherwise, around, facts, notes)
+            match otherwise {
+                Some(items) => block(alloc, items.as_slice(), around, facts, notes),
+                None => Ok(()),
+            }
         }
         Statement::Do {
             branches: all,
@@ -268,7 +270,10 @@ pub(crate) fn statement(
         } => {
             let within = looping(around);
             branches(alloc, all.as_slice(), &within, facts, notes)?;
-            maybe_block(alloc, otherwise, &within, facts, notes)
+            match otherwise {
+                Some(items) => block(alloc, items.as_slice(), &within, facts, notes),
+                None => Ok(()),
+            }
         }
         Statement::ForAll {
             quantifiers: all,
@@ -285,28 +290,13 @@ pub(crate) fn statement(
         } => {
             note_mixture(facts, notes, *span, all.as_slice())?;
             arms(alloc, all.as_slice(), *span, around, facts, notes)?;
-            maybe_block(alloc, otherwise, around, facts, notes)
+            match otherwise {
+                Some(items) => block(alloc, items.as_slice(), around, facts, notes),
+                None => Ok(()),
+            }
         }
         Statement::Co { arms: all, .. } => co_arms(alloc, all.as_slice(), around, facts, notes),
         _ => plain_statement(alloc, tree, around, facts, notes),
-    }
-}
-
-/// Notes what is found in a block that may be left out.
-#[cycle(statements)]
-fn maybe_block(
-    alloc: Global,
-    items: &Option<Row<BlockItem>>,
-    around: &Around<'_>,
-    facts: &mut Facts,
-    notes: &mut Notes,
-) -> Result<(), NoMemory>
-    ensures known { OnOk result (facts.new ≡ (maybe_block (option_map (map block_item_read) items.now) (context_of around.now facts.old)).facts) }
-    ensures noted { OnOk result (notes.new ≡ all_noted notes.old (maybe_block (option_map (map block_item_read) items.now) (context_of around.now facts.old)).found) }
-{
-    match items {
-        Some(items) => block(alloc, items.as_slice(), around, facts, notes),
-        None => Ok(()),
     }
 }
 
@@ -456,5 +446,8 @@ fn co_arm(
 {
     quantifiers(alloc, facts, notes, tree.quantifiers.as_slice())?;
     note_started(alloc, facts, notes, &tree.target, &tree.invocation)?;
-    maybe_block(alloc, &tree.block, &looping(around), facts, notes)
+    match &tree.block {
+        Some(items) => block(alloc, items.as_slice(), &looping(around), facts, notes),
+        None => Ok(()),
+    }
 }

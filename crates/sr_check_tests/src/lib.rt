@@ -6,6 +6,8 @@ mod declarations;
 #[cfg(test)]
 mod expressions;
 #[cfg(test)]
+mod files;
+#[cfg(test)]
 mod frame;
 #[cfg(test)]
 mod programs;

@@ -2,12 +2,11 @@
 
 use crate::declarations::{TYPES_AND_CONSTANTS, VARIABLES};
 use crate::expressions::{FUNCTIONS, INVOCATIONS, OPERATORS, PARTS, STORES};
+use crate::files::FILES;
 use crate::frame::{BEFORE, BEHIND, LINES};
 use crate::programs::{COMPONENTS, PROCS};
 use crate::statements::{GUARDS_AND_LOOPS, SERVICES};
-use sr_check::check;
-use sr_front::read;
-use sr_scope::resolve;
+use sr_front::accept;
 use sr_text::{FrontFail, Refusal};
 use sr_value::{NoMemory, Row, Text};
 use std::alloc::Global;
@@ -16,6 +15,9 @@ use std::test::Fail;
 
 /// A piece of a program, or a program, and the rule that is broken with its line in it; nothing where none is.
 pub type Case<'a> = (&'a [u8], &'a [u8]);
+
+/// The files of a program, and the number of the file and the rule that is broken with its line in it.
+pub type FilesCase<'a> = (&'a [&'a [u8]], u32, &'a [u8]);
 
 /// Files of these contents, without names.
 fn files_of(alloc: Global, texts: &[&[u8]]) -> Result<Row<(Text, Text)>, NoMemory> {
@@ -26,32 +28,36 @@ fn files_of(alloc: Global, texts: &[&[u8]]) -> Result<Row<(Text, Text)>, NoMemor
     Ok(files)
 }
 
-/// Reads a program and looks at its names, kinds and types.
-fn checked(rt: &impl Abort, alloc: Global, files: &[(Text, Text)]) -> Result<(), FrontFail> {
+/// Why a program is refused, where it is.
+fn refusal_of(
+    rt: &impl Abort,
+    alloc: Global,
+    texts: &[&[u8]],
+) -> Result<Option<Refusal>, FrontFail> {
+    let files = files_of(alloc, texts)?;
     assert!(rt; files.len() <= 64);
-    let trees = read(alloc, files)?;
-    assert!(rt; trees.len() <= 64);
-    let names = resolve(alloc, &trees)?;
-    check(alloc, trees.as_slice(), names)?;
-    Ok(())
+    match accept(alloc, files.as_slice()) {
+        Ok(_) => Ok(None),
+        Err(FrontFail::Refused(refusal)) => Ok(Some(refusal)),
+        Err(fail) => Err(fail),
+    }
 }
 
-/// What is told of a refusal, with its line counted from behind so many lines.
-fn tell_refusal(alloc: Global, refusal: Refusal, lines: u32) -> Result<Text, NoMemory> {
+/// What is told of a refusal, with its line counted from behind so many lines; nothing where there is none.
+fn tell_refusal(alloc: Global, refusal: Option<Refusal>, lines: u32) -> Result<Text, NoMemory> {
+    let Some(refusal) = refusal else {
+        return Ok(Text::new(alloc));
+    };
     let label = refusal.kind.label();
     let line = refusal.place.line.wrapping_sub(lines);
     let told = format!(in alloc; "{label} {line}")?;
     Text::from_slice(alloc, told.as_bytes())
 }
 
-/// What is told of a program.
-fn told_of(rt: &impl Abort, alloc: Global, texts: &[&[u8]], lines: u32) -> Result<Text, FrontFail> {
-    let files = files_of(alloc, texts)?;
-    match checked(rt, alloc, files.as_slice()) {
-        Ok(()) => Ok(Text::new(alloc)),
-        Err(FrontFail::Refused(refusal)) => Ok(tell_refusal(alloc, refusal, lines)?),
-        Err(fail) => Err(fail),
-    }
+/// What is told of a program of one file.
+fn told_of(rt: &impl Abort, alloc: Global, text: &[u8], lines: u32) -> Result<Text, FrontFail> {
+    let refusal = refusal_of(rt, alloc, &[text])?;
+    Ok(tell_refusal(alloc, refusal, lines)?)
 }
 
 /// The program that a piece makes.
@@ -66,7 +72,7 @@ fn program_of(alloc: Global, piece: &[u8]) -> Result<Text, NoMemory> {
 fn check_pieces(rt: &impl Abort, alloc: Global, cases: &[Case<'_>]) -> Result<(), Fail> {
     for (piece, told) in cases {
         let program = program_of(alloc, piece)?;
-        let found = told_of(rt, alloc, &[program.as_bytes()], LINES)?;
+        let found = told_of(rt, alloc, program.as_bytes(), LINES)?;
         assert!(rt;
             found.as_bytes() == *told,
             "{piece:?} {:?}",
@@ -79,7 +85,7 @@ fn check_pieces(rt: &impl Abort, alloc: Global, cases: &[Case<'_>]) -> Result<()
 /// Compares what is told of programs of one file with what is written beside them.
 fn check_programs(rt: &impl Abort, alloc: Global, cases: &[Case<'_>]) -> Result<(), Fail> {
     for (text, told) in cases {
-        let found = told_of(rt, alloc, &[text], 0)?;
+        let found = told_of(rt, alloc, text, 0)?;
         assert!(rt;
             found.as_bytes() == *told,
             "{text:?} {:?}",
@@ -144,28 +150,30 @@ fn several_components(rt: HostRuntime) -> Result<(), Fail> {
     check_programs(&rt, rt.alloc(), COMPONENTS)
 }
 
-/// Compares what is told of a program of several files with what it should be.
-fn check_files(rt: &impl Abort, alloc: Global, texts: &[&[u8]], told: &[u8]) -> Result<(), Fail> {
-    let found = told_of(rt, alloc, texts, 0)?;
-    assert!(rt; found.as_bytes() == told, "{:?}", found.as_bytes());
+/// The file that a refusal stands in; the first where there is none.
+fn file_of(refusal: Option<Refusal>) -> u32 {
+    match refusal {
+        Some(refusal) => refusal.place.file,
+        None => 0,
+    }
+}
+
+/// Compares what is told of programs of several files with what is written beside them.
+fn check_files(rt: &impl Abort, alloc: Global, cases: &[FilesCase<'_>]) -> Result<(), Fail> {
+    for (texts, file, told) in cases {
+        let refusal = refusal_of(rt, alloc, texts)?;
+        let found_file = file_of(refusal);
+        let found = tell_refusal(alloc, refusal, 0)?;
+        assert!(rt;
+            found.as_bytes() == *told && found_file == *file,
+            "{found_file} {:?}",
+            found.as_bytes()
+        );
+    }
     Ok(())
 }
 
-const SHARED: &[u8] = b"global G\n  var n : int\n  op f(n : int) {send}\nend\n";
-
-const LAST: &[u8] = b"resource main()\n  import G\n  f(1)\n  n := true\nend\n";
-
-const BROKEN: &[u8] = b"resource R()\n  write(1 + true)\nend\n";
-
 #[test]
 fn programs_of_several_files(rt: HostRuntime) -> Result<(), Fail> {
-    let alloc = rt.alloc();
-    check_files(&rt, alloc, &[SHARED, LAST], b"S7 Kind 3")?;
-    check_files(&rt, alloc, &[SHARED, BROKEN, LAST], b"S6 Type 2")?;
-    check_files(
-        &rt,
-        alloc,
-        &[BROKEN, b"resource main()\n  x := 1\nend\n"],
-        b"S4 Name 2",
-    )
+    check_files(&rt, rt.alloc(), FILES)
 }

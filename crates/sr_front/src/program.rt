@@ -1,26 +1,30 @@
-ghost use Rattle.std.specs.Prelude.{◌≤◌, length, IfOk, IfErr};
-ghost use Rattle.sr_front.specs.Program.{IsAccepted, IsRefused};
+ghost use Rattle.std.specs.Prelude.{◌≡◌, ◌≤◌, length, IfOk, IfErr};
+ghost use Rattle.sr_check.specs.Checked.{verdict};
+ghost use Rattle.sr_front.specs.Program.{IsAccepted, IsRefused, IsJudged};
 ghost use Rattle.sr_front.specs.Reading.{IsRefusal, contents_of};
 
 use crate::sources::read;
+use sr_check::check;
+use sr_check_expr::Facts;
 use sr_scope::{Names, resolve};
 use sr_text::FrontFail;
 use sr_tree::File;
 use sr_value::{Row, Text};
 use std::alloc::Global;
 
-/// The files of a program that is accepted: their trees, and what their names mean.
+/// The files of a program that is accepted: their trees, and what is declared in them.
 #[derive(Drop)]
 pub struct Accepted {
     /// The trees of the files, in the order in which the files were given.
     pub trees: Row<File>,
-    /// The meaning of each use of a name in the trees.
-    pub names: Names,
+    /// What the names in the trees mean, and what is declared there: with it [`sr_check_expr::expr`] gives the type and
+    /// the static value of each expression.
+    pub facts: Facts,
 }
 
-/// The trees of the files of a program, which are given with their names, and what the names in them mean; or the
-/// refusal of the program: that of [`read`], or, where all files are read, S4, S5, S9 or S12 for the first rule of
-/// names that is broken.
+/// The program that files, which are given with their names, are: their trees and what is declared in them; or the
+/// refusal of the program: that of [`read`]; where all files are read, S4, S5, S9 or S12 for the first rule of names
+/// that is broken; and where none of these is, S6, S7 or S8 for the first rule of types, of kinds of use or of guards.
 pub fn accept(alloc: Global, files: &[(Text, Text)]) -> Result<Accepted, FrontFail>
     requires few { length files.now ≤ 64 }
     ensures accepted { IfOk result (IsAccepted (contents_of files.now)) }
@@ -28,7 +32,17 @@ pub fn accept(alloc: Global, files: &[(Text, Text)]) -> Result<Accepted, FrontFa
 {
     let trees = read(alloc, files)?;
     match resolve(alloc, &trees) {
-        Ok(names) => Ok(Accepted { trees, names }),
+        Ok(names) => judged(alloc, trees, names),
         Err(fail) => Err(fail),
+    }
+}
+
+/// The program of trees whose names mean this, or its refusal.
+fn judged(alloc: Global, trees: Row<File>, names: Names) -> Result<Accepted, FrontFail>
+    ensures { IsJudged trees (verdict names.uses names.specs trees) result }
+{
+    match check(alloc, trees.as_slice(), names) {
+        Ok(facts) => Ok(Accepted { trees, facts }),
+        Err(stop) => Err(stop),
     }
 }

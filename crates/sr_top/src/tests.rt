@@ -170,7 +170,7 @@ fn items_of_hello(rt: HostRuntime) -> Result<(), Fail> {
 /// Texts that are refused, with the kind and the line.
 #[test]
 fn refused_texts(rt: HostRuntime) -> Result<(), Fail> {
-    let texts: [(&[u8], Kind, u32); 12] = [
+    let texts: [(&[u8], Kind, u32); 15] = [
         (b"", Kind::Main, 1),
         (b"resource main()\n  \x80\nend\n", Kind::BadByte, 2),
         (b"resource main() # \x80\n  skip\nend\n", Kind::NotBuilt, 1),
@@ -195,6 +195,17 @@ fn refused_texts(rt: HostRuntime) -> Result<(), Fail> {
         (b"resource main()\nwrite(-1)\nend\n", Kind::NotBuilt, 1),
         (b"resource main()\ncall write(1)\nend\n", Kind::NotBuilt, 1),
         (b"resource other()\nwrite(1)\nend\n", Kind::NotBuilt, 1),
+        (
+            b"resource main()\n  write(1,\n  1 + true)\nend\n",
+            Kind::BadType,
+            3,
+        ),
+        (b"resource main()\n\n  exit\nend\n", Kind::BadUse, 3),
+        (
+            b"resource main()\n  op f(n : int) returns r : int\n  in f(n) returns r and f(n) = 1 -> skip ni\nend\n",
+            Kind::Guard,
+            3,
+        ),
     ];
     for (text, kind, line) in texts {
         let (report, output, _) = called(rt.alloc(), &run_case(text, b"", 0))?;

@@ -1,12 +1,15 @@
 -- What a phase refuses, the program is refused for; trees are as many as the files.
-use Rattle.std.proofs.Common.{◌≡◌, ℕ, ◌≤◌, arith, List, length, Result, Ok, Err, IfErr, refl, ap, sym, ◌∙◌, subst}
+use Rattle.std.proofs.Common.{◌≡◌, ℕ, ◌≤◌, arith, List, length, Result, Ok, Err, IfOk, IfErr, refl, ap, sym, ◌∙◌, subst}
 use Rattle.std.proofs.lemmas.List.{length-map}
 use Rattle.std.proofs.lemmas.Result.{err_from_is_err_and}
 use Rattle.sr_text.specs.declared.refusal.FrontFail.{FrontFail}
 use Rattle.sr_text.specs.declared.refusal.FrontFail.TheVariants.{Refused, NoMemory}
 use Rattle.sr_tree.specs.declared.component.File.{File}
 use Rattle.sr_scope.specs.Resolved.{Answers, resolved}
-use Rattle.sr_front.specs.Program.{IsRefused, in_reading, in_names}
+use Rattle.sr_scope.specs.declared.program.Names.{Names}
+use Rattle.sr_check.specs.Checked.{verdict}
+use Rattle.sr_front.specs.declared.program.Accepted.{Accepted}
+use Rattle.sr_front.specs.Program.{IsAccepted, IsRefused, IsJudged, in_reading, in_names, in_types}
 use Rattle.sr_front.specs.Reading.{AreRead, AreRefused, IsRefusal, contents_of}
 use Rattle.sr_front.proofs.FileByFile.{as_many}
 use Rattle.sr_front.proofs.program.accept.Goals as goal
@@ -19,6 +22,31 @@ refused_in_names : (contents : List (List ℕ)) (trees : List File) (fail : Fron
     → IsRefusal (IsRefused contents) fail
 refused_in_names contents trees (Refused refusal) read refused = in_names read refused
 refused_in_names contents trees NoMemory read refused = refused
+
+-- trees that pass with these names are those of the program
+accepted_with : (contents : List (List ℕ)) (trees : List File) (names : Names) (accepted : Accepted) → AreRead contents trees → resolved trees ≡ Ok names
+    → accepted.trees ≡ trees → verdict names.uses names.specs trees ≡ Ok accepted.facts → IsAccepted contents accepted
+accepted_with contents trees names accepted read named same met = record {
+  read = subst (AreRead contents) (sym same) read;
+  names = names;
+  named = ap resolved same ∙ named;
+  checked = ap (verdict names.uses names.specs) same ∙ met;
+}
+
+accepted_by : (contents : List (List ℕ)) (trees : List File) (names : Names) (result : Result Accepted FrontFail) → AreRead contents trees
+    → resolved trees ≡ Ok names → IsJudged trees (verdict names.uses names.specs trees) result → IfOk result (IsAccepted contents)
+accepted_by contents trees names (Ok accepted) read named judged = accepted_with contents trees names accepted read named judged.0 judged.1
+accepted_by contents trees names (Err fail) read named judged = tt
+
+refused_in_types : (contents : List (List ℕ)) (trees : List File) (names : Names) (fail : FrontFail) → AreRead contents trees → resolved trees ≡ Ok names
+    → IsJudged trees (verdict names.uses names.specs trees) (Err fail) → IsRefusal (IsRefused contents) fail
+refused_in_types contents trees names (Refused refusal) read named judged = in_types {names = names} read named judged
+refused_in_types contents trees names NoMemory read named judged = tt
+
+refused_by : (contents : List (List ℕ)) (trees : List File) (names : Names) (result : Result Accepted FrontFail) → AreRead contents trees
+    → resolved trees ≡ Ok names → IsJudged trees (verdict names.uses names.specs trees) result → IfErr result (IsRefusal (IsRefused contents))
+refused_by contents trees names (Ok accepted) read named judged = tt
+refused_by contents trees names (Err fail) read named judged = refused_in_types contents trees names fail read named judged
 
 pub returns-in_err-trees-clause-refused : goal.returns-in_err-trees-clause-refused
 returns-in_err-trees-clause-refused c =
@@ -36,3 +64,11 @@ resolve-requires c =
 pub returns-in-Err-clause-refused : goal.returns-in-Err-clause-refused
 returns-in-Err-clause-refused c =
     refused_in_names (contents_of c.args.files.now) c.in_ok-trees.trees c.in-Err.fail c.in_ok-trees.ensures.trees c.in-Err.ensures
+
+pub returns-in-Ok-clause-accepted : goal.returns-in-Ok-clause-accepted
+returns-in-Ok-clause-accepted c =
+    accepted_by (contents_of c.args.files.now) c.in_ok-trees.trees c.in-Ok.names _ c.in_ok-trees.ensures.trees c.in-Ok.ensures c.judged.ensures
+
+pub returns-in-Ok-clause-refused : goal.returns-in-Ok-clause-refused
+returns-in-Ok-clause-refused c =
+    refused_by (contents_of c.args.files.now) c.in_ok-trees.trees c.in-Ok.names _ c.in_ok-trees.ensures.trees c.in-Ok.ensures c.judged.ensures
