@@ -10,6 +10,3 @@ mod words;
 
 pub use report::{Ending, LimitKind, Report, Side, Stretch};
 pub use top::sr_top;
-
-#[cfg(test)]
-mod tests;

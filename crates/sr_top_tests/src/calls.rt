@@ -1,7 +1,7 @@
-use crate::{Ending, Report, Side, sr_top};
 use sr_ask::Item;
 use sr_ports::{FreeGate, MemFiles, MemSink, MemSource};
 use sr_text::{Kind, Refusal};
+use sr_top::{Ending, Report, Side, sr_top};
 use sr_value::{NoMemory, Place, Row, Text};
 use std::alloc::Global;
 use std::test::Fail;

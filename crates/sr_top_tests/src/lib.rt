@@ -1,0 +1,5 @@
+//! Tests of whole calls of the program, over ports in memory.
+#![tactic(auto)]
+
+#[cfg(test)]
+mod calls;
