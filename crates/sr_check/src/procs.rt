@@ -1,8 +1,7 @@
-ghost use Rattle.std.specs.Prelude.{◌≡◌, OnOk, IfOk, is_some};
+ghost use Rattle.std.specs.Prelude.{◌≡◌, false, OnOk, IfOk, is_some};
 ghost use Rattle.sr_names.specs.Notes.{all_noted};
-ghost use Rattle.sr_check_expr.specs.declared.facts.Facts.{Facts};
 ghost use Rattle.sr_check.specs.Contexts.{context_of};
-ghost use Rattle.sr_check.specs.Components.{proc_item_read, block_read, beginning, proc_rules, proc_read, returned_declared, signed_declared, procedure_read, quantifiers_formal, process_read, final_read};
+ghost use Rattle.sr_check.specs.Components.{proc_item_read, block_read, proc_rules, proc_read, returned_declared, signed_declared, procedure_read, quantifiers_formal, process_read, final_read};
 
 use crate::around::{Around, Procs};
 use crate::operation::Operation;
@@ -66,7 +65,7 @@ fn proc_block(
 
 /// What is around code of its own: no loop.
 pub(crate) fn beginning(procs: &Procs, serving: Serving) -> Around<'_>
-    ensures { (facts : Facts) → context_of result facts ≡ beginning procs.now serving facts }
+    ensures { result ≡ record { procs = procs.entry; serving = serving; in_loop = false } }
 {
     Around {
         procs,

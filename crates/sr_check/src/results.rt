@@ -71,6 +71,3 @@ fn all_equal(mine: &[Ty], theirs: &[Ty]) -> bool
     }
     rest.is_empty()
 }
-
-#[cfg(test)]
-mod tests;
