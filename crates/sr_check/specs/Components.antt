@@ -1,5 +1,5 @@
 -- What is found in procs, components and files.
-use Rattle.std.specs.Prelude.{Bool, true, false, List, [], ◌∷◌, ◌++◌, Option, Some, None, is_some, map}
+use Rattle.std.specs.Prelude.{true, false, List, [], ◌∷◌, ◌++◌, Option, Some, None, is_some, map}
 use Rattle.sr_names.specs.declared.finding.Finding.{Finding}
 use Rattle.sr_names.specs.declared.finding.Rule.TheVariants.{BadType, BadUse}
 use Rattle.sr_names.specs.Readings.{broken}
@@ -15,7 +15,6 @@ use Rattle.sr_tree.specs.declared.component.Procedure.{Procedure}
 use Rattle.sr_tree.specs.declared.component.Process.{Process}
 use Rattle.sr_tree.specs.declared.component.ProcItem.{ProcItem}
 use Rattle.sr_tree.specs.declared.component.ProcItem.TheVariants as inner
-use Rattle.sr_tree.specs.declared.name.Name.{Name}
 use Rattle.sr_tree.specs.declared.statement.Quantifier.{Quantifier}
 use Rattle.sr_types.specs.declared.ty.Ty.TheVariants as ty
 use Rattle.sr_check_expr.specs.declared.facts.Facts.{Facts}
@@ -31,7 +30,7 @@ use Rattle.sr_check_decl.specs.Variables.{declare, variable, var_found, local_va
 use Rattle.sr_check.specs.declared.operation.Operation.{Operation}
 use Rattle.sr_check.specs.declared.serving.Serving.{Serving}
 use Rattle.sr_check.specs.declared.serving.Serving.TheVariants.{SetsUp, Ends, Serves}
-use Rattle.sr_check.specs.Contexts.{Context, Step, Steps, in_order, with_more, only_found}
+use Rattle.sr_check.specs.Contexts.{Context, Step, Steps, in_order, with_more}
 use Rattle.sr_check.specs.Procs.{Procs, with_proc}
 use Rattle.sr_check.specs.Quantifying.{quantifiers_found, quantifiers_known}
 use Rattle.sr_check.specs.Services.{operation_named, head_rule, is_own, service_bound, type_of, spot_or}

@@ -5,7 +5,6 @@ use Rattle.sr_names.specs.declared.finding.Finding.{Finding}
 use Rattle.sr_names.specs.declared.finding.Rule.TheVariants.{BadType, BadUse}
 use Rattle.sr_names.specs.declared.predefined.Predefined.{Predefined}
 use Rattle.sr_names.specs.declared.predefined.Predefined.TheVariants as predefined
-use Rattle.sr_names.specs.declared.spot.Spot.{Spot}
 use Rattle.sr_names.specs.Readings.{broken}
 use Rattle.sr_tree.specs.declared.expr.Expr.{Expr}
 use Rattle.sr_types.specs.declared.ty.Signature.{Signature}
@@ -16,7 +15,6 @@ use Rattle.sr_types.specs.declared.typed.Static.TheVariants.{Unknown}
 use Rattle.sr_types.specs.Outcomes.{computed}
 use Rattle.sr_types.specs.Storing.{store_rule}
 use Rattle.sr_check_expr.specs.declared.facts.Facts.{Facts}
-use Rattle.sr_check_expr.specs.declared.info.Info.{Info}
 use Rattle.sr_check_expr.specs.declared.judged.Judged.{Judged}
 use Rattle.sr_check_expr.specs.declared.judged.Named.{Named}
 use Rattle.sr_check_expr.specs.declared.judged.Named.TheVariants as named

@@ -1,5 +1,5 @@
 -- What is found in statements: one line for each construct.
-use Rattle.std.specs.Prelude.{Bool, true, false, not, ◌&&◌, List, [], ◌∷◌, ◌++◌, Option, Some, None, is_some, map}
+use Rattle.std.specs.Prelude.{Bool, true, false, not, ◌&&◌, List, [], ◌++◌, Option, Some, None, is_some, map}
 use Rattle.std.specs.List.{list_any}
 use Rattle.sr_value.specs.declared.place.Span.{Span}
 use Rattle.sr_names.specs.declared.finding.Finding.{Finding}
@@ -25,7 +25,7 @@ use Rattle.sr_check_decl.specs.Constants.{const_found, const_of}
 use Rattle.sr_check_decl.specs.Declaring.{declare_name}
 use Rattle.sr_check_decl.specs.Variables.{var_found, local_var}
 use Rattle.sr_check.specs.declared.operation.Operation.{Operation}
-use Rattle.sr_check.specs.Contexts.{Context, Step, Steps, with_facts, looping, serving_for, in_order, with_more, only_found}
+use Rattle.sr_check.specs.Contexts.{Context, Steps, with_facts, looping, serving_for, in_order, with_more, only_found}
 use Rattle.sr_check.specs.Invoking.{call_found, send_found, forward_found, may_reply, started_found}
 use Rattle.sr_check.specs.Quantifying.{expr_with, maybe_with, quantifiers_found, quantifiers_known}
 use Rattle.sr_check.specs.Receiving.{receive_found}

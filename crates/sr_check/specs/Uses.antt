@@ -2,7 +2,7 @@
 use Rattle.std.specs.Prelude.{Bool, true, false}
 use Rattle.sr_types.specs.declared.typed.Typed.{Typed}
 use Rattle.sr_types.specs.Kinds.{may_be_int, may_be_bool, may_be_written, may_have_neighbours}
-use Rattle.sr_types.specs.declared.ty.Ty.{Ty, out-Ty}
+use Rattle.sr_types.specs.declared.ty.Ty.{out-Ty}
 use Rattle.sr_types.specs.declared.ty.Ty.TheOpen.{Ty-F}
 
 -- guards, and what stands behind `st` and `and`, are bool

@@ -1,5 +1,5 @@
 -- What a phase refuses, the program is refused for; trees are as many as the files.
-use Rattle.std.proofs.Common.{◌≡◌, ℕ, ◌≤◌, arith, List, length, Result, Ok, Err, IfOk, IfErr, refl, ap, sym, ◌∙◌, subst}
+use Rattle.std.proofs.Common.{◌≡◌, ℕ, arith, List, Result, Ok, Err, IfOk, IfErr, ap, sym, ◌∙◌, subst}
 use Rattle.std.proofs.lemmas.List.{length-map}
 use Rattle.std.proofs.lemmas.Result.{err_from_is_err_and}
 use Rattle.sr_text.specs.declared.refusal.FrontFail.{FrontFail}
