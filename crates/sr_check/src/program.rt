@@ -1,5 +1,6 @@
-ghost use Rattle.std.specs.Prelude.{◌≡◌};
-ghost use Rattle.sr_check.specs.Checked.{Answers, verdict, verdict_by};
+ghost use Rattle.std.specs.Prelude.{◌≡◌, IfOk, OnOk};
+ghost use Rattle.sr_names.specs.Notes.{all_noted};
+ghost use Rattle.sr_check.specs.Checked.{Answers, checked, verdict, verdict_by};
 
 use crate::components;
 use sr_check_decl::program;
@@ -8,6 +9,7 @@ use sr_names::{Notes, Wrong};
 use sr_scope::{Names, refusal_of};
 use sr_text::FrontFail;
 use sr_tree::File;
+use sr_value::NoMemory;
 use std::alloc::Global;
 
 /// All that is declared in a program whose names mean this, by the spots of the declarations. The program is refused
@@ -16,11 +18,22 @@ use std::alloc::Global;
 pub fn check(alloc: Global, files: &[File], names: Names) -> Result<Facts, FrontFail>
     ensures { Answers result (verdict names.uses names.specs files.now) }
 {
-    let Names { uses, specs } = names;
     let mut notes = Notes::new(alloc);
-    let mut facts = program(alloc, uses, specs, files, &mut notes)?;
-    components::files(alloc, files, &mut facts, &mut notes)?;
+    let facts = read(alloc, files, names, &mut notes)?;
     answer(notes.first, facts)
+}
+
+/// All that is declared in a program; what is found in it is noted.
+fn read(alloc: Global, files: &[File], names: Names, notes: &mut Notes) -> Result<Facts, NoMemory>
+    ensures known { IfOk result (λ facts. facts ≡ (checked names.uses names.specs files.now).facts) }
+    ensures noted { OnOk result (notes.new ≡ all_noted notes.old (checked names.uses names.specs files.now).found) }
+{
+    let Names { uses, specs } = names;
+    let mut facts = program(alloc, uses, specs, files, notes)?;
+    match components::files(alloc, files, &mut facts, notes) {
+        Ok(()) => Ok(facts),
+        Err(stop) => Err(stop),
+    }
 }
 
 fn answer(first: Option<Wrong>, facts: Facts) -> Result<Facts, FrontFail>
