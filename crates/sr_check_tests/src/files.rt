@@ -3,11 +3,11 @@
 use crate::tests::FilesCase;
 
 /// A global that others import.
-const SHARED: &[u8] =
-    b"global G\n  const c := 3\n  var n : int\n  op f(n : int) {send}\nend\n";
+const SHARED: &[u8] = b"global G\n  const c := 3\n  var n : int\n  op f(n : int) {send}\nend\n";
 
 /// A program that uses the global, with nothing wrong in it.
-const USER: &[u8] = b"resource main()\n  import G\n  var a[1:c] : int\n  send f(a[c])\n  n := G.n + 1\nend\n";
+const USER: &[u8] =
+    b"resource main()\n  import G\n  var a[1:c] : int\n  send f(a[c])\n  n := G.n + 1\nend\n";
 
 /// A resource with a wrong type in it.
 const BAD_TYPE: &[u8] = b"resource R()\n  write(1 + true)\nend\n";
@@ -43,10 +43,7 @@ pub const FILES: &[FilesCase<'_>] = &[
     (&[MAIN, b""], 1, b"S9 Main 1"),
     (&[BAD_TYPE, b"\n"], 1, b"S9 Main 1"),
     (
-        &[
-            BAD_TYPE,
-            b"resource main()\n  import R\n  x := 1\nend\n",
-        ],
+        &[BAD_TYPE, b"resource main()\n  import R\n  x := 1\nend\n"],
         1,
         b"S4 Name 3",
     ),
