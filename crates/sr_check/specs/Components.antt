@@ -24,7 +24,8 @@ use Rattle.sr_check_decl.specs.declared.kind.Signed.{Signed}
 use Rattle.sr_check_decl.specs.Constants.{const_found}
 use Rattle.sr_check_decl.specs.Declarations.{ops_found, sems_found, spec_item_found, spec_items_found}
 use Rattle.sr_check_decl.specs.Declaring.{declare_name, ops_declared, sems_declared, params_declared, standing}
-use Rattle.sr_check_decl.specs.Parts.{component_decl, spec_of, formals_of, body_of}
+use Rattle.sr_check_decl.specs.Parts.{component_decl}
+use Rattle.sr_tree.specs.Parts.{spec_of, formals_of, body_of}
 use Rattle.sr_check_decl.specs.TypeTrees.{signature_read, formals_at, formal_read, formals_found}
 use Rattle.sr_check_decl.specs.Variables.{declare, variable, var_found, local_var}
 use Rattle.sr_check.specs.declared.operation.Operation.{Operation}

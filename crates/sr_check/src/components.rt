@@ -8,10 +8,7 @@ use crate::procs::{beginning, final_code, proc, procedure, process};
 use crate::services::operation_named;
 use crate::serving::Serving;
 use crate::statements::statement;
-use sr_check_decl::{
-    all_formals, body_of, component_decl, formals_of, note_spec_item, note_spec_items, spec_of,
-    stand,
-};
+use sr_check_decl::{all_formals, component_decl, note_spec_item, note_spec_items, stand};
 use sr_check_expr::Facts;
 use sr_names::{Notes, Spot};
 use sr_tree::{Component, File, Item};
@@ -107,8 +104,8 @@ fn note_head(
 ) -> Result<(), NoMemory>
     ensures { OnOk result (notes.new ≡ all_noted notes.old (head_found component.now facts.now)) }
 {
-    note_spec_items(alloc, facts, notes, spec_of(component))?;
-    all_formals(alloc, formals_of(component), facts, notes, false)?;
+    note_spec_items(alloc, facts, notes, component.spec())?;
+    all_formals(alloc, component.formals(), facts, notes, false)?;
     Ok(())
 }
 
@@ -125,8 +122,8 @@ fn component(
     stand(facts, component_decl(component));
     note_head(alloc, component, facts, notes)?;
     let mut procs = Procs::new(alloc);
-    enter_items(alloc, facts, body_of(component), &mut procs)?;
-    items(alloc, body_of(component), &procs, facts, notes)
+    enter_items(alloc, facts, component.body(), &mut procs)?;
+    items(alloc, component.body(), &procs, facts, notes)
 }
 
 fn components(

@@ -43,7 +43,8 @@ use Rattle.sr_check_expr.specs.Naming.{decl_info}
 use Rattle.sr_check_decl.specs.declared.kind.NamedParam.{NamedParam}
 use Rattle.sr_check_decl.specs.declared.tally.Tally.{Tally}
 use Rattle.sr_check_decl.specs.Constants.{const_of, is_static}
-use Rattle.sr_check_decl.specs.Parts.{name_of, component_decl, spec_of, formals_of, body_of}
+use Rattle.sr_check_decl.specs.Parts.{component_decl}
+use Rattle.sr_tree.specs.Parts.{name_of, spec_of, formals_of, body_of}
 use Rattle.sr_check_decl.specs.TypeTrees.{free_bounds, fixed_bounds, type_kinded, formal_read, signature_read, signature_type, formals_at, all_params, params_of, are_refused, named_decl}
 use Rattle.sr_check_decl.specs.Variables.{declare, variable, vars_declared, untyped_var_rule}
 

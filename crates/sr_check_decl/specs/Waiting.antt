@@ -14,7 +14,8 @@ use Rattle.sr_tree.specs.declared.declaration.ConstDecl.{ConstDecl}
 use Rattle.sr_tree.specs.declared.expr.Expr.{Expr}
 use Rattle.sr_tree.specs.declared.types.Decl.{Decl as DeclTree}
 use Rattle.sr_tree.specs.declared.types.TypeTree.{TypeTree}
-use Rattle.sr_check_decl.specs.Parts.{component_decl, spec_of, body_of}
+use Rattle.sr_check_decl.specs.Parts.{component_decl}
+use Rattle.sr_tree.specs.Parts.{spec_of, body_of}
 use Rattle.sr_check_decl.specs.Variables.{has_no_dims}
 
 -- a declaration that waits for the type of its value

@@ -7,7 +7,7 @@ use crate::kind::NamedParam;
 use crate::operations::{
     declare_operations, declare_optype, declare_procedure, declare_semaphore, declare_semaphores,
 };
-use crate::parts::{body_of, component_decl, formals_of, name_of, spec_of};
+use crate::parts::component_decl;
 use crate::signatures::{are_refused, params_of};
 use crate::tally::{Tally, count_of, declare, declare_name, next, stand, variable};
 use crate::variables::{declare_variables, may_be_untyped};
@@ -267,8 +267,8 @@ fn declare_head(alloc: Global, facts: &mut Facts, component: &Component) -> Resu
     ensures { OnOk result (facts.new ≡ head_declared component.now facts.old) }
 {
     let mut aside = Notes::new(alloc);
-    let params = all_formals(alloc, formals_of(component), facts, &mut aside, false)?;
-    with_formals(alloc, facts, name_of(component), params.as_slice())
+    let params = all_formals(alloc, component.formals(), facts, &mut aside, false)?;
+    with_formals(alloc, facts, component.name(), params.as_slice())
 }
 
 fn declare_component(
@@ -279,9 +279,9 @@ fn declare_component(
     ensures { OnOk result (tally.new ≡ component_declared component.now tally.old) }
 {
     stand(&mut tally.facts, component_decl(component));
-    declare_spec(alloc, tally, spec_of(component))?;
+    declare_spec(alloc, tally, component.spec())?;
     declare_head(alloc, &mut tally.facts, component)?;
-    declare_items(alloc, tally, body_of(component))
+    declare_items(alloc, tally, component.body())
 }
 
 fn declare_components(
@@ -310,7 +310,7 @@ fn name_components(facts: &mut Facts, components: &[Component]) -> Result<(), No
     ensures { OnOk result (facts.new ≡ components_named components.now facts.old) }
 {
     for component in components {
-        declare_name(facts, name_of(component), Info::Component(Ty::Untyped))?;
+        declare_name(facts, component.name(), Info::Component(Ty::Untyped))?;
     }
     Ok(())
 }

@@ -28,7 +28,7 @@ pub use declaring::declare_params;
 pub use inferring::program;
 pub use kind::{Bounding, Kind, NamedParam, Signed};
 pub use operations::{declare_operations, declare_semaphores, semaphore_type};
-pub use parts::{body_of, component_decl, formals_of, name_of, spec_of};
+pub use parts::component_decl;
 pub use signatures::signature_type;
 pub use tally::{declare, declare_name, stand, variable};
 pub use types::decl_type;

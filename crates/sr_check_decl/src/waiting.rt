@@ -2,7 +2,7 @@ ghost use Rattle.std.specs.Prelude.{◌≡◌, ◌∷◌, ◌++◌, [], IfOk, On
 ghost use Rattle.sr_check_decl.specs.Waits.{seen};
 ghost use Rattle.sr_check_decl.specs.Waiting.{const_waiting, vars_waiting, spec_item_waiting, spec_items_waiting, item_waiting, items_waiting, component_waiting, components_waiting, files_waiting, unless_typed};
 
-use crate::parts::{body_of, component_decl, spec_of};
+use crate::parts::component_decl;
 use crate::variables::may_be_untyped;
 use sr_names::{Decl, Spot};
 use sr_tree::{Component, ConstDecl, Expr, File, Item, SpecItem, VarDecl};
@@ -149,8 +149,8 @@ fn push_component<'a>(all: &mut Row<Waits<'a>>, component: &'a Component) -> Res
     ensures { OnOk result (map seen all.new ≡ map seen all.old ++ component_waiting component.now) }
 {
     let decl = component_decl(component);
-    push_spec(all, decl, spec_of(component))?;
-    push_items(all, decl, body_of(component))
+    push_spec(all, decl, component.spec())?;
+    push_items(all, decl, component.body())
 }
 
 fn push_components<'a>(

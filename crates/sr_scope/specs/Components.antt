@@ -28,35 +28,15 @@ use Rattle.sr_tree.specs.declared.component.SpecItem.{SpecItem}
 use Rattle.sr_tree.specs.declared.component.SpecItem.TheVariants.{Import, Const, «Type», OpType, Op, Var, Sem}
 use Rattle.sr_tree.specs.declared.name.Name.{Name}
 use Rattle.sr_tree.specs.declared.types.Formal.{Formal}
+use Rattle.sr_tree.specs.Parts.{name_of, spec_of, formals_of, body_of}
 use Rattle.sr_scope.specs.Declares.{name_declared, name_twice}
 use Rattle.sr_scope.specs.Items.{specs_declared, specs_twice, items_declared, items_twice, inside, specs_found, items_found, served_twice}
 use Rattle.sr_scope.specs.Types.{formal_read, formals_found, formals_declared, formals_twice}
-
-abbrev pub name_of : Component → Name
-name_of (Resource span name formals items) = name
-name_of (SplitResource span name spec formals items) = name
-name_of (Global span name spec body) = name
 
 abbrev pub sort_of : Component → Sort
 sort_of (Resource span name formals items) = resource_sort
 sort_of (SplitResource span name spec formals items) = resource_sort
 sort_of (Global span name spec body) = global_sort
-
--- a resource that has its formals directly behind its name is all body
-abbrev pub spec_of : Component → List SpecItem
-spec_of (Resource span name formals items) = []
-spec_of (SplitResource span name spec formals items) = spec
-spec_of (Global span name spec body) = spec
-
-abbrev pub formals_of : Component → List Formal
-formals_of (Resource span name formals items) = formals
-formals_of (SplitResource span name spec formals items) = formals
-formals_of (Global span name spec body) = []
-
-abbrev pub body_of : Component → List Item
-body_of (Resource span name formals items) = items
-body_of (SplitResource span name spec formals items) = items
-body_of (Global span name spec body) = unwrap_or body []
 
 abbrev pub decl_of : Component → Decl
 decl_of component = declaration (sort_of component) (name_of component).span

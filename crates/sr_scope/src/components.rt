@@ -1,6 +1,6 @@
 ghost use Rattle.std.specs.Prelude.{◌≡◌, ◌++◌, IfOk, OnOk};
 ghost use Rattle.sr_names.specs.Notes.{all_noted};
-ghost use Rattle.sr_scope.specs.Components.{name_of, sort_of, spec_of, formals_of, body_of, decl_of, collected, collected_twice, all_collected, all_collected_twice, files_collected, files_collected_twice, imported_names, item_imports, specs_imports, items_imports, imports_of, import_at, import_of_sorts, import_to, imports_to, all_imports, files_imports, import_found, imports_found, with_import, visible_to, walked, component_found, components_found, files_found};
+ghost use Rattle.sr_scope.specs.Components.{sort_of, decl_of, collected, collected_twice, all_collected, all_collected_twice, files_collected, files_collected_twice, imported_names, item_imports, specs_imports, items_imports, imports_of, import_at, import_of_sorts, import_to, imports_to, all_imports, files_imports, import_found, imports_found, with_import, visible_to, walked, component_found, components_found, files_found};
 ghost use Rattle.sr_scope.specs.Items.{inside};
 
 use crate::declares::declare_name;
@@ -14,16 +14,6 @@ use sr_tree::{Component, File, Formal, Item, Name, SpecItem};
 use sr_value::{Duplicate, NoMemory, Row, Span};
 use std::alloc::Global;
 
-fn name_of(component: &Component) -> &Name
-    ensures { result.now ≡ name_of component.now }
-{
-    match component {
-        Component::Resource { name, .. } => name,
-        Component::SplitResource { name, .. } => name,
-        Component::Global { name, .. } => name,
-    }
-}
-
 fn sort_of(component: &Component) -> Sort
     ensures { result ≡ sort_of component.now }
 {
@@ -33,45 +23,12 @@ fn sort_of(component: &Component) -> Sort
     }
 }
 
-fn spec_of(component: &Component) -> &[SpecItem]
-    ensures { result.now ≡ spec_of component.now }
-{
-    match component {
-        Component::Resource { .. } => &[],
-        Component::SplitResource { spec, .. } => spec.as_slice(),
-        Component::Global { spec, .. } => spec.as_slice(),
-    }
-}
-
-fn formals_of(component: &Component) -> &[Formal]
-    ensures { result.now ≡ formals_of component.now }
-{
-    match component {
-        Component::Resource { formals, .. } => formals.as_slice(),
-        Component::SplitResource { formals, .. } => formals.as_slice(),
-        Component::Global { .. } => &[],
-    }
-}
-
-fn body_of(component: &Component) -> &[Item]
-    ensures { result.now ≡ body_of component.now }
-{
-    match component {
-        Component::Resource { items, .. } => items.as_slice(),
-        Component::SplitResource { items, .. } => items.as_slice(),
-        Component::Global { body, .. } => match body {
-            Some(items) => items.as_slice(),
-            None => &[],
-        },
-    }
-}
-
 fn decl_of(component: &Component) -> Decl
     ensures { result ≡ decl_of component.now }
 {
     Decl {
         sort: sort_of(component),
-        spot: Spot::of(name_of(component).span),
+        spot: Spot::of(component.name().span),
     }
 }
 
@@ -85,7 +42,7 @@ fn collect_component(
     ensures place { OnOk result (place.new ≡ collected component.now place.old) }
     ensures noted { OnOk result (notes.new ≡ all_noted notes.old (collected_twice component.now place.old)) }
 {
-    let name = name_of(component);
+    let name = component.name();
     declare_name(
         alloc,
         name,
@@ -94,7 +51,7 @@ fn collect_component(
         notes,
     )?;
     let mut spec = Table::new(alloc);
-    declare_spec(alloc, spec_of(component), &mut spec, notes)?;
+    declare_spec(alloc, component.spec(), &mut spec, notes)?;
     place.specs.insert(alloc, Spot::of(name.span), spec)
 }
 
@@ -195,8 +152,8 @@ fn imports_of(alloc: Global, component: &Component) -> Result<Row<Name>, NoMemor
     ensures { IfOk result (λ names. names ≡ imports_of component.now) }
 {
     let mut all = Row::new(alloc);
-    push_specs_imports(alloc, spec_of(component), &mut all)?;
-    push_items_imports(alloc, body_of(component), &mut all)?;
+    push_specs_imports(alloc, component.spec(), &mut all)?;
+    push_items_imports(alloc, component.body(), &mut all)?;
     Ok(all)
 }
 
@@ -336,18 +293,11 @@ fn walk(
 {
     let mut blocks = Blocks::new(alloc);
     let mut served = Table::new(alloc);
-    serve_items(
-        alloc,
-        body_of(component),
-        place,
-        &blocks,
-        &mut served,
-        notes,
-    )?;
-    spec_items(alloc, spec_of(component), place, &blocks, notes)?;
+    serve_items(alloc, component.body(), place, &blocks, &mut served, notes)?;
+    spec_items(alloc, component.spec(), place, &blocks, notes)?;
     place.within = None;
-    formals(alloc, formals_of(component), place, &blocks, notes)?;
-    items(alloc, body_of(component), place, &mut blocks, notes)
+    formals(alloc, component.formals(), place, &blocks, notes)?;
+    items(alloc, component.body(), place, &mut blocks, notes)
 }
 
 /// Notes what is found in a component.
@@ -362,9 +312,9 @@ fn component(
     ensures noted { OnOk result (notes.new ≡ all_noted notes.old (component_found place.old.components place.old.specs component.now)) }
 {
     let mut own = Table::new(alloc);
-    declare_spec(alloc, spec_of(component), &mut own, notes)?;
-    declare_formals(alloc, formals_of(component), &mut own, notes)?;
-    declare_items(alloc, body_of(component), &mut own, notes)?;
+    declare_spec(alloc, component.spec(), &mut own, notes)?;
+    declare_formals(alloc, component.formals(), &mut own, notes)?;
+    declare_items(alloc, component.body(), &mut own, notes)?;
     let names = imports_of(alloc, component)?;
     note_imports(&place.components, names.as_slice(), notes)?;
     place.visible = visible_to(alloc, &place.components, component, names.as_slice())?;

@@ -19,6 +19,7 @@ use Rattle.sr_tree.specs.declared.name.Name.{Name}
 use Rattle.sr_tree.specs.declared.name.QualifiedName.{QualifiedName}
 use Rattle.sr_tree.specs.declared.types.Decl.{Decl as DeclTree}
 use Rattle.sr_tree.specs.declared.types.Formal.{Formal, out-Formal}
+use Rattle.sr_tree.specs.Parts.{name_of, spec_of, body_of}
 use Rattle.sr_value.specs.declared.place.Place.{Place}
 use Rattle.sr_value.specs.declared.place.Span.{Span}
 
@@ -40,16 +41,6 @@ deciding qualified = unwrap_or qualified.second qualified.first
 abbrev pub components_in : List File → List Component
 components_in files = flat_map (λ file. file.components) files
 
-abbrev pub span_of : Component → Span
-span_of (Resource span name formals items) = span
-span_of (SplitResource span name spec formals items) = span
-span_of (Global span name spec body) = span
-
-abbrev pub name_of : Component → Name
-name_of (Resource span name formals items) = name
-name_of (SplitResource span name spec formals items) = name
-name_of (Global span name spec body) = name
-
 abbrev pub sort_of : Component → Sort
 sort_of (Resource span name formals items) = sort.Resource
 sort_of (SplitResource span name spec formals items) = sort.Resource
@@ -59,22 +50,6 @@ abbrev pub kind_of : Component → Kind
 kind_of (Resource span name formals items) = kind.Resource
 kind_of (SplitResource span name spec formals items) = kind.Resource
 kind_of (Global span name spec body) = kind.Global
-
--- a resource that has its formals directly behind its name is all body
-abbrev pub spec_of : Component → List SpecItem
-spec_of (Resource span name formals items) = []
-spec_of (SplitResource span name spec formals items) = spec
-spec_of (Global span name spec body) = spec
-
-abbrev pub formals_of : Component → List Formal
-formals_of (Resource span name formals items) = formals
-formals_of (SplitResource span name spec formals items) = formals
-formals_of (Global span name spec body) = []
-
-abbrev pub body_of : Component → List Item
-body_of (Resource span name formals items) = items
-body_of (SplitResource span name spec formals items) = items
-body_of (Global span name spec body) = unwrap_or body []
 
 abbrev pub component_spot : Component → Spot
 component_spot component = spot_named (name_of component)

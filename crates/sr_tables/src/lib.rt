@@ -5,9 +5,6 @@ mod parts;
 mod sites;
 mod tables;
 
-pub use parts::{
-    body_of, component_decl, deciding, formals_of, kind_of, line_of, name_of, op_item_name,
-    span_of, spec_of, spot_named,
-};
+pub use parts::{component_decl, deciding, kind_of, line_of, op_item_name, spot_named};
 pub use sites::site_of;
 pub use tables::{BySpot, Head, SharedVariable, Spots, Tables, number_of};

@@ -4,7 +4,7 @@ ghost use Rattle.sr_tables.specs.Parts as parts;
 
 use sr_core::Kind;
 use sr_names::{Decl, Sort, Spot};
-use sr_tree::{Component, Formal, Item, Name, OpItem, QualifiedName, SpecItem};
+use sr_tree::{Component, Name, OpItem, QualifiedName};
 use sr_value::{Place, Span};
 
 /// The line of a token.
@@ -34,28 +34,6 @@ pub fn deciding(qualified: &QualifiedName) -> &Name
     }
 }
 
-/// The first token of a component.
-pub fn span_of(component: &Component) -> Span
-    ensures { result ≡ parts.span_of component.now }
-{
-    match component {
-        Component::Resource { span, .. }
-        | Component::SplitResource { span, .. }
-        | Component::Global { span, .. } => *span,
-    }
-}
-
-/// The name of a component.
-pub fn name_of(component: &Component) -> &Name
-    ensures { result.now ≡ parts.name_of component.now }
-{
-    match component {
-        Component::Resource { name, .. }
-        | Component::SplitResource { name, .. }
-        | Component::Global { name, .. } => name,
-    }
-}
-
 /// Whether a component is a resource or a global, in the core.
 pub fn kind_of(component: &Component) -> Kind
     ensures { result ≡ parts.kind_of component.now }
@@ -76,44 +54,7 @@ pub fn component_decl(component: &Component) -> Decl
     };
     Decl {
         sort,
-        spot: spot_named(name_of(component)),
-    }
-}
-
-/// The spec of a component. A resource that has its formals directly behind its name is all body.
-pub fn spec_of(component: &Component) -> &[SpecItem]
-    ensures { result.now ≡ parts.spec_of component.now }
-{
-    match component {
-        Component::Resource { .. } => &[],
-        Component::SplitResource { spec, .. } | Component::Global { spec, .. } => spec.as_slice(),
-    }
-}
-
-/// The formals of a component.
-pub fn formals_of(component: &Component) -> &[Formal]
-    ensures { result.now ≡ parts.formals_of component.now }
-{
-    match component {
-        Component::Resource { formals, .. } | Component::SplitResource { formals, .. } => {
-            formals.as_slice()
-        }
-        Component::Global { .. } => &[],
-    }
-}
-
-/// The body of a component.
-pub fn body_of(component: &Component) -> &[Item]
-    ensures { result.now ≡ parts.body_of component.now }
-{
-    match component {
-        Component::Resource { items, .. } | Component::SplitResource { items, .. } => {
-            items.as_slice()
-        }
-        Component::Global { body, .. } => match body {
-            Some(items) => items.as_slice(),
-            None => &[],
-        },
+        spot: spot_named(component.name()),
     }
 }
 

@@ -8,6 +8,7 @@ mod component;
 mod declaration;
 mod expr;
 mod name;
+mod parts;
 mod statement;
 mod token;
 mod types;
