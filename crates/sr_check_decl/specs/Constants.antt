@@ -11,7 +11,7 @@ use Rattle.sr_types.specs.declared.typed.Static.{Static}
 use Rattle.sr_types.specs.declared.typed.Static.TheVariants.{Unknown, Known, Faults}
 use Rattle.sr_types.specs.declared.typed.Typed.{Typed}
 use Rattle.sr_types.specs.Outcomes.{computed}
-use Rattle.sr_types.specs.Types.{fits_type, is_no_type, is_null_type}
+use Rattle.sr_types.specs.Types.{fits_type, is_no_type, is_of_nulls}
 use Rattle.sr_check_expr.specs.declared.facts.Facts.{Facts}
 use Rattle.sr_check_expr.specs.declared.judged.Judged.{Judged}
 use Rattle.sr_check_expr.specs.Exprs.{judge_expr}
@@ -35,9 +35,9 @@ abbrev pub written_found : Facts → Option TypeTree → List Finding
 written_found facts None = []
 written_found facts (Some tree) = (type_kinded tree facts free_bounds).found
 
--- the value of a constant has its type, if it has one, and is no `null` otherwise
+-- the value of a constant has its type, if it has one, and isn't of nothing but `null` and `noop` otherwise
 abbrev pub has_type_of : Option Kind → Typed → Bool
-has_type_of None value = not (is_null_type value.ty)
+has_type_of None value = not (is_of_nulls value.ty)
 has_type_of (Some kind) value = fits_type value.ty kind.ty
 
 -- besides, to evaluate it is no fault where it is static, and a constant of a spec is static
@@ -49,9 +49,9 @@ abbrev pub known_if : Bool → Static → Static
 known_if true value = value
 known_if false value = Unknown
 
--- what has the type of its value has none where that is `null`
+-- what has the type of its value has none where that is of nothing but `null` and `noop`
 abbrev pub type_of_value : Ty → Ty
-type_of_value own = if is_null_type own then ty.Untyped else own
+type_of_value own = if is_of_nulls own then ty.Untyped else own
 
 abbrev pub const_type : Option Kind → Ty → Ty
 const_type None ty = type_of_value ty

@@ -11,6 +11,7 @@ use Rattle.sr_tree.specs.declared.component.Component.{Component}
 use Rattle.sr_tree.specs.declared.component.File.{File}
 use Rattle.sr_tree.specs.declared.component.Item.{Item}
 use Rattle.sr_tree.specs.declared.component.Item.TheVariants as item
+use Rattle.sr_tree.specs.declared.component.Process.{Process}
 use Rattle.sr_tree.specs.declared.component.SpecItem.{SpecItem}
 use Rattle.sr_tree.specs.declared.component.SpecItem.TheVariants as spec
 use Rattle.sr_tree.specs.declared.declaration.ConstDecl.{ConstDecl}
@@ -21,12 +22,15 @@ use Rattle.sr_tree.specs.declared.declaration.TypeDecl.{TypeDecl}
 use Rattle.sr_tree.specs.declared.declaration.OpTypeDecl.{OpTypeDecl}
 use Rattle.sr_tree.specs.declared.declaration.VarDecl.{VarDecl}
 use Rattle.sr_tree.specs.declared.name.Name.{Name}
+use Rattle.sr_tree.specs.declared.statement.Quantifier.{Quantifier}
 use Rattle.sr_tree.specs.declared.types.Decl.{Decl as DeclTree}
 use Rattle.sr_tree.specs.declared.types.Formal.{Formal}
 use Rattle.sr_tree.specs.declared.types.Signature.{Signature as SignatureTree}
 use Rattle.sr_tree.specs.declared.types.TypeTree.{TypeTree, out-TypeTree}
 use Rattle.sr_tree.specs.declared.types.TypeTree.TheOpen.{TypeTree-F}
 use Rattle.sr_types.specs.declared.signature.Forms.TheVariants as forms
+use Rattle.sr_types.specs.declared.signature.Mode.TheVariants as mode
+use Rattle.sr_types.specs.declared.ty.Param.{Param}
 use Rattle.sr_types.specs.declared.ty.Signature.{roll-Signature}
 use Rattle.sr_types.specs.declared.ty.Ty.{Ty}
 use Rattle.sr_types.specs.declared.ty.Ty.TheVariants as ty
@@ -140,7 +144,7 @@ abbrev pub ops_declared : Bool → List OpItem → Facts → Facts
 ops_declared is_local [] facts = facts
 ops_declared is_local (op ∷ ops) facts = ops_declared is_local ops (declare_name facts (op_item_name op) (operation facts is_local (op_type facts op)))
 
--- a semaphore and a process are operations without formals that may be sent to alone
+-- a semaphore is an operation without formals that may be sent to alone
 abbrev pub semaphore_type : Ty
 semaphore_type = ty.Op (roll-Signature (record { params = []; returns = None; forms = forms.Send }))
 
@@ -150,6 +154,17 @@ semaphore_declared is_local name facts = declare_name facts name (operation fact
 abbrev pub sems_declared : Bool → List Semaphore → Facts → Facts
 sems_declared is_local [] facts = facts
 sems_declared is_local (semaphore ∷ more) facts = sems_declared is_local more (semaphore_declared is_local semaphore.name facts)
+
+-- a process is an operation that may be sent to alone, and takes an int for each of its quantifiers
+abbrev pub process_params : List Quantifier → List Param
+process_params [] = []
+process_params (quantifier ∷ more) = record { mode = mode.Val; ty = ty.Int } ∷ process_params more
+
+abbrev pub process_type : List Quantifier → Ty
+process_type quantifiers = ty.Op (roll-Signature (record { params = process_params quantifiers; returns = None; forms = forms.Send }))
+
+abbrev pub process_declared : Process → Facts → Facts
+process_declared process facts = declare_name facts process.name (operation facts false (process_type process.quantifiers))
 
 abbrev pub procedure_declared : Name → SignatureTree → Facts → Facts
 procedure_declared name signature facts = declare_name facts name (operation facts false (signature_type (signature_read signature facts).signed))
@@ -168,7 +183,7 @@ spec_item_declared in_spec (spec.Sem semaphores) tally = at_facts tally (sems_de
 abbrev pub item_declared : Item → Tally → Tally
 item_declared (item.Spec inner) tally = spec_item_declared false inner tally
 item_declared (item.Procedure procedure) tally = at_facts tally (procedure_declared procedure.name procedure.signature tally.facts)
-item_declared (item.Process process) tally = at_facts tally (semaphore_declared false process.name tally.facts)
+item_declared (item.Process process) tally = at_facts tally (process_declared process tally.facts)
 item_declared _ tally = tally
 
 abbrev pub spec_items_declared : List SpecItem → Tally → Tally

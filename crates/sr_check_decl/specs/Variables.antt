@@ -12,7 +12,7 @@ use Rattle.sr_tree.specs.declared.types.TypeTree.{TypeTree}
 use Rattle.sr_types.specs.declared.ty.Ty.{Ty}
 use Rattle.sr_types.specs.declared.ty.Ty.TheVariants as ty
 use Rattle.sr_types.specs.declared.typed.Static.TheVariants.{Unknown}
-use Rattle.sr_types.specs.Types.{fits_type, is_null_type}
+use Rattle.sr_types.specs.Types.{fits_type, is_of_nulls}
 use Rattle.sr_check_expr.specs.declared.facts.Facts.{Facts}
 use Rattle.sr_check_expr.specs.declared.info.Info.{Info}
 use Rattle.sr_check_expr.specs.declared.info.Info.TheVariants as info
@@ -67,10 +67,10 @@ abbrev pub untyped_var_rule : {A : Type 0} → List DeclTree → List A → Bool
 untyped_var_rule (decl ∷ []) (value ∷ []) = has_no_dims decl.dims
 untyped_var_rule _ _ = false
 
--- which isn't `null`
+-- which isn't of nothing but `null` and `noop`
 abbrev pub nulls_found : List Judged → List Finding
 nulls_found [] = []
-nulls_found (value ∷ values) = broken_unless (not (is_null_type value.typed.ty)) BadType value.span ++ nulls_found values
+nulls_found (value ∷ values) = broken_unless (not (is_of_nulls value.typed.ty)) BadType value.span ++ nulls_found values
 
 -- what stands for the type of a declaration that has none
 abbrev pub no_kind : Span → Kind

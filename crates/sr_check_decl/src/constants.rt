@@ -40,12 +40,12 @@ pub(crate) fn written_kind(
     }
 }
 
-/// Whether a value has the type of its constant, or is no `null` where that has none.
+/// Whether a value has the type of its constant, or isn't of nothing but `null` and `noop` where that has none.
 fn has_type_of(kind: &Option<Kind>, value: &Typed) -> bool
     ensures { result ≡ has_type_of kind.now value.now }
 {
     match kind {
-        None => !matches!(&value.ty, Ty::NullCap),
+        None => !value.ty.is_of_nulls(),
         Some(kind) => fits(&value.ty, &kind.ty),
     }
 }
@@ -60,14 +60,11 @@ fn may_be_const(in_spec: bool, kind: &Option<Kind>, value: &Typed) -> bool
     has_type_of(kind, value) && !is_fault(&value.value) && (!in_spec || is_static(&value.value))
 }
 
-/// What has the type of its value has none where that is `null`.
+/// What has the type of its value has none where that is of nothing but `null` and `noop`.
 pub(crate) fn type_of_value(ty: Ty) -> Ty
     ensures { result ≡ type_of_value ty }
 {
-    match ty {
-        Ty::NullCap => Ty::Untyped,
-        _ => ty,
-    }
+    if ty.is_of_nulls() { Ty::Untyped } else { ty }
 }
 
 fn const_type(kind: Option<Kind>, ty: Ty) -> Ty

@@ -5,7 +5,7 @@ ghost use Rattle.sr_check_decl.specs.Declaring.{declared_if, const_declared, unt
 use crate::constants::{constant, is_static};
 use crate::kind::NamedParam;
 use crate::operations::{
-    declare_operations, declare_optype, declare_procedure, declare_semaphore, declare_semaphores,
+    declare_operations, declare_optype, declare_procedure, declare_process, declare_semaphores,
 };
 use crate::parts::component_decl;
 use crate::signatures::{are_refused, params_of};
@@ -198,7 +198,7 @@ fn declare_item(alloc: Global, tally: &mut Tally, item: &Item) -> Result<(), NoM
         Item::Procedure(tree) => {
             declare_procedure(alloc, &mut tally.facts, &tree.name, &tree.signature)
         }
-        Item::Process(tree) => declare_semaphore(alloc, &mut tally.facts, false, &tree.name),
+        Item::Process(tree) => declare_process(alloc, &mut tally.facts, tree),
         Item::Proc(_) | Item::Final(_) | Item::Statement(_) => Ok(()),
     }
 }

@@ -3,7 +3,7 @@ ghost use Rattle.std.specs.Option.{option_copied};
 ghost use Rattle.sr_names.specs.Notes.{all_noted};
 ghost use Rattle.sr_check_decl.specs.Declarations.{op_found};
 ghost use Rattle.sr_check_decl.specs.TypeTrees.{signature_read, signature_type};
-ghost use Rattle.sr_check_decl.specs.Declaring.{declare_name, operation, optype_of, or_untyped, op_type, op_item_name, ops_declared, semaphore_type, semaphore_declared, sems_declared, procedure_declared, optype_declared};
+ghost use Rattle.sr_check_decl.specs.Declaring.{declare_name, operation, optype_of, or_untyped, op_type, op_item_name, ops_declared, semaphore_type, semaphore_declared, sems_declared, process_params, process_type, process_declared, procedure_declared, optype_declared};
 
 use crate::kind::Kind;
 use crate::signatures::signature_type;
@@ -12,8 +12,8 @@ use crate::types::named_decl;
 use crate::written::signature;
 use sr_check_expr::{Facts, Info, decl_info, note_unless};
 use sr_names::{Notes, Rule};
-use sr_tree::{Name, OpItem, OpTypeDecl, Semaphore, Signature};
-use sr_types::{Forms, Ty};
+use sr_tree::{Name, OpItem, OpTypeDecl, Process, Quantifier, Semaphore, Signature};
+use sr_types::{Forms, Mode, Param, Ty};
 use sr_value::{Duplicate, NoMemory, Row, Span};
 use std::alloc::Global;
 
@@ -121,7 +121,7 @@ pub fn declare_operations(
     Ok(())
 }
 
-/// The type of a semaphore, and of the operation of a process: it has no formals, and may be sent to alone.
+/// The type of a semaphore: it has no formals, and may be sent to alone.
 pub fn semaphore_type(alloc: Global) -> Ty
     ensures { result ≡ semaphore_type }
 {
@@ -132,7 +132,7 @@ pub fn semaphore_type(alloc: Global) -> Ty
     })
 }
 
-/// Declares a semaphore, or the operation of a process.
+/// Declares a semaphore.
 pub(crate) fn declare_semaphore(
     alloc: Global,
     facts: &mut Facts,
@@ -158,6 +158,44 @@ pub fn declare_semaphores(
         declare_semaphore(alloc, facts, is_local, &semaphore.name)?;
     }
     Ok(())
+}
+
+/// The formals of the operation of a process: an int for each of its quantifiers.
+fn process_params(alloc: Global, quantifiers: &[Quantifier]) -> Result<Row<Param>, NoMemory>
+    ensures { IfOk result (λ row. row ≡ process_params quantifiers.now) }
+{
+    let mut row = Row::new(alloc);
+    for _quantifier in quantifiers {
+        row.push(Param {
+            mode: Mode::Val,
+            ty: Ty::Int,
+        })?;
+    }
+    Ok(row)
+}
+
+/// The type of the operation of a process: it may be sent to alone.
+fn process_type(alloc: Global, quantifiers: &[Quantifier]) -> Result<Ty, NoMemory>
+    ensures { IfOk result (λ ty. ty ≡ process_type quantifiers.now) }
+{
+    Ok(Ty::Op(sr_types::Signature {
+        params: process_params(alloc, quantifiers)?,
+        returns: None,
+        forms: Forms::Send,
+    }))
+}
+
+/// Declares the operation of a process.
+pub(crate) fn declare_process(
+    alloc: Global,
+    facts: &mut Facts,
+    tree: &Process,
+) -> Result<(), NoMemory>
+    ensures { OnOk result (facts.new ≡ process_declared tree.now facts.old) }
+{
+    let ty = process_type(alloc, tree.quantifiers.as_slice())?;
+    let info = operation(facts, false, ty);
+    declare_name(facts, &tree.name, info)
 }
 
 /// Declares the operation of a procedure.

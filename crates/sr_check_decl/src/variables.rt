@@ -109,12 +109,12 @@ pub(crate) fn may_be_untyped<T>(decls: &[Decl], values: &[T]) -> bool
     }
 }
 
-/// Notes the values that are `null`.
+/// Notes the values that are of nothing but `null` and `noop`.
 fn note_nulls(notes: &mut Notes, values: &[Judged]) -> Result<(), NoMemory>
     ensures { OnOk result (notes.new ≡ all_noted notes.old (nulls_found values.now)) }
 {
     for value in values {
-        let met = !matches!(&value.typed.ty, Ty::NullCap);
+        let met = !value.typed.ty.is_of_nulls();
         note_unless(notes, met, Rule::BadType, value.span)?;
     }
     Ok(())

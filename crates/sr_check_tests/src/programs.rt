@@ -158,6 +158,22 @@ pub const PROCS: &[Case<'_>] = &[
     ),
     (b"resource main()\n  process p end\n  send p()\nend\n", b""),
     (
+        b"resource main()\n  process p end\n  send p(1)\nend\n",
+        b"S6 Type 3",
+    ),
+    (
+        b"resource main()\n  process p(i := 1 to 3, j := 1 to i) end\n  send p(1, 2)\nend\n",
+        b"",
+    ),
+    (
+        b"resource main()\n  process p(i := 1 to 3) end\n  send p()\nend\n",
+        b"S6 Type 3",
+    ),
+    (
+        b"resource main()\n  process p(i := 1 to 3) end\n  send p(true)\nend\n",
+        b"S6 Type 3",
+    ),
+    (
         b"resource main()\n  process p\n    next\n  end\nend\n",
         b"S7 Kind 3",
     ),

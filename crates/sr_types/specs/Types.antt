@@ -37,6 +37,16 @@ layer_is_null _ = false
 abbrev pub is_null_type : Ty → Bool
 is_null_type ty = layer_is_null (out-Ty ty)
 
+abbrev pub layer_of_nulls : {A B : Type 0} → Ty-F Ty A B → Bool
+layer_of_nulls (Ty-F.Vector item) = is_null_type item
+layer_of_nulls (Ty-F.Matrix item) = is_null_type item
+layer_of_nulls Ty-F.NullCap = true
+layer_of_nulls _ = false
+
+-- the types of `null` and `noop` and of arrays of nothing else: they tell no type of capabilities
+abbrev pub is_of_nulls : Ty → Bool
+is_of_nulls ty = layer_of_nulls (out-Ty ty)
+
 abbrev pub layer_is_untyped : {A B C : Type 0} → Ty-F A B C → Bool
 layer_is_untyped Ty-F.Untyped = true
 layer_is_untyped _ = false

@@ -1,5 +1,5 @@
 ghost use Rattle.std.specs.Prelude.{◌≡◌, ◌↔◌, ◌⊎◌, IsTrue};
-ghost use Rattle.sr_types.specs.Types.{is_cap_type, is_null_type, is_no_type, are_nulls, fits_type, FitsType};
+ghost use Rattle.sr_types.specs.Types.{is_cap_type, is_null_type, is_of_nulls, is_no_type, are_nulls, fits_type, FitsType};
 
 use crate::ty::{Ty, same};
 
@@ -17,6 +17,17 @@ impl Ty {
         ensures exact { IsTrue result ↔ (self.now ≡ Ty.NullCap) }
     {
         matches!(self, Ty::NullCap)
+    }
+
+    /// Whether this is the type of `null` and `noop` or of arrays of nothing else, which tells no type of
+    /// capabilities.
+    pub fn is_of_nulls(&self) -> bool
+        ensures { result ≡ is_of_nulls self.now }
+    {
+        match self {
+            Ty::Vector(item) | Ty::Matrix(item) => item.get().is_null_cap(),
+            _ => self.is_null_cap(),
+        }
     }
 
     /// Whether this stands where there is no type.
