@@ -1,9 +1,8 @@
 -- The classes that joining the groups makes are the least equivalence that holds within each group.
-use Rattle.std.proofs.Common.{◌≡◌, ◌≢◌, ℕ, zero, suc, ◌<◌, ◌≤◌, ◌⊎◌, inl, inr, min, Bool, List, [], ◌∷◌, fold, length, get_or, arith, refl, sym, ap, subst, ◌∙◌}
-use Rattle.std.specs.Bool.{IsTrue}
+use Rattle.std.proofs.Common.{◌≡◌, ◌≢◌, ℕ, zero, suc, ◌<◌, ◌≤◌, ◌⊎◌, inl, inr, min, List, [], ◌∷◌, fold, length, get_or, arith, refl, sym, subst, ◌∙◌}
 use Rattle.std.specs.List.{Contains}
-use Rattle.sr_classes.specs.Classes.{AreClasses, SameClass, together, itself, turned, through, Relates, AreLeast}
-use Rattle.sr_classes.specs.Joins.{Stands, joined, group_joined, all_joined}
+use Rattle.sr_classes.specs.Classes.{AreClasses, SameClass, together, itself, turned, through, AreLeast}
+use Rattle.sr_classes.specs.Joins.{joined, group_joined, all_joined}
 use Rattle.sr_classes.proofs.Parents.{joined-cases}
 
 -- ---- membership, by the place from the front

@@ -1,3 +1,3 @@
-pub mod Arms
+pub mod Groups
 pub mod Least
 pub mod Parents

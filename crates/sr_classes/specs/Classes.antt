@@ -1,16 +1,16 @@
 -- Which operations are in one class: the least equivalence that holds for any two operations of one `in`.
-use Rattle.std.specs.Prelude.{◌≡◌, ◌↔◌, ℕ, ◌<◌, ◌≤◌, ◌^◌, All, Bool, IsTrue, List, map, length, slice_index_or}
+use Rattle.std.specs.Prelude.{◌≡◌, ◌↔◌, ℕ, ◌<◌, ◌≤◌, Bool, IsTrue, List, map, filter, length, nat_lt, slice_index_or}
 use Rattle.std.specs.List.{Contains}
 use Rattle.sr_core.specs.declared.component.Core.{Core}
+use Rattle.sr_core.specs.declared.site.Arm.{Arm}
+
+-- the operations that an `in` has arms for; a number that names none of so many operations joins nothing
+abbrev pub named_by : ℕ → List Arm → List ℕ
+named_by count arms = filter (λ op. nat_lt op count) (map (λ arm. arm.op) arms)
 
 -- the operations that each `in` has arms for
 abbrev pub groups_of : Core → List (List ℕ)
-groups_of core = map (λ site. map (λ arm. arm.op) site.arms) core.sites
-
--- each arm names an operation, as in every well-formed core, and 32 bits number them
-pub record NamesOperations (core : Core) : Type 0 where
-  pub few : length core.operations < 2 ^ 32
-  pub named : All (λ site. All (λ arm. arm.op < length core.operations) site.arms) core.sites
+groups_of core = map (λ site. named_by (length core.operations) site.arms) core.sites
 
 pub data SameClass (groups : List (List ℕ)) : ℕ → ℕ → Type 0 where
   together : {group : List ℕ} {a b : ℕ} → Contains groups group → Contains group a → Contains group b → SameClass groups a b

@@ -6,4 +6,4 @@ mod laws;
 mod sites;
 
 pub use laws::least_classes;
-pub use sites::{names_operations, partition};
+pub use sites::partition;

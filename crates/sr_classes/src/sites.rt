@@ -1,6 +1,6 @@
 //! The classes that the `in` statements of a program make.
-ghost use Rattle.std.specs.Prelude.{◌≡◌, ◌↔◌, ◌<◌, ◌^◌, ℕ, All, IsTrue, fold, map, length, IfOk, slice_index_or};
-ghost use Rattle.sr_classes.specs.Classes.{AreClasses, NamesOperations, groups_of};
+ghost use Rattle.std.specs.Prelude.{◌≡◌, ◌<◌, ◌^◌, ℕ, All, fold, map, length, IfOk, OnOk, slice_index_or};
+ghost use Rattle.sr_classes.specs.Classes.{AreClasses, groups_of, named_by};
 ghost use Rattle.sr_classes.specs.Joins.{IsForest, Stands, StandsOn, all_joined, group_joined};
 
 use crate::forest::{first_of, join};
@@ -10,48 +10,17 @@ use std::alloc::Global;
 
 /// The class of each operation. Any two operations that one `in` has arms for are in one class, and so are two that
 /// are each in the class of a third; every other operation is in a class of its own. The number of a class is that of
-/// its first operation.
+/// its first operation. An arm that names no operation, as none does in a well-formed core, joins nothing.
 pub fn partition(alloc: Global, core: &Core) -> Result<Classes, NoMemory>
-    requires named { NamesOperations core.now }
     ensures { IfOk result (λ classes. AreClasses (groups_of core.now) (length core.now.operations) classes.of) }
 {
+    if core.operations.len() > u32::MAX as usize {
+        return Err(NoMemory);
+    }
     let mut parents = alone(alloc, core.operations.len() as u32)?;
-    join_sites(&mut parents, core.sites.as_slice());
+    join_sites(alloc, &mut parents, core.sites.as_slice())?;
     let of = settled(alloc, parents)?;
     Ok(Classes { of })
-}
-
-/// Whether each arm of a core names one of its operations, of which there are fewer than 2^32. It holds for every
-/// well-formed core.
-pub fn names_operations(core: &Core) -> bool
-    ensures { IsTrue result ↔ NamesOperations core.now }
-{
-    let count = core.operations.len();
-    count <= u32::MAX as usize && sites_name(core.sites.as_slice(), count)
-}
-
-/// Whether each arm of each site names one of so many operations.
-fn sites_name(sites: &[Site], count: usize) -> bool
-    ensures { IsTrue result ↔ All (λ site. All (λ arm. arm.op < count) site.arms) sites.now }
-{
-    for site in sites {
-        if !arms_name(site.arms.as_slice(), count) {
-            return false;
-        }
-    }
-    true
-}
-
-/// Whether each arm names one of so many operations.
-fn arms_name(arms: &[Arm], count: usize) -> bool
-    ensures { IsTrue result ↔ All (λ arm. arm.op < count) arms.now }
-{
-    for arm in arms {
-        if arm.op as usize >= count {
-            return false;
-        }
-    }
-    true
 }
 
 /// Operations that are all in a class of their own.
@@ -66,30 +35,46 @@ fn alone(alloc: Global, count: u32) -> Result<Row<u32>, NoMemory>
     Ok(parents)
 }
 
-/// Makes the classes of the operations of each `in` one.
-fn join_sites(parents: &mut Row<u32>, sites: &[Site])
-    requires named { All (λ site. All (λ arm. arm.op < length parents.old) site.arms) sites.now }
-    requires forest { IsForest parents.old }
-    ensures length { length parents.new ≡ length parents.old }
-    ensures forest { IsForest parents.new }
-    ensures joined { StandsOn parents.old parents.new (λ of. fold group_joined of (map (λ site. map (λ arm. arm.op) site.arms) sites.now)) }
+/// The operations that an `in` has arms for, of so many.
+fn named_by(alloc: Global, arms: &[Arm], count: usize) -> Result<Row<u32>, NoMemory>
+    ensures value { IfOk result (λ group. group ≡ named_by count arms.now) }
+    ensures named { IfOk result (λ group. All (λ op. op < count) group) }
 {
-    for site in sites {
-        join_arms(parents, site.arms.as_slice());
+    let mut group = Row::new(alloc);
+    for arm in arms {
+        if (arm.op as usize) < count {
+            group.push(arm.op)?;
+        }
     }
+    Ok(group)
+}
+
+/// Makes the classes of the operations of each `in` one.
+fn join_sites(alloc: Global, parents: &mut Row<u32>, sites: &[Site]) -> Result<(), NoMemory>
+    requires forest { IsForest parents.old }
+    ensures length { OnOk result (length parents.new ≡ length parents.old) }
+    ensures forest { OnOk result (IsForest parents.new) }
+    ensures joined { OnOk result (StandsOn parents.old parents.new (λ of. fold group_joined of (map (λ site. named_by (length parents.old) site.arms) sites.now))) }
+{
+    let count = parents.len();
+    for site in sites {
+        let group = named_by(alloc, site.arms.as_slice(), count)?;
+        join_group(parents, group.as_slice());
+    }
+    Ok(())
 }
 
 /// Makes the classes of the operations of one `in` one.
-fn join_arms(parents: &mut Row<u32>, arms: &[Arm])
-    requires named { All (λ arm. arm.op < length parents.old) arms.now }
+fn join_group(parents: &mut Row<u32>, group: &[u32])
+    requires named { All (λ op. op < length parents.old) group.now }
     requires forest { IsForest parents.old }
     ensures length { length parents.new ≡ length parents.old }
     ensures forest { IsForest parents.new }
-    ensures joined { StandsOn parents.old parents.new (λ of. group_joined of (map (λ arm. arm.op) arms.now)) }
+    ensures joined { StandsOn parents.old parents.new (λ of. group_joined of group.now) }
 {
-    if let [first, others @ ..] = arms {
-        for arm in others {
-            join(parents, first.op, arm.op);
+    if let [first, others @ ..] = group {
+        for other in others {
+            join(parents, *first, *other);
         }
     }
 }

@@ -1,6 +1,5 @@
 -- One turn of the way up.
-use Rattle.std.proofs.Common.{◌≡◌, ◌<◌, ◌≤◌, ℕ, length, get_or, arith, sym, subst, ◌∙◌}
-use Rattle.sr_classes.specs.Joins.{IsForest, Stands}
+use Rattle.std.proofs.Common.{◌<◌, length, get_or, arith, sym, subst, ◌∙◌}
 use Rattle.sr_classes.proofs.Parents.{turned}
 use Rattle.sr_classes.proofs.forest.first_of.Goals as goal
 

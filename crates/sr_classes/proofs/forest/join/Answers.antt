@@ -1,5 +1,5 @@
 -- The first of the one class becomes the parent of the first of the other.
-use Rattle.std.proofs.Common.{◌≡◌, ◌<◌, ◌≤◌, ℕ, length, arith, sym, subst}
+use Rattle.std.proofs.Common.{◌<◌, arith, sym, subst}
 use Rattle.sr_classes.proofs.Parents.{joined-below, joined-above}
 use Rattle.sr_classes.proofs.forest.join.Goals as goal
 

@@ -1,8 +1,7 @@
 -- One operation more has its first.
-use Rattle.std.proofs.Common.{◌≡◌, ◌+◌, ◌≤◌, ℕ, length, [], ◌∷◌, ◌++◌, arith, ◌∙◌, ap, sym, subst}
+use Rattle.std.proofs.Common.{◌+◌, ◌≤◌, length, [], ◌∷◌, arith, ◌∙◌, ap, sym, subst}
 use Rattle.std.proofs.lemmas.List.{length-append}
-use Rattle.sr_classes.specs.Joins.{Stands}
-use Rattle.sr_classes.proofs.Arms.{one-more}
+use Rattle.sr_classes.proofs.Groups.{one-more}
 use Rattle.sr_classes.proofs.sites.settled.Goals as goal
 
 pub loop-op-preserved : goal.loop-op-preserved
