@@ -1,0 +1,5 @@
+pub mod Appends
+pub mod Files
+pub mod Needed
+pub mod Opened
+pub mod Together

@@ -1,0 +1,10 @@
+-- What there is so far and what the rest adds are what all add.
+use Rattle.std.proofs.Common.{drop, ◌≡◌}
+use Rattle.sr_outline.specs.Heads.{with_heads}
+use Rattle.sr_outline.specs.Outline.{all_optypes}
+use Rattle.sr_outline.proofs.outline.declare_components.Given as goal
+
+abbrev pub invariant-loop-component : goal.invariant-loop-component
+invariant-loop-component l =
+    (l.opening ≡ record l.fn.opening { heads = l.opening.heads })
+    × (with_heads l.facts l.fn.opening.shapes l.opening.heads (all_optypes (drop l.component-index l.components)) ≡ with_heads l.facts l.fn.opening.shapes l.fn.opening.heads (all_optypes l.components))

@@ -1,0 +1,7 @@
+-- What there is so far and what the rest adds are what all add.
+use Rattle.std.proofs.Common.{drop, flat_map, ◌++◌, ◌≡◌}
+use Rattle.sr_outline.specs.Outline.{item_literals}
+use Rattle.sr_outline.proofs.outline.push_spec_literals.Given as goal
+
+abbrev pub invariant-loop-item : goal.invariant-loop-item
+invariant-loop-item l = l.names ++ flat_map item_literals (drop l.item-index l.items) ≡ l.fn.names ++ flat_map item_literals l.items

@@ -1,0 +1,7 @@
+-- What there is so far and what the rest adds are what all add.
+use Rattle.std.proofs.Common.{drop, map, ◌++◌, ◌≡◌}
+use Rattle.sr_tables.specs.Parts.{spot_named}
+use Rattle.sr_outline.proofs.variables.push_formal.Given as goal
+
+abbrev pub invariant-loop-decl : goal.invariant-loop-decl
+invariant-loop-decl l = l.spots ++ map (λ decl. spot_named decl.name) (drop l.decl-index l.decl-items) ≡ l.fn.spots ++ map (λ decl. spot_named decl.name) l.decl-items

@@ -1,0 +1,117 @@
+-- What names mean and are, by the facts of the checked program.
+use Rattle.std.specs.Prelude.{ℕ, Bool, List, [], Option, Some, None, unwrap_or, is_some}
+use Rattle.std.specs.Option.{option_map, option_and_then}
+use Rattle.sr_check_expr.specs.declared.facts.Facts.{Facts}
+use Rattle.sr_check_expr.specs.declared.info.Info.{Info}
+use Rattle.sr_check_expr.specs.declared.info.Info.TheVariants as info
+use Rattle.sr_check_expr.specs.declared.judged.Judged.{Judged}
+use Rattle.sr_check_expr.specs.declared.judged.Named.{Named}
+use Rattle.sr_check_expr.specs.declared.judged.Named.TheVariants as named
+use Rattle.sr_check_expr.specs.Exprs.{judge_expr}
+use Rattle.sr_check_expr.specs.Infos.{info_at, name_spot}
+use Rattle.sr_check_expr.specs.Naming.{decl_of}
+use Rattle.sr_names.specs.declared.predefined.Predefined.{Predefined}
+use Rattle.sr_names.specs.declared.spot.Spot.{Spot}
+use Rattle.sr_names.specs.Spots.{spot_of}
+use Rattle.sr_names.specs.Uses.{meaning_at}
+use Rattle.sr_tree.specs.declared.expr.Expr.{Expr}
+use Rattle.sr_tree.specs.declared.expr.Invocation.{Invocation, out-Invocation}
+use Rattle.sr_tree.specs.declared.name.Name.{Name}
+use Rattle.sr_types.specs.declared.ty.Param.{Param}
+use Rattle.sr_types.specs.declared.ty.Signature.{Signature, out-Signature}
+use Rattle.sr_types.specs.declared.ty.Ty.{Ty, out-Ty}
+use Rattle.sr_types.specs.declared.ty.Ty.TheOpen.{Ty-F}
+use Rattle.sr_types.specs.declared.ty.Ty.TheVariants.{Untyped}
+use Rattle.sr_types.specs.declared.typed.Static.{Static}
+use Rattle.sr_types.specs.declared.typed.Static.TheVariants.{Known}
+use Rattle.sr_value.specs.declared.place.Span.{Span}
+use Rattle.sr_value.specs.declared.value.Value.{Value}
+
+-- what an expression is
+abbrev pub judged : Facts → Expr → Judged
+judged facts expr = (judge_expr expr facts).judged
+
+abbrev pub type_of : Facts → Expr → Ty
+type_of facts expr = (judged facts expr).typed.ty
+
+-- what declares the name that is used at a span
+abbrev pub declared_at : Facts → Span → Option Spot
+declared_at facts span = option_map (λ decl. decl.spot) (decl_of (meaning_at facts.uses (spot_of span)))
+
+-- where nothing declares it the name itself stands for it, as in a program that is refused
+abbrev pub meant_by : Facts → Name → Spot
+meant_by facts name = unwrap_or (declared_at facts name.span) (spot_of name.span)
+
+-- ---- static values
+
+abbrev pub known : Static → Option Value
+known (Known value) = Some value
+known _ = None
+
+abbrev pub info_constant : Info → Option Value
+info_constant (info.Value typed) = known typed.value
+info_constant _ = None
+
+-- the value of the static constant, or of the literal of an enumeration, that is declared at a spot
+abbrev pub constant_at : Facts → Spot → Option Value
+constant_at facts spot = option_and_then info_constant (info_at facts.infos spot)
+
+abbrev pub is_constant : Facts → Spot → Bool
+is_constant facts spot = is_some (constant_at facts spot)
+
+-- ---- types
+
+abbrev pub info_type : Info → Ty
+info_type (info.Value typed) = typed.ty
+info_type (info.Operation ty component is_local) = ty
+info_type _ = Untyped
+
+-- the type of the variable, constant or operation that is declared at a spot
+abbrev pub type_at : Facts → Spot → Ty
+type_at facts spot = unwrap_or (option_map info_type (info_at facts.infos spot)) Untyped
+
+abbrev pub layer_params : {A B : Type 0} → Ty-F A B Signature → List Param
+layer_params (Ty-F.Op signature) = (out-Signature signature).params
+layer_params _ = []
+
+-- the formals of an operation of this type
+abbrev pub params_of : Ty → List Param
+params_of ty = layer_params (out-Ty ty)
+
+abbrev pub layer_returns : {A B : Type 0} → Ty-F A B Signature → Option Ty
+layer_returns (Ty-F.Op signature) = (out-Signature signature).returns
+layer_returns _ = None
+
+-- what an operation of this type returns
+abbrev pub returned_by : Ty → Option Ty
+returned_by ty = layer_returns (out-Ty ty)
+
+abbrev pub info_literals : Info → ℕ
+info_literals (info.Enumeration number literals) = literals
+info_literals _ = 0
+
+abbrev pub layer_literals : {A B C : Type 0} → Facts → Ty-F A B C → ℕ
+layer_literals facts (Ty-F.Enum spot) = unwrap_or (option_map info_literals (info_at facts.infos (name_spot spot))) 0
+layer_literals facts _ = 0
+
+-- how many literals an enumeration has
+abbrev pub literals_of : Facts → Ty → ℕ
+literals_of facts ty = layer_literals facts (out-Ty ty)
+
+-- ---- what an expression names
+
+abbrev pub operation_in : Named → Option Spot
+operation_in (named.Operation spot) = Some spot
+operation_in _ = None
+
+-- the operation that an expression names
+abbrev pub operation_meant : Facts → Expr → Option Spot
+operation_meant facts expr = operation_in (judged facts expr).named
+
+abbrev pub function_in : Named → Option Predefined
+function_in (named.Predefined name) = Some name
+function_in _ = None
+
+-- the predefined function that an invocation calls
+abbrev pub function_called : Facts → Invocation → Option Predefined
+function_called facts invocation = function_in (judged facts (out-Invocation invocation).callee).named

@@ -1,0 +1,30 @@
+//! What a program declares outside of code, and the numbers of it: types, signatures, operations, variables, imports.
+//!
+//! A number is the place of a declaration in a list of declarations in the order of the text; `specs/Numbers.antt`
+//! has these lists.
+#![tactic(auto)]
+
+mod heads;
+mod imports;
+mod meanings;
+mod operations;
+mod operators;
+mod outline;
+mod shapes;
+mod variables;
+mod waits;
+
+pub use heads::{copy_shape, parameters_of};
+pub use imports::{all_imports, imports_at, needs_of};
+pub use meanings::{
+    constant_at, function_called, is_constant, judge, literals_of, meant_by, type_at, type_of,
+};
+pub use operations::Opening;
+pub use operators::{binary, conversion_function, prefix_of};
+pub use outline::{enumerations_of, tables_of};
+pub use shapes::{shape_of_type, type_shape};
+pub use variables::{
+    formal_spots, initial_spots, name_spots, own_spots, quantifier_spots, receive_returned,
+    receive_spots, returned_spot, signature_returned,
+};
+pub use waits::wait_operation;

@@ -1,0 +1,134 @@
+//! What names mean and are, by the facts of the checked program.
+ghost use Rattle.std.specs.Prelude.{◌≡◌, IfOk, is_some, option_copied};
+ghost use Rattle.sr_outline.specs.Meanings as meanings;
+
+use sr_check_expr::{Facts, Info, Judged, Named, expr, name_spot};
+use sr_names::{Meaning, Notes, Predefined, Spot};
+use sr_tree::{Expr, Invocation, Name};
+use sr_types::{Static, Ty};
+use sr_value::{Duplicate, NoMemory, Span, Value};
+use std::alloc::Global;
+
+/// What an expression is.
+pub fn judge(alloc: Global, tree: &Expr, facts: &Facts) -> Result<Judged, NoMemory>
+    ensures { IfOk result (λ judged. judged ≡ meanings.judged facts.now tree.now) }
+{
+    let mut notes = Notes::new(alloc);
+    expr(alloc, tree, facts, &mut notes)
+}
+
+/// The type of an expression.
+pub fn type_of(alloc: Global, tree: &Expr, facts: &Facts) -> Result<Ty, NoMemory>
+    ensures { IfOk result (λ ty. ty ≡ meanings.type_of facts.now tree.now) }
+{
+    let judged = judge(alloc, tree, facts)?;
+    Ok(judged.typed.ty)
+}
+
+/// What declares the name that is used at a span.
+pub fn declared_at(facts: &Facts, span: Span) -> Option<Spot>
+    ensures { result ≡ meanings.declared_at facts.now span }
+{
+    match facts.uses.get(Spot::of(span)) {
+        Some(Meaning::Declared(decl)) => Some(decl.spot),
+        _ => None,
+    }
+}
+
+/// The declaration that a name means; the name itself where there is none.
+pub fn meant_by(facts: &Facts, name: &Name) -> Spot
+    ensures { result ≡ meanings.meant_by facts.now name.now }
+{
+    declared_at(facts, name.span).unwrap_or(Spot::of(name.span))
+}
+
+/// The value of the static constant, or of the literal of an enumeration, that is declared at a spot.
+pub fn constant_at(facts: &Facts, spot: Spot) -> Option<&Value>
+    ensures { option_copied result ≡ meanings.constant_at facts.now spot }
+{
+    match facts.infos.get(spot)? {
+        Info::Value(typed) => match &typed.value {
+            Static::Known(value) => Some(value),
+            _ => None,
+        },
+        _ => None,
+    }
+}
+
+/// Whether a static constant, or a literal of an enumeration, is declared at a spot.
+pub fn is_constant(facts: &Facts, spot: Spot) -> bool
+    ensures { result ≡ meanings.is_constant facts.now spot }
+{
+    constant_at(facts, spot).is_some()
+}
+
+/// The type of the variable, constant or operation that is declared at a spot.
+pub fn type_at(alloc: Global, facts: &Facts, spot: Spot) -> Result<Ty, NoMemory>
+    ensures { IfOk result (λ ty. ty ≡ meanings.type_at facts.now spot) }
+{
+    match facts.infos.get(spot) {
+        Some(Info::Value(typed)) => typed.ty.copy(alloc),
+        Some(Info::Operation { ty, .. }) => ty.copy(alloc),
+        _ => Ok(Ty::Untyped),
+    }
+}
+
+/// Whether an operation of this type returns something.
+fn returns(ty: &Ty) -> bool
+    ensures { result ≡ is_some (meanings.returned_by ty.now) }
+{
+    match ty {
+        Ty::Op(signature) => signature.returns.is_some(),
+        _ => false,
+    }
+}
+
+/// Whether the operation that is declared at a spot returns something.
+pub fn returns_something(facts: &Facts, spot: Spot) -> bool
+    ensures { result ≡ is_some (meanings.returned_by (meanings.type_at facts.now spot)) }
+{
+    match facts.infos.get(spot) {
+        Some(Info::Value(typed)) => returns(&typed.ty),
+        Some(Info::Operation { ty, .. }) => returns(ty),
+        _ => false,
+    }
+}
+
+/// How many literals an enumeration has; 0 for another type.
+pub fn literals_of(facts: &Facts, ty: &Ty) -> u32
+    ensures { result ≡ meanings.literals_of facts.now ty.now }
+{
+    match ty {
+        Ty::Enum(spot) => match facts.infos.get(name_spot(*spot)) {
+            Some(Info::Enumeration { literals, .. }) => *literals,
+            _ => 0,
+        },
+        _ => 0,
+    }
+}
+
+/// The operation that an expression names.
+pub fn operation_meant(alloc: Global, tree: &Expr, facts: &Facts) -> Result<Option<Spot>, NoMemory>
+    ensures { IfOk result (λ operation. operation ≡ meanings.operation_meant facts.now tree.now) }
+{
+    let judged = judge(alloc, tree, facts)?;
+    match &judged.named {
+        Named::Operation(spot) => Ok(Some(*spot)),
+        _ => Ok(None),
+    }
+}
+
+/// The predefined function that an invocation calls.
+pub fn function_called(
+    alloc: Global,
+    tree: &Invocation,
+    facts: &Facts,
+) -> Result<Option<Predefined>, NoMemory>
+    ensures { IfOk result (λ function. function ≡ meanings.function_called facts.now tree.now) }
+{
+    let judged = judge(alloc, tree.callee.get(), facts)?;
+    match &judged.named {
+        Named::Predefined(name) => Ok(Some(*name)),
+        _ => Ok(None),
+    }
+}

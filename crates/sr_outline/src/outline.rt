@@ -1,0 +1,297 @@
+//! What a program declares outside of code.
+ghost use Rattle.std.specs.Prelude.{◌≡◌, IfOk, ◌+◌, ◌++◌, OnOk, fold, length, map, flat_map};
+ghost use Rattle.sr_outline.specs.Outline as outline;
+ghost use Rattle.sr_tables.specs.Parts.{components_in, in_item};
+ghost use Rattle.std.specs.List.{enumerate_from};
+ghost use Rattle.sr_outline.specs.Heads.{with_heads};
+ghost use Rattle.sr_tables.specs.Tables.{with_entries};
+
+use crate::heads::declare_heads;
+use crate::operations::{Opening, open_component};
+use crate::shapes::declare_types;
+use crate::variables::note_shared;
+use crate::waits::{note_procs, note_sites};
+use sr_check_expr::Facts;
+use sr_tables::{BySpot, Spots, Tables, number_of, spot_named};
+use sr_tree::{File, Name, SpecItem, TypeTree};
+use sr_value::{Duplicate, EnumNames, NoMemory, Row, Text};
+use std::alloc::Global;
+
+fn empty_tables(alloc: Global) -> Tables
+    ensures { result ≡ outline.no_tables }
+{
+    Tables {
+        components: Spots::new(alloc),
+        procs: Spots::new(alloc),
+        sites: Spots::new(alloc),
+        shared: BySpot::new(alloc),
+        shapes: BySpot::new(alloc),
+        heads: BySpot::new(alloc),
+        operations: BySpot::new(alloc),
+    }
+}
+
+/// Puts in what stands in a component, besides operations and the signatures that have names.
+fn note_component(
+    alloc: Global,
+    component: &sr_tree::Component,
+    facts: &Facts,
+    number: u32,
+    tables: &mut Tables,
+) -> Result<(), NoMemory>
+    ensures { OnOk result (tables.new ≡ outline.with_component facts.now tables.old (number, component.now)) }
+{
+    tables.components.insert(spot_named(component.name()))?;
+    note_procs(component, facts, &mut tables.procs)?;
+    note_sites(alloc, component, facts, &mut tables.sites)?;
+    note_shared(alloc, component, number, facts, &mut tables.shared)?;
+    declare_types(alloc, component, facts, &mut tables.shapes)
+}
+
+/// Puts in what stands in these components, the first of which has this number. Hands out the number behind the last.
+fn note_components(
+    alloc: Global,
+    components: &[sr_tree::Component],
+    facts: &Facts,
+    first: usize,
+    tables: &mut Tables,
+) -> Result<usize, NoMemory>
+    ensures tables { OnOk result (tables.new ≡ fold (outline.with_component facts.now) tables.old (enumerate_from first components.now)) }
+    ensures next { IfOk result (λ next. next ≡ first + length components.now) }
+{
+    let mut number = first;
+    for component in components {
+        let at = number_of(number)?;
+        note_component(alloc, component, facts, at, tables)?;
+        number += 1;
+    }
+    Ok(number)
+}
+
+#[tactic(auto, using(crate::proofs::Appends::numbered_append))]
+fn note_files(
+    alloc: Global,
+    files: &[File],
+    facts: &Facts,
+    tables: &mut Tables,
+) -> Result<(), NoMemory>
+    ensures { OnOk result (tables.new ≡ fold (outline.with_component facts.now) tables.old (enumerate_from 0 (components_in files.now))) }
+{
+    let mut number = 0;
+    for file in files {
+        number = note_components(alloc, file.components.as_slice(), facts, number, tables)?;
+    }
+    Ok(())
+}
+
+/// What a program declares outside of code.
+pub fn tables_of(alloc: Global, files: &[File], facts: &Facts) -> Result<Tables, NoMemory>
+    ensures { IfOk result (λ tables. tables ≡ outline.tables_of facts.now (components_in files.now)) }
+{
+    let mut tables = empty_tables(alloc);
+    note_files(alloc, files, facts, &mut tables)?;
+    with_operations(alloc, files, facts, tables)
+}
+
+fn declare_components(
+    alloc: Global,
+    components: &[sr_tree::Component],
+    facts: &Facts,
+    opening: &mut Opening,
+) -> Result<(), NoMemory>
+    ensures { OnOk result (opening.new ≡ record opening.old { heads = with_heads facts.now opening.old.shapes opening.old.heads (outline.all_optypes components.now) }) }
+{
+    for component in components {
+        declare_heads(alloc, component, facts, &opening.shapes, &mut opening.heads)?;
+    }
+    Ok(())
+}
+
+fn declare_all(
+    alloc: Global,
+    files: &[File],
+    facts: &Facts,
+    opening: &mut Opening,
+) -> Result<(), NoMemory>
+    ensures { OnOk result (opening.new ≡ record opening.old { heads = with_heads facts.now opening.old.shapes opening.old.heads (outline.all_optypes (components_in files.now)) }) }
+{
+    for file in files {
+        declare_components(alloc, file.components.as_slice(), facts, opening)?;
+    }
+    Ok(())
+}
+
+/// Puts in the operations of these components, the first of which has this number. Hands out the number behind the last.
+fn open_components(
+    alloc: Global,
+    components: &[sr_tree::Component],
+    facts: &Facts,
+    first: usize,
+    opening: &mut Opening,
+) -> Result<usize, NoMemory>
+    ensures operations { OnOk result (opening.new.operations ≡ with_entries opening.old.operations (flat_map (outline.component_entries facts.now opening.old.shapes opening.old.heads opening.old.procs) (enumerate_from first components.now))) }
+    ensures shapes { OnOk result (opening.new.shapes ≡ opening.old.shapes) }
+    ensures heads { OnOk result (opening.new.heads ≡ opening.old.heads) }
+    ensures procs { OnOk result (opening.new.procs ≡ opening.old.procs) }
+    ensures next { IfOk result (λ next. next ≡ first + length components.now) }
+{
+    let mut number = first;
+    for component in components {
+        let at = number_of(number)?;
+        opening.component = at;
+        open_component(alloc, opening, component, facts)?;
+        number += 1;
+    }
+    Ok(number)
+}
+
+#[tactic(auto, using(crate::proofs::Appends::numbered_entries_append))]
+fn open_all(
+    alloc: Global,
+    files: &[File],
+    facts: &Facts,
+    opening: &mut Opening,
+) -> Result<(), NoMemory>
+    ensures operations { OnOk result (opening.new.operations ≡ with_entries opening.old.operations (flat_map (outline.component_entries facts.now opening.old.shapes opening.old.heads opening.old.procs) (enumerate_from 0 (components_in files.now)))) }
+    ensures shapes { OnOk result (opening.new.shapes ≡ opening.old.shapes) }
+    ensures heads { OnOk result (opening.new.heads ≡ opening.old.heads) }
+    ensures procs { OnOk result (opening.new.procs ≡ opening.old.procs) }
+{
+    let mut number = 0;
+    for file in files {
+        number = open_components(alloc, file.components.as_slice(), facts, number, opening)?;
+    }
+    Ok(())
+}
+
+/// The tables with the signatures that have names, and with the operations.
+fn with_operations(
+    alloc: Global,
+    files: &[File],
+    facts: &Facts,
+    tables: Tables,
+) -> Result<Tables, NoMemory>
+    ensures { IfOk result (λ made. made ≡ record tables { heads = with_heads facts.now tables.shapes tables.heads (outline.all_optypes (components_in files.now)); operations = with_entries tables.operations (flat_map (outline.component_entries facts.now tables.shapes (with_heads facts.now tables.shapes tables.heads (outline.all_optypes (components_in files.now))) tables.procs) (enumerate_from 0 (components_in files.now))) }) }
+{
+    let Tables {
+        components,
+        procs,
+        sites,
+        shared,
+        shapes,
+        heads,
+        operations,
+    } = tables;
+    let mut opening = Opening {
+        shapes,
+        heads,
+        procs,
+        component: 0,
+        operations,
+    };
+    declare_all(alloc, files, facts, &mut opening)?;
+    open_all(alloc, files, facts, &mut opening)?;
+    let Opening {
+        shapes,
+        heads,
+        procs,
+        component: _,
+        operations,
+    } = opening;
+    Ok(Tables {
+        components,
+        procs,
+        sites,
+        shared,
+        shapes,
+        heads,
+        operations,
+    })
+}
+
+fn literal_names(alloc: Global, literals: &[Name]) -> Result<Row<Text>, NoMemory>
+    ensures { IfOk result (λ names. names ≡ map (λ name. name.text) literals.now) }
+{
+    let mut names = Row::new(alloc);
+    for literal in literals {
+        names.push(literal.text.copy(alloc)?)?;
+    }
+    Ok(names)
+}
+
+fn push_literals(alloc: Global, item: &SpecItem, names: &mut EnumNames) -> Result<(), NoMemory>
+    ensures { OnOk result (names.new ≡ names.old ++ outline.item_literals item.now) }
+{
+    match item {
+        SpecItem::Type(named) => match &named.ty {
+            TypeTree::Enum { literals, .. } => {
+                names.push(literal_names(alloc, literals.as_slice())?)
+            }
+            _ => Ok(()),
+        },
+        _ => Ok(()),
+    }
+}
+
+fn push_spec_literals(
+    alloc: Global,
+    items: &[SpecItem],
+    names: &mut EnumNames,
+) -> Result<(), NoMemory>
+    ensures { OnOk result (names.new ≡ names.old ++ flat_map outline.item_literals items.now) }
+{
+    for item in items {
+        push_literals(alloc, item, names)?;
+    }
+    Ok(())
+}
+
+fn push_body_literals(
+    alloc: Global,
+    items: &[sr_tree::Item],
+    names: &mut EnumNames,
+) -> Result<(), NoMemory>
+    ensures { OnOk result (names.new ≡ names.old ++ flat_map (in_item outline.item_literals) items.now) }
+{
+    for item in items {
+        if let sr_tree::Item::Spec(inner) = item {
+            push_literals(alloc, inner, names)?;
+        }
+    }
+    Ok(())
+}
+
+fn push_component_literals(
+    alloc: Global,
+    component: &sr_tree::Component,
+    names: &mut EnumNames,
+) -> Result<(), NoMemory>
+    ensures { OnOk result (names.new ≡ names.old ++ outline.component_literals component.now) }
+{
+    push_spec_literals(alloc, component.spec(), names)?;
+    push_body_literals(alloc, component.body(), names)
+}
+
+fn push_all_literals(
+    alloc: Global,
+    components: &[sr_tree::Component],
+    names: &mut EnumNames,
+) -> Result<(), NoMemory>
+    ensures { OnOk result (names.new ≡ names.old ++ outline.enumerations_of components.now) }
+{
+    for component in components {
+        push_component_literals(alloc, component, names)?;
+    }
+    Ok(())
+}
+
+/// The names of the literals of each enumeration of a program.
+pub fn enumerations_of(alloc: Global, files: &[File]) -> Result<EnumNames, NoMemory>
+    ensures { IfOk result (λ names. names ≡ outline.enumerations_of (components_in files.now)) }
+{
+    let mut names = Row::new(alloc);
+    for file in files {
+        push_all_literals(alloc, file.components.as_slice(), &mut names)?;
+    }
+    Ok(names)
+}
