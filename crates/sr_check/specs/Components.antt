@@ -15,19 +15,20 @@ use Rattle.sr_tree.specs.declared.component.Procedure.{Procedure}
 use Rattle.sr_tree.specs.declared.component.Process.{Process}
 use Rattle.sr_tree.specs.declared.component.ProcItem.{ProcItem}
 use Rattle.sr_tree.specs.declared.component.ProcItem.TheVariants as inner
+use Rattle.sr_tree.specs.declared.declaration.OpItem.{OpItem}
 use Rattle.sr_tree.specs.declared.statement.Quantifier.{Quantifier}
 use Rattle.sr_types.specs.declared.ty.Ty.TheVariants as ty
 use Rattle.sr_check_expr.specs.declared.facts.Facts.{Facts}
 use Rattle.sr_check_expr.specs.Judgements.{broken_unless}
 use Rattle.sr_check_decl.specs.declared.kind.NamedParam.{NamedParam}
 use Rattle.sr_check_decl.specs.declared.kind.Signed.{Signed}
-use Rattle.sr_check_decl.specs.Constants.{const_found}
 use Rattle.sr_check_decl.specs.Declarations.{ops_found, sems_found, spec_item_found, spec_items_found}
 use Rattle.sr_check_decl.specs.Declaring.{declare_name, ops_declared, sems_declared, params_declared, standing}
+use Rattle.sr_check_decl.specs.Entering.{ops_entered}
 use Rattle.sr_check_decl.specs.Parts.{component_decl}
 use Rattle.sr_tree.specs.Parts.{spec_of, formals_of, body_of}
 use Rattle.sr_check_decl.specs.TypeTrees.{signature_read, formals_at, formal_read, formals_found}
-use Rattle.sr_check_decl.specs.Variables.{declare, variable, var_found, local_var}
+use Rattle.sr_check_decl.specs.Variables.{declare, variable}
 use Rattle.sr_check.specs.declared.operation.Operation.{Operation}
 use Rattle.sr_check.specs.declared.serving.Serving.{Serving}
 use Rattle.sr_check.specs.declared.serving.Serving.TheVariants.{SetsUp, Ends, Serves}
@@ -35,14 +36,17 @@ use Rattle.sr_check.specs.Contexts.{Context, Step, Steps, in_order, with_more}
 use Rattle.sr_check.specs.Procs.{Procs, with_proc}
 use Rattle.sr_check.specs.Quantifying.{quantifiers_found, quantifiers_known}
 use Rattle.sr_check.specs.Services.{operation_named, head_rule, is_own, service_bound, type_of, spot_or}
-use Rattle.sr_check.specs.Statements.{statement_read, local_const}
+use Rattle.sr_check.specs.Statements.{statement_read, const_read, var_read}
 
 -- ---- items of procs
 
+abbrev pub ops_read : List OpItem → Facts → Step
+ops_read operations facts = record { found = ops_found facts operations; facts = ops_declared true operations facts }
+
 abbrev pub proc_item_read : ProcItem → Steps
-proc_item_read (inner.Const constant) context = record { found = const_found false context.facts constant; facts = local_const constant context.facts }
-proc_item_read (inner.Var variables) context = record { found = var_found context.facts variables; facts = local_var variables context.facts }
-proc_item_read (inner.Op operations) context = record { found = ops_found context.facts operations.items; facts = ops_declared true operations.items context.facts }
+proc_item_read (inner.Const constant) context = const_read constant context.facts
+proc_item_read (inner.Var variables) context = var_read variables context.facts
+proc_item_read (inner.Op operations) context = ops_read operations.items (ops_entered operations.items context.facts)
 proc_item_read (inner.Sem semaphores) context = record { found = sems_found context.facts semaphores.semaphores; facts = sems_declared true semaphores.semaphores context.facts }
 proc_item_read (inner.Statement statement) context = statement_read statement context
 
@@ -59,7 +63,7 @@ beginning procs serving facts = record { facts = facts; procs = procs; serving =
 abbrev pub proc_rules : Facts → Proc → Option Operation → List Finding
 proc_rules facts proc None = broken BadType proc.span ∷ []
 proc_rules facts proc (Some operation) =
-    broken_unless (head_rule proc.formals (is_some proc.returned) operation.ty) BadType proc.span ++ broken_unless (is_own facts operation) BadUse proc.span
+    broken_unless (head_rule facts.signatures proc.formals (is_some proc.returned) operation.ty) BadType proc.span ++ broken_unless (is_own facts operation) BadUse proc.span
 
 abbrev pub proc_serving : Procs → Proc → Option Operation → Facts → Step
 proc_serving procs proc served facts =

@@ -7,12 +7,12 @@ use Rattle.sr_names.specs.declared.predefined.Predefined.{Predefined}
 use Rattle.sr_names.specs.declared.predefined.Predefined.TheVariants as predefined
 use Rattle.sr_names.specs.Readings.{broken}
 use Rattle.sr_tree.specs.declared.expr.Expr.{Expr}
-use Rattle.sr_types.specs.declared.ty.Signature.{Signature}
-use Rattle.sr_types.specs.declared.ty.Ty.{Ty, out-Ty}
-use Rattle.sr_types.specs.declared.ty.Ty.TheOpen.{Ty-F}
+use Rattle.sr_types.specs.declared.signature.Signature.{Signature}
+use Rattle.sr_types.specs.declared.ty.Ty.{Ty}
 use Rattle.sr_types.specs.declared.ty.Ty.TheVariants as ty
 use Rattle.sr_types.specs.declared.typed.Static.TheVariants.{Unknown}
 use Rattle.sr_types.specs.Outcomes.{computed}
+use Rattle.sr_types.specs.Signatures.{signature_of}
 use Rattle.sr_types.specs.Storing.{store_rule}
 use Rattle.sr_check_expr.specs.declared.facts.Facts.{Facts}
 use Rattle.sr_check_expr.specs.declared.judged.Judged.{Judged}
@@ -38,14 +38,14 @@ is_operation_name (named.«Type» ty) = false
 is_operation_name _ = true
 
 -- an operation that is invoked with as many arguments as it has formals
-abbrev pub callee_rule : Judged → List Judged → Bool
-callee_rule callee arguments = is_operation_name callee.named && takes_as_many callee.typed.ty arguments
+abbrev pub callee_rule : Facts → Judged → List Judged → Bool
+callee_rule facts callee arguments = is_operation_name callee.named && takes_as_many facts.signatures callee.typed.ty arguments
 
 -- an operation that is invoked in a form that it allows
 abbrev pub invoked_found : Facts → Span → Bool → Judged → List Judged → List Finding
 invoked_found facts span allowed callee arguments =
     invocation_found facts span callee arguments
-    ++ (broken_unless (callee_rule callee arguments) BadType span ++ broken_unless allowed BadUse span)
+    ++ (broken_unless (callee_rule facts callee arguments) BadType span ++ broken_unless allowed BadUse span)
 
 -- ---- predefined functions
 
@@ -63,7 +63,7 @@ named_operation facts _ = None
 abbrev pub semaphore_found : Context → Span → Option Operation → List Finding
 semaphore_found context span None = broken BadType span ∷ []
 semaphore_found context span (Some operation) =
-    broken_unless (takes_as_many operation.ty []) BadType span ++ service_found context.facts context.procs span operation
+    broken_unless (takes_as_many context.facts.signatures operation.ty []) BadType span ++ service_found context.facts context.procs span operation
 
 abbrev pub p_found : Context → Span → List Judged → List Finding
 p_found context span (operation ∷ []) = semaphore_found context span (named_operation context.facts operation.named)
@@ -71,7 +71,7 @@ p_found context span _ = broken BadType span ∷ []
 
 -- `V(e)` is `send e()`
 abbrev pub v_found : Facts → Span → List Judged → List Finding
-v_found facts span (callee ∷ []) = invoked_found facts span (is_sendable callee.typed.ty) callee []
+v_found facts span (callee ∷ []) = invoked_found facts span (is_sendable facts.signatures callee.typed.ty) callee []
 v_found facts span _ = broken BadType span ∷ []
 
 -- of the predefined functions some are statements, and what `read` gives may be left
@@ -87,7 +87,7 @@ function_called context span _ arguments = all_valued arguments ++ broken BadTyp
 
 abbrev pub called_found : Context → Span → Judged → List Judged → Named → List Finding
 called_found context span callee arguments (named.Predefined name) = function_called context span name arguments
-called_found context span callee arguments _ = invoked_found context.facts span (is_callable callee.typed.ty) callee arguments
+called_found context span callee arguments _ = invoked_found context.facts span (is_callable context.facts.signatures callee.typed.ty) callee arguments
 
 -- a call whose result is left
 abbrev pub call_found : Context → Span → Called → List Finding
@@ -97,7 +97,7 @@ call_found context span called =
 abbrev pub send_found : Facts → Span → Called → List Finding
 send_found facts span called =
     parts_found called
-    ++ invoked_found facts span (is_sendable called.callee.judged.typed.ty) called.callee.judged (judged_of called.arguments)
+    ++ invoked_found facts span (is_sendable facts.signatures called.callee.judged.typed.ty) called.callee.judged (judged_of called.arguments)
 
 abbrev pub is_serving : Serving → Bool
 is_serving SetsUp = false
@@ -108,13 +108,13 @@ abbrev pub served_type : Facts → Serving → Ty
 served_type facts (Serves operation) = type_of (operation_by operation (info_at facts.infos operation))
 served_type facts _ = ty.Untyped
 
-abbrev pub layer_results : {A B C D : Type 0} → Ty-F A B Signature → Ty-F C D Signature → Bool
-layer_results (Ty-F.Op own) (Ty-F.Op other) = results_rule own other
-layer_results _ _ = true
+abbrev pub results_by : Option Signature → Option Signature → Bool
+results_by (Some own) (Some other) = results_rule own other
+results_by _ _ = true
 
 -- whether what the one gives back is what the other gives back
-abbrev pub same_results : Ty → Ty → Bool
-same_results own other = layer_results (out-Ty own) (out-Ty other)
+abbrev pub same_results : Facts → Ty → Ty → Bool
+same_results facts own other = results_by (signature_of facts.signatures own) (signature_of facts.signatures other)
 
 -- `forward` is of a service, and to an operation with equal results, in whatever form
 abbrev pub forward_found : Context → Span → Called → List Finding
@@ -122,7 +122,7 @@ forward_found context span called =
     parts_found called
     ++ (invoked_found context.facts span true called.callee.judged (judged_of called.arguments)
     ++ (broken_unless (is_serving context.serving) BadUse span
-    ++ broken_unless (same_results (served_type context.facts context.serving) called.callee.judged.typed.ty) BadType span))
+    ++ broken_unless (same_results context.facts (served_type context.facts context.serving) called.callee.judged.typed.ty) BadType span))
 
 -- `reply` is of a service or of initial code
 abbrev pub may_reply : Serving → Bool
@@ -140,11 +140,11 @@ result_found target (Some ty) span = broken_unless (store_rule target.typed (com
 abbrev pub place_found : Facts → Option Expr → Ty → Span → List Finding
 place_found facts None callee span = []
 place_found facts (Some target) callee span =
-    valued (judge_expr target facts) ++ result_found (judge_expr target facts).judged (returned_by callee) span
+    valued (judge_expr target facts) ++ result_found (judge_expr target facts).judged (returned_by facts.signatures callee) span
 
 -- what is invoked is an operation that is called, and its result is stored to the place of the arm
 abbrev pub started_found : Facts → Option Expr → Called → List Finding
 started_found facts target called =
     parts_found called
-    ++ (invoked_found facts called.span (is_callable called.callee.judged.typed.ty) called.callee.judged (judged_of called.arguments)
+    ++ (invoked_found facts called.span (is_callable facts.signatures called.callee.judged.typed.ty) called.callee.judged (judged_of called.arguments)
     ++ place_found facts target called.callee.judged.typed.ty called.span)

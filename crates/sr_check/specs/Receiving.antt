@@ -6,13 +6,14 @@ use Rattle.sr_names.specs.declared.finding.Rule.TheVariants.{BadType}
 use Rattle.sr_names.specs.Readings.{broken}
 use Rattle.sr_tree.specs.declared.expr.Expr.{Expr}
 use Rattle.sr_tree.specs.declared.name.Name.{Name}
-use Rattle.sr_types.specs.declared.ty.Param.{Param, out-Param}
+use Rattle.sr_types.specs.declared.signature.Param.{Param}
 use Rattle.sr_types.specs.declared.ty.Ty.{Ty}
 use Rattle.sr_types.specs.declared.typed.Static.TheVariants.{Unknown}
 use Rattle.sr_types.specs.declared.typed.Typed.{Typed}
 use Rattle.sr_types.specs.Outcomes.{computed}
 use Rattle.sr_types.specs.Storing.{store_rule}
 use Rattle.sr_types.specs.Types.{is_no_type}
+use Rattle.sr_check_expr.specs.declared.facts.Facts.{Facts}
 use Rattle.sr_check_expr.specs.declared.judged.Judged.{Judged}
 use Rattle.sr_check_expr.specs.Arguments.{as_many, all_found, all_valued}
 use Rattle.sr_check_expr.specs.Judgements.{broken_unless, judged_of}
@@ -29,17 +30,17 @@ abbrev pub received_found : List Param → List Judged → List Finding
 received_found [] places = []
 received_found (param ∷ params) [] = []
 received_found (param ∷ params) (place ∷ places) =
-    broken_unless (received_rule place.typed (out-Param param).ty) BadType place.span ++ received_found params places
+    broken_unless (received_rule place.typed param.ty) BadType place.span ++ received_found params places
 
 -- there is a place for each formal
-abbrev pub takes_all : Ty → List Judged → Bool
-takes_all ty places = is_no_type ty || as_many (params_of ty) places
+abbrev pub takes_all : Facts → Ty → List Judged → Bool
+takes_all facts ty places = is_no_type ty || as_many (params_of facts.signatures ty) places
 
 abbrev pub receive_by : Context → Span → List Judged → Option Operation → List Finding
 receive_by context span places None = broken BadType span ∷ []
 receive_by context span places (Some operation) =
-    broken_unless (takes_all operation.ty places) BadType span
-    ++ (received_found (params_of operation.ty) places ++ service_found context.facts context.procs span operation)
+    broken_unless (takes_all context.facts operation.ty places) BadType span
+    ++ (received_found (params_of context.facts.signatures operation.ty) places ++ service_found context.facts context.procs span operation)
 
 abbrev pub receive_found : Context → Span → Name → List Expr → List Finding
 receive_found context span name places =

@@ -2,8 +2,8 @@
 use Rattle.std.specs.Prelude.{Bool, true, false, ◌&&◌, List, [], ◌∷◌, ◌++◌, Option, Some, None}
 use Rattle.sr_types.specs.declared.signature.Mode.{Mode}
 use Rattle.sr_types.specs.declared.signature.Mode.TheVariants.{Val, Var, Res}
-use Rattle.sr_types.specs.declared.ty.Param.{Param, out-Param}
-use Rattle.sr_types.specs.declared.ty.Signature.{Signature, out-Signature}
+use Rattle.sr_types.specs.declared.signature.Param.{Param}
+use Rattle.sr_types.specs.declared.signature.Signature.{Signature}
 use Rattle.sr_types.specs.declared.ty.Ty.{Ty}
 use Rattle.sr_types.specs.Types.{fits_type}
 
@@ -15,7 +15,7 @@ result_behind Res ty types = ty ∷ types
 -- what `var` and `res` formals bring back
 abbrev pub formal_results : List Param → List Ty
 formal_results [] = []
-formal_results (formal ∷ formals) = result_behind (out-Param formal).mode (out-Param formal).ty (formal_results formals)
+formal_results (formal ∷ formals) = result_behind formal.mode formal.ty (formal_results formals)
 
 abbrev pub returned_types : Option Ty → List Ty
 returned_types None = []
@@ -23,7 +23,7 @@ returned_types (Some ty) = ty ∷ []
 
 -- the types of all results, in one row
 abbrev pub result_types : Signature → List Ty
-result_types signature = formal_results (out-Signature signature).params ++ returned_types (out-Signature signature).returns
+result_types signature = formal_results signature.params ++ returned_types signature.returns
 
 abbrev pub are_equal : List Ty → List Ty → Bool
 are_equal [] [] = true

@@ -9,11 +9,11 @@ use Rattle.sr_names.specs.Readings.{broken}
 use Rattle.sr_names.specs.Spots.{same_spot, spot_before, spot_of}
 use Rattle.sr_names.specs.Uses.{meaning_at}
 use Rattle.sr_tree.specs.declared.name.Name.{Name}
-use Rattle.sr_types.specs.declared.ty.Param.{Param, out-Param}
-use Rattle.sr_types.specs.declared.ty.Signature.{Signature, out-Signature}
-use Rattle.sr_types.specs.declared.ty.Ty.{Ty, out-Ty}
-use Rattle.sr_types.specs.declared.ty.Ty.TheOpen.{Ty-F}
+use Rattle.sr_types.specs.declared.signature.Param.{Param}
+use Rattle.sr_types.specs.declared.signature.Signature.{Signature}
+use Rattle.sr_types.specs.declared.ty.Ty.{Ty}
 use Rattle.sr_types.specs.declared.ty.Ty.TheVariants as ty
+use Rattle.sr_types.specs.Signatures.{signature_of}
 use Rattle.sr_check_expr.specs.declared.facts.Facts.{Facts}
 use Rattle.sr_check_expr.specs.declared.info.Info.{Info}
 use Rattle.sr_check_expr.specs.declared.info.Info.TheVariants as info
@@ -61,31 +61,31 @@ is_shared_name facts name = is_shared_info (decl_info facts.infos (decl_named fa
 
 -- ---- what an operation has
 
-abbrev pub layer_params : {A B : Type 0} → Ty-F A B Signature → List Param
-layer_params (Ty-F.Op signature) = (out-Signature signature).params
-layer_params _ = []
+abbrev pub params_in : Option Signature → List Param
+params_in None = []
+params_in (Some signature) = signature.params
 
-abbrev pub params_of : Ty → List Param
-params_of ty = layer_params (out-Ty ty)
+abbrev pub params_of : List Signature → Ty → List Param
+params_of signatures ty = params_in (signature_of signatures ty)
 
-abbrev pub layer_returns : {A B : Type 0} → Ty-F A B Signature → Option Ty
-layer_returns (Ty-F.Op signature) = (out-Signature signature).returns
-layer_returns _ = None
+abbrev pub returns_in : Option Signature → Option Ty
+returns_in None = None
+returns_in (Some signature) = signature.returns
 
-abbrev pub returns_of : Ty → Option Ty
-returns_of ty = layer_returns (out-Ty ty)
+abbrev pub returns_of : List Signature → Ty → Option Ty
+returns_of signatures ty = returns_in (signature_of signatures ty)
 
 abbrev pub both_or_none : Bool → Bool → Bool
 both_or_none true other = other
 both_or_none false other = not other
 
-abbrev pub layer_heads : {A B C : Type 0} → List C → Bool → Ty-F A B Signature → Bool
-layer_heads names returns (Ty-F.Op signature) = as_many names (out-Signature signature).params && both_or_none returns (is_some (out-Signature signature).returns)
-layer_heads names returns _ = true
+abbrev pub heads_by : {A : Type 0} → Option Signature → List A → Bool → Bool
+heads_by None names returns = true
+heads_by (Some signature) names returns = as_many names signature.params && both_or_none returns (is_some signature.returns)
 
 -- as many names as formals, and `returns` exactly where the operation returns
-abbrev pub head_rule : {C : Type 0} → List C → Bool → Ty → Bool
-head_rule names returns ty = layer_heads names returns (out-Ty ty)
+abbrev pub head_rule : {A : Type 0} → List Signature → List A → Bool → Ty → Bool
+head_rule signatures names returns ty = heads_by (signature_of signatures ty) names returns
 
 -- ---- rules of servicing
 
@@ -110,7 +110,7 @@ service_found facts procs span operation = broken_unless (is_own facts operation
 abbrev pub head_found : {C : Type 0} → Facts → Procs → Span → List C → Bool → Option Operation → List Finding
 head_found facts procs span formals returns None = broken BadType span ∷ []
 head_found facts procs span formals returns (Some operation) =
-    broken_unless (head_rule formals returns operation.ty) BadType span ++ service_found facts procs span operation
+    broken_unless (head_rule facts.signatures formals returns operation.ty) BadType span ++ service_found facts procs span operation
 
 -- ---- what a service declares
 
@@ -118,19 +118,20 @@ head_found facts procs span formals returns (Some operation) =
 abbrev pub names_bound : List Name → List Param → Facts → Facts
 names_bound [] params facts = facts
 names_bound (name ∷ names) [] facts = names_bound names [] (declare_name facts name (variable ty.Untyped))
-names_bound (name ∷ names) (param ∷ params) facts = names_bound names params (declare_name facts name (variable (out-Param param).ty))
+names_bound (name ∷ names) (param ∷ params) facts = names_bound names params (declare_name facts name (variable param.ty))
 
 abbrev pub type_or_none : Option Ty → Ty
 type_or_none None = ty.Untyped
 type_or_none (Some ty) = ty
 
-abbrev pub returned_bound : Option Name → Option Ty → Facts → Facts
-returned_bound None returns facts = facts
-returned_bound (Some name) returns facts = declare_name facts name (variable (type_or_none returns))
+abbrev pub returned_bound : Option Name → Ty → Facts → Facts
+returned_bound None ty facts = facts
+returned_bound (Some name) ty facts = declare_name facts name (variable ty)
 
 -- what is known within a service of an operation of this type
 abbrev pub service_bound : List Name → Option Name → Ty → Facts → Facts
-service_bound formals returned ty facts = returned_bound returned (returns_of ty) (names_bound formals (params_of ty) facts)
+service_bound formals returned ty facts =
+    returned_bound returned (type_or_none (returns_of facts.signatures ty)) (names_bound formals (params_of facts.signatures ty) facts)
 
 abbrev pub type_of : Option Operation → Ty
 type_of None = ty.Untyped

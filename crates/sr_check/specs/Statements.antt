@@ -7,6 +7,7 @@ use Rattle.sr_names.specs.declared.finding.Rule.TheVariants.{BadUse}
 use Rattle.sr_names.specs.declared.spot.Spot.{Spot}
 use Rattle.sr_names.specs.Spots.{spot_of}
 use Rattle.sr_tree.specs.declared.declaration.ConstDecl.{ConstDecl}
+use Rattle.sr_tree.specs.declared.declaration.VarDecl.{VarDecl}
 use Rattle.sr_tree.specs.declared.expr.Expr.{Expr}
 use Rattle.sr_tree.specs.declared.expr.Invocation.{Invocation}
 use Rattle.sr_tree.specs.declared.name.Name.{Name}
@@ -23,9 +24,10 @@ use Rattle.sr_check_expr.specs.Exprs.{judge_create, judge_invocation}
 use Rattle.sr_check_expr.specs.Judgements.{broken_unless}
 use Rattle.sr_check_decl.specs.Constants.{const_found, const_of}
 use Rattle.sr_check_decl.specs.Declaring.{declare_name}
+use Rattle.sr_check_decl.specs.Entering.{written_entered}
 use Rattle.sr_check_decl.specs.Variables.{var_found, local_var}
 use Rattle.sr_check.specs.declared.operation.Operation.{Operation}
-use Rattle.sr_check.specs.Contexts.{Context, Steps, with_facts, looping, serving_for, in_order, with_more, only_found}
+use Rattle.sr_check.specs.Contexts.{Context, Step, Steps, with_facts, looping, serving_for, in_order, with_more, only_found}
 use Rattle.sr_check.specs.Invoking.{call_found, send_found, forward_found, may_reply, started_found}
 use Rattle.sr_check.specs.Quantifying.{expr_with, maybe_with, quantifiers_found, quantifiers_known}
 use Rattle.sr_check.specs.Receiving.{receive_found}
@@ -38,6 +40,19 @@ use Rattle.sr_check.specs.Uses.{condition_rule, choice_rule}
 -- a constant without a type has that of its value
 abbrev pub local_const : ConstDecl → Facts → Facts
 local_const constant facts = declare_name facts constant.name (info.Value (const_of false facts constant))
+
+-- the signatures that are written in a declaration have numbers before it is read
+abbrev pub const_read_in : ConstDecl → Facts → Step
+const_read_in constant facts = record { found = const_found false facts constant; facts = local_const constant facts }
+
+abbrev pub const_read : ConstDecl → Facts → Step
+const_read constant facts = const_read_in constant (written_entered constant.ty facts)
+
+abbrev pub var_read_in : VarDecl → Facts → Step
+var_read_in variables facts = record { found = var_found facts variables; facts = local_var variables facts }
+
+abbrev pub var_read : VarDecl → Facts → Step
+var_read variables facts = var_read_in variables (written_entered variables.ty facts)
 
 -- an arm: its operation, and what is found in it where its `in` stands at a span
 pub record ArmSteps : Type 0 where
@@ -54,8 +69,8 @@ abbrev pub then_step : Steps → Steps → Steps
 then_step first second context = with_more (first context).found (second (with_facts context (first context).facts))
 
 abbrev pub item_step : BlockItem-F Steps Steps ArmSteps Steps Steps → Steps
-item_step (BlockItem-F.Const constant) context = record { found = const_found false context.facts constant; facts = local_const constant context.facts }
-item_step (BlockItem-F.Var variables) context = record { found = var_found context.facts variables; facts = local_var variables context.facts }
+item_step (BlockItem-F.Const constant) context = const_read constant context.facts
+item_step (BlockItem-F.Var variables) context = var_read variables context.facts
 item_step (BlockItem-F.Statement statement) context = statement context
 
 -- a guard is a bool

@@ -21,7 +21,7 @@ choice_rule choice = may_have_neighbours choice.ty
 abbrev pub written_rule : Typed → Bool
 written_rule argument = may_be_written argument.ty
 
-abbrev pub layer_instance : {A B C : Type 0} → Ty-F A B C → Bool
+abbrev pub layer_instance : {A : Type 0} → Ty-F A → Bool
 layer_instance (Ty-F.Resource spot) = true
 layer_instance Ty-F.NullCap = true
 layer_instance Ty-F.Untyped = true

@@ -30,10 +30,11 @@ fn is_operation_name(named: &Named) -> bool
 }
 
 /// Whether a callee is an operation with as many formals as there are arguments.
-fn may_be_invoked(callee: &Judged, arguments: &[Judged]) -> bool
-    ensures { result ≡ callee_rule callee.now arguments.now }
+fn may_be_invoked(facts: &Facts, callee: &Judged, arguments: &[Judged]) -> bool
+    ensures { result ≡ callee_rule facts.now callee.now arguments.now }
 {
-    is_operation_name(&callee.named) && takes_as_many(&callee.typed.ty, arguments)
+    is_operation_name(&callee.named)
+        && takes_as_many(&facts.signatures, &callee.typed.ty, arguments)
 }
 
 /// Notes what is found at an invocation as a statement, in a form that its operation allows or not.
@@ -50,7 +51,7 @@ fn note_invoked(
     note_invocation(facts, notes, span, callee, arguments)?;
     note_unless(
         notes,
-        may_be_invoked(callee, arguments),
+        may_be_invoked(facts, callee, arguments),
         Rule::BadType,
         span,
     )?;
@@ -100,7 +101,7 @@ fn note_semaphore(
         Some(operation) => {
             note_unless(
                 notes,
-                takes_as_many(&operation.ty, &[]),
+                takes_as_many(&facts.signatures, &operation.ty, &[]),
                 Rule::BadType,
                 span,
             )?;
@@ -144,7 +145,7 @@ fn note_v(
                 facts,
                 notes,
                 span,
-                is_sendable(&callee.typed.ty),
+                is_sendable(&facts.signatures, &callee.typed.ty),
                 callee,
                 &[],
             )
@@ -203,7 +204,7 @@ fn note_called(
             note_function(alloc, facts, around, notes, span, *name, arguments)
         }
         _ => {
-            let allowed = is_callable(&parts.callee.typed.ty);
+            let allowed = is_callable(&facts.signatures, &parts.callee.typed.ty);
             note_invoked(facts, notes, span, allowed, &parts.callee, arguments)
         }
     }
@@ -235,7 +236,7 @@ pub(crate) fn note_send(
     ensures { OnOk result (notes.new ≡ all_noted notes.old (send_found facts.now span (judge_invocation tree.now facts.now))) }
 {
     let parts = invocation(alloc, tree, facts, notes)?;
-    let allowed = is_sendable(&parts.callee.typed.ty);
+    let allowed = is_sendable(&facts.signatures, &parts.callee.typed.ty);
     note_invoked(
         facts,
         notes,
@@ -254,26 +255,26 @@ fn is_serving(serving: Serving) -> bool
 
 /// Whether what an operation gives back is what the one that is served gives back.
 fn gives_same(alloc: Global, facts: &Facts, serving: Serving, callee: &Ty) -> Result<bool, NoMemory>
-    ensures { IfOk result (λ same. same ≡ same_results (served_type facts.now serving) callee.now) }
+    ensures { IfOk result (λ same. same ≡ same_results facts.now (served_type facts.now serving) callee.now) }
 {
     match serving {
         Serving::Serves(spot) => match operation_by(alloc, spot, facts.infos.get(spot))? {
-            Some(operation) => same_types(alloc, &operation.ty, callee),
+            Some(operation) => same_types(alloc, facts, &operation.ty, callee),
             None => Ok(true),
         },
         _ => Ok(true),
     }
 }
 
-fn same_types(alloc: Global, own: &Ty, callee: &Ty) -> Result<bool, NoMemory>
-    ensures { IfOk result (λ same. same ≡ same_results own.now callee.now) }
+fn same_types(alloc: Global, facts: &Facts, own: &Ty, callee: &Ty) -> Result<bool, NoMemory>
+    ensures { IfOk result (λ same. same ≡ same_results facts.now own.now callee.now) }
 {
-    match own {
-        Ty::Op(own) => match callee {
-            Ty::Op(callee) => same_results(alloc, own, callee),
-            _ => Ok(true),
+    match facts.signatures.of(own) {
+        Some(own) => match facts.signatures.of(callee) {
+            Some(callee) => same_results(alloc, own, callee),
+            None => Ok(true),
         },
-        _ => Ok(true),
+        None => Ok(true),
     }
 }
 
@@ -343,7 +344,7 @@ fn note_target(
         Some(target) => {
             let target = expr(alloc, target, facts, notes)?;
             note_value(notes, &target)?;
-            let returned = returned_by(alloc, &parts.callee.typed.ty)?;
+            let returned = returned_by(alloc, &facts.signatures, &parts.callee.typed.ty)?;
             note_result(notes, &target, returned, span)
         }
     }
@@ -360,7 +361,7 @@ pub(crate) fn note_started(
     ensures { OnOk result (notes.new ≡ all_noted notes.old (started_found facts.now target.now (judge_invocation tree.now facts.now))) }
 {
     let parts = invocation(alloc, tree, facts, notes)?;
-    let allowed = is_callable(&parts.callee.typed.ty);
+    let allowed = is_callable(&facts.signatures, &parts.callee.typed.ty);
     note_invoked(
         facts,
         notes,

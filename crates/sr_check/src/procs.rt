@@ -11,7 +11,7 @@ use crate::serving::Serving;
 use crate::statements::{local_const, local_var, statement};
 use sr_check_decl::{
     NamedParam, Signed, declare, declare_name, declare_operations, declare_params,
-    declare_semaphores, note_operations, note_semaphores, signature, variable,
+    declare_semaphores, enter_operations, note_operations, note_semaphores, signature, variable,
 };
 use sr_check_expr::{Facts, note_unless};
 use sr_names::{Notes, Rule, Spot};
@@ -35,6 +35,7 @@ fn proc_item(
         ProcItem::Const(tree) => local_const(alloc, facts, notes, tree),
         ProcItem::Var(tree) => local_var(alloc, facts, notes, tree),
         ProcItem::Op(tree) => {
+            enter_operations(alloc, facts, tree.items.as_slice())?;
             note_operations(alloc, facts, notes, tree.items.as_slice())?;
             declare_operations(alloc, facts, true, tree.items.as_slice())
         }
@@ -87,6 +88,7 @@ fn note_proc(
         None => note_unless(notes, false, Rule::BadType, tree.span),
         Some(operation) => {
             let met = may_head(
+                &facts.signatures,
                 tree.formals.as_slice(),
                 tree.returned.is_some(),
                 &operation.ty,

@@ -39,10 +39,10 @@ fn note_received(notes: &mut Notes, params: &[Param], places: &[Judged]) -> Resu
 }
 
 /// Whether there is a place for each formal.
-fn takes_all(ty: &Ty, places: &[Judged]) -> bool
-    ensures { result ≡ takes_all ty.now places.now }
+fn takes_all(facts: &Facts, ty: &Ty, places: &[Judged]) -> bool
+    ensures { result ≡ takes_all facts.now ty.now places.now }
 {
-    ty.is_untyped() || as_many(params_of(ty), places)
+    ty.is_untyped() || as_many(params_of(&facts.signatures, ty), places)
 }
 
 fn note_operation(
@@ -58,8 +58,10 @@ fn note_operation(
     match operation {
         None => note_unless(notes, false, Rule::BadType, span),
         Some(operation) => {
-            note_unless(notes, takes_all(&operation.ty, places), Rule::BadType, span)?;
-            note_received(notes, params_of(&operation.ty), places)?;
+            let met = takes_all(facts, &operation.ty, places);
+            note_unless(notes, met, Rule::BadType, span)?;
+            let params = params_of(&facts.signatures, &operation.ty);
+            note_received(notes, params, places)?;
             note_service(facts, around.procs, notes, span, operation)
         }
     }

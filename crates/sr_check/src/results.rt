@@ -2,7 +2,7 @@ ghost use Rattle.std.specs.Prelude.{◌≡◌, ◌++◌, IfOk};
 ghost use Rattle.sr_check.specs.Results.{results_rule, result_types, returned_types, formal_results, are_equal};
 
 use sr_types::{Mode, Param, Signature, Ty, fits};
-use sr_value::{Boxed, Duplicate, NoMemory, Row};
+use sr_value::{Duplicate, NoMemory, Row};
 use std::alloc::Global;
 
 /// Whether one operation may be answered by another: the types of their results are equal. Results are
@@ -23,18 +23,14 @@ fn results(alloc: Global, signature: &Signature) -> Result<Row<Ty>, NoMemory>
     with_returned(alloc, brought_back, &signature.returns)
 }
 
-fn with_returned(
-    alloc: Global,
-    types: Row<Ty>,
-    returns: &Option<Boxed<Ty>>,
-) -> Result<Row<Ty>, NoMemory>
+fn with_returned(alloc: Global, types: Row<Ty>, returns: &Option<Ty>) -> Result<Row<Ty>, NoMemory>
     ensures { IfOk result (λ all. all ≡ types ++ returned_types returns.now) }
 {
     match returns {
         None => Ok(types),
         Some(ty) => {
             let mut all = types;
-            all.push(ty.get().copy(alloc)?)?;
+            all.push(ty.copy(alloc)?)?;
             Ok(all)
         }
     }

@@ -9,8 +9,8 @@ use sr_check_decl::{declare_name, variable};
 use sr_check_expr::{Facts, Info, as_many, decl_info, decl_of, note_unless};
 use sr_names::{Decl, Finding, Notes, Rule, Spot, Wrong};
 use sr_tree::Name;
-use sr_types::{Param, Ty};
-use sr_value::{Boxed, Duplicate, NoMemory, Span};
+use sr_types::{Param, Signatures, Ty};
+use sr_value::{Duplicate, NoMemory, Row, Span};
 use std::alloc::Global;
 
 /// The operation that is declared at a spot as this.
@@ -101,25 +101,25 @@ pub(crate) fn is_shared_name(facts: &Facts, name: &Name) -> bool
 }
 
 /// The formals of an operation of this type.
-pub(crate) fn params_of(ty: &Ty) -> &[Param]
-    ensures { result.now ≡ params_of ty.now }
+pub(crate) fn params_of<'a>(signatures: &'a Signatures, ty: &Ty) -> &'a [Param]
+    ensures { result.now ≡ params_of signatures.now ty.now }
 {
-    match ty {
-        Ty::Op(signature) => signature.params.as_slice(),
-        _ => &[],
+    match signatures.of(ty) {
+        Some(signature) => signature.params.as_slice(),
+        None => &[],
     }
 }
 
 /// Whether an operation of this type is serviced with as many names as it has formals, and with `returns` exactly
 /// where it returns.
-pub(crate) fn may_head<T>(names: &[T], returns: bool, ty: &Ty) -> bool
-    ensures { result ≡ head_rule names.now returns ty.now }
+pub(crate) fn may_head<T>(signatures: &Signatures, names: &[T], returns: bool, ty: &Ty) -> bool
+    ensures { result ≡ head_rule signatures.now names.now returns ty.now }
 {
-    match ty {
-        Ty::Op(signature) => {
+    match signatures.of(ty) {
+        Some(signature) => {
             as_many(names, signature.params.as_slice()) && returns == signature.returns.is_some()
         }
-        _ => true,
+        None => true,
     }
 }
 
@@ -183,7 +183,7 @@ pub(crate) fn note_head<T>(
     match operation {
         None => note_unless(notes, false, Rule::BadType, span),
         Some(operation) => {
-            let met = may_head(formals, returns, &operation.ty);
+            let met = may_head(&facts.signatures, formals, returns, &operation.ty);
             note_unless(notes, met, Rule::BadType, span)?;
             note_service(facts, procs, notes, span, operation)
         }
@@ -212,35 +212,40 @@ fn bind_names(
     Ok(())
 }
 
-fn bind_returned(
-    alloc: Global,
-    facts: &mut Facts,
-    name: &Option<Name>,
-    ty: &Ty,
-) -> Result<(), NoMemory>
-    ensures { OnOk result (facts.new ≡ returned_bound name.now (returns_of ty.now) facts.old) }
+fn bind_returned(facts: &mut Facts, name: &Option<Name>, ty: Ty) -> Result<(), NoMemory>
+    ensures { OnOk result (facts.new ≡ returned_bound name.now ty facts.old) }
 {
     match name {
         None => Ok(()),
-        Some(name) => declare_name(facts, name, variable(returned_type(alloc, ty)?)),
+        Some(name) => declare_name(facts, name, variable(ty)),
+    }
+}
+
+/// A copy of the formals of an operation of this type.
+fn copied_params(alloc: Global, signatures: &Signatures, ty: &Ty) -> Result<Row<Param>, NoMemory>
+    ensures { IfOk result (λ params. params ≡ params_of signatures.now ty.now) }
+{
+    match signatures.of(ty) {
+        Some(signature) => signature.params.copy(alloc),
+        None => Ok(Row::new(alloc)),
     }
 }
 
 /// The type of what an operation of this type returns.
-fn returned_type(alloc: Global, ty: &Ty) -> Result<Ty, NoMemory>
-    ensures { IfOk result (λ returned. returned ≡ type_or_none (returns_of ty.now)) }
+fn returned_type(alloc: Global, signatures: &Signatures, ty: &Ty) -> Result<Ty, NoMemory>
+    ensures { IfOk result (λ returned. returned ≡ type_or_none (returns_of signatures.now ty.now)) }
 {
-    match ty {
-        Ty::Op(signature) => copied_or_none(alloc, &signature.returns),
-        _ => Ok(Ty::Untyped),
+    match signatures.of(ty) {
+        Some(signature) => copied_or_none(alloc, &signature.returns),
+        None => Ok(Ty::Untyped),
     }
 }
 
-fn copied_or_none(alloc: Global, ty: &Option<Boxed<Ty>>) -> Result<Ty, NoMemory>
+fn copied_or_none(alloc: Global, ty: &Option<Ty>) -> Result<Ty, NoMemory>
     ensures { IfOk result (λ copied. copied ≡ type_or_none ty.now) }
 {
     match ty {
-        Some(ty) => ty.get().copy(alloc),
+        Some(ty) => ty.copy(alloc),
         None => Ok(Ty::Untyped),
     }
 }
@@ -255,8 +260,10 @@ pub(crate) fn bind_service(
 ) -> Result<(), NoMemory>
     ensures { OnOk result (facts.new ≡ service_bound formals.now returned.now ty.now facts.old) }
 {
-    bind_names(alloc, facts, formals, params_of(ty))?;
-    bind_returned(alloc, facts, returned, ty)
+    let params = copied_params(alloc, &facts.signatures, ty)?;
+    let returns = returned_type(alloc, &facts.signatures, ty)?;
+    bind_names(alloc, facts, formals, params.as_slice())?;
+    bind_returned(facts, returned, returns)
 }
 
 /// Declares what is known within a service of an operation, where a name means one.

@@ -5,10 +5,8 @@ ghost use Rattle.sr_names.specs.Spots.{spot_of};
 ghost use Rattle.sr_check.specs.Contexts.{context_of, in_order, looping, with_facts};
 ghost use Rattle.sr_check.specs.Uses.{choice_rule};
 ghost use Rattle.sr_check.specs.Quantifying.{maybe_with};
-ghost use Rattle.sr_check_decl.specs.Constants.{const_found};
-ghost use Rattle.sr_check_decl.specs.Variables.{var_found, local_var};
 ghost use Rattle.sr_check.specs.Services.{operation_named, is_local_name, is_shared_name};
-ghost use Rattle.sr_check.specs.Statements.{local_const, guards_found, condition_found, arm_context, arm_inner, is_mixture, mixture_found, arms_at, store_found, plain_found, statement_read, block_item_read, arm_read, branch_read, co_arm_read, guarding};
+ghost use Rattle.sr_check.specs.Statements.{const_read, var_read, guards_found, condition_found, arm_context, arm_inner, is_mixture, mixture_found, arms_at, store_found, plain_found, statement_read, block_item_read, arm_read, branch_read, co_arm_read, guarding};
 
 use crate::around::Around;
 use crate::invoking::{may_reply, note_call, note_forward, note_send, note_started};
@@ -20,7 +18,7 @@ use crate::services::{
 use crate::serving::Serving;
 use crate::storing::{note_assign, note_counter, note_destroy, note_exchange, note_stop};
 use crate::uses::may_choose;
-use sr_check_decl::{constant, declare_locals, declare_name, note_variables};
+use sr_check_decl::{constant, declare_locals, declare_name, enter_written, note_variables};
 use sr_check_expr::{Facts, Here, Info, create, expr, note_unless, note_value};
 use sr_names::{Notes, Rule, Spot};
 use sr_tree::{Arm, ArmCondition, BlockItem, Branch, CoArm, ConstDecl, Expr, Statement, VarDecl};
@@ -34,9 +32,10 @@ pub(crate) fn local_const(
     notes: &mut Notes,
     tree: &ConstDecl,
 ) -> Result<(), NoMemory>
-    ensures known { OnOk result (facts.new ≡ local_const tree.now facts.old) }
-    ensures noted { OnOk result (notes.new ≡ all_noted notes.old (const_found false facts.old tree.now)) }
+    ensures known { OnOk result (facts.new ≡ (const_read tree.now facts.old).facts) }
+    ensures noted { OnOk result (notes.new ≡ all_noted notes.old (const_read tree.now facts.old).found) }
 {
+    enter_written(alloc, facts, &tree.ty)?;
     let typed = constant(alloc, facts, notes, false, tree)?;
     declare_name(facts, &tree.name, Info::Value(typed))
 }
@@ -48,9 +47,10 @@ pub(crate) fn local_var(
     notes: &mut Notes,
     tree: &VarDecl,
 ) -> Result<(), NoMemory>
-    ensures known { OnOk result (facts.new ≡ local_var tree.now facts.old) }
-    ensures noted { OnOk result (notes.new ≡ all_noted notes.old (var_found facts.old tree.now)) }
+    ensures known { OnOk result (facts.new ≡ (var_read tree.now facts.old).facts) }
+    ensures noted { OnOk result (notes.new ≡ all_noted notes.old (var_read tree.now facts.old).found) }
 {
+    enter_written(alloc, facts, &tree.ty)?;
     note_variables(alloc, facts, notes, tree)?;
     declare_locals(alloc, facts, tree)
 }

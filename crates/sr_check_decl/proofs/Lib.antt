@@ -2,5 +2,6 @@ pub mod Known
 pub mod Lines
 pub mod Naming
 pub mod Places
+pub mod ReadIn
 pub mod Tests
 pub mod Waves

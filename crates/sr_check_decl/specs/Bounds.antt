@@ -38,7 +38,7 @@ ends_in_range (Some lo) (Some hi) = in_range lo hi
 ends_in_range (Some lo) None = true
 ends_in_range None hi = true
 
-abbrev pub layer_item_type : {A B C : Type 0} → Ty-F A B C → Bool
+abbrev pub layer_item_type : {A : Type 0} → Ty-F A → Bool
 layer_item_type (Ty-F.Vector item) = false
 layer_item_type (Ty-F.Matrix item) = false
 layer_item_type _ = true

@@ -1,4 +1,6 @@
 -- What the declarations of components declare, before any statement is looked at.
+-- Each is read where the signatures that are written in it have their numbers (`Entering`): `.._in` says what it declares
+-- there.
 use Rattle.std.specs.Prelude.{ℕ, ◌+◌, Bool, true, false, ◌||◌, List, [], ◌∷◌, Option, Some, None, if◌then◌else◌, is_some, map, length}
 use Rattle.sr_value.specs.declared.value.Value.TheVariants as value
 use Rattle.sr_names.specs.declared.meaning.Decl.{Decl}
@@ -16,7 +18,7 @@ use Rattle.sr_tree.specs.declared.component.SpecItem.{SpecItem}
 use Rattle.sr_tree.specs.declared.component.SpecItem.TheVariants as spec
 use Rattle.sr_tree.specs.declared.declaration.ConstDecl.{ConstDecl}
 use Rattle.sr_tree.specs.declared.declaration.OpItem.{OpItem}
-use Rattle.sr_tree.specs.declared.declaration.OpItem.TheVariants.{Signed, Typed as OfType}
+use Rattle.sr_tree.specs.declared.declaration.OpItem.TheVariants.{Signed as OfSignature, Typed as OfType}
 use Rattle.sr_tree.specs.declared.declaration.Semaphore.{Semaphore}
 use Rattle.sr_tree.specs.declared.declaration.TypeDecl.{TypeDecl}
 use Rattle.sr_tree.specs.declared.declaration.OpTypeDecl.{OpTypeDecl}
@@ -30,8 +32,8 @@ use Rattle.sr_tree.specs.declared.types.TypeTree.{TypeTree, out-TypeTree}
 use Rattle.sr_tree.specs.declared.types.TypeTree.TheOpen.{TypeTree-F}
 use Rattle.sr_types.specs.declared.signature.Forms.TheVariants as forms
 use Rattle.sr_types.specs.declared.signature.Mode.TheVariants as mode
-use Rattle.sr_types.specs.declared.ty.Param.{Param}
-use Rattle.sr_types.specs.declared.ty.Signature.{roll-Signature}
+use Rattle.sr_types.specs.declared.signature.Param.{Param}
+use Rattle.sr_types.specs.declared.signature.Signature.{Signature}
 use Rattle.sr_types.specs.declared.ty.Ty.{Ty}
 use Rattle.sr_types.specs.declared.ty.Ty.TheVariants as ty
 use Rattle.sr_types.specs.declared.typed.Static.TheVariants.{Known}
@@ -45,11 +47,13 @@ use Rattle.sr_check_expr.specs.declared.info.Info.TheVariants as info
 use Rattle.sr_check_expr.specs.Infos.{type_spot}
 use Rattle.sr_check_expr.specs.Naming.{decl_info}
 use Rattle.sr_check_decl.specs.declared.kind.NamedParam.{NamedParam}
+use Rattle.sr_check_decl.specs.declared.kind.Signed.{Signed}
 use Rattle.sr_check_decl.specs.declared.tally.Tally.{Tally}
 use Rattle.sr_check_decl.specs.Constants.{const_of, is_static}
+use Rattle.sr_check_decl.specs.Entering.{entered, signed_entered, type_entered, written_entered, formals_entered, signature_entered, ops_entered}
 use Rattle.sr_check_decl.specs.Parts.{component_decl}
 use Rattle.sr_tree.specs.Parts.{name_of, spec_of, formals_of, body_of}
-use Rattle.sr_check_decl.specs.TypeTrees.{free_bounds, fixed_bounds, type_kinded, formal_read, signature_read, signature_type, formals_at, all_params, params_of, are_refused, named_decl}
+use Rattle.sr_check_decl.specs.TypeTrees.{free_bounds, fixed_bounds, type_kinded, formal_read, signature_read, signature_type, operation_type, formals_at, all_params, named_decl}
 use Rattle.sr_check_decl.specs.Variables.{declare, variable, vars_declared, untyped_var_rule}
 
 abbrev pub declare_name : Facts → Name → Info → Facts
@@ -63,9 +67,12 @@ declared_if false name typed facts = facts
 
 -- a constant without a type is declared with its type and value where its value is known before the run, since types
 -- may need it; others wait until the types of all that their values name are known
-abbrev pub const_declared : Bool → ConstDecl → Facts → Facts
-const_declared in_spec constant facts =
+abbrev pub const_declared_in : Bool → ConstDecl → Facts → Facts
+const_declared_in in_spec constant facts =
     declared_if (is_some constant.ty || is_static (const_of in_spec facts constant).value) constant.name (const_of in_spec facts constant) facts
+
+abbrev pub const_declared : Bool → ConstDecl → Facts → Facts
+const_declared in_spec constant facts = const_declared_in in_spec constant (written_entered constant.ty facts)
 
 -- variables without a type wait for the type of their value, but where they can't have one
 abbrev pub untyped_vars_declared : Bool → List DeclTree → Facts → Facts
@@ -77,7 +84,7 @@ var_declared_by None variables facts = untyped_vars_declared (untyped_var_rule v
 var_declared_by (Some tree) variables facts = vars_declared (type_kinded tree facts free_bounds).kind.ty variables.decls facts
 
 abbrev pub var_declared : VarDecl → Facts → Facts
-var_declared variables facts = var_declared_by variables.ty variables facts
+var_declared variables facts = var_declared_by variables.ty variables (written_entered variables.ty facts)
 
 -- ---- types
 
@@ -112,11 +119,21 @@ layer_declared named tally (TypeTree-F.Enum span literals) = enumeration_declare
 layer_declared named tally (TypeTree-F.Rec span fields) = at_facts tally (declare_name tally.facts named.name (info.Record (fields_of tally.facts fields)))
 layer_declared named tally _ = at_facts tally (declare_name tally.facts named.name (info.«Type» (type_kinded named.ty tally.facts fixed_bounds).kind.ty))
 
+abbrev pub type_declared_in : TypeDecl → Tally → Tally
+type_declared_in named tally = layer_declared named tally (out-TypeTree named.ty)
+
 abbrev pub type_declared : TypeDecl → Tally → Tally
-type_declared named tally = layer_declared named tally (out-TypeTree named.ty)
+type_declared named tally = type_declared_in named (at_facts tally (type_entered named.ty tally.facts))
+
+-- the type of the operations of a signature as it is written
+abbrev pub written_type : SignatureTree → Facts → Ty
+written_type signature facts = signature_type facts (signature_read signature facts).signed
+
+abbrev pub optype_declared_in : OpTypeDecl → Facts → Facts
+optype_declared_in named facts = declare_name facts named.name (info.OpType (written_type named.signature facts))
 
 abbrev pub optype_declared : OpTypeDecl → Facts → Facts
-optype_declared named facts = declare_name facts named.name (info.OpType (signature_type (signature_read named.signature facts).signed))
+optype_declared named facts = optype_declared_in named (signature_entered named.signature facts)
 
 -- ---- operations
 
@@ -133,23 +150,27 @@ or_untyped (Some ty) = ty
 
 -- the type of an operation by its signature, or by the name of one
 abbrev pub op_type : Facts → OpItem → Ty
-op_type facts (Signed span name signature) = signature_type (signature_read signature facts).signed
+op_type facts (OfSignature span name signature) = written_type signature facts
 op_type facts (OfType span name optype) = or_untyped (optype_of (decl_info facts.infos (named_decl facts optype)))
 
 abbrev pub op_item_name : OpItem → Name
-op_item_name (Signed span name signature) = name
+op_item_name (OfSignature span name signature) = name
 op_item_name (OfType span name optype) = name
 
 abbrev pub ops_declared : Bool → List OpItem → Facts → Facts
 ops_declared is_local [] facts = facts
 ops_declared is_local (op ∷ ops) facts = ops_declared is_local ops (declare_name facts (op_item_name op) (operation facts is_local (op_type facts op)))
 
+-- an operation of a signature that isn't written
+abbrev pub operation_declared : Bool → Name → Signature → Facts → Facts
+operation_declared is_local name signature facts = declare_name facts name (operation facts is_local (operation_type facts signature))
+
 -- a semaphore is an operation without formals that may be sent to alone
-abbrev pub semaphore_type : Ty
-semaphore_type = ty.Op (roll-Signature (record { params = []; returns = None; forms = forms.Send }))
+abbrev pub semaphore_signature : Signature
+semaphore_signature = record { params = []; returns = None; forms = forms.Send }
 
 abbrev pub semaphore_declared : Bool → Name → Facts → Facts
-semaphore_declared is_local name facts = declare_name facts name (operation facts is_local semaphore_type)
+semaphore_declared is_local name facts = operation_declared is_local name semaphore_signature (entered semaphore_signature facts)
 
 abbrev pub sems_declared : Bool → List Semaphore → Facts → Facts
 sems_declared is_local [] facts = facts
@@ -160,14 +181,18 @@ abbrev pub process_params : List Quantifier → List Param
 process_params [] = []
 process_params (quantifier ∷ more) = record { mode = mode.Val; ty = ty.Int } ∷ process_params more
 
-abbrev pub process_type : List Quantifier → Ty
-process_type quantifiers = ty.Op (roll-Signature (record { params = process_params quantifiers; returns = None; forms = forms.Send }))
+abbrev pub process_signature : List Quantifier → Signature
+process_signature quantifiers = record { params = process_params quantifiers; returns = None; forms = forms.Send }
 
 abbrev pub process_declared : Process → Facts → Facts
-process_declared process facts = declare_name facts process.name (operation facts false (process_type process.quantifiers))
+process_declared process facts =
+    operation_declared false process.name (process_signature process.quantifiers) (entered (process_signature process.quantifiers) facts)
+
+abbrev pub procedure_declared_in : Name → SignatureTree → Facts → Facts
+procedure_declared_in name signature facts = declare_name facts name (operation facts false (written_type signature facts))
 
 abbrev pub procedure_declared : Name → SignatureTree → Facts → Facts
-procedure_declared name signature facts = declare_name facts name (operation facts false (signature_type (signature_read signature facts).signed))
+procedure_declared name signature facts = procedure_declared_in name signature (signature_entered signature facts)
 
 -- ---- items
 
@@ -176,7 +201,7 @@ spec_item_declared in_spec (spec.Import imports) tally = tally
 spec_item_declared in_spec (spec.Const constant) tally = at_facts tally (const_declared in_spec constant tally.facts)
 spec_item_declared in_spec (spec.«Type» named) tally = type_declared named tally
 spec_item_declared in_spec (spec.OpType named) tally = at_facts tally (optype_declared named tally.facts)
-spec_item_declared in_spec (spec.Op operations) tally = at_facts tally (ops_declared false operations.items tally.facts)
+spec_item_declared in_spec (spec.Op operations) tally = at_facts tally (ops_declared false operations.items (ops_entered operations.items tally.facts))
 spec_item_declared in_spec (spec.Var variables) tally = at_facts tally (var_declared variables tally.facts)
 spec_item_declared in_spec (spec.Sem semaphores) tally = at_facts tally (sems_declared false semaphores.semaphores tally.facts)
 
@@ -201,8 +226,8 @@ params_declared [] facts = facts
 params_declared (param ∷ params) facts = params_declared params (declare facts param.spot (variable param.ty))
 
 -- what makes an instance takes arguments like an operation of these formals
-abbrev pub making_type : List NamedParam → Ty
-making_type params = if are_refused params then ty.Untyped else ty.Op (roll-Signature (record { params = params_of params; returns = None; forms = forms.Both }))
+abbrev pub making : List NamedParam → Signed
+making params = record { params = params; returned = None; forms = forms.Both }
 
 abbrev pub standing : Facts → Decl → Facts
 standing facts component = record facts { here = record { component = component; in_guard = false } }
@@ -210,11 +235,17 @@ standing facts component = record facts { here = record { component = component;
 abbrev pub component_formals : Facts → List Formal → List NamedParam
 component_formals facts formals = all_params (formals_at (map formal_read formals) facts false)
 
+abbrev pub component_typed : Name → Signed → Facts → Facts
+component_typed name signed facts = declare_name facts name (info.Component (signature_type facts signed))
+
 abbrev pub with_formals : Name → List NamedParam → Facts → Facts
-with_formals name params facts = params_declared params (declare_name facts name (info.Component (making_type params)))
+with_formals name params facts = params_declared params (component_typed name (making params) (signed_entered (making params) facts))
+
+abbrev pub head_declared_in : Component → Facts → Facts
+head_declared_in component facts = with_formals (name_of component) (component_formals facts (formals_of component)) facts
 
 abbrev pub head_declared : Component → Facts → Facts
-head_declared component facts = with_formals (name_of component) (component_formals facts (formals_of component)) facts
+head_declared component facts = head_declared_in component (formals_entered (formals_of component) facts)
 
 abbrev pub behind_spec : Component → Tally → Tally
 behind_spec component tally = items_declared (body_of component) (at_facts tally (head_declared component tally.facts))
@@ -245,7 +276,7 @@ abbrev pub nowhere : Here
 nowhere = record { component = record { sort = Global; spot = record { file = 0; from = 0 } }; in_guard = false }
 
 abbrev pub no_facts : Meanings → Specs → Facts
-no_facts uses specs = record { uses = uses; specs = specs; infos = []; here = nowhere }
+no_facts uses specs = record { uses = uses; specs = specs; infos = []; signatures = []; here = nowhere }
 
 -- all that is declared outside of procs and blocks, as far as it has a type of its own
 abbrev pub program_declared : Meanings → Specs → List File → Facts

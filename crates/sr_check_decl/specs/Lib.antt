@@ -3,6 +3,7 @@ pub mod Circles
 pub mod Constants
 pub mod Declarations
 pub mod Declaring
+pub mod Entering
 pub mod Inferring
 pub mod NamesIn
 pub mod Needers

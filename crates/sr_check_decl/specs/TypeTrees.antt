@@ -1,5 +1,5 @@
 -- Types as they are written: what is found in them, and what types they are.
-use Rattle.std.specs.Prelude.{ℤ, pos, Bool, true, false, not, ◌&&◌, ◌||◌, List, [], ◌∷◌, ◌++◌, Option, Some, None, if◌then◌else◌, map}
+use Rattle.std.specs.Prelude.{ℕ, ℤ, pos, Bool, true, false, not, ◌&&◌, ◌||◌, List, [], ◌∷◌, ◌++◌, Option, Some, None, if◌then◌else◌, map}
 use Rattle.std.specs.List.{list_any}
 use Rattle.std.specs.Option.{option_map}
 use Rattle.sr_value.specs.declared.place.Span.{Span}
@@ -27,11 +27,12 @@ use Rattle.sr_types.specs.declared.signature.Forms.{Forms}
 use Rattle.sr_types.specs.declared.signature.Forms.TheVariants.{Both, Call, Send}
 use Rattle.sr_types.specs.declared.signature.Mode.{Mode}
 use Rattle.sr_types.specs.declared.signature.Mode.TheVariants.{Val, Var, Res}
-use Rattle.sr_types.specs.declared.ty.Param.{Param, roll-Param}
-use Rattle.sr_types.specs.declared.ty.Signature.{Signature, roll-Signature}
+use Rattle.sr_types.specs.declared.signature.Param.{Param}
+use Rattle.sr_types.specs.declared.signature.Signature.{Signature}
 use Rattle.sr_types.specs.declared.ty.Ty.{Ty}
 use Rattle.sr_types.specs.declared.ty.Ty.TheVariants as ty
 use Rattle.sr_types.specs.declared.typed.Typed.{Typed}
+use Rattle.sr_types.specs.Signatures.{number_of}
 use Rattle.sr_types.specs.Types.{is_no_type}
 use Rattle.sr_check_expr.specs.declared.facts.Facts.{Facts}
 use Rattle.sr_check_expr.specs.declared.info.Info.{Info}
@@ -246,14 +247,25 @@ abbrev pub are_refused : List NamedParam → Bool
 are_refused params = list_any (λ param. is_no_type param.ty) params
 
 abbrev pub params_of : List NamedParam → List Param
-params_of params = map (λ param. roll-Param (record { mode = param.mode; ty = param.ty })) params
+params_of params = map (λ param. record { mode = param.mode; ty = param.ty }) params
 
 abbrev pub whole_signature : Signed → Signature
-whole_signature signed = roll-Signature (record { params = params_of signed.params; returns = option_map (λ returned. returned.ty) signed.returned; forms = signed.forms })
+whole_signature signed = record { params = params_of signed.params; returns = option_map (λ returned. returned.ty) signed.returned; forms = signed.forms }
+
+abbrev pub numbered_type : Option ℕ → Ty
+numbered_type None = ty.Untyped
+numbered_type (Some number) = ty.Op number
+
+-- the type of the operations of a signature keeps its number
+abbrev pub operation_type : Facts → Signature → Ty
+operation_type facts signature = numbered_type (number_of facts.signatures signature)
 
 -- a signature of which a part was refused has no type
-abbrev pub signature_type : Signed → Ty
-signature_type signed = if are_refused signed.params || is_refused_return signed.returned then ty.Untyped else ty.Op (whole_signature signed)
+abbrev pub is_refused : Signed → Bool
+is_refused signed = are_refused signed.params || is_refused_return signed.returned
+
+abbrev pub signature_type : Facts → Signed → Ty
+signature_type facts signed = if is_refused signed then ty.Untyped else operation_type facts (whole_signature signed)
 
 -- ---- all
 
@@ -313,8 +325,8 @@ abbrev pub array_kinded : Facts → Bounding → Span → DimsTree → Kinded �
 array_kinded facts bounding span dims item =
     kinded_at span (item.found ++ array_found bounding facts dims item.kind) (array_type dims item.kind.ty)
 
-abbrev pub operation_kinded : Span → SignedFound → Kinded
-operation_kinded span read = kinded_at span read.found (signature_type read.signed)
+abbrev pub operation_kinded : Facts → Span → SignedFound → Kinded
+operation_kinded facts span read = kinded_at span read.found (signature_type facts read.signed)
 
 -- enumerations and record types stand in type declarations alone, which say what they are
 abbrev pub type_step : TypeTree-F Kinds ReadsFormals ReadsReturned ReadsSignature → Kinds
@@ -326,7 +338,7 @@ type_step (TypeTree-F.Enum span literals) facts bounding = kinded_at span [] ty.
 type_step (TypeTree-F.Rec span fields) facts bounding = kinded_at span (formals_found (formals_at fields facts true)) ty.Untyped
 type_step (TypeTree-F.CapOf span name) facts bounding = capability_kinded facts span name
 type_step (TypeTree-F.CapMachine span) facts bounding = kinded_at span [] ty.Vm
-type_step (TypeTree-F.CapOperation span signature) facts bounding = operation_kinded span (signature facts)
+type_step (TypeTree-F.CapOperation span signature) facts bounding = operation_kinded facts span (signature facts)
 type_step (TypeTree-F.Array span dims item) facts bounding = array_kinded facts bounding span dims (item facts bounding)
 type_step (TypeTree-F.Named span name) facts bounding = named_kinded facts span name
 

@@ -1,14 +1,15 @@
 ghost use Rattle.std.specs.Prelude.{◌≡◌, [], None, IfOk, OnOk, map};
 ghost use Rattle.sr_check_decl.specs.TypeTrees.{type_kinded, fixed_bounds};
-ghost use Rattle.sr_check_decl.specs.Declaring.{declared_if, const_declared, untyped_vars_declared, var_declared, literal_info, literals_declared, enumeration_declared, field_info, fields_of, type_declared, spec_item_declared, item_declared, spec_items_declared, items_declared, params_declared, making_type, component_formals, with_formals, head_declared, behind_spec, component_declared, components_declared, files_declared, components_named, files_named, no_facts, program_declared, declare_name, at_facts, nowhere};
+ghost use Rattle.sr_check_decl.specs.Declaring.{declared_if, const_declared, untyped_vars_declared, var_declared, literal_info, literals_declared, enumeration_declared, field_info, fields_of, type_declared, spec_item_declared, item_declared, spec_items_declared, items_declared, params_declared, making, component_typed, component_formals, with_formals, head_declared, behind_spec, component_declared, components_declared, files_declared, components_named, files_named, no_facts, program_declared, declare_name, at_facts, nowhere};
 
 use crate::constants::{constant, is_static};
-use crate::kind::NamedParam;
+use crate::entering::{enter_formals, enter_operations, enter_signed, enter_type, enter_written};
+use crate::kind::{NamedParam, Signed};
 use crate::operations::{
     declare_operations, declare_optype, declare_procedure, declare_process, declare_semaphores,
 };
 use crate::parts::component_decl;
-use crate::signatures::{are_refused, params_of};
+use crate::signatures::signature_type;
 use crate::tally::{Tally, count_of, declare, declare_name, next, stand, variable};
 use crate::variables::{declare_variables, may_be_untyped};
 use crate::written::{FIXED, FREE, all_formals, type_kind};
@@ -17,7 +18,7 @@ use sr_names::{Decl, Members, Notes, Sort, Spot, Uses};
 use sr_tree::{
     Component, ConstDecl, File, Formal, Item, Name, SpecItem, TypeDecl, TypeTree, VarDecl,
 };
-use sr_types::{Forms, Signature, Static, Ty, Typed};
+use sr_types::{Forms, Signatures, Static, Ty, Typed};
 use sr_value::{Duplicate, NoMemory, Row, Value};
 use std::alloc::Global;
 
@@ -39,6 +40,7 @@ fn declare_constant(
 ) -> Result<(), NoMemory>
     ensures { OnOk result (facts.new ≡ const_declared in_spec tree.now facts.old) }
 {
+    enter_written(alloc, facts, &tree.ty)?;
     let typed = constant(alloc, facts, &mut Notes::new(alloc), in_spec, tree)?;
     let met = tree.ty.is_some() || is_static(&typed.value);
     declare_if(facts, met, &tree.name, typed)
@@ -48,6 +50,7 @@ fn declare_constant(
 fn declare_var(alloc: Global, facts: &mut Facts, tree: &VarDecl) -> Result<(), NoMemory>
     ensures { OnOk result (facts.new ≡ var_declared tree.now facts.old) }
 {
+    enter_written(alloc, facts, &tree.ty)?;
     let decls = tree.decls.as_slice();
     match &tree.ty {
         None => {
@@ -156,6 +159,7 @@ fn declare_named_type(alloc: Global, facts: &mut Facts, tree: &TypeDecl) -> Resu
 fn declare_type(alloc: Global, tally: &mut Tally, tree: &TypeDecl) -> Result<(), NoMemory>
     ensures { OnOk result (tally.new ≡ type_declared tree.now tally.old) }
 {
+    enter_type(alloc, &mut tally.facts, &tree.ty)?;
     match &tree.ty {
         TypeTree::Enum { literals, .. } => {
             declare_enumeration(tally, &tree.name, literals.as_slice())
@@ -181,6 +185,7 @@ fn declare_spec_item(
         SpecItem::Type(tree) => declare_type(alloc, tally, tree),
         SpecItem::OpType(tree) => declare_optype(alloc, &mut tally.facts, tree),
         SpecItem::Op(tree) => {
+            enter_operations(alloc, &mut tally.facts, tree.items.as_slice())?;
             declare_operations(alloc, &mut tally.facts, false, tree.items.as_slice())
         }
         SpecItem::Var(tree) => declare_var(alloc, &mut tally.facts, tree),
@@ -236,39 +241,51 @@ pub fn declare_params(
 }
 
 /// What makes an instance takes arguments like an operation of these formals.
-fn making_type(alloc: Global, params: &[NamedParam]) -> Result<Ty, NoMemory>
-    ensures { IfOk result (λ ty. ty ≡ making_type params.now) }
+fn making(params: Row<NamedParam>) -> Signed
+    ensures { result ≡ making params }
 {
-    if are_refused(params) {
-        return Ok(Ty::Untyped);
-    }
-    Ok(Ty::Op(Signature {
-        params: params_of(alloc, params)?,
-        returns: None,
+    Signed {
+        params,
+        returned: None,
         forms: Forms::Both,
-    }))
+    }
+}
+
+/// Declares a component by the signature of what makes its instances.
+fn declare_component_type(
+    alloc: Global,
+    facts: &mut Facts,
+    name: &Name,
+    signed: &Signed,
+) -> Result<(), NoMemory>
+    ensures { OnOk result (facts.new ≡ component_typed name.now signed.now facts.old) }
+{
+    let ty = signature_type(alloc, facts, signed)?;
+    declare_name(facts, name, Info::Component(ty))
 }
 
 fn with_formals(
     alloc: Global,
     facts: &mut Facts,
     name: &Name,
-    params: &[NamedParam],
+    params: Row<NamedParam>,
 ) -> Result<(), NoMemory>
-    ensures { OnOk result (facts.new ≡ with_formals name.now params.now facts.old) }
+    ensures { OnOk result (facts.new ≡ with_formals name.now params facts.old) }
 {
-    let info = Info::Component(making_type(alloc, params)?);
-    declare_name(facts, name, info)?;
-    declare_params(alloc, facts, params)
+    let signed = making(params);
+    enter_signed(alloc, facts, &signed)?;
+    declare_component_type(alloc, facts, name, &signed)?;
+    declare_params(alloc, facts, signed.params.as_slice())
 }
 
 /// Declares a component by its formals, and these.
 fn declare_head(alloc: Global, facts: &mut Facts, component: &Component) -> Result<(), NoMemory>
     ensures { OnOk result (facts.new ≡ head_declared component.now facts.old) }
 {
+    enter_formals(alloc, facts, component.formals())?;
     let mut aside = Notes::new(alloc);
     let params = all_formals(alloc, component.formals(), facts, &mut aside, false)?;
-    with_formals(alloc, facts, component.name(), params.as_slice())
+    with_formals(alloc, facts, component.name(), params)
 }
 
 fn declare_component(
@@ -332,6 +349,7 @@ fn no_facts(alloc: Global, uses: Uses, specs: Members) -> Facts
         uses,
         specs,
         infos: Infos::new(alloc),
+        signatures: Signatures::new(alloc),
         here: Here {
             component: Decl {
                 sort: Sort::Global,

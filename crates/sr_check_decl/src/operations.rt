@@ -2,10 +2,11 @@ ghost use Rattle.std.specs.Prelude.{◌≡◌, [], None, IfOk, OnOk};
 ghost use Rattle.std.specs.Option.{option_copied};
 ghost use Rattle.sr_names.specs.Notes.{all_noted};
 ghost use Rattle.sr_check_decl.specs.Declarations.{op_found};
-ghost use Rattle.sr_check_decl.specs.TypeTrees.{signature_read, signature_type};
-ghost use Rattle.sr_check_decl.specs.Declaring.{declare_name, operation, optype_of, or_untyped, op_type, op_item_name, ops_declared, semaphore_type, semaphore_declared, sems_declared, process_params, process_type, process_declared, procedure_declared, optype_declared};
+ghost use Rattle.sr_check_decl.specs.TypeTrees.{signature_read};
+ghost use Rattle.sr_check_decl.specs.Declaring.{declare_name, operation, optype_of, or_untyped, op_type, op_item_name, ops_declared, operation_declared, semaphore_signature, semaphore_declared, sems_declared, process_params, process_signature, process_declared, procedure_declared, optype_declared, written_type};
+ghost use Rattle.sr_check_decl.specs.Entering.{entered};
 
-use crate::kind::Kind;
+use crate::entering::{enter, enter_signature};
 use crate::signatures::signature_type;
 use crate::tally::declare_name;
 use crate::types::named_decl;
@@ -54,11 +55,11 @@ pub(crate) fn signed_type(
     notes: &mut Notes,
     tree: &Signature,
 ) -> Result<Ty, NoMemory>
-    ensures value { IfOk result (λ ty. ty ≡ signature_type (signature_read tree.now facts.now).signed) }
+    ensures value { IfOk result (λ ty. ty ≡ written_type tree.now facts.now) }
     ensures noted { OnOk result (notes.new ≡ all_noted notes.old (signature_read tree.now facts.now).found) }
 {
     let signed = signature(alloc, tree, facts, notes)?;
-    signature_type(alloc, &signed)
+    signature_type(alloc, facts, &signed)
 }
 
 /// Notes what is found in the signature of an operation, or in the name of its type, and answers its type.
@@ -121,15 +122,29 @@ pub fn declare_operations(
     Ok(())
 }
 
-/// The type of a semaphore: it has no formals, and may be sent to alone.
-pub fn semaphore_type(alloc: Global) -> Ty
-    ensures { result ≡ semaphore_type }
+/// Declares an operation of a signature that isn't written.
+fn declare_entered(
+    facts: &mut Facts,
+    is_local: bool,
+    name: &Name,
+    signature: sr_types::Signature,
+) -> Result<(), NoMemory>
+    ensures { OnOk result (facts.new ≡ operation_declared is_local name.now signature (entered signature facts.old)) }
 {
-    Ty::Op(sr_types::Signature {
+    let ty = enter(facts, signature)?;
+    let info = operation(facts, is_local, ty);
+    declare_name(facts, name, info)
+}
+
+/// The signature of a semaphore: it has no formals, and may be sent to alone.
+fn semaphore_signature(alloc: Global) -> sr_types::Signature
+    ensures { result ≡ semaphore_signature }
+{
+    sr_types::Signature {
         params: Row::new(alloc),
         returns: None,
         forms: Forms::Send,
-    })
+    }
 }
 
 /// Declares a semaphore.
@@ -141,8 +156,7 @@ pub(crate) fn declare_semaphore(
 ) -> Result<(), NoMemory>
     ensures { OnOk result (facts.new ≡ semaphore_declared is_local name.now facts.old) }
 {
-    let info = operation(facts, is_local, semaphore_type(alloc));
-    declare_name(facts, name, info)
+    declare_entered(facts, is_local, name, semaphore_signature(alloc))
 }
 
 /// Declares semaphores.
@@ -174,15 +188,18 @@ fn process_params(alloc: Global, quantifiers: &[Quantifier]) -> Result<Row<Param
     Ok(row)
 }
 
-/// The type of the operation of a process: it may be sent to alone.
-fn process_type(alloc: Global, quantifiers: &[Quantifier]) -> Result<Ty, NoMemory>
-    ensures { IfOk result (λ ty. ty ≡ process_type quantifiers.now) }
+/// The signature of the operation of a process: it may be sent to alone.
+fn process_signature(
+    alloc: Global,
+    quantifiers: &[Quantifier],
+) -> Result<sr_types::Signature, NoMemory>
+    ensures { IfOk result (λ signature. signature ≡ process_signature quantifiers.now) }
 {
-    Ok(Ty::Op(sr_types::Signature {
+    Ok(sr_types::Signature {
         params: process_params(alloc, quantifiers)?,
         returns: None,
         forms: Forms::Send,
-    }))
+    })
 }
 
 /// Declares the operation of a process.
@@ -193,9 +210,8 @@ pub(crate) fn declare_process(
 ) -> Result<(), NoMemory>
     ensures { OnOk result (facts.new ≡ process_declared tree.now facts.old) }
 {
-    let ty = process_type(alloc, tree.quantifiers.as_slice())?;
-    let info = operation(facts, false, ty);
-    declare_name(facts, &tree.name, info)
+    let signature = process_signature(alloc, tree.quantifiers.as_slice())?;
+    declare_entered(facts, false, &tree.name, signature)
 }
 
 /// Declares the operation of a procedure.
@@ -207,6 +223,7 @@ pub(crate) fn declare_procedure(
 ) -> Result<(), NoMemory>
     ensures { OnOk result (facts.new ≡ procedure_declared name.now tree.now facts.old) }
 {
+    enter_signature(alloc, facts, tree)?;
     let ty = signed_type(alloc, facts, &mut Notes::new(alloc), tree)?;
     let info = operation(facts, false, ty);
     declare_name(facts, name, info)
@@ -220,6 +237,7 @@ pub(crate) fn declare_optype(
 ) -> Result<(), NoMemory>
     ensures { OnOk result (facts.new ≡ optype_declared tree.now facts.old) }
 {
+    enter_signature(alloc, facts, &tree.signature)?;
     let ty = signed_type(alloc, facts, &mut Notes::new(alloc), &tree.signature)?;
     declare_name(facts, &tree.name, Info::OpType(ty))
 }

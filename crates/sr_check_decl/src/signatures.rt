@@ -1,14 +1,15 @@
 ghost use Rattle.std.specs.Prelude.{◌≡◌, IfOk, map, not};
 ghost use Rattle.std.specs.List.{list_any};
 ghost use Rattle.std.specs.Option.{option_map};
-ghost use Rattle.sr_check_decl.specs.TypeTrees.{mode_of, formal_bounds, param_of, formals_of, is_call, forms_by, forms_of, is_refused_return, are_refused, params_of, whole_signature, signature_type};
+ghost use Rattle.sr_check_decl.specs.TypeTrees.{mode_of, formal_bounds, param_of, formals_of, is_call, forms_by, forms_of, is_refused_return, are_refused, params_of, whole_signature, numbered_type, operation_type, is_refused, signature_type};
 
 use crate::kind::{Bounding, NamedParam, Signed};
 use crate::types::decl_type;
+use sr_check_expr::Facts;
 use sr_names::Spot;
 use sr_tree::{Decl, InvocationKind, PassMode};
 use sr_types::{Forms, Mode, Param, Signature, Ty};
-use sr_value::{Boxed, Duplicate, NoMemory, Row, Text};
+use sr_value::{Duplicate, NoMemory, Row, Text};
 use std::alloc::Global;
 
 /// How an argument is passed: by value where no word is written.
@@ -100,7 +101,7 @@ fn forms_by(calls: bool, sends: bool) -> Forms
 }
 
 /// Whether some of these were refused.
-pub(crate) fn are_refused(params: &[NamedParam]) -> bool
+fn are_refused(params: &[NamedParam]) -> bool
     ensures { result ≡ are_refused params.now }
 {
     params.iter().any(|param| param.ty.is_untyped())
@@ -115,7 +116,7 @@ fn is_refused_return(returned: &Option<NamedParam>) -> bool
     }
 }
 
-pub(crate) fn params_of(alloc: Global, params: &[NamedParam]) -> Result<Row<Param>, NoMemory>
+fn params_of(alloc: Global, params: &[NamedParam]) -> Result<Row<Param>, NoMemory>
     ensures { IfOk result (λ row. row ≡ params_of params.now) }
 {
     let mut row = Row::new(alloc);
@@ -128,28 +129,56 @@ pub(crate) fn params_of(alloc: Global, params: &[NamedParam]) -> Result<Row<Para
     Ok(row)
 }
 
-fn returned_type(
-    alloc: Global,
-    returned: &Option<NamedParam>,
-) -> Result<Option<Boxed<Ty>>, NoMemory>
+fn returned_type(alloc: Global, returned: &Option<NamedParam>) -> Result<Option<Ty>, NoMemory>
     ensures { IfOk result (λ ty. ty ≡ option_map (λ param. param.ty) returned.now) }
 {
     match returned {
-        Some(param) => Ok(Some(Boxed::new(alloc, param.ty.copy(alloc)?)?)),
+        Some(param) => Ok(Some(param.ty.copy(alloc)?)),
         None => Ok(None),
     }
 }
 
-/// The type of the capabilities for operations of a signature; none where a part of it was refused.
-pub fn signature_type(alloc: Global, signed: &Signed) -> Result<Ty, NoMemory>
-    ensures { IfOk result (λ ty. ty ≡ signature_type signed.now) }
+/// Whether a part of a signature was refused.
+pub(crate) fn is_refused(signed: &Signed) -> bool
+    ensures { result ≡ is_refused signed.now }
 {
-    if are_refused(signed.params.as_slice()) || is_refused_return(&signed.returned) {
-        return Ok(Ty::Untyped);
-    }
-    Ok(Ty::Op(Signature {
+    are_refused(signed.params.as_slice()) || is_refused_return(&signed.returned)
+}
+
+/// A signature without the names of its formals.
+pub(crate) fn whole_signature(alloc: Global, signed: &Signed) -> Result<Signature, NoMemory>
+    ensures { IfOk result (λ signature. signature ≡ whole_signature signed.now) }
+{
+    Ok(Signature {
         params: params_of(alloc, signed.params.as_slice())?,
         returns: returned_type(alloc, &signed.returned)?,
         forms: signed.forms,
-    }))
+    })
+}
+
+fn numbered_type(number: Option<usize>) -> Ty
+    ensures { result ≡ numbered_type number }
+{
+    match number {
+        None => Ty::Untyped,
+        Some(number) => Ty::Op(number),
+    }
+}
+
+/// The type of the capabilities for operations of a signature, which keeps its number.
+fn operation_type(facts: &Facts, signature: &Signature) -> Ty
+    ensures { result ≡ operation_type facts.now signature.now }
+{
+    numbered_type(facts.signatures.number(signature))
+}
+
+/// The type of the capabilities for operations of a signature; none where a part of it was refused.
+pub(crate) fn signature_type(alloc: Global, facts: &Facts, signed: &Signed) -> Result<Ty, NoMemory>
+    ensures { IfOk result (λ ty. ty ≡ signature_type facts.now signed.now) }
+{
+    if is_refused(signed) {
+        return Ok(Ty::Untyped);
+    }
+    let signature = whole_signature(alloc, signed)?;
+    Ok(operation_type(facts, &signature))
 }

@@ -113,7 +113,7 @@ pub fn type_kind(
             signature: written,
         } => {
             let signed = signature(alloc, written, facts, notes)?;
-            Ok(kind_at(*span, signature_type(alloc, &signed)?))
+            Ok(kind_at(*span, signature_type(alloc, facts, &signed)?))
         }
         TypeTree::Array { span, dims, item } => {
             let item = type_kind(alloc, item.get(), facts, notes, bounding)?;

@@ -4,17 +4,17 @@ use Rattle.sr_names.specs.declared.finding.Finding.{Finding}
 use Rattle.sr_names.specs.declared.finding.Rule.TheVariants.{BadType}
 use Rattle.sr_types.specs.declared.signature.Forms.{Forms}
 use Rattle.sr_types.specs.declared.signature.Forms.TheVariants.{Both, Call, Send}
-use Rattle.sr_types.specs.declared.ty.Param.{Param, out-Param}
-use Rattle.sr_types.specs.declared.ty.Signature.{Signature, out-Signature}
-use Rattle.sr_types.specs.declared.ty.Ty.{Ty, out-Ty}
-use Rattle.sr_types.specs.declared.ty.Ty.TheOpen.{Ty-F}
+use Rattle.sr_types.specs.declared.signature.Param.{Param}
+use Rattle.sr_types.specs.declared.signature.Signature.{Signature}
+use Rattle.sr_types.specs.declared.ty.Ty.{Ty}
 use Rattle.sr_types.specs.declared.ty.Ty.TheVariants.{Untyped}
 use Rattle.sr_types.specs.declared.typed.Outcome.{Outcome}
 use Rattle.sr_types.specs.declared.typed.Outcome.TheVariants.{Broken}
 use Rattle.sr_types.specs.declared.typed.Static.TheVariants.{Unknown}
 use Rattle.sr_types.specs.Outcomes.{computed, met_if}
+use Rattle.sr_types.specs.Signatures.{signature_of}
 use Rattle.sr_types.specs.Storing.{argument_rule}
-use Rattle.sr_types.specs.Types.{fits_type}
+use Rattle.sr_types.specs.Types.{fits_type, is_no_type}
 use Rattle.sr_check_expr.specs.declared.info.FieldInfo.{FieldInfo}
 use Rattle.sr_check_expr.specs.declared.judged.Judged.{Judged}
 use Rattle.sr_check_expr.specs.Judgements.{Judgement, broken_unless, value_found}
@@ -41,7 +41,7 @@ abbrev pub arguments_found : List Param → List Judged → List Finding
 arguments_found [] arguments = []
 arguments_found (formal ∷ formals) [] = []
 arguments_found (formal ∷ formals) (argument ∷ arguments) =
-    broken_unless (argument_rule (out-Param formal).mode (out-Param formal).ty argument.typed) BadType argument.span ++ arguments_found formals arguments
+    broken_unless (argument_rule formal.mode formal.ty argument.typed) BadType argument.span ++ arguments_found formals arguments
 
 -- so do fields
 abbrev pub fields_found : List FieldInfo → List Judged → List Finding
@@ -50,37 +50,36 @@ fields_found (field ∷ fields) [] = []
 fields_found (field ∷ fields) (argument ∷ arguments) =
     broken_unless (fits_type argument.typed.ty field.ty) BadType argument.span ++ fields_found fields arguments
 
--- ---- by what the type of a callee says
+-- ---- by the signature of a callee, where its type is of operations
 
-abbrev pub layer_arguments : {A B : Type 0} → List Judged → Ty-F A B Signature → List Finding
-layer_arguments arguments (Ty-F.Op signature) = arguments_found (out-Signature signature).params arguments
-layer_arguments arguments _ = []
+abbrev pub formals_found : Option Signature → List Judged → List Finding
+formals_found None arguments = []
+formals_found (Some signature) arguments = arguments_found signature.params arguments
 
 -- what is found in the arguments of an invocation
-abbrev pub invoked_found : Ty → List Judged → List Finding
-invoked_found callee arguments = layer_arguments arguments (out-Ty callee)
+abbrev pub invoked_found : List Signature → Ty → List Judged → List Finding
+invoked_found signatures callee arguments = formals_found (signature_of signatures callee) arguments
 
-abbrev pub layer_takes : {A B : Type 0} → List Judged → Ty-F A B Signature → Bool
-layer_takes arguments (Ty-F.Op signature) = as_many (out-Signature signature).params arguments
-layer_takes arguments Ty-F.Untyped = true
-layer_takes arguments _ = false
+-- where there is no signature, what has no type takes what it is given
+abbrev pub takes_by : {A : Type 0} → Option Signature → Bool → List A → Bool
+takes_by None untyped arguments = untyped
+takes_by (Some signature) untyped arguments = as_many signature.params arguments
 
 -- what is invoked is an operation with as many formals
-abbrev pub takes_as_many : Ty → List Judged → Bool
-takes_as_many callee arguments = layer_takes arguments (out-Ty callee)
+abbrev pub takes_as_many : List Signature → Ty → List Judged → Bool
+takes_as_many signatures callee arguments = takes_by (signature_of signatures callee) (is_no_type callee) arguments
 
-abbrev pub layer_returned : {A B : Type 0} → Ty-F A B Signature → Option Ty
-layer_returned (Ty-F.Op signature) = (out-Signature signature).returns
-layer_returned Ty-F.Untyped = Some Untyped
-layer_returned _ = None
+abbrev pub returned_if : Bool → Option Ty
+returned_if true = Some Untyped
+returned_if false = None
+
+abbrev pub returned_in : Option Signature → Bool → Option Ty
+returned_in None untyped = returned_if untyped
+returned_in (Some signature) untyped = signature.returns
 
 -- what an invocation gives back
-abbrev pub returned_by : Ty → Option Ty
-returned_by callee = layer_returned (out-Ty callee)
-
-abbrev pub layer_forms : {A B : Type 0} → Ty-F A B Signature → Forms
-layer_forms (Ty-F.Op signature) = (out-Signature signature).forms
-layer_forms _ = Both
+abbrev pub returned_by : List Signature → Ty → Option Ty
+returned_by signatures callee = returned_in (signature_of signatures callee) (is_no_type callee)
 
 abbrev pub may_call : Forms → Bool
 may_call Both = true
@@ -92,17 +91,21 @@ may_send Both = true
 may_send Call = false
 may_send Send = true
 
--- whether a callee of this type may be called, and whether it may be sent to
-abbrev pub is_callable : Ty → Bool
-is_callable callee = may_call (layer_forms (out-Ty callee))
+abbrev pub forms_in : Option Signature → Forms
+forms_in None = Both
+forms_in (Some signature) = signature.forms
 
-abbrev pub is_sendable : Ty → Bool
-is_sendable callee = may_send (layer_forms (out-Ty callee))
+-- whether a callee of this type may be called, and whether it may be sent to
+abbrev pub is_callable : List Signature → Ty → Bool
+is_callable signatures callee = may_call (forms_in (signature_of signatures callee))
+
+abbrev pub is_sendable : List Signature → Ty → Bool
+is_sendable signatures callee = may_send (forms_in (signature_of signatures callee))
 
 abbrev pub returned_outcome : Bool → Option Ty → Outcome
 returned_outcome met None = Broken
 returned_outcome met (Some ty) = met_if met (computed ty Unknown)
 
 -- an invocation in an expression is of an operation that returns
-abbrev pub invoked_outcome : Ty → List Judged → Outcome
-invoked_outcome callee arguments = returned_outcome (takes_as_many callee arguments) (returned_by callee)
+abbrev pub invoked_outcome : List Signature → Ty → List Judged → Outcome
+invoked_outcome signatures callee arguments = returned_outcome (takes_as_many signatures callee arguments) (returned_by signatures callee)

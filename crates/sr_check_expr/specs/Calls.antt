@@ -31,7 +31,7 @@ parts_found called = called.callee.found ++ all_found called.arguments
 
 -- ---- records
 
-abbrev pub layer_made : {A B C : Type 0} → Facts → List Judged → Ty-F A B C → List Finding
+abbrev pub layer_made : {A : Type 0} → Facts → List Judged → Ty-F A → List Finding
 layer_made facts arguments (Ty-F.Rec spot) = fields_found (record_fields facts.infos spot) arguments
 layer_made facts arguments _ = []
 
@@ -39,7 +39,7 @@ abbrev pub record_if : Bool → Ty → Outcome
 record_if true ty = Met (computed ty Unknown)
 record_if false ty = Broken
 
-abbrev pub layer_record : {A B C : Type 0} → Facts → List Judged → Ty-F A B C → Outcome
+abbrev pub layer_record : {A : Type 0} → Facts → List Judged → Ty-F A → Outcome
 layer_record facts arguments (Ty-F.Rec spot) = record_if (as_many (record_fields facts.infos spot) arguments) (Rec spot)
 layer_record facts arguments Ty-F.Untyped = Met refused_typed
 layer_record facts arguments _ = Broken
@@ -59,14 +59,14 @@ made_judged facts span ty arguments = settled span (all_valued arguments ++ made
 -- what is found at an invocation, whatever becomes of what it gives back
 abbrev pub invocation_found : Facts → Span → Judged → List Judged → List Finding
 invocation_found facts span callee arguments =
-    value_found callee ++ (all_valued arguments ++ (invoked_found callee.typed.ty arguments ++ guard_found facts.here span))
+    value_found callee ++ (all_valued arguments ++ (invoked_found facts.signatures callee.typed.ty arguments ++ guard_found facts.here span))
 
 -- an operation that is invoked in an expression is called
 abbrev pub invoked_judged : Facts → Span → Judged → List Judged → Judgement
 invoked_judged facts span callee arguments =
     settled span
-    (invocation_found facts span callee arguments ++ broken_unless (is_callable callee.typed.ty) BadUse span)
-    (invoked_outcome callee.typed.ty arguments)
+    (invocation_found facts span callee arguments ++ broken_unless (is_callable facts.signatures callee.typed.ty) BadUse span)
+    (invoked_outcome facts.signatures callee.typed.ty arguments)
 
 -- ---- all
 

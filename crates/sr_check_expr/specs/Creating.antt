@@ -56,24 +56,24 @@ machine_valued None = []
 machine_valued (Some machine) = value_found machine ++ broken_unless (machine_rule machine.typed) BadType machine.span
 
 -- there is an argument for each formal
-abbrev pub made_of : List Judged → Ty → Option Ty → Outcome
-made_of arguments instance None = Broken
-made_of arguments instance (Some formals) = met_if (takes_as_many formals arguments) (computed instance Unknown)
+abbrev pub made_of : Facts → List Judged → Ty → Option Ty → Outcome
+made_of facts arguments instance None = Broken
+made_of facts arguments instance (Some formals) = met_if (takes_as_many facts.signatures formals arguments) (computed instance Unknown)
 
-abbrev pub formals_found : List Judged → Option Ty → List Finding
-formals_found arguments None = []
-formals_found arguments (Some formals) = invoked_found formals arguments
+abbrev pub formals_found : Facts → List Judged → Option Ty → List Finding
+formals_found facts arguments None = []
+formals_found facts arguments (Some formals) = invoked_found facts.signatures formals arguments
 
 abbrev pub made_found : Facts → Span → Option Ty → List Judged → Option Judged → List Finding
 made_found facts span formals arguments machine =
-    all_valued arguments ++ (machine_valued machine ++ (formals_found arguments formals ++ guard_found facts.here span))
+    all_valued arguments ++ (machine_valued machine ++ (formals_found facts arguments formals ++ guard_found facts.here span))
 
 -- what is made, by its arguments and its machine
 abbrev pub instance_judged : Facts → Span → Option Decl → List Judged → Option Judged → Judgement
 instance_judged facts span resource arguments machine =
     settled span
     (made_found facts span (resource_type facts.infos resource) arguments machine)
-    (made_of arguments (instance_type resource) (resource_type facts.infos resource))
+    (made_of facts arguments (instance_type resource) (resource_type facts.infos resource))
 
 -- the declaration that is named in a `create`
 abbrev pub resource_named : Facts → QualifiedName → Option Decl

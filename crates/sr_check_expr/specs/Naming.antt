@@ -118,7 +118,7 @@ abbrev pub capability_part : Option Ty → Outcome
 capability_part None = Broken
 capability_part (Some ty) = Met (computed ty Unknown)
 
-abbrev pub layer_field : {A B C : Type 0} → Facts → Typed → List ℕ → Ty-F A B C → Outcome
+abbrev pub layer_field : {A : Type 0} → Facts → Typed → List ℕ → Ty-F A → Outcome
 layer_field facts owner name (Ty-F.Rec spot) = field_part owner (field_named (record_fields facts.infos spot) name)
 layer_field facts owner name (Ty-F.Resource spot) = capability_part (spec_operation facts spot name)
 layer_field facts owner name Ty-F.Untyped = Met refused_typed

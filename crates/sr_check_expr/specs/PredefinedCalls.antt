@@ -46,7 +46,7 @@ abbrev pub info_shape : Option Info → Shape
 info_shape (Some (Enumeration number literals)) = shape.Enum number literals
 info_shape _ = shape.Int
 
-abbrev pub layer_shape : {A B C : Type 0} → Entries → Ty-F A B C → Shape
+abbrev pub layer_shape : {A : Type 0} → Entries → Ty-F A → Shape
 layer_shape infos Ty-F.Bool = shape.Bool
 layer_shape infos Ty-F.Char = shape.Char
 layer_shape infos (Ty-F.Enum spot) = info_shape (info_at infos (name_spot spot))

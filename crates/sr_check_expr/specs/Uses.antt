@@ -4,7 +4,7 @@ use Rattle.sr_types.specs.declared.typed.Typed.{Typed}
 use Rattle.sr_types.specs.declared.ty.Ty.{out-Ty}
 use Rattle.sr_types.specs.declared.ty.Ty.TheOpen.{Ty-F}
 
-abbrev pub layer_read : {A B C : Type 0} → Ty-F A B C → Bool
+abbrev pub layer_read : {A : Type 0} → Ty-F A → Bool
 layer_read Ty-F.Int = true
 layer_read Ty-F.Bool = true
 layer_read Ty-F.Char = true
@@ -16,7 +16,7 @@ layer_read _ = false
 abbrev pub read_rule : Typed → Bool
 read_rule argument = argument.is_place && layer_read (out-Ty argument.ty)
 
-abbrev pub layer_machine : {A B C : Type 0} → Ty-F A B C → Bool
+abbrev pub layer_machine : {A : Type 0} → Ty-F A → Bool
 layer_machine Ty-F.Vm = true
 layer_machine Ty-F.NullCap = true
 layer_machine Ty-F.Untyped = true

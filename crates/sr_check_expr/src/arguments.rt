@@ -1,14 +1,14 @@
 ghost use Rattle.std.specs.Prelude.{◌≡◌, IfOk, OnOk, option_copied};
 ghost use Rattle.sr_names.specs.Notes.{all_noted};
 ghost use Rattle.sr_types.specs.Outcomes.{computed};
-ghost use Rattle.sr_check_expr.specs.Arguments.{as_many, all_valued, arguments_found, fields_found, invoked_found, takes_as_many, returned_by, may_call, may_send, is_callable, is_sendable, returned_outcome, invoked_outcome};
+ghost use Rattle.sr_check_expr.specs.Arguments.{as_many, all_valued, arguments_found, fields_found, invoked_found, takes_as_many, returned_by, returned_if, may_call, may_send, is_callable, is_sendable, returned_outcome, invoked_outcome};
 
 use crate::info::FieldInfo;
 use crate::judged::Judged;
 use crate::literals::known;
 use crate::marks::{note_unless, note_value};
 use sr_names::{Notes, Rule};
-use sr_types::{Forms, Outcome, Param, Static, Ty, fits, takes_argument};
+use sr_types::{Forms, Outcome, Param, Signatures, Static, Ty, fits, takes_argument};
 use sr_value::{Duplicate, NoMemory, Row};
 use std::alloc::Global;
 
@@ -79,15 +79,16 @@ pub(crate) fn note_fields(
 
 /// Notes the arguments that don't fit a callee of this type.
 pub(crate) fn note_invoked(
+    signatures: &Signatures,
     notes: &mut Notes,
     callee: &Ty,
     arguments: &[Judged],
 ) -> Result<(), NoMemory>
-    ensures { OnOk result (notes.new ≡ all_noted notes.old (invoked_found callee.now arguments.now)) }
+    ensures { OnOk result (notes.new ≡ all_noted notes.old (invoked_found signatures.now callee.now arguments.now)) }
 {
-    match callee {
-        Ty::Op(signature) => note_arguments(notes, signature.params.as_slice(), arguments),
-        _ => Ok(()),
+    match signatures.of(callee) {
+        Some(signature) => note_arguments(notes, signature.params.as_slice(), arguments),
+        None => Ok(()),
     }
 }
 
@@ -99,47 +100,62 @@ pub fn as_many<A, B>(these: &[A], others: &[B]) -> bool
 }
 
 /// Whether a callee of this type is an operation with as many formals as there are arguments.
-pub fn takes_as_many(callee: &Ty, arguments: &[Judged]) -> bool
-    ensures { result ≡ takes_as_many callee.now arguments.now }
+pub fn takes_as_many(signatures: &Signatures, callee: &Ty, arguments: &[Judged]) -> bool
+    ensures { result ≡ takes_as_many signatures.now callee.now arguments.now }
 {
-    match callee {
-        Ty::Op(signature) => as_many(signature.params.as_slice(), arguments),
-        Ty::Untyped => true,
-        _ => false,
+    match signatures.of(callee) {
+        Some(signature) => as_many(signature.params.as_slice(), arguments),
+        None => callee.is_untyped(),
     }
 }
 
 /// What an invocation of a callee of this type gives back.
-pub fn returned_by(alloc: Global, callee: &Ty) -> Result<Option<Ty>, NoMemory>
-    ensures { IfOk result (λ returned. returned ≡ returned_by callee.now) }
+pub fn returned_by(
+    alloc: Global,
+    signatures: &Signatures,
+    callee: &Ty,
+) -> Result<Option<Ty>, NoMemory>
+    ensures { IfOk result (λ returned. returned ≡ returned_by signatures.now callee.now) }
 {
-    match callee {
-        Ty::Op(signature) => match &signature.returns {
-            Some(ty) => Ok(Some(ty.get().copy(alloc)?)),
-            None => Ok(None),
-        },
-        Ty::Untyped => Ok(Some(Ty::Untyped)),
-        _ => Ok(None),
+    match signatures.of(callee) {
+        Some(signature) => copied_type(alloc, &signature.returns),
+        None => Ok(returned_if(callee.is_untyped())),
     }
 }
 
-/// Whether a callee of this type may be called.
-pub fn is_callable(callee: &Ty) -> bool
-    ensures { result ≡ is_callable callee.now }
+fn copied_type(alloc: Global, ty: &Option<Ty>) -> Result<Option<Ty>, NoMemory>
+    ensures { IfOk result (λ copied. copied ≡ ty.now) }
 {
-    match callee {
-        Ty::Op(signature) => !matches!(signature.forms, Forms::Send),
-        _ => true,
+    match ty {
+        Some(ty) => Ok(Some(ty.copy(alloc)?)),
+        None => Ok(None),
+    }
+}
+
+/// What an invocation of what is no operation gives back.
+fn returned_if(untyped: bool) -> Option<Ty>
+    ensures { result ≡ returned_if untyped }
+{
+    if untyped { Some(Ty::Untyped) } else { None }
+}
+
+/// Whether a callee of this type may be called.
+pub fn is_callable(signatures: &Signatures, callee: &Ty) -> bool
+    ensures { result ≡ is_callable signatures.now callee.now }
+{
+    match signatures.of(callee) {
+        Some(signature) => !matches!(signature.forms, Forms::Send),
+        None => true,
     }
 }
 
 /// Whether a callee of this type may be sent to.
-pub fn is_sendable(callee: &Ty) -> bool
-    ensures { result ≡ is_sendable callee.now }
+pub fn is_sendable(signatures: &Signatures, callee: &Ty) -> bool
+    ensures { result ≡ is_sendable signatures.now callee.now }
 {
-    match callee {
-        Ty::Op(signature) => !matches!(signature.forms, Forms::Call),
-        _ => true,
+    match signatures.of(callee) {
+        Some(signature) => !matches!(signature.forms, Forms::Call),
+        None => true,
     }
 }
 
@@ -161,11 +177,12 @@ fn returned(met: bool, returned: Option<Ty>) -> Outcome
 /// What an invocation in an expression is.
 pub(crate) fn given_back(
     alloc: Global,
+    signatures: &Signatures,
     callee: &Ty,
     arguments: &[Judged],
 ) -> Result<Outcome, NoMemory>
-    ensures { IfOk result (λ outcome. outcome ≡ invoked_outcome callee.now arguments.now) }
+    ensures { IfOk result (λ outcome. outcome ≡ invoked_outcome signatures.now callee.now arguments.now) }
 {
-    let ty = returned_by(alloc, callee)?;
-    Ok(returned(takes_as_many(callee, arguments), ty))
+    let ty = returned_by(alloc, signatures, callee)?;
+    Ok(returned(takes_as_many(signatures, callee, arguments), ty))
 }

@@ -76,7 +76,7 @@ pub fn note_invocation(
 {
     note_value(notes, callee)?;
     note_values(notes, arguments)?;
-    note_invoked(notes, &callee.typed.ty, arguments)?;
+    note_invoked(&facts.signatures, notes, &callee.typed.ty, arguments)?;
     note_guard(notes, facts.here, span)
 }
 
@@ -93,8 +93,11 @@ fn operation(
     ensures noted { OnOk result (notes.new ≡ all_noted notes.old (invoked_judged facts.now span callee.now arguments.now).found) }
 {
     note_invocation(facts, notes, span, callee, arguments)?;
-    note_unless(notes, is_callable(&callee.typed.ty), Rule::BadUse, span)?;
-    settle(notes, span, given_back(alloc, &callee.typed.ty, arguments)?)
+    let ty = &callee.typed.ty;
+    let allowed = is_callable(&facts.signatures, ty);
+    note_unless(notes, allowed, Rule::BadUse, span)?;
+    let outcome = given_back(alloc, &facts.signatures, ty, arguments)?;
+    settle(notes, span, outcome)
 }
 
 /// Notes what is found at a call in an expression, apart from its parts, and answers what it is.

@@ -71,25 +71,26 @@ fn note_machine(notes: &mut Notes, machine: &Option<Judged>) -> Result<(), NoMem
 }
 
 fn note_formals(
+    facts: &Facts,
     notes: &mut Notes,
     arguments: &[Judged],
     formals: Option<&Ty>,
 ) -> Result<(), NoMemory>
-    ensures { OnOk result (notes.new ≡ all_noted notes.old (formals_found arguments.now (option_copied formals.entry))) }
+    ensures { OnOk result (notes.new ≡ all_noted notes.old (formals_found facts.now arguments.now (option_copied formals.entry))) }
 {
     match formals {
-        Some(formals) => note_invoked(notes, formals, arguments),
+        Some(formals) => note_invoked(&facts.signatures, notes, formals, arguments),
         None => Ok(()),
     }
 }
 
 /// What is made, where the arguments are as many as the formals.
-fn made_of(arguments: &[Judged], instance: Ty, formals: Option<&Ty>) -> Outcome
-    ensures { result ≡ made_of arguments.now instance (option_copied formals.entry) }
+fn made_of(facts: &Facts, arguments: &[Judged], instance: Ty, formals: Option<&Ty>) -> Outcome
+    ensures { result ≡ made_of facts.now arguments.now instance (option_copied formals.entry) }
 {
     match formals {
         Some(formals) => {
-            if takes_as_many(formals, arguments) {
+            if takes_as_many(&facts.signatures, formals, arguments) {
                 Outcome::Met(known(instance, Static::Unknown))
             } else {
                 Outcome::Broken
@@ -114,9 +115,9 @@ pub(crate) fn instance(
     let formals = resource_type(&facts.infos, resource);
     note_values(notes, arguments)?;
     note_machine(notes, machine)?;
-    note_formals(notes, arguments, formals)?;
+    note_formals(facts, notes, arguments, formals)?;
     note_guard(notes, facts.here, span)?;
-    let outcome = made_of(arguments, instance_type(resource), formals);
+    let outcome = made_of(facts, arguments, instance_type(resource), formals);
     settle(notes, span, outcome)
 }
 

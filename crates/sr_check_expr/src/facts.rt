@@ -1,5 +1,6 @@
 use crate::infos::Infos;
 use sr_names::{Decl, Members, Uses};
+use sr_types::Signatures;
 
 /// Where a construct stands.
 #[derive(Clone, Copy)]
@@ -19,5 +20,7 @@ pub struct Facts {
     pub specs: Members,
     /// What declared names are.
     pub infos: Infos,
+    /// The signatures of operations, whose numbers types keep.
+    pub signatures: Signatures,
     pub here: Here,
 }

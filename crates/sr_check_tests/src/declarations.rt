@@ -70,6 +70,19 @@ pub const VARIABLES: &[Case<'_>] = &[
         b"var x : cap (n : int) returns m : int {call} := fun",
         b"S6 Type 1",
     ),
+    (
+        b"var x : cap (n : cap (k : int)); var y : cap (n : cap (m : int)) := x",
+        b"",
+    ),
+    (
+        b"var x : cap (n : cap (k : int)); var y : cap (n : cap (k : bool)) := x",
+        b"S6 Type 1",
+    ),
+    (b"var x : cap () returns n : cap handler; h := x()", b""),
+    (
+        b"proc none() var x : cap (n : cap (k : int)); var y : cap (n : cap (k : bool)) := x end",
+        b"S6 Type 1",
+    ),
     (b"var x : cap vm := v", b""),
     (b"sem x := 3", b""),
     (b"sem x := i", b""),
@@ -119,6 +132,14 @@ pub const TYPES_AND_CONSTANTS: &[Case<'_>] = &[
     (b"type t = string[-1]", b"S6 Type 1"),
     (b"type t = string[0]", b""),
     (b"optype t = (n : int); op x : t; x(1)", b""),
+    (
+        b"optype t = (n, k : cap handler); op x(n : cap t); op y(n : cap (a : cap handler; b : cap handler)); var z := x; z := y",
+        b"",
+    ),
+    (
+        b"optype t = (n, k : cap handler); op x(n : cap t); op y(n : cap (a : cap handler)); var z := x; z := y",
+        b"S6 Type 1",
+    ),
     (b"op x : color", b"S6 Type 1"),
     (b"op x : R", b"S6 Type 1"),
     (b"optype t = (n : i)", b"S6 Type 1"),

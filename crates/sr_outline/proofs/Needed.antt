@@ -2,7 +2,7 @@
 use Rattle.std.proofs.Common.{◌≡◌, ℕ, zero, suc, ◌+◌, ◌-◌, ◌<◌, Bool, true, false, List, [], ◌∷◌, ◌++◌, refl, sym, ap, ◌∙◌, if◌then◌else◌, arith, length, drop, get_or}
 use Rattle.std.proofs.Math.Seq.{drop-cons}
 use Rattle.std.proofs.lemmas.List.Sums.{fold-append}
-use Rattle.sr_outline.specs.Outline.{imports_at, member, with_needed}
+use Rattle.sr_outline.specs.Outline.{imports_at, member, with_needed, with_number}
 
 -- at the end of the depth nothing is put
 pub needed_zero : (depth : ℕ) (imports : List (List ℕ)) (there wanted : List ℕ) → depth ≡ 0 → with_needed depth imports there wanted ≡ there
@@ -14,19 +14,19 @@ pub needed_left : (depth : ℕ) (imports : List (List ℕ)) (there : List ℕ) (
     → with_needed depth imports there (global ∷ []) ≡ there
 needed_left zero imports there global h = refl
 needed_left (suc depth) imports there global h =
-    ap (λ (found : Bool). if found then there else with_needed depth imports there (imports_at imports global) ++ global ∷ []) h
+    ap (λ (found : Bool). if found then there else with_number (with_needed depth imports there (imports_at imports global)) global) h
 
 needed_at_suc : (depth : ℕ) (imports : List (List ℕ)) (there : List ℕ) (global : ℕ)
     → member global there ≡ false
-    → with_needed (suc depth) imports there (global ∷ []) ≡ with_needed depth imports there (imports_at imports global) ++ global ∷ []
+    → with_needed (suc depth) imports there (global ∷ []) ≡ with_number (with_needed depth imports there (imports_at imports global)) global
 needed_at_suc depth imports there global h =
-    ap (λ (found : Bool). if found then there else with_needed depth imports there (imports_at imports global) ++ global ∷ []) h
+    ap (λ (found : Bool). if found then there else with_number (with_needed depth imports there (imports_at imports global)) global) h
 
 -- another is put behind those that it imports
 pub needed_put : (depth : ℕ) (imports : List (List ℕ)) (there : List ℕ) (global : ℕ)
     → 0 < depth
     → member global there ≡ false
-    → with_needed depth imports there (global ∷ []) ≡ with_needed (depth - 1) imports there (imports_at imports global) ++ global ∷ []
+    → with_needed depth imports there (global ∷ []) ≡ with_number (with_needed (depth - 1) imports there (imports_at imports global)) global
 needed_put depth imports there global p h =
     let e : depth ≡ suc (depth - 1) = omega arith in
     ap (λ (d : ℕ). with_needed d imports there (global ∷ [])) e ∙ needed_at_suc (depth - 1) imports there global h
@@ -35,7 +35,7 @@ pub needed_append : (depth : ℕ) (imports : List (List ℕ)) (there xs ys : Lis
     → with_needed depth imports (with_needed depth imports there xs) ys ≡ with_needed depth imports there (xs ++ ys)
 needed_append zero imports there xs ys = refl
 needed_append (suc depth) imports there xs ys =
-    sym (fold-append (λ made global. if member global made then made else with_needed depth imports made (imports_at imports global) ++ global ∷ []) there xs ys)
+    sym (fold-append (λ made global. if member global made then made else with_number (with_needed depth imports made (imports_at imports global)) global) there xs ys)
 
 -- one that is wanted, and then those behind it
 pub needed_next : (depth : ℕ) (imports : List (List ℕ)) (there wanted : List ℕ) (i otherwise : ℕ) → i < length wanted

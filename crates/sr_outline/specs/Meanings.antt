@@ -17,11 +17,12 @@ use Rattle.sr_names.specs.Uses.{meaning_at}
 use Rattle.sr_tree.specs.declared.expr.Expr.{Expr}
 use Rattle.sr_tree.specs.declared.expr.Invocation.{Invocation, out-Invocation}
 use Rattle.sr_tree.specs.declared.name.Name.{Name}
-use Rattle.sr_types.specs.declared.ty.Param.{Param}
-use Rattle.sr_types.specs.declared.ty.Signature.{Signature, out-Signature}
+use Rattle.sr_types.specs.declared.signature.Param.{Param}
+use Rattle.sr_types.specs.declared.signature.Signature.{Signature}
 use Rattle.sr_types.specs.declared.ty.Ty.{Ty, out-Ty}
 use Rattle.sr_types.specs.declared.ty.Ty.TheOpen.{Ty-F}
 use Rattle.sr_types.specs.declared.ty.Ty.TheVariants.{Untyped}
+use Rattle.sr_types.specs.Signatures.{signature_of}
 use Rattle.sr_types.specs.declared.typed.Static.{Static}
 use Rattle.sr_types.specs.declared.typed.Static.TheVariants.{Known}
 use Rattle.sr_value.specs.declared.place.Span.{Span}
@@ -70,27 +71,27 @@ info_type _ = Untyped
 abbrev pub type_at : Facts → Spot → Ty
 type_at facts spot = unwrap_or (option_map info_type (info_at facts.infos spot)) Untyped
 
-abbrev pub layer_params : {A B : Type 0} → Ty-F A B Signature → List Param
-layer_params (Ty-F.Op signature) = (out-Signature signature).params
-layer_params _ = []
+abbrev pub params_in : Option Signature → List Param
+params_in None = []
+params_in (Some signature) = signature.params
 
 -- the formals of an operation of this type
-abbrev pub params_of : Ty → List Param
-params_of ty = layer_params (out-Ty ty)
+abbrev pub params_of : Facts → Ty → List Param
+params_of facts ty = params_in (signature_of facts.signatures ty)
 
-abbrev pub layer_returns : {A B : Type 0} → Ty-F A B Signature → Option Ty
-layer_returns (Ty-F.Op signature) = (out-Signature signature).returns
-layer_returns _ = None
+abbrev pub returned_in : Option Signature → Option Ty
+returned_in None = None
+returned_in (Some signature) = signature.returns
 
 -- what an operation of this type returns
-abbrev pub returned_by : Ty → Option Ty
-returned_by ty = layer_returns (out-Ty ty)
+abbrev pub returned_by : Facts → Ty → Option Ty
+returned_by facts ty = returned_in (signature_of facts.signatures ty)
 
 abbrev pub info_literals : Info → ℕ
 info_literals (info.Enumeration number literals) = literals
 info_literals _ = 0
 
-abbrev pub layer_literals : {A B C : Type 0} → Facts → Ty-F A B C → ℕ
+abbrev pub layer_literals : {A : Type 0} → Facts → Ty-F A → ℕ
 layer_literals facts (Ty-F.Enum spot) = unwrap_or (option_map info_literals (info_at facts.infos (name_spot spot))) 0
 layer_literals facts _ = 0
 

@@ -175,7 +175,7 @@ shared_of facts components =
 
 -- what a received operation returns goes by the statement that receives it
 abbrev pub receive_returned : Facts → Span → Spot → List Spot
-receive_returned facts span operation = maybe (λ returned. spot_of span ∷ []) (returned_by (type_at facts operation))
+receive_returned facts span operation = maybe (λ returned. spot_of span ∷ []) (returned_by facts (type_at facts operation))
 
 -- the formals of a `receive` go by the places that they are assigned to
 abbrev pub place_spots : List Expr → List Spot

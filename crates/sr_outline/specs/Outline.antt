@@ -79,7 +79,7 @@ global_spot (Some decl) = by decl.sort
     by _ = []
 
 abbrev pub member : ℕ → List ℕ → Bool
-member n ns = list_any (λ m. m == n) ns
+member n ns = list_any (λ m. n == m) ns
 
 abbrev pub with_number : List ℕ → ℕ → List ℕ
 with_number numbers number = if member number numbers then numbers else numbers ++ number ∷ []
@@ -102,7 +102,7 @@ imports_at imports global = unwrap_or (slice_get imports global) []
 abbrev pub with_needed : ℕ → List (List ℕ) → List ℕ → List ℕ → List ℕ
 with_needed zero imports there wanted = there
 with_needed (suc depth) imports there wanted =
-    fold (λ made global. if member global made then made else with_needed depth imports made (imports_at imports global) ++ global ∷ []) there wanted
+    fold (λ made global. if member global made then made else with_number (with_needed depth imports made (imports_at imports global)) global) there wanted
 
 -- directly or through globals
 abbrev pub needs_of : List (List ℕ) → ℕ → List ℕ

@@ -178,7 +178,7 @@ shapes_of facts components = with_types facts [] (types_in components)
 -- ---- types that aren't written
 
 -- A type has no bounds: its strings have 65,535 bytes, and its arrays no items. Records have their declared shape.
-abbrev pub layer_of_type : Shapes → Ty-F Shape (Unit {0}) (Unit {0}) → Shape
+abbrev pub layer_of_type : Shapes → Ty-F Shape → Shape
 layer_of_type shapes Ty-F.Int = shape.Int
 layer_of_type shapes Ty-F.Bool = shape.Bool
 layer_of_type shapes Ty-F.Char = shape.Char
@@ -190,4 +190,4 @@ layer_of_type shapes (Ty-F.Matrix item) = shape.Arr (Two (pos 1) (pos 0) (pos 1)
 layer_of_type shapes _ = shape.Capa
 
 abbrev pub shape_of_type : Shapes → Ty → Shape
-shape_of_type shapes = fold-Ty Shape (Unit {0}) (Unit {0}) (layer_of_type shapes) (λ param. tt) (λ signature. tt)
+shape_of_type shapes = fold-Ty Shape (layer_of_type shapes)

@@ -5,6 +5,7 @@ ghost use Rattle.std.specs.Prelude.{◌≡◌, [], ◌∷◌, ◌++◌, IfOk, On
 ghost use Rattle.sr_outline.specs.Outline as outline;
 ghost use Rattle.sr_tables.specs.Parts.{components_in, in_item};
 
+use crate::globals::Globals;
 use sr_check_expr::Facts;
 use sr_names::{Meaning, Sort, Spot};
 use sr_tables::Spots;
@@ -12,40 +13,19 @@ use sr_tree::{Component, File, Item, Name, SpecItem};
 use sr_value::{NoMemory, Row};
 use std::alloc::Global;
 
-fn is_among(numbers: &[u32], number: u32) -> bool
-    ensures { result ≡ outline.member number numbers.now }
-{
-    for other in numbers {
-        if *other == number {
-            return true;
-        }
-    }
-    false
-}
-
-/// Puts a number behind others, unless it is there.
-fn insert(numbers: &mut Row<u32>, number: u32) -> Result<(), NoMemory>
-    ensures { OnOk result (numbers.new ≡ outline.with_number numbers.old number) }
-{
-    if is_among(numbers.as_slice(), number) {
-        return Ok(());
-    }
-    numbers.push(number)
-}
-
 /// Puts the global that a name means behind others.
 fn note_name(
     name: &Name,
     facts: &Facts,
     components: &Spots,
-    imports: &mut Row<u32>,
+    imports: &mut Globals,
 ) -> Result<(), NoMemory>
     ensures { OnOk result (imports.new ≡ fold outline.with_number imports.old (outline.globals_named facts.now components.now name.now)) }
 {
     match facts.uses.get(Spot::of(name.span)) {
         Some(Meaning::Declared(decl)) => {
             if decl.sort == Sort::Global {
-                return insert(imports, components.number(decl.spot)?);
+                return imports.insert(components.number(decl.spot)?);
             }
             Ok(())
         }
@@ -58,7 +38,7 @@ fn note_names(
     names: &[Name],
     facts: &Facts,
     components: &Spots,
-    imports: &mut Row<u32>,
+    imports: &mut Globals,
 ) -> Result<(), NoMemory>
     ensures { OnOk result (imports.new ≡ fold outline.with_number imports.old (flat_map (outline.globals_named facts.now components.now) names.now)) }
 {
@@ -72,7 +52,7 @@ fn note_spec_item(
     item: &SpecItem,
     facts: &Facts,
     components: &Spots,
-    imports: &mut Row<u32>,
+    imports: &mut Globals,
 ) -> Result<(), NoMemory>
     ensures { OnOk result (imports.new ≡ fold outline.with_number imports.old (outline.item_imports facts.now components.now item.now)) }
 {
@@ -88,7 +68,7 @@ fn note_spec(
     items: &[SpecItem],
     facts: &Facts,
     components: &Spots,
-    imports: &mut Row<u32>,
+    imports: &mut Globals,
 ) -> Result<(), NoMemory>
     ensures { OnOk result (imports.new ≡ fold outline.with_number imports.old (flat_map (outline.item_imports facts.now components.now) items.now)) }
 {
@@ -102,7 +82,7 @@ fn note_body(
     items: &[Item],
     facts: &Facts,
     components: &Spots,
-    imports: &mut Row<u32>,
+    imports: &mut Globals,
 ) -> Result<(), NoMemory>
     ensures { OnOk result (imports.new ≡ fold outline.with_number imports.old (flat_map (in_item (outline.item_imports facts.now components.now)) items.now)) }
 {
@@ -123,10 +103,10 @@ fn imports_of(
 ) -> Result<Row<u32>, NoMemory>
     ensures { IfOk result (λ imports. imports ≡ outline.imports_of facts.now components.now component.now) }
 {
-    let mut imports = Row::new(alloc);
+    let mut imports = Globals::new(alloc);
     note_spec(component.spec(), facts, components, &mut imports)?;
     note_body(component.body(), facts, components, &mut imports)?;
-    Ok(imports)
+    imports.into_row(alloc)
 }
 
 /// Puts the globals that each of these components imports behind those of others.
@@ -184,18 +164,18 @@ fn push_global(
     depth: usize,
     imports: &[Row<u32>],
     global: u32,
-    there: &mut Row<u32>,
+    there: &mut Globals,
 ) -> Result<(), NoMemory>
     ensures { OnOk result (there.new ≡ outline.with_needed depth imports.now there.old (global ∷ [])) }
 {
     if depth == 0 {
         return Ok(());
     }
-    if is_among(there.as_slice(), global) {
+    if there.contains(global) {
         return Ok(());
     }
     push_needed(depth - 1, imports, imports_at(imports, global), there)?;
-    there.push(global)
+    there.insert(global)
 }
 
 /// Puts the globals that are wanted behind those that there are, each behind those that it imports. No chain of imports
@@ -206,7 +186,7 @@ fn push_needed(
     depth: usize,
     imports: &[Row<u32>],
     wanted: &[u32],
-    there: &mut Row<u32>,
+    there: &mut Globals,
 ) -> Result<(), NoMemory>
     ensures { OnOk result (there.new ≡ outline.with_needed depth imports.now there.old wanted.now) }
 {
@@ -220,12 +200,12 @@ fn push_needed(
 pub fn needs_of(alloc: Global, imports: &[Row<u32>], number: u32) -> Result<Row<u32>, NoMemory>
     ensures { IfOk result (λ needs. needs ≡ outline.needs_of imports.now number) }
 {
-    let mut there = Row::new(alloc);
+    let mut there = Globals::new(alloc);
     push_needed(
         imports.len(),
         imports,
         imports_at(imports, number),
         &mut there,
     )?;
-    Ok(there)
+    there.into_row(alloc)
 }

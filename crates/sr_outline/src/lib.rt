@@ -4,6 +4,7 @@
 //! has these lists.
 #![tactic(auto)]
 
+mod globals;
 mod heads;
 mod imports;
 mod meanings;

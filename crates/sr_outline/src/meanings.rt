@@ -74,22 +74,22 @@ pub fn type_at(alloc: Global, facts: &Facts, spot: Spot) -> Result<Ty, NoMemory>
 }
 
 /// Whether an operation of this type returns something.
-fn returns(ty: &Ty) -> bool
-    ensures { result ≡ is_some (meanings.returned_by ty.now) }
+fn returns(facts: &Facts, ty: &Ty) -> bool
+    ensures { result ≡ is_some (meanings.returned_by facts.now ty.now) }
 {
-    match ty {
-        Ty::Op(signature) => signature.returns.is_some(),
-        _ => false,
+    match facts.signatures.of(ty) {
+        Some(signature) => signature.returns.is_some(),
+        None => false,
     }
 }
 
 /// Whether the operation that is declared at a spot returns something.
 pub fn returns_something(facts: &Facts, spot: Spot) -> bool
-    ensures { result ≡ is_some (meanings.returned_by (meanings.type_at facts.now spot)) }
+    ensures { result ≡ is_some (meanings.returned_by facts.now (meanings.type_at facts.now spot)) }
 {
     match facts.infos.get(spot) {
-        Some(Info::Value(typed)) => returns(&typed.ty),
-        Some(Info::Operation { ty, .. }) => returns(ty),
+        Some(Info::Value(typed)) => returns(facts, &typed.ty),
+        Some(Info::Operation { ty, .. }) => returns(facts, ty),
         _ => false,
     }
 }

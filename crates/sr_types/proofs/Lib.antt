@@ -1,2 +1,3 @@
+pub mod Numbers
 pub mod OperatorLemmas
-pub mod Signatures
+pub mod Places

@@ -29,7 +29,7 @@ abbrev pub are_counted : List Repeated → Bool
 are_counted parts = list_all is_counted parts
 
 -- from arrays of one dimension comes one of two, from arrays of two none, and from other values one of one
-abbrev pub layer_array : {A B : Type 0} → Ty → Bool → Ty-F Ty A B → Outcome
+abbrev pub layer_array : Ty → Bool → Ty-F Ty → Outcome
 layer_array ty met (Ty-F.Vector item) = unknown_if met (Matrix item)
 layer_array ty met (Ty-F.Matrix item) = Broken
 layer_array ty met Ty-F.Untyped = unknown_if met Untyped

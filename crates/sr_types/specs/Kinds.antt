@@ -5,23 +5,23 @@ use Rattle.sr_types.specs.declared.ty.Ty.TheOpen.{Ty-F}
 use Rattle.sr_value.specs.declared.predefined.Dimension.{Dimension}
 use Rattle.sr_value.specs.declared.predefined.Dimension.TheVariants.{First, Second}
 
-abbrev pub layer_int : {A B C : Type 0} → Ty-F A B C → Bool
+abbrev pub layer_int : {A : Type 0} → Ty-F A → Bool
 layer_int Ty-F.Int = true
 layer_int Ty-F.Untyped = true
 layer_int _ = false
 
-abbrev pub layer_bool : {A B C : Type 0} → Ty-F A B C → Bool
+abbrev pub layer_bool : {A : Type 0} → Ty-F A → Bool
 layer_bool Ty-F.Bool = true
 layer_bool Ty-F.Untyped = true
 layer_bool _ = false
 
-abbrev pub layer_text : {A B C : Type 0} → Ty-F A B C → Bool
+abbrev pub layer_text : {A : Type 0} → Ty-F A → Bool
 layer_text Ty-F.Char = true
 layer_text Ty-F.Str = true
 layer_text Ty-F.Untyped = true
 layer_text _ = false
 
-abbrev pub layer_ordered : {A B C : Type 0} → Ty-F A B C → Bool
+abbrev pub layer_ordered : {A : Type 0} → Ty-F A → Bool
 layer_ordered Ty-F.Int = true
 layer_ordered Ty-F.Char = true
 layer_ordered Ty-F.Str = true
@@ -29,18 +29,18 @@ layer_ordered (Ty-F.Enum spot) = true
 layer_ordered Ty-F.Untyped = true
 layer_ordered _ = false
 
-abbrev pub layer_compared : {A B C : Type 0} → Ty-F A B C → Bool
+abbrev pub layer_compared : {A : Type 0} → Ty-F A → Bool
 layer_compared (Ty-F.Rec spot) = false
 layer_compared (Ty-F.Vector item) = false
 layer_compared (Ty-F.Matrix item) = false
 layer_compared _ = true
 
-abbrev pub layer_str : {A B C : Type 0} → Ty-F A B C → Bool
+abbrev pub layer_str : {A : Type 0} → Ty-F A → Bool
 layer_str Ty-F.Str = true
 layer_str Ty-F.Untyped = true
 layer_str _ = false
 
-abbrev pub layer_numbered : {A B C : Type 0} → Ty-F A B C → Bool
+abbrev pub layer_numbered : {A : Type 0} → Ty-F A → Bool
 layer_numbered Ty-F.Bool = true
 layer_numbered Ty-F.Char = true
 layer_numbered Ty-F.Str = true
@@ -48,7 +48,7 @@ layer_numbered (Ty-F.Enum spot) = true
 layer_numbered Ty-F.Untyped = true
 layer_numbered _ = false
 
-abbrev pub layer_ends : {A B C : Type 0} → Ty-F A B C → Bool
+abbrev pub layer_ends : {A : Type 0} → Ty-F A → Bool
 layer_ends Ty-F.Int = true
 layer_ends Ty-F.Bool = true
 layer_ends Ty-F.Char = true
@@ -56,7 +56,7 @@ layer_ends (Ty-F.Enum spot) = true
 layer_ends Ty-F.Untyped = true
 layer_ends _ = false
 
-abbrev pub layer_neighbours : {A B C : Type 0} → Ty-F A B C → Bool
+abbrev pub layer_neighbours : {A : Type 0} → Ty-F A → Bool
 layer_neighbours Ty-F.Int = true
 layer_neighbours Ty-F.Char = true
 layer_neighbours (Ty-F.Enum spot) = true
@@ -67,7 +67,7 @@ abbrev pub is_first : Dimension → Bool
 is_first First = true
 is_first Second = false
 
-abbrev pub layer_dimension : {A B C : Type 0} → Ty-F A B C → Dimension → Bool
+abbrev pub layer_dimension : {A : Type 0} → Ty-F A → Dimension → Bool
 layer_dimension (Ty-F.Vector item) dimension = is_first dimension
 layer_dimension (Ty-F.Matrix item) dimension = true
 layer_dimension Ty-F.Untyped dimension = true

@@ -1,12 +1,15 @@
 pub mod Aggregates
 pub mod Conversions
+pub mod Decided
 pub mod Equality
+pub mod Hashes
 pub mod Kinds
 pub mod Laws
 pub mod Operators
 pub mod Outcomes
 pub mod Parts
 pub mod Predefined
+pub mod Signatures
 pub mod Statics
 pub mod Storing
 pub mod Types

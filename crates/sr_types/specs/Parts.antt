@@ -10,14 +10,14 @@ use Rattle.sr_types.specs.declared.ty.Ty.TheOpen.{Ty-F}
 use Rattle.sr_types.specs.declared.ty.Ty.TheVariants.{Char, Untyped}
 
 -- one index picks an item of an array of one dimension, and a char of a string
-abbrev pub layer_item : {A B : Type 0} → Ty-F Ty A B → Option Ty
+abbrev pub layer_item : Ty-F Ty → Option Ty
 layer_item (Ty-F.Vector item) = Some item
 layer_item Ty-F.Str = Some Char
 layer_item Ty-F.Untyped = Some Untyped
 layer_item _ = None
 
 -- two indices pick an item of an array of two dimensions
-abbrev pub layer_item_of_two : {A B : Type 0} → Ty-F Ty A B → Option Ty
+abbrev pub layer_item_of_two : Ty-F Ty → Option Ty
 layer_item_of_two (Ty-F.Matrix item) = Some item
 layer_item_of_two Ty-F.Untyped = Some Untyped
 layer_item_of_two _ = None

@@ -1,14 +1,13 @@
 -- When two types are equal, and which types a place takes.
 use Rattle.std.specs.Prelude.{◌≡◌, ◌⊎◌, Bool, true, false, ◌&&◌, ◌||◌, IsTrue}
-use Rattle.sr_types.specs.declared.ty.Param.{Param}
-use Rattle.sr_types.specs.declared.ty.Signature.{Signature}
 use Rattle.sr_types.specs.declared.ty.Ty.{Ty, out-Ty}
 use Rattle.sr_types.specs.declared.ty.Ty.TheOpen.{Ty-F}
 use Rattle.sr_types.specs.declared.ty.Ty.TheVariants.{NullCap, Untyped}
 use Rattle.sr_types.specs.Equality.{same_type}
 
--- A type keeps its declaration, its dimensions and type of items, its resource, or the modes, types and
--- forms of its operations, and nothing besides: two types are equal where they are the same
+-- A type keeps its declaration, its dimensions and type of items, its resource, or the number of the signature
+-- of its operations, and nothing besides: two types are equal where they are the same. Types of operations are so
+-- where they are of the same signature, which has one number
 abbrev pub SameType : Ty → Ty → Type 0
 SameType a b = a ≡ b
 
@@ -18,7 +17,7 @@ pub record IsEquivalence {A : Type 0} (R : A → A → Type 0) : Type 0 where
   pub symmetric : (a b : A) → R a b → R b a
   pub transitive : (a b c : A) → R a b → R b c → R a c
 
-abbrev pub layer_is_cap : {A B C : Type 0} → Ty-F A B C → Bool
+abbrev pub layer_is_cap : {A : Type 0} → Ty-F A → Bool
 layer_is_cap (Ty-F.Resource resource) = true
 layer_is_cap (Ty-F.Op signature) = true
 layer_is_cap Ty-F.Vm = true
@@ -29,7 +28,7 @@ layer_is_cap _ = false
 abbrev pub is_cap_type : Ty → Bool
 is_cap_type ty = layer_is_cap (out-Ty ty)
 
-abbrev pub layer_is_null : {A B C : Type 0} → Ty-F A B C → Bool
+abbrev pub layer_is_null : {A : Type 0} → Ty-F A → Bool
 layer_is_null Ty-F.NullCap = true
 layer_is_null _ = false
 
@@ -37,7 +36,7 @@ layer_is_null _ = false
 abbrev pub is_null_type : Ty → Bool
 is_null_type ty = layer_is_null (out-Ty ty)
 
-abbrev pub layer_of_nulls : {A B : Type 0} → Ty-F Ty A B → Bool
+abbrev pub layer_of_nulls : Ty-F Ty → Bool
 layer_of_nulls (Ty-F.Vector item) = is_null_type item
 layer_of_nulls (Ty-F.Matrix item) = is_null_type item
 layer_of_nulls Ty-F.NullCap = true
@@ -47,7 +46,7 @@ layer_of_nulls _ = false
 abbrev pub is_of_nulls : Ty → Bool
 is_of_nulls ty = layer_of_nulls (out-Ty ty)
 
-abbrev pub layer_is_untyped : {A B C : Type 0} → Ty-F A B C → Bool
+abbrev pub layer_is_untyped : {A : Type 0} → Ty-F A → Bool
 layer_is_untyped Ty-F.Untyped = true
 layer_is_untyped _ = false
 
@@ -55,7 +54,7 @@ layer_is_untyped _ = false
 abbrev pub is_no_type : Ty → Bool
 is_no_type ty = layer_is_untyped (out-Ty ty)
 
-abbrev pub layer_nulls : Ty-F Ty Param Signature → Ty-F Ty Param Signature → Bool
+abbrev pub layer_nulls : Ty-F Ty → Ty-F Ty → Bool
 layer_nulls (Ty-F.Vector item) (Ty-F.Vector item') = is_null_type item && is_cap_type item'
 layer_nulls (Ty-F.Matrix item) (Ty-F.Matrix item') = is_null_type item && is_cap_type item'
 layer_nulls _ _ = false

@@ -2,8 +2,9 @@
 //! expressions put on the types of their operands.
 //!
 //! A type keeps just what equality looks at: an enumeration or a record type is its declaration, a
-//! string type has no length and an array type no bounds, and the names of formals are left out. So two
-//! types are equal where they are the same tree.
+//! string type has no length and an array type no bounds, the type of an operation is the number of its
+//! signature, and the names of formals are left out. Each signature of a program has one number. So two types
+//! are equal where they are the same.
 //!
 //! A rule gets what the operands of a construct are, and gives what the whole is, or that the rule is
 //! broken. An operand whose own rule was broken has no type: it may be of any type, and breaks no rule.
@@ -12,12 +13,14 @@
 mod aggregates;
 mod conversions;
 mod fitting;
+mod hashing;
 mod kinds;
 pub mod laws;
 mod operators;
 mod parts;
 mod predefined;
 mod signature;
+mod signatures;
 mod spot;
 mod storing;
 mod ty;
@@ -33,8 +36,9 @@ pub use predefined::{
     absolute, array_bound, end_of_file, high, least_or_greatest, low, neighbour, own_instance,
     own_machine, string_length,
 };
-pub use signature::{Forms, Mode};
+pub use signature::{Forms, Mode, Param, Signature};
+pub use signatures::Signatures;
 pub use spot::Spot;
 pub use storing::{may_store, takes_argument};
-pub use ty::{Param, Signature, Ty, same};
+pub use ty::{Ty, same};
 pub use typed::{Outcome, Static, Typed, refused};

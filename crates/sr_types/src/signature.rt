@@ -1,7 +1,9 @@
 ghost use Rattle.std.specs.Prelude.{◌≡◌, ◌↔◌, IsTrue};
 ghost use Rattle.sr_types.specs.Equality.{same_mode, same_forms};
 
-use sr_value::Compare;
+use crate::ty::Ty;
+use sr_value::{Compare, Duplicate, NoMemory, Row};
+use std::alloc::Global;
 
 /// How a formal is passed.
 #[derive(Clone, Copy, Debug, PartialEq, Eq)]
@@ -23,6 +25,22 @@ pub enum Forms {
     Call,
     /// `send` alone, as of a semaphore.
     Send,
+}
+
+/// What a signature says of one of its formals.
+#[derive(Debug, Drop)]
+pub struct Param {
+    pub mode: Mode,
+    pub ty: Ty,
+}
+
+/// A signature: what the types of operations say of them.
+#[derive(Debug, Drop)]
+pub struct Signature {
+    pub params: Row<Param>,
+    /// The type of what it returns, where it returns something.
+    pub returns: Option<Ty>,
+    pub forms: Forms,
 }
 
 impl Compare for Mode {
@@ -48,5 +66,14 @@ impl Compare for Forms {
             Forms::Call => matches!(other, Forms::Call),
             Forms::Send => matches!(other, Forms::Send),
         }
+    }
+}
+
+impl Duplicate for Param {
+    fn copy(&self, alloc: Global) -> Result<Param, NoMemory> {
+        Ok(Param {
+            mode: self.mode,
+            ty: self.ty.copy(alloc)?,
+        })
     }
 }

@@ -1,9 +1,15 @@
-use sr_types::{Forms, Mode, Param, Signature, Spot, Ty, fits, same};
+use sr_types::{Forms, Mode, Param, Signature, Signatures, Spot, Ty, fits, same};
 use sr_value::{Boxed, Duplicate, Row};
 use std::alloc::Global;
 use std::test::Fail;
 
-fn op(alloc: Global, mode: Mode, returns: bool, forms: Forms) -> Result<Ty, Fail> {
+fn op(
+    alloc: Global,
+    signatures: &mut Signatures,
+    mode: Mode,
+    returns: bool,
+    forms: Forms,
+) -> Result<Ty, Fail> {
     let params = Row::from_vec(vec![in alloc;
         Param { mode, ty: Ty::Str },
         Param {
@@ -11,16 +17,12 @@ fn op(alloc: Global, mode: Mode, returns: bool, forms: Forms) -> Result<Ty, Fail
             ty: Ty::Vm
         },
     ]?);
-    let returned = if returns {
-        Some(Boxed::new(alloc, Ty::Int)?)
-    } else {
-        None
-    };
-    Ok(Ty::Op(Signature {
+    let number = signatures.add(Signature {
         params,
-        returns: returned,
+        returns: if returns { Some(Ty::Int) } else { None },
         forms,
-    }))
+    })?;
+    Ok(Ty::Op(number))
 }
 
 #[test]
@@ -28,7 +30,8 @@ fn types(rt: HostRuntime) -> Result<(), Fail> {
     let alloc = rt.alloc();
     let here = Spot { file: 0, byte: 7 };
     let there = Spot { file: 1, byte: 7 };
-    let call = op(alloc, Mode::Var, true, Forms::Call)?;
+    let mut signatures = Signatures::new(alloc);
+    let call = op(alloc, &mut signatures, Mode::Var, true, Forms::Call)?;
     let rows = [
         (Ty::Enum(here), Ty::Enum(here), true),
         (Ty::Enum(here), Ty::Enum(there), false),
@@ -50,22 +53,22 @@ fn types(rt: HostRuntime) -> Result<(), Fail> {
         ),
         (
             call.copy(alloc)?,
-            op(alloc, Mode::Var, true, Forms::Call)?,
+            op(alloc, &mut signatures, Mode::Var, true, Forms::Call)?,
             true,
         ),
         (
             call.copy(alloc)?,
-            op(alloc, Mode::Res, true, Forms::Call)?,
+            op(alloc, &mut signatures, Mode::Res, true, Forms::Call)?,
             false,
         ),
         (
             call.copy(alloc)?,
-            op(alloc, Mode::Var, false, Forms::Call)?,
+            op(alloc, &mut signatures, Mode::Var, false, Forms::Call)?,
             false,
         ),
         (
             call.copy(alloc)?,
-            op(alloc, Mode::Var, true, Forms::Both)?,
+            op(alloc, &mut signatures, Mode::Var, true, Forms::Both)?,
             false,
         ),
         (Ty::Resource(here), Ty::Vm, false),
