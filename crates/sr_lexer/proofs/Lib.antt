@@ -1,5 +1,6 @@
 pub mod ChainLemmas
 pub mod LiteralLemmas
+pub mod OrderLemmas
 pub mod OutcomeLemmas
 pub mod PieceLemmas
 pub mod SymbolLemmas

@@ -3,6 +3,7 @@ ghost use Rattle.sr_text.specs.declared.refusal.Refusal.{Refusal};
 ghost use Rattle.sr_tree.specs.declared.token.Token.{Token};
 ghost use Rattle.sr_tree.specs.declared.token.Sign.{Sign};
 ghost use Rattle.sr_tree.specs.declared.token.Word.{Word};
+ghost use Rattle.sr_order.specs.Order.{Ascend, token_spans};
 ghost use Rattle.sr_lexer.specs.Symbols.{word_of, word_spelling, sign_at, sign_spelling, begins_with_sign};
 ghost use Rattle.sr_lexer.specs.Tokens.{Lexes, RefusesToLex};
 
@@ -29,4 +30,11 @@ pub fn one_spelling()
         → length (sign_spelling other) ≤ length (sign_spelling found) }
     ensures none { (bytes : List ℕ) (other : Sign)
         → sign_at bytes ≡ None → begins_with_sign bytes other ≡ false }
+{}
+
+/// A law of the tokens of a file: each has the number of the file in its span, and begins behind the beginning of the
+/// one before.
+pub fn tokens_ascend()
+    ensures { (file : ℕ) (bytes : List ℕ) (tokens : List Token)
+        → Lexes file bytes tokens → Ascend file 0 (token_spans tokens) }
 {}

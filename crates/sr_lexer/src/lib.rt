@@ -13,7 +13,7 @@ mod symbol;
 #[cfg(test)]
 mod tests;
 
-pub use laws::{one_outcome, one_spelling};
+pub use laws::{one_outcome, one_spelling, tokens_ascend};
 pub use lexer::lex;
 pub use limits::profile;
 pub use sr_tree::{Sign, Token, TokenKind, Tokens, Word};

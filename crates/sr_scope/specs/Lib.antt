@@ -6,5 +6,7 @@ pub mod Items
 pub mod Names
 pub mod Procs
 pub mod Resolved
+pub mod Served
 pub mod Statements
 pub mod Types
+pub mod Uses

@@ -9,10 +9,12 @@ mod declarations;
 mod declares;
 mod exprs;
 mod items;
+mod laws;
 mod names;
 mod procs;
 mod program;
 mod statements;
 mod types;
 
+pub use laws::{one_meaning, procs_mean_shared, served_once};
 pub use program::{Names, refusal_of, resolve};

@@ -1,0 +1,9 @@
+pub mod DeclNames
+pub mod ExprNames
+pub mod FileNames
+pub mod Files
+pub mod Ordered
+pub mod Picked
+pub mod StatementNames
+pub mod Statements
+pub mod TypeNames

@@ -1,0 +1,11 @@
+pub mod Among
+pub mod Findings
+pub mod FoundExprs
+pub mod FoundFiles
+pub mod FoundStatements
+pub mod FoundTypes
+pub mod Meant
+pub mod Operations
+pub mod OwnNames
+pub mod Served
+pub mod Tables
