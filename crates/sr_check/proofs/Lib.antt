@@ -1,0 +1,9 @@
+pub mod Each
+pub mod Entered
+pub mod Finding
+pub mod Kept
+pub mod Named
+pub mod Owners
+pub mod Programs
+pub mod Reading
+pub mod Unbroken

@@ -2,11 +2,14 @@ pub mod Checked
 pub mod Components
 pub mod Contexts
 pub mod Invoking
+pub mod Owners
 pub mod Procs
 pub mod Quantifying
 pub mod Receiving
 pub mod Results
 pub mod Services
+pub mod Servicing
 pub mod Statements
 pub mod Storing
+pub mod Unbroken
 pub mod Uses

@@ -9,6 +9,7 @@
 mod around;
 mod components;
 mod invoking;
+mod laws;
 mod operation;
 mod procs;
 mod program;
@@ -21,4 +22,5 @@ mod statements;
 mod storing;
 mod uses;
 
+pub use laws::{declared_stay_known, known_are_declared, services_its_own, waited_have_no_proc};
 pub use program::check;

@@ -1,6 +1,6 @@
 -- What a well-formed core is: each number names something, each operation is serviced where its owner is, and
 -- nothing stands where the language forbids it. The types of expressions aren't looked at.
-use Rattle.std.specs.Prelude.{◌≡◌, ℕ, zero, suc, ◌+◌, ◌-◌, ◌<◌, Bool, true, false, not, ◌&&◌, ◌||◌, List, [], ◌∷◌, length, map, filter, take, Option, Some, None, ◌==◌, nat_lt, nat_le, if◌then◌else◌, slice_get, IsTrue, All, EachIndex, Contains}
+use Rattle.std.specs.Prelude.{◌≡◌, ℕ, zero, suc, ◌+◌, ◌-◌, ◌<◌, Bool, true, false, not, ◌&&◌, ◌||◌, List, [], ◌∷◌, length, map, filter, take, Option, Some, None, option_to_list, ◌==◌, nat_lt, nat_le, if◌then◌else◌, slice_get, IsTrue, All, EachIndex, Contains}
 use Rattle.std.specs.List.{list_all, list_any}
 use Rattle.sr_core.specs.declared.component.Body.{Body}
 use Rattle.sr_core.specs.declared.component.Component.{Component}
@@ -45,15 +45,11 @@ use Rattle.sr_core.specs.declared.statement.Statement.{Statement}
 use Rattle.sr_core.specs.declared.statement.Statement.TheFolds.{fold-Statement}
 use Rattle.sr_core.specs.declared.statement.Statement.TheOpen.{CoArm-F, Guarded-F, Statement-F}
 
--- Where a piece of a core stands: how many own variables, imports, operations, components and sites there are,
--- whether a loop or a `co` is round it, and whether a reply and a forward have something to answer.
+-- Where a piece of a core stands: how many own variables and imports there are, and in which core.
 pub record Where : Type 0 where
   pub owns : ℕ
   pub imports : ℕ
   pub core : Core
-  pub in_loop : Bool
-  pub may_reply : Bool
-  pub may_forward : Bool
 
 abbrev pub Test : Type 0
 Test = Where → Bool
@@ -155,18 +151,12 @@ part_quiet (Part-F.Repeated count value) = count && value
 abbrev pub is_quiet : Expr → Bool
 is_quiet = fold-Expr Bool Bool Bool Bool Bool Bool (λ argument. false) node_quiet part_quiet step_quiet (λ place. list_all (λ step. step) place.path) (λ reading. false)
 
--- ---- statements
-
-abbrev pub within_loop : Where → Where
-within_loop at = record at { in_loop = true }
-
-abbrev pub within_arm : Where → Where
-within_arm at = record at { may_reply = true; may_forward = true }
+-- ---- statements: each number names something
 
 abbrev pub action_ok : Action → Test
 action_ok (Evaluate expr) at = expr_ok expr at
 action_ok (Send target args) at = expr_ok target at && list_all (λ arg. argument_ok arg at) args
-action_ok (Forward target args) at = at.may_forward && (expr_ok target at && list_all (λ arg. argument_ok arg at) args)
+action_ok (Forward target args) at = expr_ok target at && list_all (λ arg. argument_ok arg at) args
 action_ok (Assign place value) at = place_ok place at && expr_ok value at
 action_ok (Swap left right) at = place_ok left at && place_ok right at
 action_ok (Bump place bump) at = place_ok place at
@@ -174,9 +164,6 @@ action_ok (Write args line) at = list_all (λ arg. expr_ok arg at) args
 action_ok (Stop status) at = if_some (λ expr. expr_ok expr at) status
 action_ok (Destroy target) at = expr_ok target at
 action_ok (Until time) at = expr_ok time at
-action_ok Exit at = at.in_loop
-action_ok Next at = at.in_loop
-action_ok Reply at = at.may_reply
 action_ok action at = true
 
 abbrev pub item_ok : ItemShape → Test
@@ -200,13 +187,6 @@ abbrev pub quantifier_ok : Quantifier → Test
 quantifier_ok q at =
     nat_lt q.var at.owns && ((expr_ok q.from at && expr_ok q.to at) && (expr_ok q.by at && if_some (λ expr. expr_ok expr at) q.condition))
 
--- an `in` has a block for each arm of its site, and an `else` where its site has one
-abbrev pub site_ok : ℕ → ℕ → Test
-site_ok site arms at = site_has (slice_get at.core.sites site) where
-  site_has : Option Site → Bool
-  site_has None = false
-  site_has (Some found) = length found.arms == arms
-
 abbrev pub co_ok : CoCall → Test
 co_ok call at = if_some (λ place. place_ok place at) call.place && (expr_ok call.target at && list_all (λ arg. argument_ok arg at) call.args)
 
@@ -214,10 +194,9 @@ abbrev pub statement_ok : Statement-F Test Test Test → Test
 statement_ok (Statement-F.Declare place declaration) at = var_ok declaration.scope declaration.var at && setup_ok declaration.setup at
 statement_ok (Statement-F.Act place action) at = action_ok action at
 statement_ok (Statement-F.If place guards otherwise) at = all_pass guards at && all_pass otherwise at
-statement_ok (Statement-F.Do place guards otherwise) at = all_pass guards (within_loop at) && if_some (λ block. all_pass block (within_loop at)) otherwise
-statement_ok (Statement-F.Fa place quantifiers body) at = list_all (λ q. quantifier_ok q at) quantifiers && all_pass body (within_loop at)
-statement_ok (Statement-F.In place site arms otherwise) at =
-    site_ok site (length arms) at && (list_all (λ block. all_pass block (within_arm at)) arms && all_pass otherwise at)
+statement_ok (Statement-F.Do place guards otherwise) at = all_pass guards at && if_some (λ block. all_pass block at) otherwise
+statement_ok (Statement-F.Fa place quantifiers body) at = list_all (λ q. quantifier_ok q at) quantifiers && all_pass body at
+statement_ok (Statement-F.In place site arms otherwise) at = list_all (λ block. all_pass block at) arms && all_pass otherwise at
 statement_ok (Statement-F.Co place arms) at = all_pass arms at
 statement_ok (Statement-F.Sends place target count) at = expr_ok target at && expr_ok count at
 
@@ -225,10 +204,88 @@ abbrev pub guarded_ok : Guarded-F Test Test Test → Test
 guarded_ok guarded at = expr_ok guarded.condition at && all_pass guarded.body at
 
 abbrev pub co_arm_ok : CoArm-F Test Test Test → Test
-co_arm_ok arm at = list_all (λ q. quantifier_ok q at) arm.quantifiers && (co_ok arm.call at && all_pass arm.body (within_loop at))
+co_arm_ok arm at = list_all (λ q. quantifier_ok q at) arm.quantifiers && (co_ok arm.call at && all_pass arm.body at)
 
 abbrev pub block_ok : List Statement → Test
 block_ok block = all_pass (map (fold-Statement Test Test Test statement_ok co_arm_ok guarded_ok) block)
+
+-- ---- statements: nothing stands where it has nothing to leave or to answer
+
+-- What is around a piece of code: a loop or a `co` to leave, something that a reply answers, something that a forward hands on.
+pub record Around : Type 0 where
+  pub in_loop : Bool
+  pub may_reply : Bool
+  pub may_forward : Bool
+
+abbrev pub Rule : Type 0
+Rule = Around → Bool
+
+abbrev pub all_allowed : List Rule → Rule
+all_allowed rules around = list_all (λ rule. rule around) rules
+
+abbrev pub within_loop : Around → Around
+within_loop around = record around { in_loop = true }
+
+abbrev pub within_arm : Around → Around
+within_arm around = record around { may_reply = true; may_forward = true }
+
+abbrev pub action_allowed : Action → Rule
+action_allowed Exit around = around.in_loop
+action_allowed Next around = around.in_loop
+action_allowed Reply around = around.may_reply
+action_allowed (Forward target args) around = around.may_forward
+action_allowed action around = true
+
+abbrev pub statement_allowed : Statement-F Rule Rule Rule → Rule
+statement_allowed (Statement-F.Declare place declaration) around = true
+statement_allowed (Statement-F.Act place action) around = action_allowed action around
+statement_allowed (Statement-F.If place guards otherwise) around = all_allowed guards around && all_allowed otherwise around
+statement_allowed (Statement-F.Do place guards otherwise) around =
+    all_allowed guards (within_loop around) && if_some (λ block. all_allowed block (within_loop around)) otherwise
+statement_allowed (Statement-F.Fa place quantifiers body) around = all_allowed body (within_loop around)
+statement_allowed (Statement-F.In place site arms otherwise) around =
+    list_all (λ block. all_allowed block (within_arm around)) arms && all_allowed otherwise around
+statement_allowed (Statement-F.Co place arms) around = all_allowed arms around
+statement_allowed (Statement-F.Sends place target count) around = true
+
+abbrev pub guarded_allowed : Guarded-F Rule Rule Rule → Rule
+guarded_allowed guarded around = all_allowed guarded.body around
+
+abbrev pub co_arm_allowed : CoArm-F Rule Rule Rule → Rule
+co_arm_allowed arm around = all_allowed arm.body (within_loop around)
+
+abbrev pub block_allowed : List Statement → Rule
+block_allowed block = all_allowed (map (fold-Statement Rule Rule Rule statement_allowed co_arm_allowed guarded_allowed) block)
+
+-- ---- statements: an `in` has a block for each arm of its site
+
+abbrev pub site_ok : List Site → ℕ → ℕ → Bool
+site_ok sites site arms = site_has (slice_get sites site) where
+  site_has : Option Site → Bool
+  site_has None = false
+  site_has (Some found) = length found.arms == arms
+
+abbrev pub all_true : List Bool → Bool
+all_true = list_all (λ one. one)
+
+abbrev pub statement_waits : List Site → Statement-F Bool Bool Bool → Bool
+statement_waits sites (Statement-F.Declare place declaration) = true
+statement_waits sites (Statement-F.Act place action) = true
+statement_waits sites (Statement-F.If place guards otherwise) = all_true guards && all_true otherwise
+statement_waits sites (Statement-F.Do place guards otherwise) = all_true guards && if_some all_true otherwise
+statement_waits sites (Statement-F.Fa place quantifiers body) = all_true body
+statement_waits sites (Statement-F.In place site arms otherwise) = site_ok sites site (length arms) && (list_all all_true arms && all_true otherwise)
+statement_waits sites (Statement-F.Co place arms) = all_true arms
+statement_waits sites (Statement-F.Sends place target count) = true
+
+abbrev pub guarded_waits : Guarded-F Bool Bool Bool → Bool
+guarded_waits guarded = all_true guarded.body
+
+abbrev pub co_arm_waits : CoArm-F Bool Bool Bool → Bool
+co_arm_waits arm = all_true arm.body
+
+abbrev pub block_waits : List Site → List Statement → Bool
+block_waits sites block = all_true (map (fold-Statement Bool Bool Bool (statement_waits sites) co_arm_waits guarded_waits) block)
 
 -- ---- operations
 
@@ -320,29 +377,39 @@ component_ok core component =
     (in_making_order core [] component.needs && list_all (λ import. member import component.needs) component.imports)
     && (not (is_global component.kind) || not (is_there component.final_code))
 
-abbrev pub place_in : Core → Component → Body → Bool → Bool → Where
-place_in core component body may_reply may_forward = record {
-  owns = body.owns;
-  imports = length component.imports;
-  core = core;
-  in_loop = false;
-  may_reply = may_reply;
-  may_forward = may_forward;
-}
+-- ---- code
 
-abbrev pub body_ok : Core → Component → Bool → Bool → Body → Bool
-body_ok core component may_reply may_forward body = block_ok body.block (place_in core component body may_reply may_forward)
+-- all code of a component: its initial code and its final code
+abbrev pub codes_of : Component → List Body
+codes_of component = component.initial ∷ option_to_list component.final_code
+
+abbrev pub numbers_ok : Core → Component → Body → Bool
+numbers_ok core component body = block_ok body.block (record { owns = body.owns; imports = length component.imports; core = core })
+
+abbrev pub proc_numbers_ok : Core → Proc → Bool
+proc_numbers_ok core proc = with_operation core proc.op (λ operation. with_component core operation.component (λ component. numbers_ok core component proc.body))
+
+abbrev pub all_numbers_ok : Core → Bool
+all_numbers_ok core = list_all (λ component. list_all (numbers_ok core component) (codes_of component)) core.components && list_all (proc_numbers_ok core) core.procs
 
 -- Outside every arm a reply in final code, and a forward in initial or final code, have nothing to answer.
-abbrev pub bodies_ok : Core → Component → Bool
-bodies_ok core component = body_ok core component true false component.initial && if_some (body_ok core component false false) component.final_code
+abbrev pub body_allowed : Bool → Bool → Body → Bool
+body_allowed may_reply may_forward body = block_allowed body.block (record { in_loop = false; may_reply = may_reply; may_forward = may_forward })
 
-abbrev pub proc_body_ok : Core → Proc → Bool
-proc_body_ok core proc = with_operation core proc.op (λ operation. with_component core operation.component (λ component. body_ok core component true true proc.body))
+abbrev pub codes_allowed : Component → Bool
+codes_allowed component = body_allowed true false component.initial && if_some (body_allowed false false) component.final_code
+
+abbrev pub all_allowed_in : Core → Bool
+all_allowed_in core = list_all codes_allowed core.components && list_all (λ proc. body_allowed true true proc.body) core.procs
+
+abbrev pub all_waits_ok : Core → Bool
+all_waits_ok core =
+    list_all (λ component. list_all (λ body. block_waits core.sites body.block) (codes_of component)) core.components
+    && list_all (λ proc. block_waits core.sites proc.body.block) core.procs
 
 abbrev pub procs_ok : Core → ℕ → List Proc → Bool
 procs_ok core number [] = true
-procs_ok core number (proc ∷ procs) = (proc_ok core number proc && proc_body_ok core proc) && procs_ok core (suc number) procs
+procs_ok core number (proc ∷ procs) = proc_ok core number proc && procs_ok core (suc number) procs
 
 -- main is a resource without formals
 abbrev pub is_main : Component → Bool
@@ -356,4 +423,6 @@ pub record IsWellFormed (core : Core) : Type 0 where
   pub operations : IsTrue (list_all (operation_ok core) core.operations)
   pub procs : IsTrue (procs_ok core 0 core.procs)
   pub sites : IsTrue (list_all (λ site. arms_ok core site.arms) core.sites)
-  pub bodies : IsTrue (list_all (bodies_ok core) core.components)
+  pub numbers : IsTrue (all_numbers_ok core)
+  pub allowed : IsTrue (all_allowed_in core)
+  pub waits : IsTrue (all_waits_ok core)
