@@ -5,16 +5,17 @@ use Rattle.sr_check_expr.specs.declared.facts.Facts.{Facts}
 use Rattle.sr_check_expr.specs.declared.info.Info.{Info}
 use Rattle.sr_check_expr.specs.declared.info.Info.TheVariants as info
 use Rattle.sr_check_expr.specs.declared.judged.Judged.{Judged}
-use Rattle.sr_check_expr.specs.declared.judged.Named.{Named}
-use Rattle.sr_check_expr.specs.declared.judged.Named.TheVariants as named
 use Rattle.sr_check_expr.specs.Exprs.{judge_expr}
 use Rattle.sr_check_expr.specs.Infos.{info_at, name_spot}
 use Rattle.sr_check_expr.specs.Naming.{decl_of}
+use Rattle.sr_names.specs.declared.meaning.Meaning.{Meaning}
+use Rattle.sr_names.specs.declared.meaning.Meaning.TheVariants.{Predefined as MeansPredefined}
 use Rattle.sr_names.specs.declared.predefined.Predefined.{Predefined}
 use Rattle.sr_names.specs.declared.spot.Spot.{Spot}
 use Rattle.sr_names.specs.Spots.{spot_of}
 use Rattle.sr_names.specs.Uses.{meaning_at}
-use Rattle.sr_tree.specs.declared.expr.Expr.{Expr}
+use Rattle.sr_tree.specs.declared.expr.Create.TheOpen.{Expr-F}
+use Rattle.sr_tree.specs.declared.expr.Expr.{Expr, out-Expr}
 use Rattle.sr_tree.specs.declared.expr.Invocation.{Invocation, out-Invocation}
 use Rattle.sr_tree.specs.declared.name.Name.{Name}
 use Rattle.sr_types.specs.declared.signature.Param.{Param}
@@ -101,18 +102,23 @@ literals_of facts ty = layer_literals facts (out-Ty ty)
 
 -- ---- what an expression names
 
-abbrev pub operation_in : Named → Option Spot
-operation_in (named.Operation spot) = Some spot
-operation_in _ = None
+abbrev pub layer_operation : {A B C D : Type 0} → Facts → Expr-F A B C D → Option Spot
+layer_operation facts (Expr-F.Name name) = declared_at facts name.span
+layer_operation facts (Expr-F.Field span owner field) = declared_at facts field.span
+layer_operation facts _ = None
 
--- the operation that an expression names
+-- the operation that an expression names: a name, or one behind that of its component
 abbrev pub operation_meant : Facts → Expr → Option Spot
-operation_meant facts expr = operation_in (judged facts expr).named
+operation_meant facts expr = layer_operation facts (out-Expr expr)
 
-abbrev pub function_in : Named → Option Predefined
-function_in (named.Predefined name) = Some name
-function_in _ = None
+abbrev pub predefined_in : Option Meaning → Option Predefined
+predefined_in (Some (MeansPredefined name)) = Some name
+predefined_in _ = None
 
--- the predefined function that an invocation calls
+abbrev pub layer_function : {A B C D : Type 0} → Facts → Expr-F A B C D → Option Predefined
+layer_function facts (Expr-F.Name name) = predefined_in (meaning_at facts.uses (spot_of name.span))
+layer_function facts _ = None
+
+-- the predefined function that an invocation calls by its name
 abbrev pub function_called : Facts → Invocation → Option Predefined
-function_called facts invocation = function_in (judged facts (out-Invocation invocation).callee).named
+function_called facts invocation = layer_function facts (out-Expr (out-Invocation invocation).callee)

@@ -7,6 +7,7 @@
 mod globals;
 mod heads;
 mod imports;
+mod laws;
 mod meanings;
 mod operations;
 mod operators;

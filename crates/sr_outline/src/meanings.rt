@@ -1,8 +1,10 @@
 //! What names mean and are, by the facts of the checked program.
 ghost use Rattle.std.specs.Prelude.{◌≡◌, IfOk, is_some, option_copied};
+ghost use Rattle.sr_names.specs.Spots.{spot_of};
+ghost use Rattle.sr_names.specs.Uses.{meaning_at};
 ghost use Rattle.sr_outline.specs.Meanings as meanings;
 
-use sr_check_expr::{Facts, Info, Judged, Named, expr, name_spot};
+use sr_check_expr::{Facts, Info, Judged, expr, name_spot};
 use sr_names::{Meaning, Notes, Predefined, Spot};
 use sr_tree::{Expr, Invocation, Name};
 use sr_types::{Static, Ty};
@@ -107,28 +109,33 @@ pub fn literals_of(facts: &Facts, ty: &Ty) -> u32
     }
 }
 
-/// The operation that an expression names.
-pub fn operation_meant(alloc: Global, tree: &Expr, facts: &Facts) -> Result<Option<Spot>, NoMemory>
-    ensures { IfOk result (λ operation. operation ≡ meanings.operation_meant facts.now tree.now) }
+/// The operation that an expression names: a name, or one behind that of its component.
+pub fn operation_meant(tree: &Expr, facts: &Facts) -> Option<Spot>
+    ensures { result ≡ meanings.operation_meant facts.now tree.now }
 {
-    let judged = judge(alloc, tree, facts)?;
-    match &judged.named {
-        Named::Operation(spot) => Ok(Some(*spot)),
-        _ => Ok(None),
+    match tree {
+        Expr::Name(name) => declared_at(facts, name.span),
+        Expr::Field { field, .. } => declared_at(facts, field.span),
+        _ => None,
     }
 }
 
-/// The predefined function that an invocation calls.
-pub fn function_called(
-    alloc: Global,
-    tree: &Invocation,
-    facts: &Facts,
-) -> Result<Option<Predefined>, NoMemory>
-    ensures { IfOk result (λ function. function ≡ meanings.function_called facts.now tree.now) }
+/// The predefined function that the name means that is used at a span.
+fn predefined_at(facts: &Facts, span: Span) -> Option<Predefined>
+    ensures { result ≡ meanings.predefined_in (meaning_at facts.now.uses (spot_of span)) }
 {
-    let judged = judge(alloc, tree.callee.get(), facts)?;
-    match &judged.named {
-        Named::Predefined(name) => Ok(Some(*name)),
-        _ => Ok(None),
+    match facts.uses.get(Spot::of(span)) {
+        Some(Meaning::Predefined(name)) => Some(name),
+        _ => None,
+    }
+}
+
+/// The predefined function that an invocation calls by its name.
+pub fn function_called(tree: &Invocation, facts: &Facts) -> Option<Predefined>
+    ensures { result ≡ meanings.function_called facts.now tree.now }
+{
+    match tree.callee.get() {
+        Expr::Name(name) => predefined_at(facts, name.span),
+        _ => None,
     }
 }

@@ -43,7 +43,7 @@ fn note_component(
 {
     tables.components.insert(spot_named(component.name()))?;
     note_procs(component, facts, &mut tables.procs)?;
-    note_sites(alloc, component, facts, &mut tables.sites)?;
+    note_sites(component, facts, &mut tables.sites)?;
     note_shared(alloc, component, number, facts, &mut tables.shared)?;
     declare_types(alloc, component, facts, &mut tables.shapes)
 }

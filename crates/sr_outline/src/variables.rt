@@ -207,7 +207,6 @@ fn note_received(
 
 #[tactic(auto, using(sr_tables::proofs::Appends::spots_append), unfolding(crate::specs::Numbers::call_names))]
 fn note_call(
-    alloc: Global,
     span: Span,
     invocation: &Invocation,
     facts: &Facts,
@@ -215,124 +214,94 @@ fn note_call(
 ) -> Result<(), NoMemory>
     ensures { OnOk result (names.new ≡ with_spots names.old (numbers.call_names facts.now span invocation.now)) }
 {
-    if !is_wait(alloc, invocation, facts)? {
+    if !is_wait(invocation, facts) {
         return Ok(());
     }
-    let operation = wait_operation(alloc, span, invocation, facts)?;
+    let operation = wait_operation(span, invocation, facts);
     note_receive(span, operation, &[], facts, names)
 }
 
 #[cycle(names)]
-fn note_item(
-    alloc: Global,
-    item: &BlockItem,
-    facts: &Facts,
-    names: &mut Spots,
-) -> Result<(), NoMemory>
+fn note_item(item: &BlockItem, facts: &Facts, names: &mut Spots) -> Result<(), NoMemory>
     ensures { OnOk result (names.new ≡ with_spots names.old (numbers.item_in facts.now item.now)) }
 {
     match item {
         BlockItem::Const(constant) => note_const(constant, facts, names),
         BlockItem::Var(variables) => note_var(variables, names),
-        BlockItem::Statement(statement) => note_statement(alloc, statement, facts, names),
+        BlockItem::Statement(statement) => note_statement(statement, facts, names),
     }
 }
 
 #[cycle(names)]
-fn note_block(
-    alloc: Global,
-    block: &[BlockItem],
-    facts: &Facts,
-    names: &mut Spots,
-) -> Result<(), NoMemory>
+fn note_block(block: &[BlockItem], facts: &Facts, names: &mut Spots) -> Result<(), NoMemory>
     ensures { OnOk result (names.new ≡ with_spots names.old (numbers.block_in facts.now block.now)) }
 {
     for item in block {
-        note_item(alloc, item, facts, names)?;
+        note_item(item, facts, names)?;
     }
     Ok(())
 }
 
 #[cycle(names)]
-fn note_branch(
-    alloc: Global,
-    branch: &Branch,
-    facts: &Facts,
-    names: &mut Spots,
-) -> Result<(), NoMemory>
+fn note_branch(branch: &Branch, facts: &Facts, names: &mut Spots) -> Result<(), NoMemory>
     ensures { OnOk result (names.new ≡ with_spots names.old (numbers.branch_in facts.now branch.now)) }
 {
-    note_block(alloc, branch.block.as_slice(), facts, names)
+    note_block(branch.block.as_slice(), facts, names)
 }
 
 #[cycle(names)]
-fn note_branches(
-    alloc: Global,
-    branches: &[Branch],
-    facts: &Facts,
-    names: &mut Spots,
-) -> Result<(), NoMemory>
+fn note_branches(branches: &[Branch], facts: &Facts, names: &mut Spots) -> Result<(), NoMemory>
     ensures { OnOk result (names.new ≡ with_spots names.old (lists (map (numbers.branch_in facts.now) branches.now))) }
 {
     for branch in branches {
-        note_branch(alloc, branch, facts, names)?;
+        note_branch(branch, facts, names)?;
     }
     Ok(())
 }
 
 #[cycle(names)]
-fn note_arms(alloc: Global, arms: &[Arm], facts: &Facts, names: &mut Spots) -> Result<(), NoMemory>
+fn note_arms(arms: &[Arm], facts: &Facts, names: &mut Spots) -> Result<(), NoMemory>
     ensures { OnOk result (names.new ≡ with_spots names.old (lists (map (numbers.arm_in facts.now) arms.now))) }
 {
     for arm in arms {
-        note_arm(alloc, arm, facts, names)?;
+        note_arm(arm, facts, names)?;
     }
     Ok(())
 }
 
 #[cycle(names)]
-fn note_arm(alloc: Global, arm: &Arm, facts: &Facts, names: &mut Spots) -> Result<(), NoMemory>
+fn note_arm(arm: &Arm, facts: &Facts, names: &mut Spots) -> Result<(), NoMemory>
     ensures { OnOk result (names.new ≡ with_spots names.old (numbers.arm_in facts.now arm.now)) }
 {
     note_names(arm.formals.as_slice(), names)?;
     note_optional(returned_spot(&arm.returned), names)?;
-    note_block(alloc, arm.block.as_slice(), facts, names)
+    note_block(arm.block.as_slice(), facts, names)
 }
 
 #[cycle(names)]
-fn note_co_arms(
-    alloc: Global,
-    arms: &[CoArm],
-    facts: &Facts,
-    names: &mut Spots,
-) -> Result<(), NoMemory>
+fn note_co_arms(arms: &[CoArm], facts: &Facts, names: &mut Spots) -> Result<(), NoMemory>
     ensures { OnOk result (names.new ≡ with_spots names.old (lists (map (numbers.co_arm_in facts.now) arms.now))) }
 {
     for arm in arms {
-        note_co_arm(alloc, arm, facts, names)?;
+        note_co_arm(arm, facts, names)?;
     }
     Ok(())
 }
 
 #[cycle(names)]
-fn note_co_arm(alloc: Global, arm: &CoArm, facts: &Facts, names: &mut Spots) -> Result<(), NoMemory>
+fn note_co_arm(arm: &CoArm, facts: &Facts, names: &mut Spots) -> Result<(), NoMemory>
     ensures { OnOk result (names.new ≡ with_spots names.old (numbers.co_arm_in facts.now arm.now)) }
 {
     note_quantifiers(arm.quantifiers.as_slice(), names)?;
     match &arm.block {
         None => Ok(()),
-        Some(items) => note_block(alloc, items.as_slice(), facts, names),
+        Some(items) => note_block(items.as_slice(), facts, names),
     }
 }
 
 /// Puts in the variables that a statement declares.
 #[cycle(names)]
-fn note_statement(
-    alloc: Global,
-    statement: &Statement,
-    facts: &Facts,
-    names: &mut Spots,
-) -> Result<(), NoMemory>
+fn note_statement(statement: &Statement, facts: &Facts, names: &mut Spots) -> Result<(), NoMemory>
     ensures { OnOk result (names.new ≡ with_spots names.old (numbers.names_in facts.now statement.now)) }
 {
     match statement {
@@ -340,7 +309,7 @@ fn note_statement(
             span,
             invocation,
             ..
-        } => { note_call(alloc, *span, invocation, facts, names) }
+        } => { note_call(*span, invocation, facts, names) }
         Statement::Receive {
             span,
             operation,
@@ -356,10 +325,10 @@ fn note_statement(
             otherwise,
             ..
         } => {
-            note_branches(alloc, branches.as_slice(), facts, names)?;
+            note_branches(branches.as_slice(), facts, names)?;
             match otherwise {
                 None => Ok(()),
-                Some(items) => note_block(alloc, items.as_slice(), facts, names),
+                Some(items) => note_block(items.as_slice(), facts, names),
             }
         }
         Statement::ForAll {
@@ -368,50 +337,40 @@ fn note_statement(
             ..
         } => {
             note_quantifiers(quantifiers.as_slice(), names)?;
-            note_block(alloc, block.as_slice(), facts, names)
+            note_block(block.as_slice(), facts, names)
         }
         Statement::In {
             arms,
             otherwise,
             ..
         } => {
-            note_arms(alloc, arms.as_slice(), facts, names)?;
+            note_arms(arms.as_slice(), facts, names)?;
             match otherwise {
                 None => Ok(()),
-                Some(items) => note_block(alloc, items.as_slice(), facts, names),
+                Some(items) => note_block(items.as_slice(), facts, names),
             }
         }
-        Statement::Co { arms, .. } => note_co_arms(alloc, arms.as_slice(), facts, names),
+        Statement::Co { arms, .. } => note_co_arms(arms.as_slice(), facts, names),
         _ => Ok(()),
     }
 }
 
-fn note_inner(
-    alloc: Global,
-    item: &ProcItem,
-    facts: &Facts,
-    names: &mut Spots,
-) -> Result<(), NoMemory>
+fn note_inner(item: &ProcItem, facts: &Facts, names: &mut Spots) -> Result<(), NoMemory>
     ensures { OnOk result (names.new ≡ with_spots names.old (numbers.inner_names facts.now item.now)) }
 {
     match item {
         ProcItem::Const(constant) => note_const(constant, facts, names),
         ProcItem::Var(variables) => note_var(variables, names),
         ProcItem::Op(_) | ProcItem::Sem(_) => Ok(()),
-        ProcItem::Statement(statement) => note_statement(alloc, statement, facts, names),
+        ProcItem::Statement(statement) => note_statement(statement, facts, names),
     }
 }
 
-fn note_inners(
-    alloc: Global,
-    block: &[ProcItem],
-    facts: &Facts,
-    names: &mut Spots,
-) -> Result<(), NoMemory>
+fn note_inners(block: &[ProcItem], facts: &Facts, names: &mut Spots) -> Result<(), NoMemory>
     ensures { OnOk result (names.new ≡ with_spots names.old (flat_map (numbers.inner_names facts.now) block.now)) }
 {
     for item in block {
-        note_inner(alloc, item, facts, names)?;
+        note_inner(item, facts, names)?;
     }
     Ok(())
 }
@@ -438,21 +397,16 @@ pub fn own_spots(
     let mut names = Spots::new(alloc);
     note_spots(formals, &mut names)?;
     note_optional(returned, &mut names)?;
-    note_inners(alloc, block, facts, &mut names)?;
+    note_inners(block, facts, &mut names)?;
     Ok(names)
 }
 
-fn note_initial_item(
-    alloc: Global,
-    item: &Item,
-    facts: &Facts,
-    names: &mut Spots,
-) -> Result<(), NoMemory>
+fn note_initial_item(item: &Item, facts: &Facts, names: &mut Spots) -> Result<(), NoMemory>
     ensures { OnOk result (names.new ≡ with_spots names.old (numbers.item_names facts.now item.now)) }
 {
     match item {
         Item::Process(process) => note_quantifiers(process.quantifiers.as_slice(), names),
-        Item::Statement(statement) => note_statement(alloc, statement, facts, names),
+        Item::Statement(statement) => note_statement(statement, facts, names),
         _ => Ok(()),
     }
 }
@@ -463,7 +417,7 @@ pub fn initial_spots(alloc: Global, component: &Component, facts: &Facts) -> Res
 {
     let mut names = Spots::new(alloc);
     for item in component.body() {
-        note_initial_item(alloc, item, facts, &mut names)?;
+        note_initial_item(item, facts, &mut names)?;
     }
     Ok(names)
 }

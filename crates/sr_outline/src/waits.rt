@@ -12,123 +12,92 @@ use sr_names::{Predefined, Spot};
 use sr_tables::{Spots, spot_named};
 use sr_tree::{Arm, BlockItem, Branch, CoArm, Component, Invocation, Item, ProcItem, Statement};
 use sr_value::{NoMemory, Span};
-use std::alloc::Global;
 
 /// Whether an invocation is `P(s)`, which is `receive s()`.
-pub fn is_wait(alloc: Global, invocation: &Invocation, facts: &Facts) -> Result<bool, NoMemory>
-    ensures { IfOk result (λ waits. waits ≡ numbers.is_wait facts.now invocation.now) }
+pub fn is_wait(invocation: &Invocation, facts: &Facts) -> bool
+    ensures { result ≡ numbers.is_wait facts.now invocation.now }
 {
-    let function = function_called(alloc, invocation, facts)?;
-    Ok(matches!(&function, Some(Predefined::P)))
+    matches!(&function_called(invocation, facts), Some(Predefined::P))
 }
 
 /// The operation that `P` receives.
-pub fn wait_operation(
-    alloc: Global,
-    span: Span,
-    invocation: &Invocation,
-    facts: &Facts,
-) -> Result<Spot, NoMemory>
-    ensures { IfOk result (λ spot. spot ≡ numbers.wait_operation facts.now span invocation.now) }
+pub fn wait_operation(span: Span, invocation: &Invocation, facts: &Facts) -> Spot
+    ensures { result ≡ numbers.wait_operation facts.now span invocation.now }
 {
     match invocation.arguments.as_slice() {
-        [semaphore] => {
-            let operation = operation_meant(alloc, semaphore, facts)?;
-            Ok(operation.unwrap_or(Spot::of(span)))
-        }
-        _ => Ok(Spot::of(span)),
+        [semaphore] => operation_meant(semaphore, facts).unwrap_or(Spot::of(span)),
+        _ => Spot::of(span),
     }
 }
 
 /// Puts in the waiting statements of a block.
 #[cycle(sites)]
-fn note_block(
-    alloc: Global,
-    block: &[BlockItem],
-    facts: &Facts,
-    sites: &mut Spots,
-) -> Result<(), NoMemory>
+fn note_block(block: &[BlockItem], facts: &Facts, sites: &mut Spots) -> Result<(), NoMemory>
     ensures { OnOk result (sites.new ≡ with_spots sites.old (numbers.block_sites facts.now block.now)) }
 {
     for item in block {
         if let BlockItem::Statement(statement) = item {
-            note_statement(alloc, statement, facts, sites)?;
+            note_statement(statement, facts, sites)?;
         }
     }
     Ok(())
 }
 
 #[cycle(sites)]
-fn note_branch(
-    alloc: Global,
-    branch: &Branch,
-    facts: &Facts,
-    sites: &mut Spots,
-) -> Result<(), NoMemory>
+fn note_branch(branch: &Branch, facts: &Facts, sites: &mut Spots) -> Result<(), NoMemory>
     ensures { OnOk result (sites.new ≡ with_spots sites.old (numbers.branch_sites facts.now branch.now)) }
 {
-    note_block(alloc, branch.block.as_slice(), facts, sites)
+    note_block(branch.block.as_slice(), facts, sites)
 }
 
 #[cycle(sites)]
-fn note_branches(
-    alloc: Global,
-    branches: &[Branch],
-    facts: &Facts,
-    sites: &mut Spots,
-) -> Result<(), NoMemory>
+fn note_branches(branches: &[Branch], facts: &Facts, sites: &mut Spots) -> Result<(), NoMemory>
     ensures { OnOk result (sites.new ≡ with_spots sites.old (lists (map (numbers.branch_sites facts.now) branches.now))) }
 {
     for branch in branches {
-        note_branch(alloc, branch, facts, sites)?;
+        note_branch(branch, facts, sites)?;
     }
     Ok(())
 }
 
 #[cycle(sites)]
-fn note_arm(alloc: Global, arm: &Arm, facts: &Facts, sites: &mut Spots) -> Result<(), NoMemory>
+fn note_arm(arm: &Arm, facts: &Facts, sites: &mut Spots) -> Result<(), NoMemory>
     ensures { OnOk result (sites.new ≡ with_spots sites.old (numbers.arm_sites facts.now arm.now)) }
 {
-    note_block(alloc, arm.block.as_slice(), facts, sites)
+    note_block(arm.block.as_slice(), facts, sites)
 }
 
 #[cycle(sites)]
-fn note_arms(alloc: Global, arms: &[Arm], facts: &Facts, sites: &mut Spots) -> Result<(), NoMemory>
+fn note_arms(arms: &[Arm], facts: &Facts, sites: &mut Spots) -> Result<(), NoMemory>
     ensures { OnOk result (sites.new ≡ with_spots sites.old (lists (map (numbers.arm_sites facts.now) arms.now))) }
 {
     for arm in arms {
-        note_arm(alloc, arm, facts, sites)?;
+        note_arm(arm, facts, sites)?;
     }
     Ok(())
 }
 
 #[cycle(sites)]
-fn note_co_arm(alloc: Global, arm: &CoArm, facts: &Facts, sites: &mut Spots) -> Result<(), NoMemory>
+fn note_co_arm(arm: &CoArm, facts: &Facts, sites: &mut Spots) -> Result<(), NoMemory>
     ensures { OnOk result (sites.new ≡ with_spots sites.old (numbers.co_arm_sites facts.now arm.now)) }
 {
     match &arm.block {
         None => Ok(()),
-        Some(items) => note_block(alloc, items.as_slice(), facts, sites),
+        Some(items) => note_block(items.as_slice(), facts, sites),
     }
 }
 
 #[cycle(sites)]
-fn note_co_arms(
-    alloc: Global,
-    arms: &[CoArm],
-    facts: &Facts,
-    sites: &mut Spots,
-) -> Result<(), NoMemory>
+fn note_co_arms(arms: &[CoArm], facts: &Facts, sites: &mut Spots) -> Result<(), NoMemory>
     ensures { OnOk result (sites.new ≡ with_spots sites.old (lists (map (numbers.co_arm_sites facts.now) arms.now))) }
 {
     for arm in arms {
-        note_co_arm(alloc, arm, facts, sites)?;
+        note_co_arm(arm, facts, sites)?;
     }
     Ok(())
 }
 
 fn note_call(
-    alloc: Global,
     span: Span,
     invocation: &Invocation,
     facts: &Facts,
@@ -136,7 +105,7 @@ fn note_call(
 ) -> Result<(), NoMemory>
     ensures { OnOk result (sites.new ≡ with_spots sites.old (numbers.call_sites facts.now span invocation.now)) }
 {
-    if is_wait(alloc, invocation, facts)? {
+    if is_wait(invocation, facts) {
         return sites.insert(Spot::of(span));
     }
     Ok(())
@@ -144,12 +113,7 @@ fn note_call(
 
 /// Puts in the waiting statements of a statement, itself before those in its blocks.
 #[cycle(sites)]
-fn note_statement(
-    alloc: Global,
-    statement: &Statement,
-    facts: &Facts,
-    sites: &mut Spots,
-) -> Result<(), NoMemory>
+fn note_statement(statement: &Statement, facts: &Facts, sites: &mut Spots) -> Result<(), NoMemory>
     ensures { OnOk result (sites.new ≡ with_spots sites.old (numbers.sites_in facts.now statement.now)) }
 {
     match statement {
@@ -157,7 +121,7 @@ fn note_statement(
             span,
             invocation,
             ..
-        } => { note_call(alloc, *span, invocation, facts, sites) }
+        } => { note_call(*span, invocation, facts, sites) }
         Statement::Receive { span, .. } => sites.insert(Spot::of(*span)),
         Statement::If {
             branches,
@@ -169,70 +133,60 @@ fn note_statement(
             otherwise,
             ..
         } => {
-            note_branches(alloc, branches.as_slice(), facts, sites)?;
+            note_branches(branches.as_slice(), facts, sites)?;
             match otherwise {
                 None => Ok(()),
-                Some(items) => note_block(alloc, items.as_slice(), facts, sites),
+                Some(items) => note_block(items.as_slice(), facts, sites),
             }
         }
-        Statement::ForAll { block, .. } => note_block(alloc, block.as_slice(), facts, sites),
+        Statement::ForAll { block, .. } => note_block(block.as_slice(), facts, sites),
         Statement::In {
             span,
             arms,
             otherwise,
         } => {
             sites.insert(Spot::of(*span))?;
-            note_arms(alloc, arms.as_slice(), facts, sites)?;
+            note_arms(arms.as_slice(), facts, sites)?;
             match otherwise {
                 None => Ok(()),
-                Some(items) => note_block(alloc, items.as_slice(), facts, sites),
+                Some(items) => note_block(items.as_slice(), facts, sites),
             }
         }
-        Statement::Co { arms, .. } => note_co_arms(alloc, arms.as_slice(), facts, sites),
+        Statement::Co { arms, .. } => note_co_arms(arms.as_slice(), facts, sites),
         _ => Ok(()),
     }
 }
 
-fn note_inner(
-    alloc: Global,
-    block: &[ProcItem],
-    facts: &Facts,
-    sites: &mut Spots,
-) -> Result<(), NoMemory>
+fn note_inner(block: &[ProcItem], facts: &Facts, sites: &mut Spots) -> Result<(), NoMemory>
     ensures { OnOk result (sites.new ≡ with_spots sites.old (flat_map (numbers.inner_sites facts.now) block.now)) }
 {
     for item in block {
         if let ProcItem::Statement(statement) = item {
-            note_statement(alloc, statement, facts, sites)?;
+            note_statement(statement, facts, sites)?;
         }
     }
     Ok(())
 }
 
-fn note_item(alloc: Global, item: &Item, facts: &Facts, sites: &mut Spots) -> Result<(), NoMemory>
+fn note_item(item: &Item, facts: &Facts, sites: &mut Spots) -> Result<(), NoMemory>
     ensures { OnOk result (sites.new ≡ with_spots sites.old (numbers.item_sites facts.now item.now)) }
 {
     match item {
         Item::Spec(_) => Ok(()),
-        Item::Proc(proc) => note_inner(alloc, proc.block.as_slice(), facts, sites),
-        Item::Procedure(procedure) => note_inner(alloc, procedure.block.as_slice(), facts, sites),
-        Item::Process(process) => note_inner(alloc, process.block.as_slice(), facts, sites),
-        Item::Final(last) => note_inner(alloc, last.block.as_slice(), facts, sites),
-        Item::Statement(statement) => note_statement(alloc, statement, facts, sites),
+        Item::Proc(proc) => note_inner(proc.block.as_slice(), facts, sites),
+        Item::Procedure(procedure) => note_inner(procedure.block.as_slice(), facts, sites),
+        Item::Process(process) => note_inner(process.block.as_slice(), facts, sites),
+        Item::Final(last) => note_inner(last.block.as_slice(), facts, sites),
+        Item::Statement(statement) => note_statement(statement, facts, sites),
     }
 }
 
 /// Puts in the waiting statements of a component.
-pub fn note_sites(
-    alloc: Global,
-    component: &Component,
-    facts: &Facts,
-    sites: &mut Spots,
-) -> Result<(), NoMemory>
+pub fn note_sites(component: &Component, facts: &Facts, sites: &mut Spots) -> Result<(), NoMemory>
     ensures { OnOk result (sites.new ≡ with_spots sites.old (numbers.component_sites facts.now component.now)) }
 {
     for item in component.body() {
-        note_item(alloc, item, facts, sites)?;
+        note_item(item, facts, sites)?;
     }
     Ok(())
 }
