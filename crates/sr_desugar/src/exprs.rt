@@ -1,0 +1,489 @@
+//! What expressions are in the core.
+ghost use Rattle.std.specs.Prelude.{◌≡◌, ◌∷◌, [], IfOk, map, position};
+ghost use Rattle.std.specs.Str.{bytes_eq};
+ghost use Rattle.sr_desugar.specs.Expressions as exprs;
+ghost use Rattle.std.specs.Option.{option_map};
+ghost use Rattle.sr_desugar.specs.Places as places;
+ghost use Rattle.sr_core.specs.declared.expression.Expr.TheVariants as nodes;
+ghost use Rattle.sr_outline.specs.Meanings.{constant_at, judged};
+ghost use Rattle.sr_outline.specs.Operators.{conversion_function};
+ghost use Rattle.sr_check_expr.specs.Exprs.{prefix_of};
+ghost use Rattle.sr_types.specs.declared.ty.Ty.{out-Ty};
+
+use crate::functions::function;
+use crate::invoked::{arguments_of, returned_by_call};
+use crate::places::{
+    nothing, operation_expr, operation_number, part_of, place_at, place_of, root_of, value_of,
+};
+use crate::scene::{Cored, Scene};
+use sr_check_expr::{Facts, FieldInfo, Info, Named, name_spot};
+use sr_core::{Argument, Function, Leaf, PlaceExpr, Step};
+use sr_names::{Meaning, Predefined, Spot};
+use sr_outline::{binary, constant_at, conversion_function, judge, meant_by, prefix_of};
+use sr_tables::{deciding, number_of};
+use sr_tree::{Conversion, Create, Expr, Invocation, Name, Part, UnaryOperator};
+use sr_types::{Static, Ty};
+use sr_value::{Boxed, Duplicate, NoMemory, Row, Shape, Span, Value};
+use std::alloc::Global;
+
+/// An invocation of an operation, in the core.
+#[derive(Drop)]
+pub struct Sent {
+    pub target: Boxed<sr_core::Expr>,
+    pub args: Row<Argument>,
+    /// The type of the value, where the operation returns.
+    pub returns: Option<Shape>,
+}
+
+/// What is known of a value before the run.
+fn static_expr(value: Static) -> sr_core::Expr
+    ensures { result ≡ exprs.static_expr value }
+{
+    match value {
+        Static::Known(value) => sr_core::Expr::Leaf(Leaf::Constant(value)),
+        Static::Unknown | Static::Faults(_) => nothing(),
+    }
+}
+
+/// The static constant, operation or variable that is declared at a spot.
+fn declared(alloc: Global, scene: &Scene, spot: Spot) -> Result<Cored, NoMemory>
+    ensures { IfOk result (λ cored. cored ≡ exprs.named_core scene.now spot (constant_at scene.now.facts spot) (places.operation_at scene.now spot)) }
+{
+    if let Some(value) = constant_at(&scene.facts, spot) {
+        let value = value.copy(alloc)?;
+        return Ok(Cored::Value(sr_core::Expr::Leaf(Leaf::Constant(value))));
+    }
+    if scene.tables.operations.get(spot).is_some() {
+        return Ok(Cored::Value(operation_expr(scene, spot)?));
+    }
+    Ok(Cored::Place(place_at(alloc, root_of(scene, spot)?)))
+}
+
+/// What a name is that is used at a span; `EOF` is -1.
+fn named(alloc: Global, scene: &Scene, span: Span) -> Result<Cored, NoMemory>
+    ensures { IfOk result (λ cored. cored ≡ exprs.name_core scene.now span) }
+{
+    match scene.facts.uses.get(Spot::of(span)) {
+        Some(Meaning::Declared(decl)) => declared(alloc, scene, decl.spot),
+        Some(Meaning::Predefined(Predefined::Eof)) => {
+            Ok(Cored::Value(sr_core::Expr::Leaf(Leaf::Constant(Value::Int(-1)))))
+        }
+        Some(Meaning::Predefined(_)) | None => Ok(Cored::Value(nothing())),
+    }
+}
+
+/// The place of the field of this name.
+fn field_place(fields: &[FieldInfo], name: &[u8]) -> Option<usize>
+    ensures { result ≡ position (λ field. bytes_eq field.name name.now) fields.now }
+{
+    fields
+        .iter()
+        .position(|field| field.name.as_bytes() == name)
+}
+
+/// The number of the field of this name; 0 where there is none.
+fn field_number(scene: &Scene, spot: sr_types::Spot, name: &[u8]) -> Result<u32, NoMemory>
+    ensures { IfOk result (λ number. number ≡ exprs.field_number scene.now.facts spot name.now) }
+{
+    match scene.facts.infos.get(name_spot(spot)) {
+        Some(Info::Record(fields)) => {
+            number_of(field_place(fields.as_slice(), name).unwrap_or(0))
+        }
+        _ => Ok(0),
+    }
+}
+
+/// The operation of this name of a resource's spec.
+fn member_spot(facts: &Facts, resource: sr_types::Spot, name: &[u8]) -> Spot
+    ensures { result ≡ exprs.spec_operation facts.now resource name.now }
+{
+    match facts.specs.get(name_spot(resource), name) {
+        Some(decl) => decl.spot,
+        None => name_spot(resource),
+    }
+}
+
+/// An operation through a capability.
+fn member_expr(
+    alloc: Global,
+    scene: &Scene,
+    owner: Boxed<Cored>,
+    operation: Spot,
+) -> Result<sr_core::Expr, NoMemory>
+    ensures { IfOk result (λ expr. expr ≡ exprs.member_core scene.now owner operation) }
+{
+    match scene.tables.operations.get(operation) {
+        None => Ok(nothing()),
+        Some(_) => Ok(sr_core::Expr::Member {
+            of: Boxed::new(alloc, value_of(owner.into_inner()))?,
+            op: operation_number(scene, operation)?,
+        }),
+    }
+}
+
+/// How many invocations of an operation are pending.
+fn pending(scene: &Scene, operation: Spot) -> Result<sr_core::Expr, NoMemory>
+    ensures { IfOk result (λ expr. expr ≡ exprs.pending_core scene.now operation) }
+{
+    match scene.tables.operations.get(operation) {
+        None => Ok(nothing()),
+        Some(_) => Ok(sr_core::Expr::Leaf(Leaf::Count {
+            op: operation_number(scene, operation)?,
+        })),
+    }
+}
+
+/// An instance of the component that is declared at a spot.
+fn instance(
+    scene: &Scene,
+    spot: Spot,
+    args: Row<sr_core::Expr>,
+    machine: Boxed<sr_core::Expr>,
+) -> Result<sr_core::Expr, NoMemory>
+    ensures { IfOk result (λ expr. expr ≡ exprs.instance_core scene.now spot args machine) }
+{
+    match scene.tables.components.place(spot) {
+        None => Ok(nothing()),
+        Some(place) => Ok(sr_core::Expr::Create {
+            resource: number_of(place)?,
+            args,
+            machine,
+        }),
+    }
+}
+
+/// A field of a record, or an operation through a capability.
+fn member(
+    alloc: Global,
+    scene: &Scene,
+    ty: &Ty,
+    owner: Boxed<Cored>,
+    name: &[u8],
+) -> Result<Cored, NoMemory>
+    ensures { IfOk result (λ cored. cored ≡ exprs.layer_member scene.now owner name.now (out-Ty ty.now)) }
+{
+    match ty {
+        Ty::Rec(spot) => {
+            let field = field_number(scene, *spot, name)?;
+            let step = Boxed::new(alloc, Step::Field(field))?;
+            part_of(alloc, owner.into_inner(), step)
+        }
+        Ty::Resource(spot) => {
+            let operation = member_spot(&scene.facts, *spot, name);
+            Ok(Cored::Value(member_expr(alloc, scene, owner, operation)?))
+        }
+        _ => Ok(Cored::Value(nothing())),
+    }
+}
+
+/// The value of a literal.
+fn literal(alloc: Global, tree: &Expr, scene: &Scene) -> Result<sr_core::Expr, NoMemory>
+    ensures { IfOk result (λ expr. expr ≡ exprs.static_expr (judged scene.now.facts tree.now).typed.value) }
+{
+    let judged = judge(alloc, tree, &scene.facts)?;
+    Ok(static_expr(judged.typed.value))
+}
+
+/// What an expression is in the core.
+#[tactic(auto, using(crate::proofs::Trees::call_is, crate::proofs::Trees::field_is))]
+#[cycle(exprs)]
+pub fn cored(alloc: Global, tree: &Expr, scene: &Scene) -> Result<Cored, NoMemory>
+    ensures { IfOk result (λ cored. cored ≡ exprs.core_expr scene.now tree.now) }
+{
+    match tree {
+        Expr::Literal { .. } => Ok(Cored::Value(literal(alloc, tree, scene)?)),
+        Expr::Name(name) => named(alloc, scene, name.span),
+        Expr::BasicType { .. } => Ok(Cored::Value(nothing())),
+        Expr::Conversion {
+            conversion,
+            value,
+            ..
+        } => {
+            let converted = core_conversion(alloc, *conversion, value.get(), scene)?;
+            Ok(Cored::Value(converted))
+        }
+        Expr::Group { inner, .. } => Ok(Cored::Value(core_value(alloc, inner.get(), scene)?)),
+        Expr::Parts { parts, .. } => {
+            let parts = core_parts(alloc, parts.as_slice(), scene)?;
+            Ok(Cored::Value(sr_core::Expr::Array(parts)))
+        }
+        Expr::Field { record, field, .. } => core_field(alloc, record.get(), field, scene),
+        Expr::Index {
+            array,
+            first,
+            second,
+            ..
+        } => {
+            let whole = Boxed::new(alloc, cored(alloc, array.get(), scene)?)?;
+            let first = Boxed::new(alloc, cored(alloc, first.get(), scene)?)?;
+            let step = Boxed::new(alloc, core_step(alloc, first, second, scene)?)?;
+            part_of(alloc, whole.into_inner(), step)
+        }
+        Expr::Call(invocation) => Ok(Cored::Value(core_call(alloc, invocation, scene)?)),
+        Expr::Create(create) => Ok(Cored::Value(core_create(alloc, create, scene)?)),
+        Expr::Unary {
+            operator,
+            operand,
+            ..
+        } => Ok(Cored::Value(core_unary(alloc, *operator, operand.get(), scene)?)),
+        Expr::Pending { operation, .. } => {
+            Ok(Cored::Value(pending(scene, meant_by(&scene.facts, operation))?))
+        }
+        Expr::Binary {
+            left,
+            operator,
+            right,
+            ..
+        } => {
+            let left = Boxed::new(alloc, core_value(alloc, left.get(), scene)?)?;
+            let right = Boxed::new(alloc, core_value(alloc, right.get(), scene)?)?;
+            Ok(Cored::Value(binary(*operator, left, right)))
+        }
+    }
+}
+
+#[cycle(exprs)]
+fn core_conversion(
+    alloc: Global,
+    conversion: Conversion,
+    value: &Expr,
+    scene: &Scene,
+) -> Result<sr_core::Expr, NoMemory>
+    ensures { IfOk result (λ expr. expr ≡ nodes.Apply (conversion_function conversion) (exprs.core_value scene.now value.now ∷ [])) }
+{
+    let mut args = Row::new(alloc);
+    args.push(core_value(alloc, value, scene)?)?;
+    Ok(sr_core::Expr::Apply {
+        function: conversion_function(conversion),
+        args,
+    })
+}
+
+#[cycle(exprs)]
+fn core_unary(
+    alloc: Global,
+    operator: UnaryOperator,
+    operand: &Expr,
+    scene: &Scene,
+) -> Result<sr_core::Expr, NoMemory>
+    ensures { IfOk result (λ expr. expr ≡ nodes.Unary (prefix_of operator) (exprs.core_value scene.now operand.now)) }
+{
+    let operand = Boxed::new(alloc, core_value(alloc, operand, scene)?)?;
+    Ok(sr_core::Expr::Unary {
+        op: prefix_of(operator),
+        operand,
+    })
+}
+
+/// The value of an expression.
+#[cycle(exprs)]
+pub fn core_value(alloc: Global, tree: &Expr, scene: &Scene) -> Result<sr_core::Expr, NoMemory>
+    ensures { IfOk result (λ expr. expr ≡ exprs.core_value scene.now tree.now) }
+{
+    Ok(value_of(cored(alloc, tree, scene)?))
+}
+
+/// The place that an expression is.
+pub fn core_place(alloc: Global, tree: &Expr, scene: &Scene) -> Result<PlaceExpr, NoMemory>
+    ensures { IfOk result (λ place. place ≡ exprs.core_place scene.now tree.now) }
+{
+    Ok(place_of(alloc, cored(alloc, tree, scene)?))
+}
+
+/// The value of an expression that may be left out.
+pub fn optional_value(
+    alloc: Global,
+    tree: &Option<Expr>,
+    scene: &Scene,
+) -> Result<Option<sr_core::Expr>, NoMemory>
+    ensures { IfOk result (λ expr. expr ≡ option_map (exprs.core_value scene.now) tree.now) }
+{
+    match tree {
+        None => Ok(None),
+        Some(tree) => Ok(Some(core_value(alloc, tree, scene)?)),
+    }
+}
+
+/// The values of expressions.
+#[cycle(exprs)]
+pub fn core_values(
+    alloc: Global,
+    trees: &[Expr],
+    scene: &Scene,
+) -> Result<Row<sr_core::Expr>, NoMemory>
+    ensures { IfOk result (λ values. values ≡ map (exprs.core_value scene.now) trees.now) }
+{
+    let mut values = Row::new(alloc);
+    for tree in trees {
+        values.push(core_value(alloc, tree, scene)?)?;
+    }
+    Ok(values)
+}
+
+#[cycle(exprs)]
+fn all_cored(alloc: Global, trees: &[Expr], scene: &Scene) -> Result<Row<Cored>, NoMemory>
+    ensures { IfOk result (λ all. all ≡ map (exprs.core_expr scene.now) trees.now) }
+{
+    let mut all = Row::new(alloc);
+    for tree in trees {
+        all.push(cored(alloc, tree, scene)?)?;
+    }
+    Ok(all)
+}
+
+/// One index or two.
+#[cycle(exprs)]
+fn core_step(
+    alloc: Global,
+    first: Boxed<Cored>,
+    second: &Option<Boxed<Expr>>,
+    scene: &Scene,
+) -> Result<Step, NoMemory>
+    ensures { IfOk result (λ step. step ≡ exprs.index_step first (option_map (exprs.told scene.now) second.now)) }
+{
+    match second {
+        None => Ok(Step::At(value_of(first.into_inner()))),
+        Some(second) => {
+            let second = core_value(alloc, second.get(), scene)?;
+            Ok(Step::At2(value_of(first.into_inner()), second))
+        }
+    }
+}
+
+/// Behind a component stands a name of its spec, behind a value a field or an operation.
+#[cycle(exprs)]
+fn core_field(alloc: Global, owner: &Expr, field: &Name, scene: &Scene) -> Result<Cored, NoMemory>
+    ensures { IfOk result (λ cored. cored ≡ exprs.field_core scene.now (exprs.with_core scene.now owner.now) field.now (judged scene.now.facts owner.now).named) }
+{
+    let judged = Boxed::new(alloc, judge(alloc, owner, &scene.facts)?)?;
+    if let Named::Component(_) = &judged.get().named {
+        return named(alloc, scene, field.span);
+    }
+    let whole = Boxed::new(alloc, cored(alloc, owner, scene)?)?;
+    member(
+        alloc,
+        scene,
+        &judged.get().typed.ty,
+        whole,
+        field.text.as_bytes(),
+    )
+}
+
+#[cycle(exprs)]
+fn core_parts(alloc: Global, trees: &[Part], scene: &Scene) -> Result<Row<sr_core::Part>, NoMemory>
+    ensures { IfOk result (λ parts. parts ≡ map (exprs.core_part scene.now) trees.now) }
+{
+    let mut parts = Row::new(alloc);
+    for tree in trees {
+        parts.push(core_part(alloc, tree, scene)?)?;
+    }
+    Ok(parts)
+}
+
+#[cycle(exprs)]
+fn core_part(alloc: Global, tree: &Part, scene: &Scene) -> Result<sr_core::Part, NoMemory>
+    ensures { IfOk result (λ part. part ≡ exprs.core_part scene.now tree.now) }
+{
+    match &tree.count {
+        None => Ok(sr_core::Part::One(core_value(alloc, tree.value.get(), scene)?)),
+        Some(count) => {
+            let count = Boxed::new(alloc, core_value(alloc, count.get(), scene)?)?;
+            let value = core_value(alloc, tree.value.get(), scene)?;
+            Ok(sr_core::Part::Repeated {
+                count: count.into_inner(),
+                value,
+            })
+        }
+    }
+}
+
+/// An invocation of an operation.
+#[tactic(auto, using(crate::proofs::Trees::cored_told))]
+#[cycle(exprs)]
+pub fn core_sent(alloc: Global, tree: &Invocation, scene: &Scene) -> Result<Sent, NoMemory>
+    ensures { IfOk result (λ sent. sent ≡ exprs.sent_core scene.now (exprs.core_sending scene.now tree.now)) }
+{
+    let judged = Boxed::new(alloc, judge(alloc, tree.callee.get(), &scene.facts)?)?;
+    let target = Boxed::new(alloc, core_value(alloc, tree.callee.get(), scene)?)?;
+    let cored = all_cored(alloc, tree.arguments.as_slice(), scene)?;
+    let args = arguments_of(alloc, &scene.facts, &judged.get().typed.ty, cored)?;
+    let returns = returned_by_call(alloc, scene, &judged.get().typed.ty, target.get())?;
+    Ok(Sent {
+        target,
+        args,
+        returns,
+    })
+}
+
+/// A call of an operation.
+#[cycle(exprs)]
+fn core_called(alloc: Global, tree: &Invocation, scene: &Scene) -> Result<sr_core::Expr, NoMemory>
+    ensures { IfOk result (λ expr. expr ≡ exprs.called scene.now (exprs.core_sending scene.now tree.now)) }
+{
+    let Sent {
+        target,
+        args,
+        returns,
+    } = core_sent(alloc, tree, scene)?;
+    Ok(sr_core::Expr::Call {
+        target,
+        args,
+        returns,
+    })
+}
+
+/// A call is of a predefined function, of a record type, or of an operation.
+#[tactic(auto, using(crate::proofs::Trees::trees_told, crate::proofs::Trees::cored_told, crate::proofs::Values::values_of_pairs))]
+#[cycle(exprs)]
+pub fn core_call(alloc: Global, tree: &Invocation, scene: &Scene) -> Result<sr_core::Expr, NoMemory>
+    ensures { IfOk result (λ expr. expr ≡ exprs.call_of scene.now (exprs.core_sending scene.now tree.now)) }
+{
+    let judged = Boxed::new(alloc, judge(alloc, tree.callee.get(), &scene.facts)?)?;
+    match &judged.get().named {
+        Named::Predefined(name) => {
+            let cored = all_cored(alloc, tree.arguments.as_slice(), scene)?;
+            function(alloc, scene, *name, tree.arguments.as_slice(), cored)
+        }
+        Named::Type(_) => Ok(sr_core::Expr::Apply {
+            function: Function::Record,
+            args: core_values(alloc, tree.arguments.as_slice(), scene)?,
+        }),
+        _ => core_called(alloc, tree, scene),
+    }
+}
+
+/// The machine on which an instance is made: without `on` the creator's.
+#[cycle(exprs)]
+fn core_machine(
+    alloc: Global,
+    tree: &Option<Boxed<Expr>>,
+    scene: &Scene,
+) -> Result<sr_core::Expr, NoMemory>
+    ensures { IfOk result (λ expr. expr ≡ exprs.machine_core (option_map (exprs.told scene.now) tree.now)) }
+{
+    match tree {
+        None => Ok(sr_core::Expr::Leaf(Leaf::MyMachine)),
+        Some(tree) => core_value(alloc, tree.get(), scene),
+    }
+}
+
+/// The making of an instance or a machine.
+#[cycle(exprs)]
+pub fn core_create(alloc: Global, tree: &Create, scene: &Scene) -> Result<sr_core::Expr, NoMemory>
+    ensures { IfOk result (λ expr. expr ≡ exprs.core_create scene.now tree.now) }
+{
+    match tree {
+        Create::Resource {
+            resource,
+            arguments,
+            machine,
+            ..
+        } => {
+            let spot = meant_by(&scene.facts, deciding(resource));
+            let args = core_values(alloc, arguments.as_slice(), scene)?;
+            let machine = Boxed::new(alloc, core_machine(alloc, machine, scene)?)?;
+            instance(scene, spot, args, machine)
+        }
+        Create::Machine { .. } => Ok(sr_core::Expr::Leaf(Leaf::MakeMachine)),
+    }
+}

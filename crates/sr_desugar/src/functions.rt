@@ -1,0 +1,249 @@
+//! The predefined functions in the core.
+
+ghost use Rattle.std.specs.Prelude.{◌≡◌, IfOk, map, zip};
+ghost use Rattle.sr_core.specs.declared.expression.Expr.TheVariants as nodes;
+ghost use Rattle.sr_desugar.specs.Expressions as exprs;
+ghost use Rattle.sr_outline.specs.Meanings.{type_of};
+
+use crate::places::{nothing, place_of, value_of};
+use crate::scene::{Cored, Scene};
+use sr_check_expr::{Facts, Named};
+use sr_core::{Function, Leaf, Readable, Reading};
+use sr_names::Predefined;
+use sr_outline::{judge, literals_of, shape_of_type, type_of};
+use sr_tree::Expr;
+use sr_types::Ty;
+use sr_value::{Fault, NoMemory, Row, Shape, Value, highest, lowest};
+use std::alloc::Global;
+
+fn values(alloc: Global, cored: Row<Cored>) -> Result<Row<sr_core::Expr>, NoMemory>
+    ensures { IfOk result (λ values. values ≡ exprs.values cored) }
+{
+    let values = cored
+        .into_vec()
+        .into_iter()
+        .map(|one| value_of(one))
+        .collect(alloc)?;
+    Ok(Row::from_vec(values))
+}
+
+fn apply(alloc: Global, function: Function, cored: Row<Cored>) -> Result<sr_core::Expr, NoMemory>
+    ensures { IfOk result (λ expr. expr ≡ nodes.Apply function (exprs.values cored)) }
+{
+    Ok(sr_core::Expr::Apply {
+        function,
+        args: values(alloc, cored)?,
+    })
+}
+
+/// The least or the greatest value of a shape.
+fn end_value(shape: &Shape, is_high: bool) -> Result<Value, Fault>
+    ensures { result ≡ exprs.end_value is_high shape.now }
+{
+    if is_high {
+        highest(shape)
+    } else {
+        lowest(shape)
+    }
+}
+
+/// The least or the greatest value of a type.
+fn end_of(alloc: Global, scene: &Scene, ty: &Ty, is_high: bool) -> Result<sr_core::Expr, NoMemory>
+    ensures { IfOk result (λ expr. expr ≡ exprs.end_core scene.now is_high ty.now) }
+{
+    let shape = shape_of_type(alloc, ty, &scene.tables.shapes)?;
+    match end_value(&shape, is_high) {
+        Ok(value) => Ok(sr_core::Expr::Leaf(Leaf::Constant(value))),
+        Err(_) => Ok(nothing()),
+    }
+}
+
+/// `low(T)` and `high(T)` are known before the run.
+fn ends(
+    alloc: Global,
+    scene: &Scene,
+    trees: &[Expr],
+    is_high: bool,
+) -> Result<sr_core::Expr, NoMemory>
+    ensures { IfOk result (λ expr. expr ≡ exprs.ends_core scene.now is_high (exprs.named_types scene.now.facts trees.now)) }
+{
+    for tree in trees {
+        let judged = judge(alloc, tree, &scene.facts)?;
+        if let Named::Type(ty) = &judged.named {
+            return end_of(alloc, scene, ty, is_high);
+        }
+    }
+    Ok(nothing())
+}
+
+fn is_two(named: &Named) -> bool
+    ensures { result ≡ exprs.is_two named.now }
+{
+    match named {
+        Named::Number(number) => *number == 2,
+        _ => false,
+    }
+}
+
+/// Whether the second argument of `lb` or `ub` is the literal 2.
+fn is_second(alloc: Global, trees: &[Expr], facts: &Facts) -> Result<bool, NoMemory>
+    ensures { IfOk result (λ second. second ≡ exprs.is_second facts.now trees.now) }
+{
+    match trees {
+        [_, number] => {
+            let judged = judge(alloc, number, facts)?;
+            Ok(is_two(&judged.named))
+        }
+        [] | [_] | [_, _, _, ..] => Ok(false),
+    }
+}
+
+/// The number of the dimension is no argument.
+fn without_number(trees: &[Expr], cored: Row<Cored>) -> Row<Cored>
+    ensures { result ≡ exprs.without_number trees.now cored }
+{
+    match trees {
+        [] | [_] | [_, _, _, ..] => cored,
+        [_, _] => {
+            let mut first = cored;
+            first.truncate(1);
+            first
+        }
+    }
+}
+
+/// `lb(a)`, `lb(a, 1)` or `lb(a, 2)`.
+fn bound(
+    alloc: Global,
+    scene: &Scene,
+    functions: (Function, Function),
+    trees: &[Expr],
+    cored: Row<Cored>,
+) -> Result<sr_core::Expr, NoMemory>
+    ensures { IfOk result (λ expr. expr ≡ exprs.bound_core scene.now.facts functions.0 functions.1 trees.now cored) }
+{
+    let (first, second) = functions;
+    let function = if is_second(alloc, trees, &scene.facts)? {
+        second
+    } else {
+        first
+    };
+    apply(alloc, function, without_number(trees, cored))
+}
+
+/// How many literals the enumeration of the first argument has.
+fn literals_in(alloc: Global, trees: &[Expr], facts: &Facts) -> Result<u32, NoMemory>
+    ensures { IfOk result (λ literals. literals ≡ exprs.literals_in facts.now trees.now) }
+{
+    match trees {
+        [] => Ok(0),
+        [tree, ..] => Ok(literals_of(facts, &type_of(alloc, tree, facts)?)),
+    }
+}
+
+fn readable(ty: &Ty) -> Readable
+    ensures { result ≡ exprs.readable_of ty.now }
+{
+    match ty {
+        Ty::Bool => Readable::Bool,
+        Ty::Char => Readable::Char,
+        Ty::Str => Readable::Str,
+        _ => Readable::Int,
+    }
+}
+
+/// What items are read as, by the types of their places.
+fn readables(alloc: Global, trees: &[Expr], facts: &Facts) -> Result<Row<Readable>, NoMemory>
+    ensures { IfOk result (λ kinds. kinds ≡ map (λ tree. exprs.readable_of (type_of facts.now tree)) trees.now) }
+{
+    let mut kinds = Row::new(alloc);
+    for tree in trees {
+        kinds.push(readable(&type_of(alloc, tree, facts)?))?;
+    }
+    Ok(kinds)
+}
+
+/// An item that is read as a kind, at its place.
+fn reading(alloc: Global, kind: Readable, cored: Cored) -> Reading
+    ensures { result ≡ exprs.reading_core (kind, cored) }
+{
+    Reading {
+        kind,
+        place: place_of(alloc, cored),
+    }
+}
+
+/// Items that are read as these kinds, at these places.
+fn read_as(alloc: Global, kinds: Row<Readable>, cored: Row<Cored>) -> Result<Row<Reading>, NoMemory>
+    ensures { IfOk result (λ readings. readings ≡ map exprs.reading_core (zip kinds cored)) }
+{
+    let readings = kinds
+        .into_vec()
+        .into_iter()
+        .zip(cored.into_vec())
+        .map(|(kind, one)| reading(alloc, kind, one))
+        .collect(alloc)?;
+    Ok(Row::from_vec(readings))
+}
+
+/// Items are read by the types of their places.
+fn readings(
+    alloc: Global,
+    trees: &[Expr],
+    cored: Row<Cored>,
+    facts: &Facts,
+) -> Result<Row<Reading>, NoMemory>
+    ensures { IfOk result (λ readings. readings ≡ exprs.readings_core facts.now trees.now cored) }
+{
+    let kinds = readables(alloc, trees, facts)?;
+    read_as(alloc, kinds, cored)
+}
+
+/// A call of a predefined function, whose arguments are these in the core.
+pub fn function(
+    alloc: Global,
+    scene: &Scene,
+    name: Predefined,
+    trees: &[Expr],
+    cored: Row<Cored>,
+) -> Result<sr_core::Expr, NoMemory>
+    ensures { IfOk result (λ expr. expr ≡ exprs.function_core scene.now name trees.now cored) }
+{
+    match name {
+        Predefined::Abs => apply(alloc, Function::Abs, cored),
+        Predefined::Min => apply(alloc, Function::Min, cored),
+        Predefined::Max => apply(alloc, Function::Max, cored),
+        Predefined::Low => ends(alloc, scene, trees, false),
+        Predefined::High => ends(alloc, scene, trees, true),
+        Predefined::Lb => {
+            bound(
+                alloc,
+                scene,
+                (Function::LowBound, Function::LowBound2),
+                trees,
+                cored,
+            )
+        }
+        Predefined::Ub => {
+            bound(
+                alloc,
+                scene,
+                (Function::HighBound, Function::HighBound2),
+                trees,
+                cored,
+            )
+        }
+        Predefined::Length => apply(alloc, Function::Length, cored),
+        Predefined::Pred => apply(alloc, Function::Pred, cored),
+        Predefined::Succ => {
+            let literals = literals_in(alloc, trees, &scene.facts)?;
+            apply(alloc, Function::Succ { literals }, cored)
+        }
+        Predefined::MyResource => Ok(sr_core::Expr::Leaf(Leaf::MyResource)),
+        Predefined::MyVm => Ok(sr_core::Expr::Leaf(Leaf::MyMachine)),
+        Predefined::Read => {
+            Ok(sr_core::Expr::Read(readings(alloc, trees, cored, &scene.facts)?))
+        }
+        _ => Ok(nothing()),
+    }
+}
