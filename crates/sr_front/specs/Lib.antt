@@ -1,3 +1,4 @@
+pub mod Cores
 pub mod Phases
 pub mod Program
 pub mod Reading

@@ -2,10 +2,14 @@
 //! names, or the refusal of the program.
 #![tactic(auto)]
 
+mod cores;
+mod laws;
 mod phases;
 mod program;
 mod sources;
 
+pub use cores::core_of;
+pub use laws::spots_apart;
 pub use phases::MOST_BYTES;
 pub use program::{Accepted, accept};
 pub use sources::read;

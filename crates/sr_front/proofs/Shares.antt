@@ -1,0 +1,120 @@
+-- Of names that stand at different spots some are of types and components, and others stand in procs and statements.
+use Rattle.std.proofs.Common.{◌≡◌, ◌⊎◌, inl, inr, false, true≢false, List, [], ◌∷◌, ◌++◌, sym, ap, subst, ◌∙◌, map, flat_map}
+use Rattle.std.proofs.lemmas.List.Concat.{flat_map-append}
+use Rattle.std.specs.List.{AllByRecursion, IsDistinct}
+use Rattle.sr_names.specs.declared.spot.Spot.{Spot}
+use Rattle.sr_names.specs.Spots.{same_spot, spot_of}
+use Rattle.sr_names.proofs.LinkLemmas.{same_spot-refl}
+use Rattle.sr_names.proofs.Marking.{same_spot-cases}
+use Rattle.sr_order.specs.Names.{component_names, file_names, formal_names, item_names, spec_item_names}
+use Rattle.sr_tables.specs.Parts.{components_in}
+use Rattle.sr_tree.specs.declared.component.Component.{Component}
+use Rattle.sr_tree.specs.declared.component.File.{File}
+use Rattle.sr_tree.specs.declared.component.Item.{Item}
+use Rattle.sr_tree.specs.declared.component.Item.TheVariants as item
+use Rattle.sr_tree.specs.declared.component.SpecItem.{SpecItem}
+use Rattle.sr_tree.specs.declared.component.SpecItem.TheVariants as spec
+use Rattle.sr_tree.specs.Parts.{body_of, formals_of, spec_of}
+use Rattle.sr_value.specs.declared.place.Span.{Span}
+use Rattle.sr_check.proofs.Each.{Each}
+use Rattle.sr_front.proofs.QuietCode.{code_names, component_code}
+use Rattle.sr_front.proofs.TypeSpots.{Elsewhere, component_types, item_types, spec_item_types}
+
+-- of the elements of a list some are in one list, others in another, and others in neither
+pub data Shares : List Span → List Span → List Span → Type 0 where
+  none : Shares [] [] []
+  left_out : {xs ys zs : List Span} (x : Span) → Shares xs ys zs → Shares (x ∷ xs) ys zs
+  in_first : {xs ys zs : List Span} (x : Span) → Shares xs ys zs → Shares (x ∷ xs) (x ∷ ys) zs
+  in_second : {xs ys zs : List Span} (x : Span) → Shares xs ys zs → Shares (x ∷ xs) ys (x ∷ zs)
+
+both_share : {xs ys zs us vs ws : List Span} → Shares xs ys zs → Shares us vs ws → Shares (xs ++ us) (ys ++ vs) (zs ++ ws)
+both_share none more = more
+both_share (left_out x shares) more = left_out x (both_share shares more)
+both_share (in_first x shares) more = in_first x (both_share shares more)
+both_share (in_second x shares) more = in_second x (both_share shares more)
+
+all_left_out : (xs : List Span) → Shares xs [] []
+all_left_out [] = none
+all_left_out (x ∷ xs) = left_out x (all_left_out xs)
+
+all_second : (xs : List Span) → Shares xs [] xs
+all_second [] = none
+all_second (x ∷ xs) = in_second x (all_second xs)
+
+-- ---- names
+
+spec_item_shares : (one : SpecItem) → Shares (spec_item_names one) (spec_item_types one) []
+spec_item_shares (spec.«Type» named) = in_first named.name.span (all_left_out _)
+spec_item_shares (spec.Import declared) = all_left_out _
+spec_item_shares (spec.Const declared) = all_left_out _
+spec_item_shares (spec.OpType declared) = all_left_out _
+spec_item_shares (spec.Op declared) = all_left_out _
+spec_item_shares (spec.Var declared) = all_left_out _
+spec_item_shares (spec.Sem declared) = all_left_out _
+
+spec_shares : (items : List SpecItem) → Shares (flat_map spec_item_names items) (flat_map spec_item_types items) []
+spec_shares [] = none
+spec_shares (one ∷ items) = both_share (spec_item_shares one) (spec_shares items)
+
+item_shares : (one : Item) → Shares (item_names one) (item_types one) (code_names one)
+item_shares (item.Spec declared) = spec_item_shares declared
+item_shares (item.Proc proc) = all_second _
+item_shares (item.Procedure procedure) = all_second _
+item_shares (item.Process process) = all_second _
+item_shares (item.Final final) = all_second _
+item_shares (item.Statement statement) = all_second _
+
+items_share : (items : List Item) → Shares (flat_map item_names items) (flat_map item_types items) (flat_map code_names items)
+items_share [] = none
+items_share (one ∷ items) = both_share (item_shares one) (items_share items)
+
+component_shares : (component : Component) → Shares (component_names component) (component_types component) (component_code component)
+component_shares component =
+    in_first _ (both_share (spec_shares (spec_of component)) (both_share (all_left_out (flat_map formal_names (formals_of component))) (items_share (body_of component))))
+
+components_share : (components : List Component) → Shares (flat_map component_names components) (flat_map component_types components) (flat_map component_code components)
+components_share [] = none
+components_share (component ∷ more) = both_share (component_shares component) (components_share more)
+
+pub files_share : (files : List File) → Shares (flat_map file_names files) (flat_map component_types (components_in files)) (flat_map component_code (components_in files))
+files_share [] = none
+files_share (file ∷ files) =
+    subst (λ types. Shares (flat_map file_names (file ∷ files)) types (flat_map component_code (components_in (file ∷ files)))) (sym (flat_map-append component_types file.components (components_in files)))
+    (subst (λ code. Shares (flat_map file_names (file ∷ files)) (flat_map component_types file.components ++ flat_map component_types (components_in files)) code)
+    (sym (flat_map-append component_code file.components (components_in files)))
+    (both_share (components_share file.components) (files_share files)))
+
+-- ---- at different spots
+
+other_way : (a b : Spot) → same_spot a b ≡ false → same_spot b a ≡ false
+other_way a b apart = by (same_spot-cases b a)
+  where
+    by : (b ≡ a) ⊎ (same_spot b a ≡ false) → same_spot b a ≡ false
+    by (inl same) = absurd (true≢false (sym (same_spot-refl a) ∙ ap (same_spot a) (sym same) ∙ apart))
+    by (inr apart) = apart
+
+abbrev Behind : Span → List Span → Type 0
+Behind span spans = AllByRecursion (λ other. same_spot (spot_of span) other ≡ false) (map spot_of spans)
+
+-- those of either list are among all
+first_behind : {xs ys zs : List Span} (span : Span) → Shares xs ys zs → Behind span xs → Each (Elsewhere (spot_of span)) ys
+first_behind span none apart = tt
+first_behind span (left_out x shares) apart = first_behind span shares apart.1
+first_behind span (in_first x shares) apart = (apart.0, first_behind span shares apart.1)
+first_behind span (in_second x shares) apart = first_behind span shares apart.1
+
+-- one more name that stands elsewhere than each
+one_elsewhere : {xs ys zs : List Span} (span : Span) → Shares xs ys zs → Behind span xs → (types : List Span)
+    → Each (λ one. Each (Elsewhere (spot_of one)) types) zs → Each (λ one. Each (Elsewhere (spot_of one)) (span ∷ types)) zs
+one_elsewhere span none apart types each = tt
+one_elsewhere span (left_out x shares) apart types each = one_elsewhere span shares apart.1 types each
+one_elsewhere span (in_first x shares) apart types each = one_elsewhere span shares apart.1 types each
+one_elsewhere span (in_second x shares) apart types each = ((other_way (spot_of span) (spot_of x) apart.0, each.0), one_elsewhere span shares apart.1 types each.1)
+
+-- the names of the second list stand elsewhere than those of the first
+pub shares_apart : {xs ys zs : List Span} → Shares xs ys zs → IsDistinct same_spot (map spot_of xs) → Each (λ one. Each (Elsewhere (spot_of one)) ys) zs
+unfolding IsDistinct
+shares_apart none distinct = tt
+shares_apart (left_out x shares) distinct = shares_apart shares distinct.1
+shares_apart (in_first x shares) distinct = one_elsewhere x shares distinct.0 _ (shares_apart shares distinct.1)
+shares_apart (in_second x shares) distinct = (first_behind x shares distinct.0, shares_apart shares distinct.1)

@@ -1,0 +1,96 @@
+-- The core of a program that is accepted is well formed.
+use Rattle.std.proofs.Common.{◌≡◌, ℕ, List, map, None, sym, ap, ◌∙◌, subst}
+use Rattle.std.specs.Prelude.{All, flat_map}
+use Rattle.std.specs.List.{IsDistinct}
+use Rattle.sr_check.specs.Checked.{first_refused}
+use Rattle.sr_check.specs.Servicing.{AllServiceOwn, ServesShared}
+use Rattle.sr_check.proofs.Kept.{all_service_own, facts_known, none_refused, uses_kept}
+use Rattle.sr_check_decl.specs.Inferring.{program_known}
+use Rattle.sr_check_expr.specs.declared.facts.Facts.{Facts}
+use Rattle.sr_core.specs.WellFormed.{IsWellFormed}
+use Rattle.sr_names.specs.Noted.{Meanings}
+use Rattle.sr_names.specs.Spots.{same_spot, spot_of}
+use Rattle.sr_order.specs.Names.{file_names}
+use Rattle.sr_order.specs.Spans.{statement_spans, operation_spans, component_spans}
+use Rattle.sr_order.proofs.FileNames.{names-picked}
+use Rattle.sr_order.proofs.Files.{statements-picked, operations-picked, components-picked}
+use Rattle.sr_outline.specs.Numbers.{component_served}
+use Rattle.sr_scope.proofs.FoundFiles.{one_meaning}
+use Rattle.sr_tables.specs.Parts.{components_in}
+use Rattle.sr_tree.specs.declared.component.File.{File}
+use Rattle.sr_desugar.specs.Core.{core_of}
+use Rattle.sr_desugar.proofs.CoreNumbers.{codes, procs}
+use Rattle.sr_desugar.proofs.WaitsCode.{core_waits}
+use Rattle.sr_front.specs.declared.program.Accepted.{Accepted}
+use Rattle.sr_front.specs.Program.{IsAccepted}
+use Rattle.sr_front.proofs.AllowedCode.{accepted_allowed}
+use Rattle.sr_front.proofs.Clear.{all_clear}
+use Rattle.sr_front.proofs.Declared.{Apart, all_component_keys}
+use Rattle.sr_front.proofs.Findings.{has_main}
+use Rattle.sr_front.proofs.Made.{main_is}
+use Rattle.sr_front.proofs.Operations.{operations_ok}
+use Rattle.sr_front.proofs.ProcNumbers.{numbers_are_ok}
+use Rattle.sr_front.proofs.QuietCore.{accepted_quiet}
+use Rattle.sr_front.proofs.ServedApart.{all_serve_shared, served_apart}
+use Rattle.sr_front.proofs.Services.{procs_serve_own}
+use Rattle.sr_front.proofs.Sites.{sites_are_served, sites_well}
+use Rattle.sr_front.proofs.Spelled.{no_final_in_globals}
+use Rattle.sr_front.proofs.SpotsApart.{spots-apart}
+use Rattle.sr_front.proofs.WaitApart.{waits_apart}
+use Rattle.sr_front.proofs.Whole.{well_made}
+
+module _ (contents : List (List ℕ)) (accepted : Accepted) (is : IsAccepted contents accepted) where
+  abbrev trees : List File
+  trees = accepted.trees
+
+  abbrev facts : Facts
+  facts = accepted.facts
+
+  abbrev uses : Meanings
+  uses = is.names.uses
+
+  abbrev known : Facts
+  known = program_known uses is.names.specs trees
+
+  -- what names mean stays when types are looked at
+  kept : facts.uses ≡ uses
+  kept = ap (λ (f : Facts). f.uses) (facts_known uses is.names.specs trees facts is.checked) ∙ uses_kept uses is.names.specs trees
+
+  none : first_refused uses is.names.specs trees ≡ None
+  none = none_refused uses is.names.specs trees facts is.checked
+
+  services : AllServiceOwn uses trees known
+  services = all_service_own uses is.names.specs trees none
+
+  apart : Apart trees
+  apart = record { operations = spots-apart operation_spans operations-picked contents trees is.read; components = spots-apart component_spans components-picked contents trees is.read }
+
+  names_apart : IsDistinct same_spot (map spot_of (flat_map file_names trees))
+  names_apart = spots-apart file_names names-picked contents trees is.read
+
+  -- the operations that procs serve are different, also over components
+  once : IsDistinct same_spot (flat_map (component_served facts) (components_in trees))
+  once = served_apart trees is.names is.named names_apart known facts kept services apart
+
+  -- what a proc serves is declared outside of blocks
+  shared : All (ServesShared facts.uses trees) (components_in trees)
+  shared = subst (λ meanings. All (ServesShared meanings trees) (components_in trees)) (sym kept) (all_serve_shared trees is.names is.named names_apart)
+
+  own_services : AllServiceOwn facts.uses trees known
+  own_services = subst (λ meanings. AllServiceOwn meanings trees known) (sym kept) services
+
+  pub accepted_well_formed : IsWellFormed (core_of trees facts)
+  accepted_well_formed = record {
+    main = main_is trees facts (has_main trees is.names is.named);
+    components =
+        well_made trees facts is.names is.named kept (subst (IsDistinct same_spot) (all_component_keys trees) apart.components) (one_meaning trees names_apart)
+        (no_final_in_globals is.read.parsed);
+    operations = operations_ok trees facts apart;
+    procs = procs_serve_own uses trees known facts kept services apart once;
+    sites =
+        sites_well (core_of trees facts) (sites_are_served trees known facts own_services apart once shared (all_clear facts (components_in trees)))
+        (accepted_quiet uses is.names.specs contents trees facts is.read is.checked);
+    numbers = numbers_are_ok uses trees known facts kept services apart (codes trees facts) (procs trees facts);
+    allowed = accepted_allowed uses is.names.specs trees facts none;
+    waits = core_waits trees facts (waits_apart trees facts (spots-apart statement_spans statements-picked contents trees is.read));
+  }

@@ -1,0 +1,36 @@
+ghost use Rattle.std.specs.Prelude.{◌≡◌, ◌≤◌, length, IfOk, IfErr};
+ghost use Rattle.sr_core.specs.WellFormed.{IsWellFormed};
+ghost use Rattle.sr_front.specs.Cores.{IsCoreOf, IsWrittenOut};
+ghost use Rattle.sr_front.specs.Program.{IsRefused};
+ghost use Rattle.sr_front.specs.Reading.{IsRefusal, contents_of};
+
+use crate::program::{Accepted, accept};
+use sr_classes::partition;
+use sr_core::{Classes, Core};
+use sr_desugar::to_core;
+use sr_text::FrontFail;
+use sr_value::{NoMemory, Text};
+use std::alloc::Global;
+
+/// The core of the program that files, which are given with their names, are: each abbreviation written out, and each
+/// name a number; with it the classes of its operations. In that core each number names something, and no rule of kinds is
+/// broken. Or the refusal of the program, which is that of [`accept`].
+pub fn core_of(alloc: Global, files: &[(Text, Text)]) -> Result<(Core, Classes), FrontFail>
+    requires few { length files.now ≤ 64 }
+    ensures core { IfOk result (IsCoreOf (contents_of files.now)) }
+    ensures well_formed { IfOk result (λ made. IsWellFormed made.0) }
+    ensures refused { IfErr result (IsRefusal (IsRefused (contents_of files.now))) }
+{
+    let accepted = accept(alloc, files)?;
+    Ok(written_out(alloc, accepted)?)
+}
+
+/// The core of a program that is accepted, with its classes.
+fn written_out(alloc: Global, accepted: Accepted) -> Result<(Core, Classes), NoMemory>
+    ensures { IfOk result (IsWrittenOut accepted) }
+{
+    let Accepted { trees, facts } = accepted;
+    let core = to_core(alloc, trees.as_slice(), facts)?;
+    let classes = partition(alloc, &core)?;
+    Ok((core, classes))
+}
