@@ -10,8 +10,6 @@ mod piece;
 mod reader;
 mod role;
 mod symbol;
-#[cfg(test)]
-mod tests;
 
 pub use laws::{one_outcome, one_spelling, tokens_ascend};
 pub use lexer::lex;

@@ -6,6 +6,3 @@ mod string;
 
 pub use number::number_of;
 pub use string::string_of;
-
-#[cfg(test)]
-mod tests;

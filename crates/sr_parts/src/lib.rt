@@ -10,6 +10,3 @@ mod store;
 pub use fits::fitted;
 pub use load::{loaded, part_of};
 pub use store::stored;
-
-#[cfg(test)]
-mod tests;

@@ -27,6 +27,3 @@ pub use memory_files::MemFiles;
 pub use memory_streams::{MemSink, MemSource};
 pub use sink::{Sink, put_all};
 pub use source::Source;
-
-#[cfg(test)]
-mod tests;

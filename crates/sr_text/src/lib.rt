@@ -6,6 +6,3 @@ mod source_map;
 
 pub use refusal::{FrontFail, Kind, Refusal};
 pub use source_map::SourceMap;
-
-#[cfg(test)]
-mod tests;
