@@ -1,3 +1,4 @@
+use crate::request::ReadKind;
 use sr_value::{Duplicate, NoMemory, Row, Sel, Shape, Value};
 use std::alloc::Global;
 
@@ -58,6 +59,20 @@ pub struct Out {
     pub backs: Row<Located>,
     /// The values of the arm's quantifiers when it was made.
     pub turn: Row<i32>,
+}
+
+/// What an argument sends, where it sends something, and the place that its result goes to.
+#[derive(Drop)]
+pub struct Sent {
+    pub value: Option<Value>,
+    pub back: Option<Located>,
+}
+
+/// A place that `read` reads into, and what it is read as.
+#[derive(Drop)]
+pub struct Aim {
+    pub kind: ReadKind,
+    pub place: Located,
 }
 
 impl Duplicate for Located {

@@ -1,1 +1,4 @@
+pub mod Applied
+pub mod Formals
+pub mod Values
 pub mod WellFormed

@@ -10,6 +10,7 @@ mod component;
 mod expression;
 mod formal;
 mod owner;
+mod piece;
 mod site;
 mod statement;
 
@@ -17,6 +18,7 @@ pub use component::{Body, Component, Core, Kind, Operation, Parameter, Proc};
 pub use expression::{Argument, Expr, Function, Leaf, Part, PlaceExpr, Readable, Reading, Step};
 pub use formal::{Formal, FormalShape, Mode, Returned};
 pub use owner::{Classes, Home, Me, Root, Whose};
+pub use piece::Piece;
 pub use site::{Arm, Named, Site};
 pub use statement::{
     Action, Bump, CoArm, CoCall, Declaration, DimsExpr, Direction, Guarded, ItemShape, Quantifier,

@@ -6,18 +6,19 @@ use Rattle.sr_value.specs.declared.value.Value.{Value, out-Value, out-roll-Value
 use Rattle.sr_value.specs.declared.value.Value.TheOpen.{Value-F}
 use Rattle.sr_value.specs.declared.value.Value.TheVariants.{Bool as truth_value, rolls-Bool}
 use Rattle.sr_value.specs.Operands.{layer_bool}
-use Rattle.sr_parts.specs.Parts.{or_fault}
+use Rattle.sr_value.specs.Parts.{or_fault}
 use Rattle.sr_ask.specs.Asking.{made}
 use Rattle.sr_ask.specs.declared.request.Request.TheVariants.{Forward as forward_request}
-use Rattle.sr_meaning.specs.Values.{truth_of}
+use Rattle.sr_core.specs.Values.{truth_of}
 use Rattle.sr_ask.specs.Behaviors.{Stage, Outcome, Came, Stops, Doing, give, and_then, tick, ticked, looped, turned, turns, room}
 use Rattle.sr_ask.specs.declared.ask.Asks.{Asks}
 use Rattle.sr_meaning.specs.declared.ending.Ending.{Ending}
 use Rattle.sr_meaning.specs.Expressions.{Meaning}
 use Rattle.sr_meaning.specs.Here.{Here, request}
 use Rattle.sr_meaning.specs.Laws.{AsksForGood, LeftDecides, CallsInOrder, RepliesOnce, GainsNothing, OneTurnThenTheLoop}
-use Rattle.sr_meaning.specs.Statements.{mark_answered, reply_unless, forward_unless}
+use Rattle.sr_meaning.specs.Statements.{forward_unless, reply_unless}
 use Rattle.sr_meaning.proofs.Forever.{forever}
+use Rattle.sr_ask.specs.Replies.{mark_answered}
 
 pub asks_for_good : AsksForGood
 asks_for_good = record {

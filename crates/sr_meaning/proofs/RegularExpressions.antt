@@ -8,7 +8,7 @@ use Rattle.sr_value.specs.declared.shape.Shape.{Shape}
 use Rattle.sr_value.specs.declared.value.Value.{Value}
 use Rattle.sr_value.specs.declared.value.Value.TheVariants.{Int, Capa}
 use Rattle.sr_value.specs.Shapes.{default_value}
-use Rattle.sr_parts.specs.Parts.{with_ok, loaded_at}
+use Rattle.sr_value.specs.Parts.{with_ok, loaded_at}
 use Rattle.sr_ask.specs.Asking.{done, got, made, number, ready, moment, took, read_item}
 use Rattle.sr_ask.specs.Behaviors.{give, ◌>>=◌}
 use Rattle.sr_ask.specs.declared.environment.Located.{Located}
@@ -25,13 +25,16 @@ use Rattle.sr_core.specs.declared.owner.Root.{Root}
 use Rattle.sr_core.specs.declared.owner.Root.TheVariants.{Own as own_root, Shared as shared_root}
 use Rattle.sr_core.specs.declared.owner.Whose.{Whose}
 use Rattle.sr_core.specs.declared.owner.Whose.TheVariants.{Mine, Imported, Process}
-use Rattle.sr_meaning.specs.declared.evaluated.Aim.{Aim}
-use Rattle.sr_meaning.specs.declared.evaluated.Sent.{Sent}
-use Rattle.sr_meaning.specs.Expressions.{Meaning, at_end, created, default_given, ensured, give_back, instance_in, leaf_meaning, needs_of, owner_of, read_all, read_next, taken, value_behind, values_sent, places_back, called}
-use Rattle.sr_meaning.specs.Here.{Here, settle}
-use Rattle.sr_meaning.specs.Places.{own_at, own_after, declare_own, own_load, own_store, load_at, load_place, store_at, store_place, store_results, spot_of}
-use Rattle.sr_meaning.specs.Values.{nothing, cap_of}
+use Rattle.sr_ask.specs.declared.environment.Aim.{Aim}
+use Rattle.sr_ask.specs.declared.environment.Sent.{Sent}
+use Rattle.sr_meaning.specs.Expressions.{Meaning, at_end, created, default_given, ensured, give_back, leaf_meaning, needs_of, owner_of, read_all, taken, called}
+use Rattle.sr_ask.specs.Invocations.{read_next, read_all as items_read}
+use Rattle.sr_meaning.specs.Here.{Here, asker, settle}
+use Rattle.sr_meaning.specs.Places.{own_load, own_store, load_at, load_place, store_at, store_place, store_results, spot_of}
+use Rattle.sr_core.specs.Values.{cap_of}
 use Rattle.sr_meaning.proofs.Regular.{Regular, RegularMeaning, AllRegular, with_limit, regular_then, regular_give, regular_equal, regular_own, regular_by, regular_request, regular_settle, regular_in_order}
+use Rattle.sr_ask.specs.Invocations.{instance_in, value_behind, values_sent, places_back}
+use Rattle.sr_ask.specs.Places.{own_at, own_after, declare_own, nothing}
 
 -- ---- places
 
@@ -127,12 +130,13 @@ regular_at_end : (count : ℕ) (here : Here) → Regular (λ limit. at_end count
 regular_at_end zero here = regular_give _
 regular_at_end (suc n) here = regular_settle here _
 
-regular_read_next : (count : ℕ) (aim : Aim) (next : Meaning Value) (item : InputItem) (here : Here) → RegularMeaning next → Regular (λ limit. read_next count aim next item (with_limit limit here))
-regular_read_next count aim next (read_value value) here h = regular_then (regular_store aim.place value here) (λ _. h.at here)
-regular_read_next count aim next NotOfKind here h = regular_settle here _
-regular_read_next count aim next NoMore here h = regular_at_end count here
+regular_read_next : (count : ℕ) (aim : Aim) (aims : List Aim) (item : InputItem) (here : Here) → Regular (λ limit. read_all (suc count) aims (with_limit limit here))
+    → Regular (λ limit. read_next count aim (items_read (suc count) aims) item (asker (with_limit limit here)))
+regular_read_next count aim aims (read_value value) here rest = regular_then (regular_store aim.place value here) (λ _. rest)
+regular_read_next count aim aims NotOfKind here rest = regular_settle here _
+regular_read_next count aim aims NoMore here rest = regular_at_end count here
 
 pub regular_read_all : (count : ℕ) (aims : List Aim) (here : Here) → Regular (λ limit. read_all count aims (with_limit limit here))
 regular_read_all count [] here = regular_settle here _
 regular_read_all count (aim ∷ aims) here =
-    regular_then (regular_request here read_item (read_request aim.kind) refl) (λ item. regular_read_next count aim (read_all (suc count) aims) item here (record { at = regular_read_all (suc count) aims }))
+    regular_then (regular_request here read_item (read_request aim.kind) refl) (λ item. regular_read_next count aim aims item here (regular_read_all (suc count) aims here))

@@ -22,7 +22,7 @@ use Rattle.sr_meaning.specs.Here.{Here, at_line, request}
 use Rattle.sr_meaning.specs.Laws.{GainsNothing}
 use Rattle.sr_meaning.specs.Pieces.{guarded_of, optional_block}
 use Rattle.sr_meaning.specs.Processes.{ask, beginning, body_for, boot_meaning, component_of, final_meaning, finish, here_for, initial_meaning, main_of, proc_at, proc_meaning, process_meaning, role_meaning}
-use Rattle.sr_meaning.specs.Statements.{block_of, do_turn, gives_now, meaning_of}
+use Rattle.sr_meaning.specs.Statements.{gives_now, block_of, do_turn, meaning_of}
 use Rattle.sr_meaning.specs.WholeLaws.{DoIsATurnAndTheDo, LastAskForGood, MoreTicksAskTheSame, NoRoomGained, OverTicksForGood}
 use Rattle.sr_meaning.proofs.LawProofs.{one_turn_then_the_loop}
 use Rattle.sr_meaning.proofs.Regular.{Follows, Regular, Stays, came_leaves, with_limit, regular_then, regular_give, regular_equal, regular_by, regular_request, regular_last}

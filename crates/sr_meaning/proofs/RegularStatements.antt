@@ -9,7 +9,7 @@ use Rattle.sr_value.specs.declared.value.Value.{Value}
 use Rattle.sr_value.specs.declared.value.Value.TheVariants.{Int}
 use Rattle.sr_value.specs.Operators.{value_of}
 use Rattle.sr_value.specs.Shapes.{default_value}
-use Rattle.sr_parts.specs.Parts.{with_ok}
+use Rattle.sr_value.specs.Parts.{with_ok}
 use Rattle.sr_ask.specs.Asking.{done, made, moment, selected}
 use Rattle.sr_ask.specs.Behaviors.{Doing, give, ◌>>=◌, ◌>>◌}
 use Rattle.sr_ask.specs.declared.environment.Gives.{Gives}
@@ -47,14 +47,17 @@ use Rattle.sr_core.specs.declared.statement.Setup.{Setup}
 use Rattle.sr_core.specs.declared.statement.Setup.TheVariants.{Typed, Untyped}
 use Rattle.sr_meaning.specs.declared.ending.Ending.{Ending}
 use Rattle.sr_meaning.specs.declared.ending.Ending.TheVariants.{Through, Left, Turned, Returned as returned}
-use Rattle.sr_meaning.specs.Expressions.{Meaning, choice, values_sent, places_back}
+use Rattle.sr_meaning.specs.Expressions.{Meaning, choice}
 use Rattle.sr_meaning.specs.Here.{Here, request, settle}
-use Rattle.sr_meaning.specs.Places.{own_at}
-use Rattle.sr_meaning.specs.Statements.{Completion, CoPart, action_meaning, after_turn, arguments, before, block_meaning, bump_operator, cap_expr, complete, complete_all, complete_outs, condition_meaning, continue, declaration_meaning, dims_shape, drop_out, first_true, first_value, for_values, forward_meaning, forward_unless, gives_now, in_meaning, int_own, item_shape, make, make_formals, make_returned, mark_answered, named_value, no_guard, do_meaning, do_turn, co_meaning, if_meaning, left, number_expr, optional_place, or_try, own_number, push_out, quantified, reply_meaning, reply_unless, selection_meaning, sends, sends_meaning, sent_behind, sent_to, served, service_for, service_meaning, set_out, set_service, set_turn, setup_meaning, site_at, spot_in, start_call, start_calls, status_meaning, store_sent, store_value, string_shape, take_one, through, time_of, took_one, truth_expr, turn_end, turn_now, wake_at, whole}
-use Rattle.sr_meaning.specs.Values.{truth_of, number_of, cap_of, count_of, values_of, texts_of, written, bounded_by, formal_shape}
+use Rattle.sr_meaning.specs.Statements.{forward_unless, gives_now, CoPart, action_meaning, after_turn, arguments, before, block_meaning, bump_operator, cap_expr, complete, complete_all, complete_outs, condition_meaning, continue, declaration_meaning, dims_shape, drop_out, first_true, first_value, for_values, forward_meaning, in_meaning, int_own, item_shape, make, make_formals, make_returned, named_value, no_guard, do_meaning, do_turn, co_meaning, if_meaning, left, number_expr, optional_place, or_try, own_number, quantified, reply_meaning, reply_unless, selection_meaning, sends, sends_meaning, served, service_for, service_meaning, set_turn, setup_meaning, site_at, spot_in, start_call, start_calls, status_meaning, store_sent, store_value, string_shape, take_one, through, time_of, truth_expr, turn_end, turn_now, wake_at}
+use Rattle.sr_core.specs.Values.{truth_of, number_of, cap_of, count_of, values_of, texts_of, written, bounded_by, formal_shape}
 use Rattle.sr_meaning.proofs.Regular.{Regular, RegularMeaning, AllRegular, with_limit, regular_then, regular_give, regular_equal, regular_choice, regular_service, regular_out, regular_by, regular_tick, regular_request, regular_last, regular_settle, regular_looped, regular_in_order}
 use Rattle.sr_meaning.proofs.RegularExpressions.{regular_declare, regular_load, regular_store, regular_give_back, regular_taken}
 use Rattle.sr_meaning.proofs.RegularTrees.{regular_expr, regular_exprs, regular_place, regular_arguments}
+use Rattle.sr_ask.specs.Invocations.{values_sent, places_back}
+use Rattle.sr_ask.specs.Places.{own_at, whole}
+use Rattle.sr_ask.specs.Replies.{Completion, mark_answered, push_out, set_out, set_service, took_one}
+use Rattle.sr_core.specs.Formals.{sent_after, sent_to}
 
 -- ---- endings
 
@@ -147,7 +150,7 @@ regular_formals scope (formal ∷ formals) args here =
     regular_then (regular_settle here (formal_shape formal.shape (sent_to formal.mode args))) (λ shape.
     regular_then (regular_make_in scope formal.var shape here) (λ _.
     regular_then (regular_store_in scope formal.var (sent_to formal.mode args) here) (λ _.
-    regular_formals scope formals (sent_behind formal.mode args) here)))
+    regular_formals scope formals (sent_after formal.mode args) here)))
 
 pub regular_returned : (name : Option Returned) (here : Here) → Regular (λ limit. make_returned name (with_limit limit here))
 regular_returned None here = regular_give tt

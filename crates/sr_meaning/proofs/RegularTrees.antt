@@ -6,7 +6,7 @@ use Rattle.sr_value.specs.declared.shape.Sel.TheVariants.{At as at_one, At2 as a
 use Rattle.sr_value.specs.declared.value.Value.{Value}
 use Rattle.sr_value.specs.declared.value.Value.TheVariants.{Bool as truth_value}
 use Rattle.sr_value.specs.Operators.{value_of, value_of_one}
-use Rattle.sr_parts.specs.Parts.{part_of}
+use Rattle.sr_value.specs.Parts.{part_of}
 use Rattle.sr_ask.specs.Behaviors.{give}
 use Rattle.sr_ask.specs.declared.environment.Located.{Located}
 use Rattle.sr_core.specs.declared.expression.Argument.TheFolds.{map-Argument, map-Part, map-PlaceExpr, map-Reading, map-Step, fold-roll-Argument, fold-roll-Expr, fold-roll-Part, fold-roll-PlaceExpr, fold-roll-Reading, fold-roll-Step, ind-Argument, ind-Expr, ind-PlaceExpr}
@@ -17,13 +17,13 @@ use Rattle.sr_core.specs.declared.expression.Part.{Part, roll-Part}
 use Rattle.sr_core.specs.declared.expression.Reading.{Reading, roll-Reading}
 use Rattle.sr_core.specs.declared.expression.Step.{Step, roll-Step}
 use Rattle.sr_core.specs.declared.expression.PlaceExpr.{PlaceExpr, roll-PlaceExpr}
-use Rattle.sr_meaning.specs.declared.evaluated.Aim.{Aim}
-use Rattle.sr_meaning.specs.declared.evaluated.Piece.{Piece}
-use Rattle.sr_meaning.specs.declared.evaluated.Sent.{Sent}
-use Rattle.sr_meaning.specs.Applied.{applied}
+use Rattle.sr_ask.specs.declared.environment.Aim.{Aim}
+use Rattle.sr_core.specs.declared.piece.Piece.{Piece}
+use Rattle.sr_ask.specs.declared.environment.Sent.{Sent}
+use Rattle.sr_core.specs.Applied.{applied}
 use Rattle.sr_meaning.specs.Expressions.{Meaning, argument_meaning, argument_of, expr_meaning, kind_of, node_meaning, part_meaning, part_of_expr, place_meaning, place_of_expr, reading_meaning, reading_of, step_meaning, step_of_expr}
 use Rattle.sr_meaning.specs.Places.{spot_of}
-use Rattle.sr_meaning.specs.Values.{truth_of, number_of, cap_of, member_of, count_of, array_of}
+use Rattle.sr_core.specs.Values.{truth_of, number_of, cap_of, member_of, count_of, array_of}
 use Rattle.sr_meaning.proofs.Regular.{RegularMeaning, AllRegular, with_limit, regular_then, regular_give, regular_equal, regular_choice, regular_settle, regular_in_order}
 use Rattle.sr_meaning.proofs.RegularExpressions.{regular_called, regular_created, regular_leaf, regular_load, regular_read_all, same_spot}
 

@@ -10,18 +10,21 @@ use Rattle.sr_value.specs.declared.shape.Sel.TheVariants.{At as at_one, At2 as a
 use Rattle.sr_value.specs.declared.shape.Shape.{Shape}
 use Rattle.sr_value.specs.declared.value.Value.{Value}
 use Rattle.sr_value.specs.declared.value.Value.TheVariants.{Int, Bool as truth_value, Capa}
-use Rattle.sr_value.specs.Operators.{int_result, value_of, value_of_one}
-use Rattle.sr_value.specs.Shapes.{default_value}
-use Rattle.sr_parts.specs.Parts.{part_of}
-use Rattle.sr_ask.specs.Asking.{made, number, ready, moment, took, read_item}
+use Rattle.sr_value.specs.Operators.{value_of, value_of_one}
+use Rattle.sr_value.specs.Parts.{part_of}
+use Rattle.sr_ask.specs.Asking.{made, number, moment}
 use Rattle.sr_ask.specs.Behaviors.{Doing, give, ◌>>=◌}
-use Rattle.sr_ask.specs.declared.forms.InputItem.{InputItem}
-use Rattle.sr_ask.specs.declared.forms.InputItem.TheVariants.{Value as read_value, NotOfKind, NoMore}
+use Rattle.sr_ask.specs.Invocations.{values_sent, places_back, default_given as default_of, give_back as results_given, taken as reply_to, ensured as globals_ensured, created as instance_created, number_read as items_counted, at_end as counted_at_end, read_all as items_read}
+use Rattle.sr_ask.specs.declared.environment.Aim.{Aim}
 use Rattle.sr_ask.specs.declared.environment.Located.{Located}
+use Rattle.sr_ask.specs.declared.environment.Sent.{Sent}
 use Rattle.sr_ask.specs.declared.request.ReadKind.{ReadKind}
 use Rattle.sr_ask.specs.declared.request.ReadKind.TheVariants.{Int as read_int, Bool as read_bool, Char as read_char, Str as read_str}
-use Rattle.sr_ask.specs.declared.request.Request.TheVariants.{Invoke, Take, Count, Read as read_request, EnsureGlobal, Create as create_request, MakeVm, Age}
+use Rattle.sr_ask.specs.declared.request.Request.TheVariants.{Invoke, Count, MakeVm, Age}
+use Rattle.sr_core.specs.Applied.{applied}
+use Rattle.sr_core.specs.Values.{truth_of, number_of, cap_of, member_of, count_of, array_of}
 use Rattle.sr_core.specs.declared.component.Core.{Core}
+use Rattle.sr_core.specs.declared.piece.Piece.{Piece}
 use Rattle.sr_core.specs.declared.expression.Argument.TheFolds.{fold-Expr, fold-Argument, fold-Part, fold-PlaceExpr, fold-Reading, fold-Step}
 use Rattle.sr_core.specs.declared.expression.Argument.TheOpen.{Argument-F, Expr-F, Part-F, Step-F, PlaceExpr-F, Reading-F}
 use Rattle.sr_core.specs.declared.expression.Argument.{Argument}
@@ -36,13 +39,8 @@ use Rattle.sr_core.specs.declared.expression.Readable.{Readable}
 use Rattle.sr_core.specs.declared.expression.Readable.TheVariants.{Int as an_int, Bool as a_bool, Char as a_char, Str as a_str}
 use Rattle.sr_core.specs.declared.owner.Whose.{Whose}
 use Rattle.sr_core.specs.declared.owner.Whose.TheVariants.{Mine, Imported, Process}
-use Rattle.sr_meaning.specs.declared.evaluated.Aim.{Aim}
-use Rattle.sr_meaning.specs.declared.evaluated.Piece.{Piece}
-use Rattle.sr_meaning.specs.declared.evaluated.Sent.{Sent}
-use Rattle.sr_meaning.specs.Applied.{applied}
-use Rattle.sr_meaning.specs.Here.{Here, request, settle}
-use Rattle.sr_meaning.specs.Places.{spot_of, load_place, store_place, store_results}
-use Rattle.sr_meaning.specs.Values.{truth_of, number_of, cap_of, nothing, member_of, count_of, array_of}
+use Rattle.sr_meaning.specs.Here.{Here, asker, request, settle}
+use Rattle.sr_meaning.specs.Places.{spot_of, load_place}
 
 -- what each kind of part of an expression means
 abbrev pub Meaning : Type 0 → Type 0
@@ -76,38 +74,17 @@ leaf_meaning Moment here = request moment Age here >>= λ now. give (Int now)
 
 -- ---- invocations
 
-abbrev pub with_some : {A : Type 0} → Option A → List A → List A
-with_some None rest = rest
-with_some (Some a) rest = a ∷ rest
-
--- a value is sent for each `val` and `var` formal
-abbrev pub values_sent : List Sent → List Value
-values_sent [] = []
-values_sent (sent ∷ rest) = with_some sent.value (values_sent rest)
-
--- a result goes to the place of each `var` and `res` argument
-abbrev pub places_back : List Sent → List Located
-places_back [] = []
-places_back (sent ∷ rest) = with_some sent.back (places_back rest)
-
--- the value behind the results; an operation that returns nothing gives one that nobody uses
-abbrev pub value_behind : List Value → Value
-value_behind [] = nothing
-value_behind (value ∷ rest) = value
-
 -- a call of `noop` gives the default of the returned type
 abbrev pub default_given : Option Shape → Meaning Value
-default_given None here = give nothing
-default_given (Some shape) here = settle (default_value shape) here
+default_given returns here = default_of returns (asker here)
 
 -- after a reply the results are stored in the order of the formals; `noop` leaves the arguments as they are
 abbrev pub give_back : List Located → Option Shape → Option (List Value) → Meaning Value
-give_back places returns None here = default_given returns here
-give_back places returns (Some results) here = store_results places results here >>= λ rest. give (value_behind rest)
+give_back places returns results here = results_given places returns results (asker here)
 
 -- the reply to one invocation
 abbrev pub taken : ℕ → Meaning (Option (List Value))
-taken id here = request (took (id ∷ [])) (Take (id ∷ [])) here >>= λ reply. give reply.results
+taken id here = reply_to id (asker here)
 
 -- the target, then the arguments, the invocation, its reply, and then the stores
 abbrev pub called : Meaning Value → List (Meaning Sent) → Option Shape → Meaning Value
@@ -122,25 +99,14 @@ called target args returns here =
 
 -- each global is asked for until it is ready
 abbrev pub ensured : List ℕ → Cap → Meaning (Unit {0})
-ensured [] vm here = give tt
-ensured (global ∷ globals) vm here = request ready (EnsureGlobal global vm) here >>= λ _. ensured globals vm here
+ensured globals vm here = globals_ensured globals vm (asker here)
 
 -- the globals that a component needs, each after those that it imports
 abbrev pub needs_of : Core → ℕ → List ℕ
 needs_of core component = unwrap_or (option_map (λ c. c.needs) (slice_get core.components component)) []
 
--- a new instance answers with its capability
-abbrev pub instance_in : Option (List Value) → Value
-instance_in None = Capa Null
-instance_in (Some []) = Capa Null
-instance_in (Some (value ∷ rest)) = value
-
 abbrev pub created : ℕ → List Value → Cap → Meaning Value
-created resource args vm here =
-    ensured (needs_of here.core resource) vm here >>= λ _.
-    request made (create_request resource args vm) here >>= λ name.
-    taken name here >>= λ reply.
-    give (instance_in reply)
+created resource args vm here = instance_created resource (needs_of here.core resource) args vm (asker here)
 
 -- ---- read
 
@@ -152,22 +118,14 @@ kind_of a_str = read_str
 
 -- the number of items read, or -1 where the input had ended before the first
 abbrev pub number_read : ℕ → Meaning Value
-number_read count here = settle (int_result (pos count)) here
+number_read count here = items_counted count (asker here)
 
 abbrev pub at_end : ℕ → Meaning Value
-at_end zero here = give (Int (negsuc 0))
-at_end (suc n) here = number_read (suc n) here
-
-abbrev pub read_next : ℕ → Aim → Meaning Value → InputItem → Meaning Value
-read_next count aim next (read_value value) here = store_place aim.place value here >>= λ _. next here
-read_next count aim next NotOfKind here = number_read count here
-read_next count aim next NoMore here = at_end count here
+at_end count here = counted_at_end count (asker here)
 
 -- items are read and stored one after another, up to the first that isn't there or doesn't fit
 abbrev pub read_all : ℕ → List Aim → Meaning Value
-read_all count [] here = number_read count here
-read_all count (aim ∷ aims) here =
-    request read_item (read_request aim.kind) here >>= λ item. read_next count aim (read_all (suc count) aims) item here
+read_all count aims here = items_read count aims (asker here)
 
 -- ---- nodes
 

@@ -21,7 +21,7 @@ use Rattle.sr_value.specs.declared.value.Value.TheVariants.{Int, Bool as truth_v
 use Rattle.sr_value.specs.Operands.{cap_in}
 use Rattle.sr_value.specs.Operators.{value_of, value_of_one}
 use Rattle.sr_value.specs.Shapes.{extent, default_value}
-use Rattle.sr_parts.specs.Parts.{with_ok, loaded_at, part_of}
+use Rattle.sr_value.specs.Parts.{with_ok, loaded_at, part_of}
 use Rattle.sr_core.specs.declared.expression.Argument.TheFolds.{fold-Expr}
 use Rattle.sr_core.specs.declared.expression.Argument.TheOpen.{Argument-F, Expr-F, Part-F, Step-F, PlaceExpr-F, Reading-F}
 use Rattle.sr_core.specs.declared.expression.Expr.{Expr}
@@ -41,10 +41,10 @@ use Rattle.sr_core.specs.declared.owner.Whose.TheVariants.{Mine, Imported, Proce
 use Rattle.sr_core.specs.declared.site.Arm.{Arm}
 use Rattle.sr_core.specs.declared.site.Named.{Named}
 use Rattle.sr_core.specs.declared.site.Named.TheVariants.{Own as named_own, Home as named_home, Machine as named_machine}
-use Rattle.sr_meaning.specs.declared.evaluated.Piece.{Piece}
-use Rattle.sr_meaning.specs.Applied.{applied}
-use Rattle.sr_meaning.specs.Statements.{sent_to, sent_behind}
-use Rattle.sr_meaning.specs.Values.{truth_of, number_of, cap_of, member_of, count_of, array_of, formal_shape, int_bound}
+use Rattle.sr_core.specs.Applied.{applied}
+use Rattle.sr_core.specs.Formals.{sent_to, sent_after}
+use Rattle.sr_core.specs.declared.piece.Piece.{Piece}
+use Rattle.sr_core.specs.Values.{truth_of, number_of, cap_of, member_of, count_of, array_of, formal_shape, int_bound}
 
 -- What a guard reads: the names of the enumerations' literals, the process, the values of the names that it
 -- may use, and the shared variables and the counts of pending invocations.
@@ -177,7 +177,7 @@ or_else false this other = other
 abbrev pub formals_seen : List Formal → List Value → ℕ → Option (Result Value Fault)
 formals_seen [] args var = None
 formals_seen (formal ∷ formals) args var =
-    or_else (formal.var == var) (Some (formal_seen formal (sent_to formal.mode args))) (formals_seen formals (sent_behind formal.mode args) var)
+    or_else (formal.var == var) (Some (formal_seen formal (sent_to formal.mode args))) (formals_seen formals (sent_after formal.mode args) var)
 
 -- the returned name has its default
 abbrev pub returned_seen : Option Returned → ℕ → Option (Result Value Fault)

@@ -1,14 +1,12 @@
--- What stays the same while a statement is carried out, and how it asks.
-use Rattle.std.specs.Prelude.{ℕ, ℤ, List, Option, Some, None, Result, Ok, Err, unwrap_or, slice_get}
+-- What stays the same while a statement is carried out: the process of a program, at a line.
+use Rattle.std.specs.Prelude.{ℕ, Option, Result}
 use Rattle.sr_value.specs.declared.fault.Fault.{Fault}
 use Rattle.sr_value.specs.declared.place.Place.{Place}
-use Rattle.sr_ask.specs.Asking.{none_takes}
-use Rattle.sr_ask.specs.Behaviors.{Doing, give, asking}
+use Rattle.sr_ask.specs.Behaviors.{Doing}
+use Rattle.sr_ask.specs.Here.{Here as Asking_here, ask_of as asked_at, request as request_at, fail as fail_at, settle as settle_at}
 use Rattle.sr_ask.specs.declared.answer.Answer.{Answer}
 use Rattle.sr_ask.specs.declared.ask.Asks.{Asks}
-use Rattle.sr_ask.specs.declared.ask.Asks.TheVariants.{Asked}
 use Rattle.sr_ask.specs.declared.request.Request.{Request}
-use Rattle.sr_ask.specs.declared.request.Request.TheVariants.{Fail}
 use Rattle.sr_ask.specs.declared.start.Start.{Start}
 use Rattle.sr_core.specs.declared.component.Core.{Core}
 
@@ -24,18 +22,18 @@ pub record Here : Type 0 where
 abbrev pub at_line : Place → Here → Here
 at_line place here = record here { place = place }
 
--- a request is asked at the line of the statement, in the role of the process
+-- the same without the program
+abbrev pub asker : Here → Asking_here
+asker here = record { start = here.start; limit = here.limit; place = here.place }
+
 abbrev pub ask_of : Request → Here → Asks
-ask_of request here = Asked (record { place = here.place; role = here.start.role; request = request })
+ask_of request here = asked_at request (asker here)
 
--- to ask, and to go on after the first answer that the request takes
 abbrev pub request : {A : Type 0} → (Answer → Option A) → Request → Here → Doing A
-request takes asked here = asking takes (ask_of asked here) here.limit
+request takes asked here = request_at takes asked (asker here)
 
--- a fault that is found without the machine is asked as `Fail`, for good
 abbrev pub fail : {A : Type 0} → Fault → Here → Doing A
-fail fault here = request none_takes (Fail fault) here
+fail fault here = fail_at fault (asker here)
 
 abbrev pub settle : {A : Type 0} → Result A Fault → Here → Doing A
-settle (Ok a) here = give a
-settle (Err fault) here = fail fault here
+settle result here = settle_at result (asker here)

@@ -13,14 +13,16 @@ use Rattle.sr_ask.specs.declared.request.Request.TheVariants.{Invoke, Finish, St
 use Rattle.sr_core.specs.declared.expression.Argument.TheOpen.{Expr-F}
 use Rattle.sr_core.specs.declared.site.Arm.{Arm}
 use Rattle.sr_meaning.specs.declared.ending.Ending.{Ending}
-use Rattle.sr_meaning.specs.declared.evaluated.Sent.{Sent}
-use Rattle.sr_meaning.specs.Expressions.{Meaning, node_meaning, in_order, called, values_sent, places_back, taken, give_back}
+use Rattle.sr_ask.specs.declared.environment.Sent.{Sent}
+use Rattle.sr_meaning.specs.Expressions.{Meaning, node_meaning, in_order, called, taken, give_back}
 use Rattle.sr_meaning.specs.Here.{Here, ask_of, request, fail, settle}
 use Rattle.sr_meaning.specs.Places.{store_place, store_results}
 use Rattle.sr_meaning.specs.Processes.{finish}
-use Rattle.sr_meaning.specs.Statements.{block_meaning, results_now, reply_meaning, forward_meaning, service_meaning, service_for, served, set_service, make_formals, make_returned}
-use Rattle.sr_meaning.specs.Values.{cap_of}
+use Rattle.sr_meaning.specs.Statements.{block_meaning, results_now, reply_meaning, forward_meaning, service_meaning, service_for, served, make_formals, make_returned}
+use Rattle.sr_core.specs.Values.{cap_of}
 use Rattle.sr_core.specs.declared.statement.Scope.TheVariants.{Own as own_scope}
+use Rattle.sr_ask.specs.Invocations.{values_sent, places_back}
+use Rattle.sr_ask.specs.Replies.{set_service}
 
 -- ---- the end of a process
 

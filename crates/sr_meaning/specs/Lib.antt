@@ -1,4 +1,3 @@
-pub mod Applied
 pub mod Expressions
 pub mod Guards
 pub mod Here
@@ -7,5 +6,4 @@ pub mod Pieces
 pub mod Places
 pub mod Processes
 pub mod Statements
-pub mod Values
 pub mod WholeLaws

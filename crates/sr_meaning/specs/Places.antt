@@ -1,23 +1,17 @@
 -- Variables and places: the process's own, and those that it shares.
-use Rattle.std.specs.Prelude.{ℕ, ℤ, List, [], ◌∷◌, Option, Some, None, Result, Ok, Err, unwrap_or, slice_get, slice_set}
-use Rattle.sr_value.specs.declared.fault.Fault.{Fault}
-use Rattle.sr_value.specs.declared.fault.Fault.TheVariants.{Early}
+use Rattle.std.specs.Prelude.{ℕ, List, unwrap_or, slice_get}
 use Rattle.sr_value.specs.declared.shape.Sel.{Sel}
-use Rattle.sr_value.specs.declared.shape.Shape.{Shape}
 use Rattle.sr_value.specs.declared.value.Value.{Value}
-use Rattle.sr_parts.specs.Parts.{or_fault, with_ok, loaded_at, stored_at}
-use Rattle.sr_ask.specs.Asking.{done, got}
-use Rattle.sr_ask.specs.Behaviors.{Stage, Doing, Came, give, ◌>>=◌}
+use Rattle.sr_ask.specs.Behaviors.{Doing}
+use Rattle.sr_ask.specs.Places.{own_load as own_load_at, own_store as own_store_at, load_at as spot_load, load_place as place_load, store_at as spot_store, store_place as place_store, store_results as results_store}
 use Rattle.sr_ask.specs.declared.environment.Located.{Located}
-use Rattle.sr_ask.specs.declared.environment.Own.{Own}
 use Rattle.sr_ask.specs.declared.environment.Spot.{Spot}
 use Rattle.sr_ask.specs.declared.environment.Spot.TheVariants.{Own as an_own, Shared as a_shared}
-use Rattle.sr_ask.specs.declared.request.Request.TheVariants.{Load, Store}
 use Rattle.sr_core.specs.declared.owner.Home.{Home}
 use Rattle.sr_core.specs.declared.owner.Home.TheVariants.{Mine, Imported}
 use Rattle.sr_core.specs.declared.owner.Root.{Root}
 use Rattle.sr_core.specs.declared.owner.Root.TheVariants.{Own as own_root, Shared as shared_root}
-use Rattle.sr_meaning.specs.Here.{Here, request, settle}
+use Rattle.sr_meaning.specs.Here.{Here, asker}
 
 -- the instance whose shared variables are meant
 abbrev pub block_of : Home → Here → ℕ
@@ -28,44 +22,23 @@ abbrev pub spot_of : Root → Here → Spot
 spot_of (own_root var) here = an_own var
 spot_of (shared_root home var) here = a_shared (block_of home here) var
 
--- an own variable that hasn't been declared is E11
-abbrev pub own_at : List (Option Own) → ℕ → Result Own Fault
-own_at own var = or_fault Early (unwrap_or (slice_get own var) None)
-
-abbrev pub set_own : ℕ → Own → Stage → Stage
-set_own var own stage = record stage { own = slice_set stage.own var (Some own) }
-
-abbrev pub declare_own : ℕ → Own → Doing (Unit {0})
-declare_own var own stage = Came tt (set_own var own stage)
-
--- what a part of an own variable holds
 abbrev pub own_load : ℕ → List Sel → Here → Doing Value
-own_load var path here stage = settle (with_ok (own_at stage.own var) (λ own. loaded_at own.value path)) here stage
-
--- an own variable after a store
-abbrev pub own_after : Own → List Sel → Value → Result Own Fault
-own_after own path value = with_ok (stored_at own.shape own.value path value) (λ held. Ok (record { shape = own.shape; value = held }))
+own_load var path here = own_load_at var path (asker here)
 
 abbrev pub own_store : ℕ → List Sel → Value → Here → Doing (Unit {0})
-own_store var path value here stage =
-    (settle (with_ok (own_at stage.own var) (λ own. own_after own path value)) here >>= declare_own var) stage
+own_store var path value here = own_store_at var path value (asker here)
 
--- a shared place is loaded by one request, with its whole path
 abbrev pub load_at : Spot → List Sel → Here → Doing Value
-load_at (an_own var) path here = own_load var path here
-load_at (a_shared block var) path here = request got (Load block var path) here
+load_at spot path here = spot_load spot path (asker here)
 
 abbrev pub load_place : Located → Here → Doing Value
-load_place place here = load_at place.spot place.path here
+load_place place here = place_load place (asker here)
 
 abbrev pub store_at : Spot → List Sel → Value → Here → Doing (Unit {0})
-store_at (an_own var) path value here = own_store var path value here
-store_at (a_shared block var) path value here = request done (Store block var path value) here
+store_at spot path value here = spot_store spot path value (asker here)
 
 abbrev pub store_place : Located → Value → Here → Doing (Unit {0})
-store_place place value here = store_at place.spot place.path value here
+store_place place value here = place_store place value (asker here)
 
--- The results of a reply go into their places, in the order of the formals; what is left is the value.
 abbrev pub store_results : List Located → List Value → Here → Doing (List Value)
-store_results (place ∷ places) (value ∷ values) here = store_place place value here >>= λ _. store_results places values here
-store_results places values here = give values
+store_results places values here = results_store places values (asker here)

@@ -23,7 +23,8 @@ use Rattle.sr_core.specs.declared.statement.Scope.TheVariants.{Own as own_scope,
 use Rattle.sr_meaning.specs.declared.ending.Ending.{Ending}
 use Rattle.sr_meaning.specs.Expressions.{Meaning, ensured, needs_of, taken}
 use Rattle.sr_meaning.specs.Here.{Here, at_line, request}
-use Rattle.sr_meaning.specs.Statements.{block_of, make_formals, make_returned, result_vars, results_now, through}
+use Rattle.sr_core.specs.Formals.{result_vars}
+use Rattle.sr_meaning.specs.Statements.{block_of, make_formals, make_returned, results_now, through}
 
 -- ---- what a process runs
 

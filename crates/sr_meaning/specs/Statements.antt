@@ -1,6 +1,5 @@
 -- What a statement asks, and how it ends: of each node, from what its parts ask and how they end.
 use Rattle.std.specs.Prelude.{ℕ, zero, suc, ℤ, pos, negsuc, ◌+◌, ◌+ℤ◌, Bool, true, false, not, List, [], ◌∷◌, ◌++◌, length, map, filter, Option, Some, None, Result, Ok, Err, ◌==◌, if◌then◌else◌, nat_le, unwrap_or, option_map, slice_get}
-use Rattle.std.specs.List.{find}
 use Rattle.sr_value.specs.declared.capability.Cap.{Cap}
 use Rattle.sr_value.specs.declared.capability.Cap.TheVariants.{Res as a_resource, Vm}
 use Rattle.sr_value.specs.declared.fault.Fault.{Fault}
@@ -15,24 +14,27 @@ use Rattle.sr_value.specs.declared.value.Value.{Value}
 use Rattle.sr_value.specs.declared.value.Value.TheVariants.{Int, Capa}
 use Rattle.sr_value.specs.Operands.{int_in}
 use Rattle.sr_value.specs.Operators.{value_of}
-use Rattle.sr_value.specs.Shapes.{default_value}
-use Rattle.sr_parts.specs.Parts.{with_ok}
+use Rattle.sr_value.specs.Parts.{with_ok}
 use Rattle.sr_ask.specs.Asking.{none_takes, done, made, moment, selected}
 use Rattle.sr_ask.specs.Behaviors.{Stage, Doing, Came, give, ◌>>=◌, ◌>>◌, tick, looped}
-use Rattle.sr_ask.specs.declared.answer.Answer.{Answer}
-use Rattle.sr_ask.specs.declared.answer.Answer.TheVariants.{Took}
+use Rattle.sr_ask.specs.Invocations.{values_sent, places_back}
+use Rattle.sr_ask.specs.Places.{own_at, own_or_nothing, declare_own, whole, make as made_at}
+use Rattle.sr_ask.specs.Replies.{Completion, set_service, push_out, set_out, reply_unless as reply_where, reply_meaning as reply_at, results_now as results_at, gives_now as gives_at, forward_unless as forward_where, forward_meaning as forward_at, take_one as take_at}
 use Rattle.sr_ask.specs.declared.forms.Pick.{Pick}
 use Rattle.sr_ask.specs.declared.forms.Selection.{Selection}
 use Rattle.sr_ask.specs.declared.forms.Selection.TheVariants.{Service as a_service, Otherwise}
 use Rattle.sr_ask.specs.declared.environment.Gives.{Gives}
-use Rattle.sr_ask.specs.declared.environment.Gives.TheVariants.{Values, Instance}
+use Rattle.sr_ask.specs.declared.environment.Gives.TheVariants.{Values}
 use Rattle.sr_ask.specs.declared.environment.Located.{Located}
 use Rattle.sr_ask.specs.declared.environment.Out.{Out}
 use Rattle.sr_ask.specs.declared.environment.Own.{Own}
+use Rattle.sr_ask.specs.declared.environment.Sent.{Sent}
 use Rattle.sr_ask.specs.declared.environment.Service.{Service}
 use Rattle.sr_ask.specs.declared.environment.Spot.{Spot}
 use Rattle.sr_ask.specs.declared.environment.Spot.TheVariants.{Own as an_own, Shared as a_shared}
-use Rattle.sr_ask.specs.declared.request.Request.TheVariants.{Declare, Invoke, Select, Take, Reply, Forward as forward_request, Write as write_request, Destroy as destroy_request, Stop as stop_request, Wake, Age}
+use Rattle.sr_ask.specs.declared.request.Request.TheVariants.{Invoke, Select, Write as write_request, Destroy as destroy_request, Stop as stop_request, Wake, Age}
+use Rattle.sr_core.specs.Formals.{sent_to, sent_after, result_vars}
+use Rattle.sr_core.specs.Values.{truth_of, number_of, cap_of, count_of, values_of, texts_of, written, bounded_by, formal_shape}
 use Rattle.sr_core.specs.declared.expression.Argument.{Argument}
 use Rattle.sr_core.specs.declared.expression.Expr.{Expr}
 use Rattle.sr_core.specs.declared.expression.PlaceExpr.{PlaceExpr}
@@ -65,11 +67,9 @@ use Rattle.sr_core.specs.declared.statement.Statement.TheFolds.{fold-Statement}
 use Rattle.sr_core.specs.declared.statement.Statement.TheOpen.{CoArm-F, Guarded-F, Statement-F}
 use Rattle.sr_meaning.specs.declared.ending.Ending.{Ending}
 use Rattle.sr_meaning.specs.declared.ending.Ending.TheVariants.{Through, Left, Turned, Returned as returned}
-use Rattle.sr_meaning.specs.declared.evaluated.Sent.{Sent}
-use Rattle.sr_meaning.specs.Expressions.{Meaning, in_order, choice, expr_meaning, place_of_expr, argument_of, values_sent, places_back, give_back, taken}
-use Rattle.sr_meaning.specs.Here.{Here, at_line, request, settle, fail}
-use Rattle.sr_meaning.specs.Places.{own_at, declare_own, load_place, store_place}
-use Rattle.sr_meaning.specs.Values.{truth_of, number_of, cap_of, count_of, nothing, values_of, texts_of, written, bounded_by, formal_shape}
+use Rattle.sr_meaning.specs.Expressions.{Meaning, in_order, choice, expr_meaning, place_of_expr, argument_of, give_back, taken}
+use Rattle.sr_meaning.specs.Here.{Here, asker, at_line, request, settle}
+use Rattle.sr_meaning.specs.Places.{load_place, store_place}
 
 -- ---- endings
 
@@ -144,15 +144,11 @@ shape_meaning shape here = dims_shape shape.dims shape.item here
 
 -- an own variable is made with its default; a shared one is declared
 abbrev pub make : Spot → Shape → Meaning (Unit {0})
-make (an_own var) shape here = settle (default_value shape) here >>= λ value. declare_own var (record { shape = shape; value = value })
-make (a_shared block var) shape here = request done (Declare block var shape) here
+make spot shape here = made_at spot shape (asker here)
 
 abbrev pub spot_in : Scope → ℕ → Here → Spot
 spot_in own_scope var here = an_own var
 spot_in shared_scope var here = a_shared here.start.instance var
-
-abbrev pub whole : Spot → Located
-whole spot = record { spot = spot; path = [] }
 
 abbrev pub first_value : Option Expr → Spot → Meaning (Unit {0})
 first_value None spot here = give tt
@@ -170,23 +166,6 @@ declaration_meaning declaration here = setup_meaning declaration.setup (spot_in 
 
 -- ---- formals
 
-abbrev pub first_of : {A : Type 0} → List A → Option A
-first_of [] = None
-first_of (x ∷ xs) = Some x
-
-abbrev pub behind_first : {A : Type 0} → List A → List A
-behind_first [] = []
-behind_first (x ∷ xs) = xs
-
--- what a formal is sent, and what the formals behind it are sent
-abbrev pub sent_to : Mode → List Value → Option Value
-sent_to Res args = None
-sent_to mode args = first_of args
-
-abbrev pub sent_behind : Mode → List Value → List Value
-sent_behind Res args = args
-sent_behind mode args = behind_first args
-
 abbrev pub store_sent : Option Value → Spot → Meaning (Unit {0})
 store_sent None spot here = give tt
 store_sent (Some value) spot here = store_place (whole spot) value here
@@ -198,7 +177,7 @@ make_formals scope (formal ∷ formals) args here =
     settle (formal_shape formal.shape (sent_to formal.mode args)) here >>= λ shape.
     make (spot_in scope formal.var here) shape here >>= λ _.
     store_sent (sent_to formal.mode args) (spot_in scope formal.var here) here >>= λ _.
-    make_formals scope formals (sent_behind formal.mode args) here
+    make_formals scope formals (sent_after formal.mode args) here
 
 abbrev pub make_returned : Option Returned → Meaning (Unit {0})
 make_returned None here = give tt
@@ -206,53 +185,26 @@ make_returned (Some name) here = make (an_own name.var) name.shape here
 
 -- ---- services
 
--- the results of an invocation: the `var` and `res` formals in order, and then the returned name
-abbrev pub is_back : Formal → Bool
-is_back formal = mode_back formal.mode where
-  mode_back : Mode → Bool
-  mode_back Val = false
-  mode_back Var = true
-  mode_back Res = true
-
-abbrev pub returned_var : Option Returned → List ℕ
-returned_var None = []
-returned_var (Some name) = name.var ∷ []
-
-abbrev pub result_vars : List Formal → Option Returned → List ℕ
-result_vars formals name = map (λ formal. formal.var) (filter is_back formals) ++ returned_var name
-
-abbrev pub own_or_nothing : Result Own Fault → Value
-own_or_nothing (Ok own) = own.value
-own_or_nothing (Err fault) = nothing
-
 abbrev pub gives_now : Gives → List (Option Own) → Here → List Value
-gives_now (Values vars) own here = map (λ var. own_or_nothing (own_at own var)) vars
-gives_now Instance own here = Capa (a_resource here.start.instance) ∷ []
-
--- the present results of the invocation in service
-abbrev pub results_now : Here → Stage → List Value
-results_now here stage = gives_now stage.service.gives stage.own here
-
-abbrev pub mark_answered : Doing (Unit {0})
-mark_answered stage = Came tt (record stage { service = record stage.service { answered = true } })
+gives_now gives own here = gives_at gives own (asker here)
 
 -- a reply gives the present results, where none was given before
 abbrev pub reply_unless : Bool → Meaning (Unit {0})
-reply_unless true here stage = Came tt stage
-reply_unless false here stage =
-    (request done (Reply stage.service.held stage.service.back (results_now here stage)) here >> mark_answered) stage
+reply_unless answered here = reply_where answered (asker here)
 
 abbrev pub reply_meaning : Meaning (Unit {0})
-reply_meaning here stage = reply_unless stage.service.answered here stage
+reply_meaning here = reply_at (asker here)
+
+-- the present results of the invocation in service
+abbrev pub results_now : Here → Stage → List Value
+results_now here stage = results_at (asker here) stage
+
+abbrev pub forward_unless : Bool → Cap → List Value → Meaning (Unit {0})
+forward_unless answered target args here = forward_where answered target args (asker here)
 
 -- the duty to answer goes to another operation; where it is answered already, that is only sent to
-abbrev pub forward_unless : Bool → Cap → List Value → Meaning (Unit {0})
-forward_unless true target args here stage = (request made (Invoke target args false) here >>= λ _. give tt) stage
-forward_unless false target args here stage =
-    (request made (forward_request stage.service.held stage.service.back target args) here >> mark_answered) stage
-
 abbrev pub forward_meaning : Cap → List Value → Meaning (Unit {0})
-forward_meaning target args here stage = forward_unless stage.service.answered target args here stage
+forward_meaning target args here = forward_at target args (asker here)
 
 -- ---- statements without blocks
 
@@ -394,9 +346,6 @@ no_site = record { arms = []; has_else = false; names = [] }
 abbrev pub site_at : ℕ → Here → Site
 site_at site here = unwrap_or (slice_get here.core.sites site) no_site
 
-abbrev pub set_service : Service → Doing (Unit {0})
-set_service service stage = Came tt (record stage { service = service })
-
 abbrev pub service_for : Pick → Arm → Service
 service_for pick arm = record {
   held = pick.id;
@@ -437,12 +386,6 @@ abbrev pub optional_place : Option PlaceExpr → Meaning (Option Located)
 optional_place None here = give None
 optional_place (Some place) here = place_of_expr place here >>= λ at. give (Some at)
 
-abbrev pub push_out : Out → Doing (Unit {0})
-push_out out stage = Came tt (record stage { out = stage.out ++ out ∷ [] })
-
-abbrev pub set_out : List Out → Doing (Unit {0})
-set_out out stage = Came tt (record stage { out = out })
-
 -- the values of the quantifiers at this turn
 abbrev pub own_number : List (Option Own) → ℕ → ℤ
 own_number own var = unwrap_or (int_in (own_or_nothing (own_at own var))) (pos 0)
@@ -465,21 +408,8 @@ abbrev pub start_calls : ℕ → List CoPart → Meaning (Unit {0})
 start_calls arm [] here = give tt
 start_calls arm (part ∷ parts) here = quantified part.quantifiers (start_call arm part) here >>= λ _. start_calls (suc arm) parts here
 
--- A reply to one of the invocations that are out.
-pub record Completion : Type 0 where
-  pub out : Out
-  pub results : Option (List Value)
-
-abbrev pub completion_of : Option Out → Option (List Value) → Option Completion
-completion_of None results = None
-completion_of (Some out) results = Some (record { out = out; results = results })
-
-abbrev pub took_one : List Out → Answer → Option Completion
-took_one outs (Took id results) = completion_of (find (λ out. out.id == id) outs) results
-took_one outs _ = None
-
 abbrev pub take_one : Meaning Completion
-take_one here stage = request (took_one stage.out) (Take (map (λ out. out.id) stage.out)) here stage
+take_one here = take_at (asker here)
 
 abbrev pub drop_out : ℕ → Doing (Unit {0})
 drop_out id stage = Came tt (record stage { out = filter (λ out. not (out.id == id)) stage.out })

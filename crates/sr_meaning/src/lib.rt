@@ -2,8 +2,6 @@
 #![tactic(auto)]
 
 mod ending;
-mod evaluated;
 pub mod laws;
 
 pub use ending::Ending;
-pub use evaluated::{Aim, Piece, Sent};

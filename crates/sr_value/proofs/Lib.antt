@@ -1,3 +1,4 @@
 pub mod DivisionLaws
+pub mod FitLemmas
 pub mod Counts
 pub mod Numerals

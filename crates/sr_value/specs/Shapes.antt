@@ -1,5 +1,5 @@
 -- What the shapes of places mean: their bounds, their cells, and the values of places that nothing was stored to.
-use Rattle.std.specs.Prelude.{ℕ, ◌+◌, ◌*◌, ℤ, pos, ◌-ℤ◌, Bool, true, false, ◌&&◌, [], sum, replicate, Result, Ok, Err, nat_le, if◌then◌else◌, int_lt, int_le, unsigned_abs}
+use Rattle.std.specs.Prelude.{ℕ, ◌+◌, ◌*◌, ℤ, pos, ◌-ℤ◌, Bool, true, false, ◌&&◌, [], sum, replicate, Option, Some, None, Result, Ok, Err, nat_le, if◌then◌else◌, int_lt, int_le, unsigned_abs}
 use Rattle.std.specs.List.{list_all}
 use Rattle.sr_value.specs.declared.capability.Cap.TheVariants.{Null}
 use Rattle.sr_value.specs.declared.fault.Fault.{Fault}
@@ -81,6 +81,15 @@ layer_unset Shape-F.Capa = Capa Null
 abbrev pub unset_value : Shape → Value
 unset_value = fold-Shape Value layer_unset
 
--- the value of a new variable: E6 where bounds are out of range, then E10 where it is too large
+-- why no variable has this shape, where none has: E6 where bounds are out of range, then E10 where it is too large
+abbrev pub shape_fault : Shape → Option Fault
+shape_fault shape = if bounds_in_range shape then (if has_size shape then None else Some TooLarge) else Some Range
+
+-- the value, or else the fault
+abbrev pub unless_fault : {A : Type 0} → Option Fault → A → Result A Fault
+unless_fault None value = Ok value
+unless_fault (Some fault) value = Err fault
+
+-- the value of a new variable, where a variable has this shape
 abbrev pub default_value : Shape → Result Value Fault
-default_value shape = if bounds_in_range shape then (if has_size shape then Ok (unset_value shape) else Err TooLarge) else Err Range
+default_value shape = unless_fault (shape_fault shape) (unset_value shape)

@@ -1,7 +1,7 @@
 ghost use Rattle.std.specs.Prelude.{◌≡◌, ◌+◌, ◌*◌, ◌≤◌, min, map, sum, replicate, ◌^◌, IfOk, IfSome, IsNone};
 ghost use Rattle.std.specs.List.{list_all};
 ghost use Rattle.sr_value.specs.Operators.{Answers};
-ghost use Rattle.sr_value.specs.Shapes.{in_range, extent, dims_in_range, item_count, bounds_in_range, cell_count, strings_in_range, has_size, unset_value, default_value};
+ghost use Rattle.sr_value.specs.Shapes.{in_range, extent, dims_in_range, item_count, bounds_in_range, cell_count, strings_in_range, has_size, unset_value, shape_fault, default_value};
 
 use crate::capability::Cap;
 use crate::copies::Duplicate;
@@ -20,21 +20,31 @@ pub const MOST_CELLS: u64 = 1_048_576;
 /// Cells are counted up to here, and no further.
 const TOO_MANY: u64 = 1_048_577;
 
-/// The value of a variable of this shape that nothing was stored to. Bounds of which the higher is
-/// below the lower by more than 1 are E6; then more than [`MOST_CELLS`] cells, or a string place of
-/// more than 65,535 bytes, are E10.
+/// Why no variable has this shape, where none has. A higher bound that is below the lower one by more
+/// than 1 is E6; then more than [`MOST_CELLS`] cells, or a string place of more than 65,535 bytes, are
+/// E10. It takes no memory.
+pub fn shape_fault(shape: &Shape) -> Option<Fault>
+    ensures { result ≡ shape_fault shape.now }
+{
+    if !has_bounds_in_range(shape) {
+        return Some(Fault::Range);
+    }
+    if cells(shape) > MOST_CELLS || !has_strings_in_range(shape) {
+        return Some(Fault::TooLarge);
+    }
+    None
+}
+
+/// The value of a variable of this shape that nothing was stored to, or the fault of [`shape_fault`].
 pub fn default_of(alloc: Global, shape: &Shape) -> Result<Value, ValueFail>
     ensures { Answers result (default_value shape.now) }
 {
-    if !has_bounds_in_range(shape) {
-        return Err(ValueFail::Fault(Fault::Range));
-    }
-    if cells(shape) > MOST_CELLS || !has_strings_in_range(shape) {
-        return Err(ValueFail::Fault(Fault::TooLarge));
-    }
-    match unset(alloc, shape) {
-        Ok(value) => Ok(value),
-        Err(_) => Err(ValueFail::NoMemory),
+    match shape_fault(shape) {
+        Some(fault) => Err(ValueFail::Fault(fault)),
+        None => match unset(alloc, shape) {
+            Ok(value) => Ok(value),
+            Err(_) => Err(ValueFail::NoMemory),
+        },
     }
 }
 

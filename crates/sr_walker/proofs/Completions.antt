@@ -14,11 +14,12 @@ use Rattle.sr_meaning.specs.Here.{Here, ask_of}
 use Rattle.sr_meaning.specs.Pieces.{co_part_of}
 use Rattle.sr_walker_parts.specs.StatementParts.{take_place}
 use Rattle.sr_walker.specs.Blocks.{completing, next_completion}
-use Rattle.sr_meaning.specs.Statements.{Completion, CoPart, take_one}
+use Rattle.sr_meaning.specs.Statements.{CoPart, take_one}
 use Rattle.sr_walker_expr.specs.Walkers.{Gave}
 use Rattle.sr_walker_expr.specs.declared.stop.Stop.{Stop}
 use Rattle.sr_walker_expr.specs.declared.stop.Stop.TheVariants.{Asks as stopped, NoMemory as out_of_memory}
 use Rattle.sr_walker_parts.proofs.Replies.{Placed, placed}
+use Rattle.sr_ask.specs.Replies.{Completion}
 
 -- an invocation at a place, by its arm
 pub some_out : (found : Option Out) (arm : ℕ) → option_map (λ out. out.arm) found ≡ Some arm → (out : Out) × (found ≡ Some out) × (out.arm ≡ arm)

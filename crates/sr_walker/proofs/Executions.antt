@@ -26,7 +26,7 @@ use Rattle.sr_meaning.specs.Pieces.{co_part_of}
 use Rattle.sr_walker_parts.specs.StatementParts.{call_part, choosing}
 use Rattle.sr_walker.specs.Blocks.{completing, each_block}
 use Rattle.sr_meaning.specs.Statements.{do_meaning, do_turn, for_values, in_meaning, meaning_of, number_expr, quantified, selection_meaning, service_meaning, site_at, start_call, start_calls}
-use Rattle.sr_meaning.specs.Values.{values_of}
+use Rattle.sr_core.specs.Values.{values_of}
 use Rattle.sr_walker_expr.specs.Walkers.{Gave}
 use Rattle.sr_meaning.proofs.Forever.{forever}
 use Rattle.sr_walker.proofs.Steps.{block_at, in_step, start_calls_step}

@@ -20,13 +20,13 @@ use Rattle.sr_meaning.specs.declared.ending.Ending.{Ending}
 use Rattle.sr_meaning.specs.declared.ending.Ending.TheVariants.{Through, Left, Turned, Returned as returned}
 use Rattle.sr_meaning.specs.Expressions.{Meaning, choice, in_order}
 use Rattle.sr_meaning.specs.Here.{Here, request}
-use Rattle.sr_meaning.specs.Places.{set_own}
 use Rattle.sr_meaning.specs.Statements.{CoPart, action_meaning, before, block_meaning, co_arm_meaning, complete, complete_all, condition_meaning, continue, for_values, guarded_meaning, in_meaning, int_own, meaning_of, named_value, quantified, selection_meaning, sends, site_at, start_call, start_calls, statement_meaning, take_one}
 use Rattle.sr_walker_parts.specs.Turns.{listed_from, value_from}
 use Rattle.sr_walker_parts.specs.declared.values.Values.{Values}
 use Rattle.sr_meaning.specs.Pieces.{co_part_of, guarded_of, optional_block}
 use Rattle.sr_walker_parts.specs.StatementParts.{call_part, choosing}
 use Rattle.sr_walker.specs.Blocks.{each_block, next_completion, value_turn}
+use Rattle.sr_ask.specs.Places.{set_own}
 
 pub regroup : {A B C : Type 0} (o : Outcome A) (f : A → Doing B) (g : B → Doing C) → and_then (and_then o f) g ≡ and_then o (λ a stage. and_then (f a stage) g)
 regroup (Came a stage) f g = refl

@@ -10,9 +10,9 @@ use Rattle.sr_meaning.specs.declared.ending.Ending.TheVariants.{Through}
 use Rattle.sr_walker.specs.declared.inner.Inner.{Inner}
 use Rattle.sr_walker.specs.declared.inner.Inner.TheVariants.{Block, Call}
 use Rattle.sr_meaning.specs.Expressions.{Meaning, choice}
-use Rattle.sr_meaning.specs.Places.{declare_own}
 use Rattle.sr_meaning.specs.Statements.{CoPart, after_turn, block_of, complete, condition_meaning, int_own, meaning_of, start_call, take_one}
 use Rattle.sr_walker_parts.specs.StatementParts.{call_part}
+use Rattle.sr_ask.specs.Places.{declare_own}
 
 -- what the blocks of the arms of an `in` mean
 abbrev pub each_block : List (List Statement) → List (List (Meaning Ending))

@@ -2,7 +2,7 @@
 use Rattle.std.proofs.Common.{◌≡◌, ℕ, zero, suc, ◌+◌, List, [], ◌∷◌, ◌++◌, replicate, sym, ap, ◌∙◌, add-one, append_assoc}
 use Rattle.std.proofs.lemmas.List.{append-nil}
 use Rattle.sr_value.specs.declared.value.Value.{Value}
-use Rattle.sr_meaning.specs.Values.{flat}
+use Rattle.sr_core.specs.Values.{flat}
 
 more : (n : ℕ) (row : List Value) → flat (replicate (suc n) row) ≡ flat (replicate n row) ++ row
 more zero row = append-nil row

@@ -7,15 +7,15 @@ use Rattle.sr_value.specs.declared.shape.Shape.{Shape}
 use Rattle.sr_value.specs.declared.value.Value.{Value}
 use Rattle.sr_value.specs.declared.value.Value.TheVariants.{Bool as truth_value}
 use Rattle.sr_value.specs.Operators.{value_of}
-use Rattle.sr_parts.specs.Parts.{part_of}
+use Rattle.sr_value.specs.Parts.{part_of}
 use Rattle.sr_ask.specs.Behaviors.{Stage, Outcome, Came, Stops, asking, give, ◌>>=◌}
 use Rattle.sr_ask.specs.declared.answer.Answer.{Answer}
 use Rattle.sr_ask.specs.declared.ask.Asks.{Asks}
 use Rattle.sr_meaning.specs.Expressions.{Meaning, choice, created, in_order}
 use Rattle.sr_meaning.specs.Here.{Here, settle}
 use Rattle.sr_meaning.specs.Laws.{after_arguments}
-use Rattle.sr_meaning.specs.Values.{cap_of, member_of, truth_of}
-use Rattle.sr_meaning.specs.declared.evaluated.Sent.{Sent}
+use Rattle.sr_core.specs.Values.{cap_of, member_of, truth_of}
+use Rattle.sr_ask.specs.declared.environment.Sent.{Sent}
 use Rattle.sr_walker_expr.specs.declared.scene.Scene.{Scene}
 use Rattle.sr_walker_expr.specs.declared.stop.Stop.{Stop}
 use Rattle.sr_walker_expr.specs.declared.stop.Stop.TheVariants.{Asks as stopped, NoMemory as out_of_memory}

@@ -1,7 +1,7 @@
 ghost use Rattle.std.specs.Prelude.{◌≡◌, ◌≢◌, List, [], ◌∷◌};
 ghost use Rattle.sr_value.specs.Operators.{Answers};
-ghost use Rattle.sr_parts.specs.Parts.{part_of};
-ghost use Rattle.sr_meaning.specs.Applied.{applied};
+ghost use Rattle.sr_value.specs.Parts.{part_of};
+ghost use Rattle.sr_core.specs.Applied.{applied};
 ghost use Rattle.sr_meaning.specs.Here.{settle};
 ghost use Rattle.sr_walker_expr.specs.Walkers.{Gave, here_of, stage_of};
 

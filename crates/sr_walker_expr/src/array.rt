@@ -1,14 +1,14 @@
 ghost use Rattle.std.specs.Prelude.{◌≡◌, ◌++◌, IfOk, OnOk, replicate, option_copied};
 ghost use Rattle.sr_value.specs.Operators.{Answers};
 ghost use Rattle.sr_meaning.specs.Here.{settle};
-ghost use Rattle.sr_meaning.specs.Values.{array_of, count_all, flat, from_one, items_of, line_of, row_of, rows_of, table_of};
+ghost use Rattle.sr_core.specs.Values.{array_of, count_all, flat, from_one, items_of, line_of, row_of, rows_of, table_of};
 ghost use Rattle.sr_walker_expr.specs.Walkers.{Gave, here_of, stage_of};
 
 use crate::scene::Scene;
 use crate::settle::failed;
 use crate::stop::Stop;
 use crate::walker::Walker;
-use sr_meaning::Piece;
+use sr_core::Piece;
 use sr_value::{Dims, Duplicate, Fault, NoMemory, Row, Value, ValueFail};
 use std::alloc::Global;
 

@@ -1,15 +1,15 @@
 ghost use Rattle.std.specs.Prelude.{◌≡◌, IfOk};
-ghost use Rattle.sr_meaning.specs.Expressions.{give_back, places_back, value_behind, values_sent};
+ghost use Rattle.sr_meaning.specs.Expressions.{give_back};
 ghost use Rattle.sr_meaning.specs.Laws.{after_arguments};
 ghost use Rattle.sr_walker_expr.specs.Walkers.{Gave, here_of, stage_of};
+ghost use Rattle.sr_ask.specs.Invocations.{places_back, value_behind, values_sent};
 
 use crate::invoke::{default_value, reply_to, store_from};
 use crate::listening::{IsMade, ask};
 use crate::scene::Scene;
 use crate::stop::Stop;
 use crate::walker::Walker;
-use sr_ask::{Located, Request};
-use sr_meaning::Sent;
+use sr_ask::{Located, Request, Sent};
 use sr_value::{Cap, Duplicate, NoMemory, Row, Shape, Value};
 use std::alloc::Global;
 

@@ -13,9 +13,8 @@ use crate::scene::Scene;
 use crate::settle::{capability, count, member, number, operated, operated_on, truth};
 use crate::stop::Stop;
 use crate::walker::Walker;
-use sr_ask::Located;
-use sr_core::{Argument, Expr, Part, PlaceExpr, Reading, Step};
-use sr_meaning::{Aim, Piece, Sent};
+use sr_ask::{Aim, Located, Sent};
+use sr_core::{Argument, Expr, Part, Piece, PlaceExpr, Reading, Step};
 use sr_value::{Operator, Row, Sel, Shape, Value};
 
 /// What an expression asks, and what it gives.

@@ -1,6 +1,7 @@
 ghost use Rattle.std.specs.Prelude.{◌≡◌, drop};
-ghost use Rattle.sr_meaning.specs.Expressions.{created, ensured, instance_in, needs_of};
+ghost use Rattle.sr_meaning.specs.Expressions.{created, ensured, needs_of};
 ghost use Rattle.sr_walker_expr.specs.Walkers.{Gave, here_of, stage_of};
+ghost use Rattle.sr_ask.specs.Invocations.{instance_in};
 
 use crate::invoke::reply_to;
 use crate::listening::{IsMade, IsReady, ask};

@@ -1,9 +1,10 @@
 ghost use Rattle.std.specs.Prelude.{◌≡◌};
 ghost use Rattle.sr_ask.specs.Behaviors.{Came};
-ghost use Rattle.sr_parts.specs.Parts.{part_of, with_ok};
+ghost use Rattle.sr_value.specs.Parts.{part_of, with_ok};
 ghost use Rattle.sr_meaning.specs.Here.{settle};
-ghost use Rattle.sr_meaning.specs.Places.{block_of, spot_of, own_at, own_after, own_load, own_store, load_place, store_place, declare_own};
+ghost use Rattle.sr_meaning.specs.Places.{block_of, spot_of, own_load, own_store, load_place, store_place};
 ghost use Rattle.sr_walker_expr.specs.Walkers.{Gave, here_of, stage_of};
+ghost use Rattle.sr_ask.specs.Places.{own_at, own_after, declare_own};
 
 use crate::listening::{IsDone, IsGot, ask};
 use crate::scene::Scene;

@@ -8,9 +8,8 @@ use crate::scene::Scene;
 use crate::settle::failed;
 use crate::stop::Stop;
 use crate::walker::Walker;
-use sr_ask::{InputItem, ReadKind, Request};
+use sr_ask::{Aim, InputItem, ReadKind, Request};
 use sr_core::Readable;
-use sr_meaning::Aim;
 use sr_value::{Fault, Value};
 
 /// What an item is read as.

@@ -12,10 +12,10 @@ use Rattle.sr_ask.specs.declared.answer.Answer.TheVariants.{Done, Got, Made, Rea
 use Rattle.sr_ask.specs.declared.ask.Asks.{Asks}
 use Rattle.sr_ask.specs.declared.environment.Out.{Out}
 use Rattle.sr_walker_parts.specs.declared.co.PlacedReply.{PlacedReply}
-use Rattle.sr_meaning.specs.Statements.{Completion, completion_of, took_one}
 use Rattle.sr_walker_expr.specs.declared.stop.Stop.{Stop}
 use Rattle.sr_walker_parts.specs.StatementParts.{took_place}
 use Rattle.sr_walker_expr.specs.Walkers.{Gave}
+use Rattle.sr_ask.specs.Replies.{Completion, completion_of, took_one}
 
 -- what an answer gives by its place, and what it gives
 abbrev Matches : List Out → Option PlacedReply → Option Completion → Type 0

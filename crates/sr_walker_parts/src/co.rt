@@ -2,9 +2,10 @@ ghost use Rattle.std.specs.Prelude.{◌≡◌, ◌<◌, ◌==◌, IfOk, OnOk, ma
 ghost use Rattle.std.specs.List.{position};
 ghost use Rattle.std.specs.Option.{option_copied};
 ghost use Rattle.sr_ask.specs.Behaviors.{Came};
-ghost use Rattle.sr_meaning.specs.Statements.{drop_out, optional_place, own_number, push_out, set_out, set_turn, start_call, store_value, turn_now};
+ghost use Rattle.sr_meaning.specs.Statements.{drop_out, optional_place, own_number, set_turn, start_call, store_value, turn_now};
 ghost use Rattle.sr_walker_parts.specs.StatementParts.{call_part, take_place, took_place};
 ghost use Rattle.sr_walker_expr.specs.Walkers.{Gave, here_of, stage_of};
+ghost use Rattle.sr_ask.specs.Replies.{push_out, set_out};
 
 use crate::values::int_own;
 use sr_ask::{Answer, Located, Out, Request};

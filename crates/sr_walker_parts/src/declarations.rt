@@ -2,9 +2,10 @@ ghost use Rattle.std.specs.Prelude.{◌≡◌, IfOk};
 ghost use Rattle.sr_value.specs.Shapes.{default_value};
 ghost use Rattle.sr_meaning.specs.Here.{settle};
 ghost use Rattle.sr_meaning.specs.Places.{store_place};
-ghost use Rattle.sr_meaning.specs.Statements.{declaration_meaning, dims_shape, first_value, item_shape, make, setup_meaning, shape_meaning, spot_in, string_shape, whole};
-ghost use Rattle.sr_meaning.specs.Values.{bounded_by};
+ghost use Rattle.sr_meaning.specs.Statements.{declaration_meaning, dims_shape, first_value, item_shape, make, setup_meaning, shape_meaning, spot_in, string_shape};
+ghost use Rattle.sr_core.specs.Values.{bounded_by};
 ghost use Rattle.sr_walker_expr.specs.Walkers.{Gave, here_of, stage_of};
+ghost use Rattle.sr_ask.specs.Places.{whole};
 
 use sr_ask::{Located, Own, Request, Spot};
 use sr_core::{Declaration, DimsExpr, Expr, ItemShape, Range, Scope, Setup, ShapeExpr};

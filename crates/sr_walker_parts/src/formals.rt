@@ -3,9 +3,10 @@ ghost use Rattle.std.specs.Option.{option_copied};
 ghost use Rattle.sr_value.specs.Operators.{Answers};
 ghost use Rattle.sr_value.specs.Shapes.{extent};
 ghost use Rattle.sr_meaning.specs.Here.{settle};
-ghost use Rattle.sr_meaning.specs.Statements.{behind_first, is_back, make_formals, make_returned, result_vars, sent_behind, sent_to, store_sent};
-ghost use Rattle.sr_meaning.specs.Values.{formal_shape, high_bound, sent_extent};
+ghost use Rattle.sr_meaning.specs.Statements.{make_formals, make_returned, store_sent};
+ghost use Rattle.sr_core.specs.Values.{formal_shape, high_bound, sent_extent};
 ghost use Rattle.sr_walker_expr.specs.Walkers.{Gave, here_of, stage_of};
+ghost use Rattle.sr_core.specs.Formals.{after_first, is_back, result_vars, sent_after, sent_to};
 
 use crate::declarations::{make, spot_in, store_whole};
 use sr_ask::Spot;
@@ -147,18 +148,18 @@ fn sent_to(mode: Mode, args: &[Value]) -> Option<&Value>
 }
 
 /// What the formals behind a formal are sent.
-fn sent_behind(mode: Mode, args: &[Value]) -> &[Value]
-    ensures { result.now ≡ sent_behind mode args.now }
+fn sent_after(mode: Mode, args: &[Value]) -> &[Value]
+    ensures { result.now ≡ sent_after mode args.now }
 {
     match mode {
-        Mode::Val => behind_first(args),
-        Mode::Var => behind_first(args),
+        Mode::Val => after_first(args),
+        Mode::Var => after_first(args),
         Mode::Res => args,
     }
 }
 
-fn behind_first(args: &[Value]) -> &[Value]
-    ensures { result.now ≡ behind_first args.now }
+fn after_first(args: &[Value]) -> &[Value]
+    ensures { result.now ≡ after_first args.now }
 {
     match args {
         [] => args,
@@ -199,7 +200,7 @@ pub fn make_formals(
             let shape = settle_shape(scene, walker, &formal.shape, sent)?;
             make(scene, walker, spot, shape)?;
             store_sent(scene, walker, sent, spot)?;
-            make_formals(scene, walker, scope, rest, sent_behind(formal.mode, args))
+            make_formals(scene, walker, scope, rest, sent_after(formal.mode, args))
         }
     }
 }

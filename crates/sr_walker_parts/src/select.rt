@@ -3,9 +3,10 @@ ghost use Rattle.std.specs.Option.{option_copied, option_and_then};
 ghost use Rattle.sr_ask.specs.Asking.{selected};
 ghost use Rattle.sr_ask.specs.Behaviors.{Came};
 ghost use Rattle.sr_meaning.specs.Expressions.{in_order};
-ghost use Rattle.sr_meaning.specs.Statements.{named_value, service_for, set_service, site_at};
+ghost use Rattle.sr_meaning.specs.Statements.{named_value, service_for, site_at};
 ghost use Rattle.sr_walker_parts.specs.StatementParts.{choosing};
 ghost use Rattle.sr_walker_expr.specs.Walkers.{Gave, here_of, stage_of};
+ghost use Rattle.sr_ask.specs.Replies.{set_service};
 
 use crate::formals::result_vars;
 use sr_ask::{Answer, Gives, Pick, Request, Selection, Service};

@@ -1,8 +1,9 @@
 ghost use Rattle.std.specs.Prelude.{◌≡◌, IfOk, map};
 ghost use Rattle.sr_ask.specs.Behaviors.{Came};
-ghost use Rattle.sr_meaning.specs.Places.{own_at};
-ghost use Rattle.sr_meaning.specs.Statements.{forward_meaning, mark_answered, own_or_nothing, reply_meaning, results_now};
+ghost use Rattle.sr_meaning.specs.Statements.{forward_meaning, reply_meaning, results_now};
 ghost use Rattle.sr_walker_expr.specs.Walkers.{Gave, here_of, stage_of};
+ghost use Rattle.sr_ask.specs.Places.{own_at, own_or_nothing};
+ghost use Rattle.sr_ask.specs.Replies.{mark_answered};
 
 use sr_ask::{Gives, Request};
 use sr_value::{Cap, Duplicate, NoMemory, Row, Value};

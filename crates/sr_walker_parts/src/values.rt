@@ -1,6 +1,6 @@
 ghost use Rattle.std.specs.Prelude.{◌≡◌, ◌-◌, ◌*◌, ◌<◌, ◌-ℤ◌, MatchResult, IfOk};
 ghost use Rattle.sr_meaning.specs.Statements.{int_own};
-ghost use Rattle.sr_meaning.specs.Values.{steps_within, values_of};
+ghost use Rattle.sr_core.specs.Values.{steps_within, values_of};
 ghost use Rattle.sr_walker_parts.specs.Turns.{AllFit, listed, value_from};
 
 use sr_ask::Own;

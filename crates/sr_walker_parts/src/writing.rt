@@ -1,9 +1,9 @@
 ghost use Rattle.std.specs.Prelude.{◌≡◌, ◌++◌, OnOk, IfOk};
 ghost use Rattle.sr_value.specs.Operators.{Answers};
 ghost use Rattle.sr_value.specs.Texts.{value_text};
-ghost use Rattle.sr_parts.specs.Parts.{or_fault};
+ghost use Rattle.sr_value.specs.Parts.{or_fault};
 ghost use Rattle.sr_meaning.specs.Here.{settle};
-ghost use Rattle.sr_meaning.specs.Values.{flat, spaced, texts_of, written};
+ghost use Rattle.sr_core.specs.Values.{flat, spaced, texts_of, written};
 ghost use Rattle.sr_walker_expr.specs.Walkers.{Gave, here_of, stage_of};
 
 use sr_value::{EnumNames, Fault, NoMemory, Row, Text, Value, ValueFail, text_of};

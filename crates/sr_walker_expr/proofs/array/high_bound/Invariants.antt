@@ -1,6 +1,6 @@
 -- The parts so far, with those that are left, are all.
 use Rattle.std.proofs.Common.{◌≡◌, ◌+◌, ◌<◌, drop}
-use Rattle.sr_meaning.specs.Values.{count_all}
+use Rattle.sr_core.specs.Values.{count_all}
 use Rattle.sr_walker_expr.proofs.array.high_bound.Given as goal
 
 abbrev pub invariant-loop-piece : goal.invariant-loop-piece

@@ -1,6 +1,6 @@
 -- The items so far stand before those of the parts that are left.
 use Rattle.std.proofs.Common.{◌≡◌, ◌++◌, drop}
-use Rattle.sr_meaning.specs.Values.{items_of}
+use Rattle.sr_core.specs.Values.{items_of}
 use Rattle.sr_walker_expr.proofs.array.line_items.Given as goal
 
 abbrev pub invariant-loop-piece : goal.invariant-loop-piece

@@ -1,6 +1,6 @@
 use Rattle.std.proofs.Common.{◌++◌, List, replicate, ap, sym, ◌∙◌, append_assoc}
 use Rattle.sr_value.specs.declared.value.Value.{Value}
-use Rattle.sr_meaning.specs.Values.{flat}
+use Rattle.sr_core.specs.Values.{flat}
 use Rattle.sr_walker_expr.proofs.FlatLemmas.{flat_more}
 use Rattle.sr_walker_expr.proofs.array.repeat_onto.Goals as goal
 

@@ -1,6 +1,6 @@
 -- There are as many copies as turns were made.
 use Rattle.std.proofs.Common.{◌≡◌, ◌++◌, replicate}
-use Rattle.sr_meaning.specs.Values.{flat}
+use Rattle.sr_core.specs.Values.{flat}
 use Rattle.sr_walker_expr.proofs.array.repeat_onto.Given as goal
 
 abbrev pub invariant-loop : goal.invariant-loop

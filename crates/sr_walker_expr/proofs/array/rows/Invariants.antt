@@ -1,7 +1,7 @@
 -- What holds of the rows that are left holds of all, behind those so far.
 use Rattle.std.proofs.Common.{◌≡◌, ◌++◌, drop, Ok}
-use Rattle.sr_parts.specs.Parts.{with_ok}
-use Rattle.sr_meaning.specs.Values.{rows_of}
+use Rattle.sr_value.specs.Parts.{with_ok}
+use Rattle.sr_core.specs.Values.{rows_of}
 use Rattle.sr_walker_expr.proofs.array.rows.Given as goal
 
 abbrev pub invariant-loop-piece : goal.invariant-loop-piece

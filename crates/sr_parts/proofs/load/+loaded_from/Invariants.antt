@@ -1,5 +1,0 @@
-use Rattle.std.proofs.Common.{length, ◌-◌}
-use Rattle.sr_parts.proofs.load.+loaded_from.Given as goal
-
-abbrev pub decreases-loaded_from : goal.decreases-loaded_from
-decreases-loaded_from l = length l.path.now - l.at
