@@ -13,15 +13,16 @@ use Rattle.sr_value.specs.declared.shape.Dims.{Dims}
 use Rattle.sr_value.specs.declared.shape.Dims.TheVariants.{One, Two}
 use Rattle.sr_value.specs.declared.shape.Sel.{Sel}
 use Rattle.sr_value.specs.declared.shape.Sel.TheVariants.{At as at_one, At2 as at_two, Field as at_field}
-use Rattle.sr_value.specs.declared.shape.Shape.{Shape, out-Shape}
+use Rattle.sr_value.specs.declared.shape.Shape.{Shape}
+use Rattle.sr_value.specs.declared.shape.Shape.TheFolds.{fold-Shape}
 use Rattle.sr_value.specs.declared.shape.Shape.TheOpen.{Shape-F}
 use Rattle.sr_value.specs.declared.value.Value.{Value, out-Value}
 use Rattle.sr_value.specs.declared.value.Value.TheOpen.{Value-F}
-use Rattle.sr_value.specs.declared.value.Value.TheVariants.{Int, Bool as truth_value, Arr, Capa}
+use Rattle.sr_value.specs.declared.value.Value.TheVariants.{Int, Bool as truth_value, Rec, Arr, Capa}
 use Rattle.sr_value.specs.Operands.{cap_in}
 use Rattle.sr_value.specs.Operators.{value_of, value_of_one}
-use Rattle.sr_value.specs.Shapes.{extent, default_value}
-use Rattle.sr_value.specs.Parts.{with_ok, loaded_at, part_of}
+use Rattle.sr_value.specs.Shapes.{extent, shape_fault, unless_fault, default_value}
+use Rattle.sr_value.specs.Parts.{with_ok, loaded_at, part_of, all_fit, each_fits}
 use Rattle.sr_core.specs.declared.expression.Argument.TheFolds.{fold-Expr}
 use Rattle.sr_core.specs.declared.expression.Argument.TheOpen.{Argument-F, Expr-F, Part-F, Step-F, PlaceExpr-F, Reading-F}
 use Rattle.sr_core.specs.declared.expression.Expr.{Expr}
@@ -156,13 +157,20 @@ recounted (Two lo hi lo2 hi2) (Two lo' hi' lo2' hi2') =
     with_ok (int_bound ((lo2 +ℤ pos (extent lo2' hi2')) -ℤ pos 1)) (λ last2. Ok (Two lo last lo2 last2)))
 recounted place sent = Ok sent
 
-abbrev pub layer_sent : {A : Type 0} → Shape-F A → Value → Value-F Value → Result Value Fault
-layer_sent (Shape-F.Arr dims item) value (Value-F.Arr dims' items) = with_ok (recounted dims dims') (λ counted. Ok (Arr counted items))
-layer_sent shape value layer = Ok value
+-- an array's own bounds are counted before those of its items
+abbrev pub layer_counted : Shape-F (Value → Result Value Fault) → Value → Value-F Value → Result Value Fault
+layer_counted (Shape-F.Rec fields) value (Value-F.Rec values) = with_ok (each_fits fields values) (λ counted. Ok (Rec counted))
+layer_counted (Shape-F.Arr dims item) value (Value-F.Arr dims' items) =
+    with_ok (recounted dims dims') (λ bounds. with_ok (all_fit item items) (λ counted. Ok (Arr bounds counted)))
+layer_counted shape value layer = Ok value
+
+-- a value as it was sent, each array in it counted from the lower bounds of the formal
+abbrev pub counted_in : Shape → Value → Result Value Fault
+counted_in = fold-Shape (Value → Result Value Fault) (λ layer value. layer_counted layer value (out-Value value))
 
 abbrev pub as_sent : Shape → Option Value → Result Value Fault
 as_sent shape None = default_value shape
-as_sent shape (Some value) = with_ok (default_value shape) (λ _. layer_sent (out-Shape shape) value (out-Value value))
+as_sent shape (Some value) = with_ok (unless_fault (shape_fault shape) value) (counted_in shape)
 
 -- A formal as a guard sees it: what was sent, or the default of a `res` formal. Where its bound or its default
 -- is a fault, to name it is that fault.

@@ -13,8 +13,7 @@ use crate::stop::Stop;
 use crate::walker::Walker;
 use sr_ask::{Located, Own, Request, Spot};
 use sr_core::{Home, Root};
-use sr_parts::{loaded, part_of, stored};
-use sr_value::{Duplicate, Fault, Row, Sel, Value, ValueFail};
+use sr_value::{Duplicate, Fault, Row, Sel, Value, ValueFail, loaded, part_of, stored};
 
 /// The instance whose shared variables are meant.
 fn block_of(scene: &Scene, home: Home) -> u32
