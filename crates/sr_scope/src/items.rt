@@ -1,4 +1,4 @@
-ghost use Rattle.std.specs.Prelude.{◌≡◌, OnOk, Some};
+ghost use Rattle.std.specs.Prelude.{◌≡◌, OnOk, Some, []};
 ghost use Rattle.std.specs.Option.{option_copied};
 ghost use Rattle.sr_names.specs.Notes.{all_noted};
 ghost use Rattle.sr_scope.specs.Declares.{names_declared, names_twice};
@@ -282,7 +282,21 @@ fn serve_item(
 }
 
 /// Notes the procs, procedures and processes of operations that another one serves already.
-pub fn serve_items(
+pub fn note_served(
+    alloc: Global,
+    items: &[Item],
+    place: &Place,
+    blocks: &Blocks,
+    notes: &mut Notes,
+) -> Result<(), NoMemory>
+    ensures { OnOk result (notes.new ≡ all_noted notes.old (served_twice items.now place.now blocks.now [])) }
+{
+    let mut served = Table::new(alloc);
+    serve_items(alloc, items, place, blocks, &mut served, notes)
+}
+
+/// Notes those that serve an operation that is among the served ones, or that an item before them serves.
+fn serve_items(
     alloc: Global,
     items: &[Item],
     place: &Place,
