@@ -3,7 +3,7 @@ ghost use Rattle.sr_names.specs.Components.{with_members};
 ghost use Rattle.sr_names.specs.Notes.{all_noted};
 ghost use Rattle.sr_names.specs.Scopes.{no_blocks};
 ghost use Rattle.sr_names.specs.Visible.{with_component};
-ghost use Rattle.sr_scope.specs.Components.{sort_of, decl_of, collected, collected_twice, all_collected, all_collected_twice, files_collected, files_collected_twice, imported_names, item_imports, specs_imports, items_imports, imports_of, import_at, import_of_sorts, import_to, imports_to, all_imports, files_imports, import_found, imports_found, with_import, with_imports, visible_to, own_declared, own_twice, walked, component_found, components_found, files_found};
+ghost use Rattle.sr_scope.specs.Components.{sort_of, decl_of, collected, collected_twice, all_collected, all_collected_twice, files_collected, files_collected_twice, imported_names, specs_imports, items_imports, imports_of, import_at, import_of_sorts, import_to, imports_to, all_imports, files_imports, import_found, imports_found, with_import, with_imports, visible_to, own_declared, own_twice, walked, component_found, components_found, files_found};
 ghost use Rattle.sr_scope.specs.Items.{inside, specs_declared, specs_twice};
 
 use crate::declares::declare_name;
@@ -130,19 +130,6 @@ fn push_imported(alloc: Global, item: &SpecItem, all: &mut Row<Name>) -> Result<
     }
 }
 
-fn push_item_imports(alloc: Global, item: &Item, all: &mut Row<Name>) -> Result<(), NoMemory>
-    ensures { OnOk result (all.new ≡ all.old ++ item_imports item.now) }
-{
-    match item {
-        Item::Spec(inner) => push_imported(alloc, inner, all),
-        Item::Proc(_)
-        | Item::Procedure(_)
-        | Item::Process(_)
-        | Item::Final(_)
-        | Item::Statement(_) => Ok(()),
-    }
-}
-
 fn push_specs_imports(
     alloc: Global,
     items: &[SpecItem],
@@ -160,7 +147,9 @@ fn push_items_imports(alloc: Global, items: &[Item], all: &mut Row<Name>) -> Res
     ensures { OnOk result (all.new ≡ all.old ++ items_imports items.now) }
 {
     for item in items {
-        push_item_imports(alloc, item, all)?;
+        if let Item::Spec(inner) = item {
+            push_imported(alloc, inner, all)?;
+        }
     }
     Ok(())
 }
@@ -298,22 +287,8 @@ fn visible_to(
     Ok(visible)
 }
 
-/// Notes what is found within a component, once its names are known.
+/// Notes what is found within a component, outside of all blocks, once its names are known.
 fn walk(
-    alloc: Global,
-    component: &Component,
-    place: &mut Place,
-    notes: &mut Notes,
-) -> Result<(), NoMemory>
-    ensures place { OnOk result (place.new ≡ inside place.old place.new.within) }
-    ensures noted { OnOk result (notes.new ≡ all_noted notes.old (walked component.now place.old)) }
-{
-    let mut blocks = Blocks::new(alloc);
-    walk_parts(alloc, component, place, &mut blocks, notes)
-}
-
-/// Notes what is found within a component, outside of all blocks.
-fn walk_parts(
     alloc: Global,
     component: &Component,
     place: &mut Place,
@@ -377,7 +352,8 @@ fn component(
     declare_own(alloc, component, &mut place.own, notes)?;
     place.visible = note_visible(alloc, component, &place.components, notes)?;
     place.within = None;
-    walk(alloc, component, place, notes)
+    let mut blocks = Blocks::new(alloc);
+    walk(alloc, component, place, &mut blocks, notes)
 }
 
 fn components(

@@ -264,23 +264,6 @@ fn serve(
     Ok(())
 }
 
-fn serve_item(
-    alloc: Global,
-    item: &Item,
-    place: &Place,
-    blocks: &Blocks,
-    served: &mut Table,
-    notes: &mut Notes,
-) -> Result<(), NoMemory>
-    ensures table { OnOk result (served.new ≡ name_served place.now blocks.now (served_name item.now) served.old) }
-    ensures noted { OnOk result (notes.new ≡ all_noted notes.old (name_served_twice place.now blocks.now (served_name item.now) served.old)) }
-{
-    match served_name(item) {
-        Some(name) => serve(alloc, name, place, blocks, served, notes),
-        None => Ok(()),
-    }
-}
-
 /// Notes the procs, procedures and processes of operations that another one serves already.
 pub fn note_served(
     alloc: Global,
@@ -307,7 +290,9 @@ fn serve_items(
     ensures { OnOk result (notes.new ≡ all_noted notes.old (served_twice items.now place.now blocks.now served.old)) }
 {
     for item in items {
-        serve_item(alloc, item, place, blocks, served, notes)?;
+        if let Some(name) = served_name(item) {
+            serve(alloc, name, place, blocks, served, notes)?;
+        }
     }
     Ok(())
 }

@@ -1,10 +1,8 @@
 ghost use Rattle.std.specs.Prelude.{◌≡◌, ◌-◌, ◌^◌, ◌<◌, length, IfOk, OnOk, Some};
-ghost use Rattle.std.specs.Option.{option_copied};
 ghost use Rattle.sr_names.specs.Components.{member_named};
-ghost use Rattle.sr_names.specs.Cycles.{cycles_found};
 ghost use Rattle.sr_names.specs.Notes.{all_noted};
 ghost use Rattle.sr_names.specs.Uses.{meaning_at};
-ghost use Rattle.sr_scope.specs.Components.{files_imports, last_component, can_be_main, main_found, start_of};
+ghost use Rattle.sr_scope.specs.Components.{last_component, can_be_main, main_found, start_of};
 ghost use Rattle.sr_scope.specs.Resolved.{Answers, program, findings, resolved, no_place, kind_of, refusal_of, answered};
 
 use crate::components::{collect_files, global_imports, walk_files};
@@ -80,21 +78,9 @@ fn note_all(
 {
     collect_files(alloc, files, place, notes)?;
     note_main(files, notes)?;
-    note_import_cycles(alloc, &place.components, files, notes)?;
+    let imports = global_imports(alloc, &place.components, files)?;
+    note_cycles(alloc, imports.as_slice(), notes)?;
     walk_files(alloc, files, place, notes)
-}
-
-/// Notes the globals that import each other in a cycle.
-fn note_import_cycles(
-    alloc: Global,
-    components: &Table,
-    files: &[File],
-    notes: &mut Notes,
-) -> Result<(), NoMemory>
-    ensures { OnOk result (notes.new ≡ all_noted notes.old (cycles_found (files_imports components.now files.now))) }
-{
-    let imports = global_imports(alloc, components, files)?;
-    note_cycles(alloc, imports.as_slice(), notes)
 }
 
 fn empty_place(alloc: Global) -> Place
@@ -107,13 +93,6 @@ fn empty_place(alloc: Global) -> Place
         visible: Visible::new(alloc),
         within: None,
     }
-}
-
-fn last_component(files: &[File]) -> Option<&Component>
-    ensures { option_copied result ≡ last_component files.now }
-{
-    let file = files.last()?;
-    file.components.as_slice().last()
 }
 
 fn can_be_main(component: &Component) -> bool
@@ -129,8 +108,11 @@ fn can_be_main(component: &Component) -> bool
 fn has_main(files: &[File]) -> bool
     ensures { result ≡ can_be_main (last_component files.now) }
 {
-    match last_component(files) {
-        Some(component) => can_be_main(component),
+    match files.last() {
+        Some(file) => match file.components.as_slice().last() {
+            Some(component) => can_be_main(component),
+            None => false,
+        },
         None => false,
     }
 }
