@@ -112,9 +112,24 @@ pub(crate) fn called(
     ensures noted { OnOk result (notes.new ≡ all_noted notes.old (called_by facts.now span parts.callee parts.arguments parts.callee.named).found) }
 {
     let arguments = parts.arguments.as_slice();
-    match &parts.callee.named {
+    called_by(alloc, facts, notes, span, &parts.callee, arguments)
+}
+
+/// What a call is, by what its callee names.
+fn called_by(
+    alloc: Global,
+    facts: &Facts,
+    notes: &mut Notes,
+    span: Span,
+    callee: &Judged,
+    arguments: &[Judged],
+) -> Result<Judged, NoMemory>
+    ensures value { IfOk result (λ judged. judged ≡ (called_by facts.now span callee.now arguments.now callee.now.named).judged) }
+    ensures noted { OnOk result (notes.new ≡ all_noted notes.old (called_by facts.now span callee.now arguments.now callee.now.named).found) }
+{
+    match &callee.named {
         Named::Predefined(name) => function(alloc, facts, notes, span, *name, arguments),
         Named::Type(ty) => construction(facts, notes, span, ty, arguments),
-        _ => operation(alloc, facts, notes, span, &parts.callee, arguments),
+        _ => operation(alloc, facts, notes, span, callee, arguments),
     }
 }

@@ -1,4 +1,4 @@
-ghost use Rattle.std.specs.Prelude.{◌≡◌, IfOk, OnOk, option_copied};
+ghost use Rattle.std.specs.Prelude.{◌≡◌, IfOk, OnOk, Some, option_copied};
 ghost use Rattle.sr_names.specs.Notes.{all_noted};
 ghost use Rattle.sr_check_expr.specs.Creating.{component_type, resource_type, resource_named, instance_type, machine_valued, made_of, formals_found, made_found, instance_judged, machine_judged};
 
@@ -15,7 +15,7 @@ use crate::uses::may_be_machine;
 use sr_names::{Decl, Notes, Rule, Sort, Spot};
 use sr_tree::QualifiedName;
 use sr_types::{Outcome, Static, Ty, own_machine};
-use sr_value::{NoMemory, Span};
+use sr_value::{Boxed, NoMemory, Span};
 use std::alloc::Global;
 
 /// The declaration that is named in a `create`.
@@ -56,16 +56,21 @@ fn instance_type(resource: Option<Decl>) -> Ty
     }
 }
 
-/// Notes that what stands behind `on` is no machine.
-fn note_machine(notes: &mut Notes, machine: &Option<Judged>) -> Result<(), NoMemory>
+/// Notes that an expression that stands after `on` is no machine.
+fn note_machine_at(notes: &mut Notes, machine: &Judged) -> Result<(), NoMemory>
+    ensures { OnOk result (notes.new ≡ all_noted notes.old (machine_valued (Some machine.now))) }
+{
+    note_value(notes, machine)?;
+    let met = may_be_machine(&machine.typed);
+    note_unless(notes, met, Rule::BadType, machine.span)
+}
+
+/// Notes that what stands after `on` is no machine.
+fn note_machine(notes: &mut Notes, machine: &Option<Boxed<Judged>>) -> Result<(), NoMemory>
     ensures { OnOk result (notes.new ≡ all_noted notes.old (machine_valued machine.now)) }
 {
     match machine {
-        Some(machine) => {
-            note_value(notes, machine)?;
-            let met = may_be_machine(&machine.typed);
-            note_unless(notes, met, Rule::BadType, machine.span)
-        }
+        Some(machine) => note_machine_at(notes, machine.get()),
         None => Ok(()),
     }
 }
@@ -107,7 +112,7 @@ pub(crate) fn instance(
     span: Span,
     resource: Option<Decl>,
     arguments: &[Judged],
-    machine: &Option<Judged>,
+    machine: &Option<Boxed<Judged>>,
 ) -> Result<Judged, NoMemory>
     ensures value { IfOk result (λ judged. judged ≡ (instance_judged facts.now span resource arguments.now machine.now).judged) }
     ensures noted { OnOk result (notes.new ≡ all_noted notes.old (instance_judged facts.now span resource arguments.now machine.now).found) }

@@ -46,11 +46,11 @@ pub fn expr(
             conversion: written,
             value,
         } => {
-            let inner = expr(alloc, value.get(), facts, notes)?;
-            conversion(notes, *span, *written, inner)
+            let inner = boxed(alloc, value.get(), facts, notes)?;
+            conversion(notes, *span, *written, inner.get())
         }
         Expr::Group { span, inner } => {
-            let inner = expr(alloc, inner.get(), facts, notes)?;
+            let inner = boxed(alloc, inner.get(), facts, notes)?;
             group(notes, *span, inner)
         }
         Expr::Parts { span, parts } => {
@@ -62,8 +62,8 @@ pub fn expr(
             record,
             field: part,
         } => {
-            let owner = expr(alloc, record.get(), facts, notes)?;
-            field(alloc, facts, notes, *span, owner, part)
+            let owner = boxed(alloc, record.get(), facts, notes)?;
+            field(alloc, facts, notes, *span, owner.get(), part)
         }
         Expr::Index {
             span,
@@ -71,10 +71,10 @@ pub fn expr(
             first,
             second,
         } => {
-            let array = expr(alloc, array.get(), facts, notes)?;
-            let first = expr(alloc, first.get(), facts, notes)?;
+            let array = boxed(alloc, array.get(), facts, notes)?;
+            let first = boxed(alloc, first.get(), facts, notes)?;
             let second = optional(alloc, second, facts, notes)?;
-            indexed(alloc, notes, *span, array, first, second)
+            indexed(alloc, notes, *span, array.get(), first.get(), &second)
         }
         Expr::Call(invoked) => {
             let parts = invocation(alloc, invoked, facts, notes)?;
@@ -86,8 +86,8 @@ pub fn expr(
             operator,
             operand,
         } => {
-            let operand = expr(alloc, operand.get(), facts, notes)?;
-            before(alloc, notes, *span, *operator, operand)
+            let operand = boxed(alloc, operand.get(), facts, notes)?;
+            before(alloc, notes, *span, *operator, operand.get())
         }
         Expr::Pending { span, operation } => pending(facts, notes, *span, operation.span),
         Expr::Binary {
@@ -96,11 +96,26 @@ pub fn expr(
             operator,
             right,
         } => {
-            let left = expr(alloc, left.get(), facts, notes)?;
-            let right = expr(alloc, right.get(), facts, notes)?;
-            between(alloc, notes, *span, *operator, left, right)
+            let left = boxed(alloc, left.get(), facts, notes)?;
+            let right = boxed(alloc, right.get(), facts, notes)?;
+            between(alloc, notes, *span, *operator, left.get(), right.get())
         }
     }
+}
+
+/// Notes what is found in an expression, and answers what it is, in a box in which it may wait for other parts.
+#[cycle(exprs)]
+fn boxed(
+    alloc: Global,
+    tree: &Expr,
+    facts: &Facts,
+    notes: &mut Notes,
+) -> Result<Boxed<Judged>, NoMemory>
+    ensures value { IfOk result (λ judged. judged ≡ (judge_expr tree.now facts.now).judged) }
+    ensures noted { OnOk result (notes.new ≡ all_noted notes.old (judge_expr tree.now facts.now).found) }
+{
+    let judged = expr(alloc, tree, facts, notes)?;
+    Boxed::new(alloc, judged)
 }
 
 /// Notes what is found in an expression that may be left out, and answers what it is.
@@ -110,12 +125,12 @@ fn optional(
     tree: &Option<Boxed<Expr>>,
     facts: &Facts,
     notes: &mut Notes,
-) -> Result<Option<Judged>, NoMemory>
+) -> Result<Option<Boxed<Judged>>, NoMemory>
     ensures value { IfOk result (λ judged. judged ≡ option_map (λ judgement. judgement.judged) (option_map (λ judge. judge facts.now) (option_map judge_expr tree.now))) }
     ensures noted { OnOk result (notes.new ≡ all_noted notes.old (second_found (option_map (λ judge. judge facts.now) (option_map judge_expr tree.now)))) }
 {
     match tree {
-        Some(inner) => Ok(Some(expr(alloc, inner.get(), facts, notes)?)),
+        Some(inner) => Ok(Some(boxed(alloc, inner.get(), facts, notes)?)),
         None => Ok(None),
     }
 }
@@ -149,9 +164,12 @@ pub fn invocation(
     ensures value { IfOk result (λ invoked. invoked ≡ record { callee = (judge_invocation tree.now facts.now).callee.judged; arguments = judged_of (judge_invocation tree.now facts.now).arguments }) }
     ensures noted { OnOk result (notes.new ≡ all_noted notes.old (called_parts_found (judge_invocation tree.now facts.now))) }
 {
-    let callee = expr(alloc, tree.callee.get(), facts, notes)?;
+    let callee = boxed(alloc, tree.callee.get(), facts, notes)?;
     let arguments = all(alloc, tree.arguments.as_slice(), facts, notes)?;
-    Ok(Invoked { callee, arguments })
+    Ok(Invoked {
+        callee: callee.into_inner(),
+        arguments,
+    })
 }
 
 /// Notes what is found in the making of an instance or a machine, and answers what it is.
@@ -195,7 +213,7 @@ fn part(alloc: Global, tree: &Part, facts: &Facts, notes: &mut Notes) -> Result<
     ensures noted { OnOk result (notes.new ≡ all_noted notes.old (part_found (judge_part tree.now facts.now))) }
 {
     let count = optional(alloc, &tree.count, facts, notes)?;
-    let value = expr(alloc, tree.value.get(), facts, notes)?;
+    let value = boxed(alloc, tree.value.get(), facts, notes)?;
     repeated_part(notes, count, value)
 }
 

@@ -18,35 +18,21 @@ use sr_tree::{BinaryOperator, Conversion, Name, UnaryOperator};
 use sr_types::{
     Outcome, Repeated, Static, Ty, Typed, binary, bracketed, index_one, index_two, unary,
 };
-use sr_value::{NoMemory, Row, Span};
+use sr_value::{Boxed, NoMemory, Row, Span};
 use std::alloc::Global;
-
-/// Notes what is found at a construct around a value, and answers what it is.
-pub(crate) fn around(
-    notes: &mut Notes,
-    span: Span,
-    inner: &Judged,
-    outcome: Outcome,
-) -> Result<Judged, NoMemory>
-    ensures value { IfOk result (λ judged. judged ≡ (around span inner.now outcome).judged) }
-    ensures noted { OnOk result (notes.new ≡ all_noted notes.old (around span inner.now outcome).found) }
-{
-    note_value(notes, inner)?;
-    settle(notes, span, outcome)
-}
 
 /// Notes what is found at a conversion, and answers what it is.
 pub(crate) fn conversion(
     notes: &mut Notes,
     span: Span,
     written: Conversion,
-    inner: Judged,
+    inner: &Judged,
 ) -> Result<Judged, NoMemory>
-    ensures value { IfOk result (λ judged. judged ≡ (around span inner (conversion_outcome written inner.typed)).judged) }
-    ensures noted { OnOk result (notes.new ≡ all_noted notes.old (around span inner (conversion_outcome written inner.typed)).found) }
+    ensures value { IfOk result (λ judged. judged ≡ (around span inner.now (conversion_outcome written inner.now.typed)).judged) }
+    ensures noted { OnOk result (notes.new ≡ all_noted notes.old (around span inner.now (conversion_outcome written inner.now.typed)).found) }
 {
-    let outcome = converted(written, &inner.typed);
-    around(notes, span, &inner, outcome)
+    note_value(notes, inner)?;
+    settle(notes, span, converted(written, &inner.typed))
 }
 
 /// Notes what is found at an operator before its operand, and answers what the whole is.
@@ -55,13 +41,14 @@ pub(crate) fn before(
     notes: &mut Notes,
     span: Span,
     written: UnaryOperator,
-    operand: Judged,
+    operand: &Judged,
 ) -> Result<Judged, NoMemory>
-    ensures value { IfOk result (λ judged. judged ≡ (around span operand (unary_rule (prefix_of written) operand.typed)).judged) }
-    ensures noted { OnOk result (notes.new ≡ all_noted notes.old (around span operand (unary_rule (prefix_of written) operand.typed)).found) }
+    ensures value { IfOk result (λ judged. judged ≡ (around span operand.now (unary_rule (prefix_of written) operand.now.typed)).judged) }
+    ensures noted { OnOk result (notes.new ≡ all_noted notes.old (around span operand.now (unary_rule (prefix_of written) operand.now.typed)).found) }
 {
+    note_value(notes, operand)?;
     let outcome = unary(alloc, prefix_of(written), &operand.typed)?;
-    around(notes, span, &operand, outcome)
+    settle(notes, span, outcome)
 }
 
 /// Notes what is found at a bracketed list, and answers what it is.
@@ -78,12 +65,12 @@ pub(crate) fn listed(
 }
 
 /// Notes what is found at brackets, and answers what stands in them.
-pub(crate) fn group(notes: &mut Notes, span: Span, inner: Judged) -> Result<Judged, NoMemory>
+pub(crate) fn group(notes: &mut Notes, span: Span, inner: Boxed<Judged>) -> Result<Judged, NoMemory>
     ensures value { IfOk result (λ judged. judged ≡ (around span inner (Outcome.Met (grouped inner.typed))).judged) }
     ensures noted { OnOk result (notes.new ≡ all_noted notes.old (around span inner (Outcome.Met (grouped inner.typed))).found) }
 {
-    note_value(notes, &inner)?;
-    settle(notes, span, Outcome::Met(grouped(inner.typed)))
+    note_value(notes, inner.get())?;
+    settle(notes, span, Outcome::Met(grouped(typed_of(inner))))
 }
 
 /// Notes what is found at an operator between two operands, and answers what the whole is.
@@ -92,26 +79,23 @@ pub(crate) fn between(
     notes: &mut Notes,
     span: Span,
     written: BinaryOperator,
-    left: Judged,
-    right: Judged,
+    left: &Judged,
+    right: &Judged,
 ) -> Result<Judged, NoMemory>
-    ensures value { IfOk result (λ judged. judged ≡ (between span (operator_of written) left right).judged) }
-    ensures noted { OnOk result (notes.new ≡ all_noted notes.old (between span (operator_of written) left right).found) }
+    ensures value { IfOk result (λ judged. judged ≡ (between span (operator_of written) left.now right.now).judged) }
+    ensures noted { OnOk result (notes.new ≡ all_noted notes.old (between span (operator_of written) left.now right.now).found) }
 {
-    note_value(notes, &left)?;
-    note_value(notes, &right)?;
-    settle(
-        notes,
-        span,
-        binary(alloc, operator_of(written), &left.typed, &right.typed)?,
-    )
+    note_value(notes, left)?;
+    note_value(notes, right)?;
+    let outcome = binary(alloc, operator_of(written), &left.typed, &right.typed)?;
+    settle(notes, span, outcome)
 }
 
-fn note_second(notes: &mut Notes, second: &Option<Judged>) -> Result<(), NoMemory>
+fn note_second(notes: &mut Notes, second: &Option<Boxed<Judged>>) -> Result<(), NoMemory>
     ensures { OnOk result (notes.new ≡ all_noted notes.old (second_valued second.now)) }
 {
     match second {
-        Some(second) => note_value(notes, second),
+        Some(second) => note_value(notes, second.get()),
         None => Ok(()),
     }
 }
@@ -120,12 +104,12 @@ fn index_outcome(
     alloc: Global,
     whole: &Typed,
     first: &Typed,
-    second: &Option<Judged>,
+    second: &Option<Boxed<Judged>>,
 ) -> Result<Outcome, NoMemory>
     ensures { IfOk result (λ outcome. outcome ≡ index_outcome whole.now first.now second.now) }
 {
     match second {
-        Some(second) => index_two(alloc, whole, first, &second.typed),
+        Some(second) => index_two(alloc, whole, first, &second.get().typed),
         None => index_one(alloc, whole, first),
     }
 }
@@ -135,21 +119,18 @@ pub(crate) fn indexed(
     alloc: Global,
     notes: &mut Notes,
     span: Span,
-    array: Judged,
-    first: Judged,
-    second: Option<Judged>,
+    array: &Judged,
+    first: &Judged,
+    second: &Option<Boxed<Judged>>,
 ) -> Result<Judged, NoMemory>
-    ensures value { IfOk result (λ judged. judged ≡ (indexed span array first second).judged) }
-    ensures noted { OnOk result (notes.new ≡ all_noted notes.old (indexed span array first second).found) }
+    ensures value { IfOk result (λ judged. judged ≡ (indexed span array.now first.now second.now).judged) }
+    ensures noted { OnOk result (notes.new ≡ all_noted notes.old (indexed span array.now first.now second.now).found) }
 {
-    note_value(notes, &array)?;
-    note_value(notes, &first)?;
-    note_second(notes, &second)?;
-    settle(
-        notes,
-        span,
-        index_outcome(alloc, &array.typed, &first.typed, &second)?,
-    )
+    note_value(notes, array)?;
+    note_value(notes, first)?;
+    note_second(notes, second)?;
+    let outcome = index_outcome(alloc, &array.typed, &first.typed, second)?;
+    settle(notes, span, outcome)
 }
 
 /// Notes what is found at a point, and answers what stands behind it.
@@ -158,15 +139,15 @@ pub(crate) fn field(
     facts: &Facts,
     notes: &mut Notes,
     span: Span,
-    owner: Judged,
+    owner: &Judged,
     part: &Name,
 ) -> Result<Judged, NoMemory>
-    ensures value { IfOk result (λ judged. judged ≡ (field_judged facts.now span owner part.now owner.named).judged) }
-    ensures noted { OnOk result (notes.new ≡ all_noted notes.old (field_judged facts.now span owner part.now owner.named).found) }
+    ensures value { IfOk result (λ judged. judged ≡ (field_judged facts.now span owner.now part.now owner.now.named).judged) }
+    ensures noted { OnOk result (notes.new ≡ all_noted notes.old (field_judged facts.now span owner.now part.now owner.now.named).found) }
 {
     match &owner.named {
         Named::Component(_) => name(alloc, facts, notes, span, part.span),
-        _ => value_field(alloc, facts, notes, span, &owner, part.text.as_bytes()),
+        _ => value_field(alloc, facts, notes, span, owner, part.text.as_bytes()),
     }
 }
 
@@ -182,7 +163,8 @@ fn value_field(
     ensures noted { OnOk result (notes.new ≡ all_noted notes.old (value_field facts.now span owner.now part.now).found) }
 {
     note_value(notes, owner)?;
-    settle(notes, span, part_named(alloc, facts, &owner.typed, part)?)
+    let outcome = part_named(alloc, facts, &owner.typed, part)?;
+    settle(notes, span, outcome)
 }
 
 /// The component of an operation.
@@ -236,28 +218,37 @@ pub(crate) fn pending(
     settle(notes, span, pending_outcome(component))
 }
 
+/// Notes the count and the value of a part of a bracketed list that are no values.
+fn note_part(
+    notes: &mut Notes,
+    count: &Option<Boxed<Judged>>,
+    value: &Judged,
+) -> Result<(), NoMemory>
+    ensures { OnOk result (notes.new ≡ all_noted notes.old (part_valued count.now value.now)) }
+{
+    note_second(notes, count)?;
+    note_value(notes, value)
+}
+
 /// Notes what is found at a part of a bracketed list, apart from its own parts, and answers what it is.
 pub(crate) fn repeated_part(
     notes: &mut Notes,
-    count: Option<Judged>,
-    value: Judged,
+    count: Option<Boxed<Judged>>,
+    value: Boxed<Judged>,
 ) -> Result<Repeated, NoMemory>
     ensures value { IfOk result (λ part. part ≡ judged_repeated count value) }
     ensures noted { OnOk result (notes.new ≡ all_noted notes.old (part_valued count value)) }
 {
-    note_second(notes, &count)?;
-    note_value(notes, &value)?;
+    note_part(notes, &count, value.get())?;
     Ok(Repeated {
-        count: typed_of(count),
-        value: value.typed,
+        count: count.map(typed_of),
+        value: typed_of(value),
     })
 }
 
-fn typed_of(judged: Option<Judged>) -> Option<Typed>
-    ensures { result ≡ option_map (λ count. count.typed) judged }
+/// The type and value of what is judged.
+fn typed_of(judged: Boxed<Judged>) -> Typed
+    ensures { result ≡ judged.typed }
 {
-    match judged {
-        Some(judged) => Some(judged.typed),
-        None => None,
-    }
+    judged.into_inner().typed
 }

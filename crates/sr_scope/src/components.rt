@@ -1,14 +1,17 @@
-ghost use Rattle.std.specs.Prelude.{◌≡◌, ◌++◌, IfOk, OnOk};
+ghost use Rattle.std.specs.Prelude.{◌≡◌, ◌++◌, IfOk, OnOk, []};
+ghost use Rattle.sr_names.specs.Components.{with_members};
 ghost use Rattle.sr_names.specs.Notes.{all_noted};
-ghost use Rattle.sr_scope.specs.Components.{sort_of, decl_of, collected, collected_twice, all_collected, all_collected_twice, files_collected, files_collected_twice, imported_names, item_imports, specs_imports, items_imports, imports_of, import_at, import_of_sorts, import_to, imports_to, all_imports, files_imports, import_found, imports_found, with_import, visible_to, walked, component_found, components_found, files_found};
-ghost use Rattle.sr_scope.specs.Items.{inside};
+ghost use Rattle.sr_names.specs.Scopes.{no_blocks};
+ghost use Rattle.sr_names.specs.Visible.{with_component};
+ghost use Rattle.sr_scope.specs.Components.{sort_of, decl_of, collected, collected_twice, all_collected, all_collected_twice, files_collected, files_collected_twice, imported_names, specs_imports, items_imports, imports_of, import_at, import_of_sorts, import_to, imports_to, all_imports, files_imports, import_found, imports_found, with_import, with_imports, visible_to, own_declared, own_twice, walked, component_found, components_found, files_found};
+ghost use Rattle.sr_scope.specs.Items.{inside, specs_declared, specs_twice};
 
 use crate::declares::declare_name;
-use crate::items::{declare_items, declare_spec, items, serve_items, spec_items};
+use crate::items::{declare_items, declare_spec, items, note_served, spec_items};
 use crate::types::{declare_formals, formals};
 use sr_names::{
-    Blocks, Decl, Finding, Import, Link, Meaning, Notes, Place, Rule, Sort, Spot, Table, Visible,
-    Wrong,
+    Blocks, Decl, Finding, Import, Link, Meaning, Members, Notes, Place, Rule, Sort, Spot, Table,
+    Visible, Wrong,
 };
 use sr_tree::{Component, File, Formal, Item, Name, SpecItem};
 use sr_value::{Duplicate, NoMemory, Row, Span};
@@ -50,9 +53,24 @@ fn collect_component(
         &mut place.components,
         notes,
     )?;
+    let spot = Spot::of(name.span);
+    collect_spec(alloc, spot, component.spec(), &mut place.specs, notes)
+}
+
+/// Puts the names of a component's spec among those of all specs.
+fn collect_spec(
+    alloc: Global,
+    component: Spot,
+    items: &[SpecItem],
+    specs: &mut Members,
+    notes: &mut Notes,
+) -> Result<(), NoMemory>
+    ensures specs { OnOk result (specs.new ≡ with_members specs.old component (specs_declared items.now [])) }
+    ensures noted { OnOk result (notes.new ≡ all_noted notes.old (specs_twice items.now [])) }
+{
     let mut spec = Table::new(alloc);
-    declare_spec(alloc, component.spec(), &mut spec, notes)?;
-    place.specs.insert(alloc, Spot::of(name.span), spec)
+    declare_spec(alloc, items, &mut spec, notes)?;
+    specs.insert(alloc, component, spec)
 }
 
 fn collect_components(
@@ -112,19 +130,6 @@ fn push_imported(alloc: Global, item: &SpecItem, all: &mut Row<Name>) -> Result<
     }
 }
 
-fn push_item_imports(alloc: Global, item: &Item, all: &mut Row<Name>) -> Result<(), NoMemory>
-    ensures { OnOk result (all.new ≡ all.old ++ item_imports item.now) }
-{
-    match item {
-        Item::Spec(inner) => push_imported(alloc, inner, all),
-        Item::Proc(_)
-        | Item::Procedure(_)
-        | Item::Process(_)
-        | Item::Final(_)
-        | Item::Statement(_) => Ok(()),
-    }
-}
-
 fn push_specs_imports(
     alloc: Global,
     items: &[SpecItem],
@@ -142,7 +147,9 @@ fn push_items_imports(alloc: Global, items: &[Item], all: &mut Row<Name>) -> Res
     ensures { OnOk result (all.new ≡ all.old ++ items_imports items.now) }
 {
     for item in items {
-        push_item_imports(alloc, item, all)?;
+        if let Item::Spec(inner) = item {
+            push_imported(alloc, inner, all)?;
+        }
     }
     Ok(())
 }
@@ -263,41 +270,71 @@ fn import(components: &Table, name: &Name, visible: &mut Visible) -> Result<(), 
     }
 }
 
-/// The components whose names a component can use.
+/// The components whose names a component can use that imports these names.
 fn visible_to(
     alloc: Global,
     components: &Table,
-    component: &Component,
+    importer: Decl,
     names: &[Name],
 ) -> Result<Visible, NoMemory>
-    requires { names.now ≡ imports_of component.now }
-    ensures { IfOk result (λ visible. visible ≡ visible_to components.now component.now) }
+    ensures { IfOk result (λ visible. visible ≡ with_imports components.now names.now (with_component [] importer)) }
 {
     let mut visible = Visible::new(alloc);
-    visible.add(decl_of(component))?;
+    visible.add(importer)?;
     for name in names {
         import(components, name, &mut visible)?;
     }
     Ok(visible)
 }
 
-/// Notes what is found within a component, once its names are known.
+/// Notes what is found within a component, outside of all blocks, once its names are known.
 fn walk(
     alloc: Global,
     component: &Component,
     place: &mut Place,
+    blocks: &mut Blocks,
     notes: &mut Notes,
 ) -> Result<(), NoMemory>
+    requires { blocks.old ≡ no_blocks }
     ensures place { OnOk result (place.new ≡ inside place.old place.new.within) }
     ensures noted { OnOk result (notes.new ≡ all_noted notes.old (walked component.now place.old)) }
 {
-    let mut blocks = Blocks::new(alloc);
-    let mut served = Table::new(alloc);
-    serve_items(alloc, component.body(), place, &blocks, &mut served, notes)?;
-    spec_items(alloc, component.spec(), place, &blocks, notes)?;
+    note_served(alloc, component.body(), place, blocks, notes)?;
+    spec_items(alloc, component.spec(), place, blocks, notes)?;
     place.within = None;
-    formals(alloc, component.formals(), place, &blocks, notes)?;
-    items(alloc, component.body(), place, &mut blocks, notes)
+    formals(alloc, component.formals(), place, blocks, notes)?;
+    items(alloc, component.body(), place, blocks, notes)
+}
+
+/// Declares the names of a component in the scope of its own, which is empty.
+fn declare_own(
+    alloc: Global,
+    component: &Component,
+    own: &mut Table,
+    notes: &mut Notes,
+) -> Result<(), NoMemory>
+    requires { own.old ≡ [] }
+    ensures own { OnOk result (own.new ≡ own_declared component.now) }
+    ensures noted { OnOk result (notes.new ≡ all_noted notes.old (own_twice component.now)) }
+{
+    declare_spec(alloc, component.spec(), own, notes)?;
+    declare_formals(alloc, component.formals(), own, notes)?;
+    declare_items(alloc, component.body(), own, notes)
+}
+
+/// Notes what the imports of a component mean, and answers the components whose names it can use.
+fn note_visible(
+    alloc: Global,
+    component: &Component,
+    components: &Table,
+    notes: &mut Notes,
+) -> Result<Visible, NoMemory>
+    ensures visible { IfOk result (λ visible. visible ≡ visible_to components.now component.now) }
+    ensures noted { OnOk result (notes.new ≡ all_noted notes.old (imports_found components.now (imports_of component.now))) }
+{
+    let names = imports_of(alloc, component)?;
+    note_imports(components, names.as_slice(), notes)?;
+    visible_to(alloc, components, decl_of(component), names.as_slice())
 }
 
 /// Notes what is found in a component.
@@ -311,16 +348,12 @@ fn component(
     ensures specs { OnOk result (place.new.specs ≡ place.old.specs) }
     ensures noted { OnOk result (notes.new ≡ all_noted notes.old (component_found place.old.components place.old.specs component.now)) }
 {
-    let mut own = Table::new(alloc);
-    declare_spec(alloc, component.spec(), &mut own, notes)?;
-    declare_formals(alloc, component.formals(), &mut own, notes)?;
-    declare_items(alloc, component.body(), &mut own, notes)?;
-    let names = imports_of(alloc, component)?;
-    note_imports(&place.components, names.as_slice(), notes)?;
-    place.visible = visible_to(alloc, &place.components, component, names.as_slice())?;
-    place.own = own;
+    place.own = Table::new(alloc);
+    declare_own(alloc, component, &mut place.own, notes)?;
+    place.visible = note_visible(alloc, component, &place.components, notes)?;
     place.within = None;
-    walk(alloc, component, place, notes)
+    let mut blocks = Blocks::new(alloc);
+    walk(alloc, component, place, &mut blocks, notes)
 }
 
 fn components(

@@ -1,8 +1,9 @@
 ghost use Rattle.std.specs.Prelude.{◌≡◌, OnOk, map};
 ghost use Rattle.sr_names.specs.Notes.{all_noted};
 ghost use Rattle.sr_scope.specs.Declares.{name_declared, name_twice, names_declared, names_twice, returned_declared, returned_twice, op_name};
+ghost use Rattle.sr_scope.specs.Statements.{arm_scope, arm_twice};
 
-use sr_names::{Notes, Sort, Table, declare};
+use sr_names::{Blocks, Notes, Sort, Table, declare};
 use sr_tree::{Decl, Name, OpItem, Semaphore};
 use sr_value::NoMemory;
 use std::alloc::Global;
@@ -68,6 +69,22 @@ pub fn declare_returned(
         Some(name) => declare_name(alloc, name, Sort::Variable, table, notes),
         None => Ok(()),
     }
+}
+
+/// Opens a scope for formals and what an operation returns, and declares them in it.
+pub fn open_formals(
+    alloc: Global,
+    formals: &[Name],
+    returned: &Option<Name>,
+    blocks: &mut Blocks,
+    notes: &mut Notes,
+) -> Result<(), NoMemory>
+    ensures scopes { OnOk result (blocks.new ≡ arm_scope formals.now returned.now blocks.old) }
+    ensures noted { OnOk result (notes.new ≡ all_noted notes.old (arm_twice formals.now returned.now)) }
+{
+    blocks.open(alloc)?;
+    declare_names(alloc, formals, Sort::Variable, &mut blocks.inner, notes)?;
+    declare_returned(alloc, returned, &mut blocks.inner, notes)
 }
 
 /// Declares operations.

@@ -1,4 +1,4 @@
-ghost use Rattle.std.specs.Prelude.{◌≡◌, OnOk, Some};
+ghost use Rattle.std.specs.Prelude.{◌≡◌, OnOk, Some, []};
 ghost use Rattle.std.specs.Option.{option_copied};
 ghost use Rattle.sr_names.specs.Notes.{all_noted};
 ghost use Rattle.sr_scope.specs.Declares.{names_declared, names_twice};
@@ -264,25 +264,22 @@ fn serve(
     Ok(())
 }
 
-fn serve_item(
+/// Notes the procs, procedures and processes of operations that another one serves already.
+pub fn note_served(
     alloc: Global,
-    item: &Item,
+    items: &[Item],
     place: &Place,
     blocks: &Blocks,
-    served: &mut Table,
     notes: &mut Notes,
 ) -> Result<(), NoMemory>
-    ensures table { OnOk result (served.new ≡ name_served place.now blocks.now (served_name item.now) served.old) }
-    ensures noted { OnOk result (notes.new ≡ all_noted notes.old (name_served_twice place.now blocks.now (served_name item.now) served.old)) }
+    ensures { OnOk result (notes.new ≡ all_noted notes.old (served_twice items.now place.now blocks.now [])) }
 {
-    match served_name(item) {
-        Some(name) => serve(alloc, name, place, blocks, served, notes),
-        None => Ok(()),
-    }
+    let mut served = Table::new(alloc);
+    serve_items(alloc, items, place, blocks, &mut served, notes)
 }
 
-/// Notes the procs, procedures and processes of operations that another one serves already.
-pub fn serve_items(
+/// Notes those that serve an operation that is among the served ones, or that an item before them serves.
+fn serve_items(
     alloc: Global,
     items: &[Item],
     place: &Place,
@@ -293,7 +290,9 @@ pub fn serve_items(
     ensures { OnOk result (notes.new ≡ all_noted notes.old (served_twice items.now place.now blocks.now served.old)) }
 {
     for item in items {
-        serve_item(alloc, item, place, blocks, served, notes)?;
+        if let Some(name) = served_name(item) {
+            serve(alloc, name, place, blocks, served, notes)?;
+        }
     }
     Ok(())
 }

@@ -6,8 +6,7 @@ ghost use Rattle.sr_scope.specs.Procs.{proc_item_read, proc_items_found, proc_fo
 
 use crate::declarations::{constant, operations, quantifiers, semaphores, variables};
 use crate::declares::{
-    declare_name, declare_names, declare_operations, declare_returned, declare_semaphores,
-    declare_variables,
+    declare_name, declare_operations, declare_semaphores, declare_variables, open_formals,
 };
 use crate::names::name;
 use crate::statements::statement;
@@ -88,15 +87,13 @@ pub fn proc(
     ensures noted { OnOk result (notes.new ≡ all_noted notes.old (proc_found proc.now place.now blocks.old)) }
 {
     name(&proc.name, place, blocks, notes)?;
-    blocks.open(alloc)?;
-    declare_names(
+    open_formals(
         alloc,
         proc.formals.as_slice(),
-        Sort::Variable,
-        &mut blocks.inner,
+        &proc.returned,
+        blocks,
         notes,
     )?;
-    declare_returned(alloc, &proc.returned, &mut blocks.inner, notes)?;
     proc_items(alloc, proc.block.as_slice(), place, blocks, notes)?;
     blocks.close();
     Ok(())

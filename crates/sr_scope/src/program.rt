@@ -1,11 +1,9 @@
-ghost use Rattle.std.specs.Prelude.{◌≡◌, ◌-◌, ◌^◌, ◌<◌, length, OnOk};
-ghost use Rattle.std.specs.Option.{option_copied};
+ghost use Rattle.std.specs.Prelude.{◌≡◌, ◌-◌, ◌^◌, ◌<◌, length, IfOk, OnOk, Some};
 ghost use Rattle.sr_names.specs.Components.{member_named};
 ghost use Rattle.sr_names.specs.Notes.{all_noted};
 ghost use Rattle.sr_names.specs.Uses.{meaning_at};
-ghost use Rattle.std.specs.Prelude.{Some};
 ghost use Rattle.sr_scope.specs.Components.{last_component, can_be_main, main_found, start_of};
-ghost use Rattle.sr_scope.specs.Resolved.{Answers, resolved, no_place, kind_of, refusal_of, answered};
+ghost use Rattle.sr_scope.specs.Resolved.{Answers, program, findings, resolved, no_place, kind_of, refusal_of, answered};
 
 use crate::components::{collect_files, global_imports, walk_files};
 use sr_names::{
@@ -51,13 +49,38 @@ pub fn resolve(alloc: Global, files: &Row<File>) -> Result<Names, FrontFail>
     ensures { Answers result (resolved files.now) }
 {
     let mut notes = Notes::new(alloc);
+    let specs = note_files(alloc, files.as_slice(), &mut notes)?;
+    answer(notes, specs)
+}
+
+/// Notes all that is found in the files, and answers the names of the components' specs.
+fn note_files(alloc: Global, files: &[File], notes: &mut Notes) -> Result<Members, NoMemory>
+    requires { length files.now < 2 ^ 32 }
+    ensures specs { IfOk result (λ specs. specs ≡ (program files.now).specs) }
+    ensures noted { OnOk result (notes.new ≡ all_noted notes.old (findings files.now)) }
+{
     let mut place = empty_place(alloc);
-    collect_files(alloc, files.as_slice(), &mut place, &mut notes)?;
-    note_main(files.as_slice(), &mut notes)?;
-    let imports = global_imports(alloc, &place.components, files.as_slice())?;
-    note_cycles(alloc, imports.as_slice(), &mut notes)?;
-    walk_files(alloc, files.as_slice(), &mut place, &mut notes)?;
-    answer(notes, place.specs)
+    note_all(alloc, files, &mut place, notes)?;
+    Ok(place.specs)
+}
+
+/// Notes all that is found in the files, and collects their components in a place that has none.
+fn note_all(
+    alloc: Global,
+    files: &[File],
+    place: &mut Place,
+    notes: &mut Notes,
+) -> Result<(), NoMemory>
+    requires fits { length files.now < 2 ^ 32 }
+    requires empty { place.old ≡ no_place }
+    ensures specs { OnOk result (place.new.specs ≡ (program files.now).specs) }
+    ensures noted { OnOk result (notes.new ≡ all_noted notes.old (findings files.now)) }
+{
+    collect_files(alloc, files, place, notes)?;
+    note_main(files, notes)?;
+    let imports = global_imports(alloc, &place.components, files)?;
+    note_cycles(alloc, imports.as_slice(), notes)?;
+    walk_files(alloc, files, place, notes)
 }
 
 fn empty_place(alloc: Global) -> Place
@@ -70,13 +93,6 @@ fn empty_place(alloc: Global) -> Place
         visible: Visible::new(alloc),
         within: None,
     }
-}
-
-fn last_component(files: &[File]) -> Option<&Component>
-    ensures { option_copied result ≡ last_component files.now }
-{
-    let file = files.last()?;
-    file.components.as_slice().last()
 }
 
 fn can_be_main(component: &Component) -> bool
@@ -92,19 +108,22 @@ fn can_be_main(component: &Component) -> bool
 fn has_main(files: &[File]) -> bool
     ensures { result ≡ can_be_main (last_component files.now) }
 {
-    match last_component(files) {
-        Some(component) => can_be_main(component),
+    match files.last() {
+        Some(file) => match file.components.as_slice().last() {
+            Some(component) => can_be_main(component),
+            None => false,
+        },
         None => false,
     }
 }
 
-/// The first byte of the last file.
-fn start_of(files: &[File]) -> Span
-    requires { length files.now < 2 ^ 32 }
-    ensures { result ≡ start_of files.now }
+/// The first byte of the last of so many files.
+fn start_of(files: usize) -> Span
+    requires { files < 2 ^ 32 }
+    ensures { result ≡ record { file = files - 1; from = 0; to = 0; line = 1 } }
 {
     Span {
-        file: files.len().saturating_sub(1) as u32,
+        file: files.saturating_sub(1) as u32,
         from: 0,
         to: 0,
         line: 1,
@@ -120,7 +139,7 @@ fn note_main(files: &[File], notes: &mut Notes) -> Result<(), NoMemory>
     }
     notes.note(Finding::Broken(Wrong {
         rule: Rule::Main,
-        span: start_of(files),
+        span: start_of(files.len()),
     }))
 }
 

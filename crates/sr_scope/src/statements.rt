@@ -1,16 +1,20 @@
-ghost use Rattle.std.specs.Prelude.{◌≡◌, OnOk, map};
+ghost use Rattle.std.specs.Prelude.{◌≡◌, ◌++◌, OnOk, map};
+ghost use Rattle.std.specs.Option.{option_map};
 ghost use Rattle.sr_names.specs.Notes.{all_noted};
 ghost use Rattle.sr_scope.specs.Declarations.{with_inner};
-ghost use Rattle.sr_scope.specs.Exprs.{all_found};
-ghost use Rattle.sr_scope.specs.Statements.{condition_found, statement_found, plain_statement_found, for_all_found, item_read, arm_found, branch_found, co_arm_found, block_found};
+ghost use Rattle.sr_scope.specs.Exprs.{all_found, invocation_found};
+ghost use Rattle.sr_scope.specs.Statements.{condition_found, statement_found, plain_statement_found, for_all_found, item_read, arm_found, branch_found, co_arm_found, block_found, maybe_block_found};
+ghost use Rattle.sr_scope.specs.Types.{maybe_expr_found};
 
 use crate::declarations::{constant, quantifiers, variables};
-use crate::declares::{declare_name, declare_names, declare_returned, declare_variables};
-use crate::exprs::{expr, exprs, note_create, note_expr, note_invocation};
+use crate::declares::{declare_name, declare_variables, open_formals};
+use crate::exprs::{exprs, note_create, note_expr, note_invocation};
 use crate::names::name;
 use crate::types::maybe_expr;
 use sr_names::{Blocks, Notes, Place, Sort};
-use sr_tree::{Arm, ArmCondition, BlockItem, Branch, CoArm, Quantifier, Statement};
+use sr_tree::{
+    Arm, ArmCondition, BlockItem, Branch, CoArm, Expr, Invocation, Quantifier, Statement,
+};
 use sr_value::{NoMemory, Row};
 use std::alloc::Global;
 
@@ -38,10 +42,7 @@ pub fn statement(
             ..
         } => {
             branches(alloc, all.as_slice(), place, blocks, notes)?;
-            match otherwise {
-                Some(items) => block(alloc, items.as_slice(), place, blocks, notes),
-                None => Ok(()),
-            }
+            maybe_block(alloc, otherwise, place, blocks, notes)
         }
         Statement::ForAll {
             quantifiers: all,
@@ -54,10 +55,7 @@ pub fn statement(
             ..
         } => {
             arms(alloc, all.as_slice(), place, blocks, notes)?;
-            match otherwise {
-                Some(items) => block(alloc, items.as_slice(), place, blocks, notes),
-                None => Ok(()),
-            }
+            maybe_block(alloc, otherwise, place, blocks, notes)
         }
         Statement::Co { arms: all, .. } => co_arms(alloc, all.as_slice(), place, blocks, notes),
         _ => plain_statement(statement, place, blocks, notes),
@@ -145,6 +143,24 @@ fn block(
     Ok(())
 }
 
+/// Notes what is found in a block, where there is one.
+#[cycle(statements)]
+fn maybe_block(
+    alloc: Global,
+    maybe: &Option<Row<BlockItem>>,
+    place: &Place,
+    blocks: &mut Blocks,
+    notes: &mut Notes,
+) -> Result<(), NoMemory>
+    ensures scopes { OnOk result (blocks.new ≡ blocks.old) }
+    ensures noted { OnOk result (notes.new ≡ all_noted notes.old (maybe_block_found (option_map (map item_read) maybe.now) place.now blocks.old)) }
+{
+    match maybe {
+        Some(items) => block(alloc, items.as_slice(), place, blocks, notes),
+        None => Ok(()),
+    }
+}
+
 #[cycle(statements)]
 fn block_item(
     alloc: Global,
@@ -187,7 +203,7 @@ fn branches(
     ensures noted { OnOk result (notes.new ≡ all_noted notes.old (all_found (map branch_found branches.now) place.now blocks.old)) }
 {
     for branch in branches {
-        expr(&branch.guard, place, blocks, notes)?;
+        note_expr(&branch.guard, place, blocks, notes)?;
         block(alloc, branch.block.as_slice(), place, blocks, notes)?;
     }
     Ok(())
@@ -222,20 +238,25 @@ fn arm(
     ensures noted { OnOk result (notes.new ≡ all_noted notes.old (arm_found arm.now place.now blocks.old)) }
 {
     name(&arm.operation, place, blocks, notes)?;
-    blocks.open(alloc)?;
-    declare_names(
-        alloc,
-        arm.formals.as_slice(),
-        Sort::Variable,
-        &mut blocks.inner,
-        notes,
-    )?;
-    declare_returned(alloc, &arm.returned, &mut blocks.inner, notes)?;
-    condition(&arm.condition, place, blocks, notes)?;
-    maybe_expr(&arm.order, place, blocks, notes)?;
+    open_formals(alloc, arm.formals.as_slice(), &arm.returned, blocks, notes)?;
+    guards(&arm.condition, &arm.order, place, blocks, notes)?;
     block(alloc, arm.block.as_slice(), place, blocks, notes)?;
     blocks.close();
     Ok(())
+}
+
+/// Notes what is found in the condition and the order of an arm.
+fn guards(
+    written: &Option<ArmCondition>,
+    order: &Option<Expr>,
+    place: &Place,
+    blocks: &Blocks,
+    notes: &mut Notes,
+) -> Result<(), NoMemory>
+    ensures { OnOk result (notes.new ≡ all_noted notes.old (condition_found written.now place.now blocks.now ++ maybe_expr_found order.now place.now blocks.now)) }
+{
+    condition(written, place, blocks, notes)?;
+    maybe_expr(order, place, blocks, notes)
 }
 
 fn condition(
@@ -246,10 +267,10 @@ fn condition(
 ) -> Result<(), NoMemory>
     ensures { OnOk result (notes.new ≡ all_noted notes.old (condition_found condition.now place.now blocks.now)) }
 {
-    if let Some(written) = condition {
-        expr(&written.condition, place, blocks, notes)?;
+    match condition {
+        Some(written) => note_expr(&written.condition, place, blocks, notes),
+        None => Ok(()),
     }
-    Ok(())
 }
 
 #[cycle(statements)]
@@ -282,11 +303,22 @@ fn co_arm(
 {
     blocks.open(alloc)?;
     quantifiers(alloc, arm.quantifiers.as_slice(), place, blocks, notes)?;
-    maybe_expr(&arm.target, place, blocks, notes)?;
-    note_invocation(&arm.invocation, place, blocks, notes)?;
-    if let Some(items) = &arm.block {
-        block(alloc, items.as_slice(), place, blocks, notes)?;
-    }
+    co_target(&arm.target, &arm.invocation, place, blocks, notes)?;
+    maybe_block(alloc, &arm.block, place, blocks, notes)?;
     blocks.close();
     Ok(())
+}
+
+/// Notes what is found in the machine and the invocation of an arm of `co`.
+fn co_target(
+    target: &Option<Expr>,
+    invocation: &Invocation,
+    place: &Place,
+    blocks: &Blocks,
+    notes: &mut Notes,
+) -> Result<(), NoMemory>
+    ensures { OnOk result (notes.new ≡ all_noted notes.old (maybe_expr_found target.now place.now blocks.now ++ invocation_found invocation.now place.now blocks.now)) }
+{
+    maybe_expr(target, place, blocks, notes)?;
+    note_invocation(invocation, place, blocks, notes)
 }

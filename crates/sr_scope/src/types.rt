@@ -1,10 +1,10 @@
-ghost use Rattle.std.specs.Prelude.{◌≡◌, OnOk, map};
+ghost use Rattle.std.specs.Prelude.{◌≡◌, OnOk, [], map};
 ghost use Rattle.std.specs.Option.{option_map};
 ghost use Rattle.sr_names.specs.Notes.{all_noted};
 ghost use Rattle.sr_scope.specs.Types.{maybe_expr_found, range_found, dims_found, maybe_dims_found, decls_found, formals_found, formals_declared, formals_twice, signed_declared, signed_twice, signed_found, type_found, maybe_type_found, formal_read, returned_read, signature_read, maybe_found};
 
 use crate::declares::{declare_name, declare_variables};
-use crate::exprs::expr;
+use crate::exprs::note_expr;
 use crate::names::qualified_name;
 use sr_names::{Blocks, Notes, Place, Sort, Table};
 use sr_tree::{Decl, DimsTree, Expr, Formal, RangeTree, Returned, Signature, TypeTree};
@@ -20,10 +20,10 @@ pub fn maybe_expr(
 ) -> Result<(), NoMemory>
     ensures { OnOk result (notes.new ≡ all_noted notes.old (maybe_expr_found maybe.now place.now blocks.now)) }
 {
-    if let Some(value) = maybe {
-        expr(value, place, blocks, notes)?;
+    match maybe {
+        Some(value) => note_expr(value, place, blocks, notes),
+        None => Ok(()),
     }
-    Ok(())
 }
 
 fn range(
@@ -35,18 +35,12 @@ fn range(
     ensures { OnOk result (notes.new ≡ all_noted notes.old (range_found range.now place.now blocks.now)) }
 {
     match range {
-        RangeTree::Length { length, .. } => {
-            expr(length, place, blocks, notes)?;
-            Ok(())
+        RangeTree::Length { length: bound, .. } | RangeTree::From { low: bound, .. } => {
+            note_expr(bound, place, blocks, notes)
         }
         RangeTree::Bounds { low, high, .. } => {
-            expr(low, place, blocks, notes)?;
-            expr(high, place, blocks, notes)?;
-            Ok(())
-        }
-        RangeTree::From { low, .. } => {
-            expr(low, place, blocks, notes)?;
-            Ok(())
+            note_expr(low, place, blocks, notes)?;
+            note_expr(high, place, blocks, notes)
         }
         RangeTree::Any { .. } => Ok(()),
     }
@@ -124,6 +118,22 @@ pub fn declare_signature(
     }
 }
 
+/// Notes the fields of a record type that are declared twice.
+fn note_fields(alloc: Global, fields: &[Formal], notes: &mut Notes) -> Result<(), NoMemory>
+    ensures { OnOk result (notes.new ≡ all_noted notes.old (formals_twice (map formal_read fields.now) [])) }
+{
+    let mut scope = Table::new(alloc);
+    declare_formals(alloc, fields, &mut scope, notes)
+}
+
+/// Notes the names of a signature that are declared twice.
+fn note_signed(alloc: Global, signature: &Signature, notes: &mut Notes) -> Result<(), NoMemory>
+    ensures { OnOk result (notes.new ≡ all_noted notes.old (signed_twice (signature_read signature.now) [])) }
+{
+    let mut scope = Table::new(alloc);
+    declare_signature(alloc, signature, &mut scope, notes)
+}
+
 /// Notes what is found in a type.
 #[cycle(types)]
 pub fn type_tree(
@@ -143,8 +153,7 @@ pub fn type_tree(
         | TypeTree::CapMachine { .. } => Ok(()),
         TypeTree::Str { length, .. } => maybe_expr(length, place, blocks, notes),
         TypeTree::Rec { fields, .. } => {
-            let mut scope = Table::new(alloc);
-            declare_formals(alloc, fields.as_slice(), &mut scope, notes)?;
+            note_fields(alloc, fields.as_slice(), notes)?;
             formals(alloc, fields.as_slice(), place, blocks, notes)
         }
         TypeTree::CapOf { name, .. } => qualified_name(name, place, blocks, notes),
@@ -212,8 +221,7 @@ pub fn signature(
 ) -> Result<(), NoMemory>
     ensures { OnOk result (notes.new ≡ all_noted notes.old (signed_found (signature_read signature.now) place.now blocks.now)) }
 {
-    let mut scope = Table::new(alloc);
-    declare_signature(alloc, signature, &mut scope, notes)?;
+    note_signed(alloc, signature, notes)?;
     formals(alloc, signature.formals.as_slice(), place, blocks, notes)?;
     maybe_returned(alloc, &signature.returned, place, blocks, notes)
 }
