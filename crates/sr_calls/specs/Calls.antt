@@ -1,5 +1,6 @@
 -- Who holds which invocation, and which replies wait for whom.
-use Rattle.std.specs.Prelude.{ℕ, ◌<◌, ◌≢◌, Bool, ◌==◌, if◌then◌else◌, Option, unwrap_or, List, [], ◌∷◌, ◌++◌, find}
+use Rattle.std.specs.Prelude.{ℕ, ◌<◌, ◌≢◌, Bool, ◌==◌, if◌then◌else◌, Option, unwrap_or, List, [], ◌∷◌, ◌++◌, find, refl}
+use Rattle.std.specs.Coded.{Coded, code_by, coded×, coded_ℕ}
 use Rattle.std.specs.List.{list_any}
 use Rattle.std.specs.Ordering.{nat_cmp}
 use Rattle.std.specs.FinMap as map
@@ -14,6 +15,9 @@ ByProcess A = map.FinMap nat_cmp A
 pub record Room : Type 0 where
   pub holds : ℕ
   pub answers : ℕ
+
+abbrev pub room_code : Coded Room
+room_code = code_by (ℕ × ℕ) (coded× coded_ℕ coded_ℕ) (λ r. (r.holds, r.answers)) (λ p. record { holds = p.0; answers = p.1 }) (λ _. refl)
 
 -- each process holds invocations in the order in which it took them over, and the replies to it stand in the order in which they were made;
 -- a process that holds nothing, or to which there is no reply, has no entry

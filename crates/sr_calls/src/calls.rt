@@ -19,13 +19,20 @@ pub struct Calls {
 }
 
 impl Model for Calls {
+    ghost use Rattle.std.specs.Prelude.{List, refl};
     ghost use Rattle.std.specs.Coded.{code_by, coded×, coded_list, coded_ℕ};
     ghost use Rattle.std.specs.FinMap as map;
-    ghost use Rattle.sr_calls.specs.Calls.{ByProcess, Called, Room};
+    ghost use Rattle.sr_calls.specs.Calls.{ByProcess, Called, Room, room_code};
+    ghost use Rattle.sr_calls.specs.declared.held.Held.{Held};
+    ghost use Rattle.sr_calls.specs.declared.held.Reply.{Reply};
     ghost use Rattle.sr_calls.specs.contracts.held.Held as held;
     ghost use Rattle.sr_calls.specs.contracts.held.Reply as reply;
 
     ghost Value = { Called };
+
+    ghost coded = { code_by (ByProcess (List Held) × (ByProcess (List Reply) × ByProcess Room))
+        (coded× (map.code coded_ℕ (coded_list held.the_row.coded)) (coded× (map.code coded_ℕ (coded_list reply.the_row.coded)) (map.code coded_ℕ room_code)))
+        (λ c. (c.held, (c.replies, c.room))) (λ p. record { held = p.0; replies = p.1.0; room = p.1.1 }) (λ _. refl) };
 
     ghost use Rattle.sr_calls.specs.Desks.{called_on};
 

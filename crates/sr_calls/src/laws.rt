@@ -1,11 +1,19 @@
 ghost use Rattle.std.specs.Prelude.{◌≡◌, ◌≢◌, ℕ, IsTrue, List, None, Some};
 ghost use Rattle.sr_calls.specs.Calls.{ByProcess, answers_one, earliest_reply, items_of, with_item, with_items};
+ghost use Rattle.sr_calls.specs.declared.held.Held.{Held};
 ghost use Rattle.sr_calls.specs.declared.held.Reply.{Reply};
 
-/// A law of calls: what is put down for one process is there, and changes nothing for another.
-pub fn each_process_has_its_own()
-    ensures itself { {A : Type 0} (all : ByProcess (List A)) (process : ℕ) (items : List A) → items_of (with_items all process items) process ≡ items }
-    ensures others { {A : Type 0} (all : ByProcess (List A)) (process other : ℕ) (items : List A) → other ≢ process
+/// A law of calls: what a process holds is its own, and changes nothing for another.
+pub fn each_holds_its_own()
+    ensures itself { (all : ByProcess (List Held)) (process : ℕ) (items : List Held) → items_of (with_items all process items) process ≡ items }
+    ensures others { (all : ByProcess (List Held)) (process other : ℕ) (items : List Held) → other ≢ process
+        → items_of (with_items all process items) other ≡ items_of all other }
+{}
+
+/// A law of calls: the replies to a process are for it, and change nothing for another.
+pub fn each_has_its_own_replies()
+    ensures itself { (all : ByProcess (List Reply)) (process : ℕ) (items : List Reply) → items_of (with_items all process items) process ≡ items }
+    ensures others { (all : ByProcess (List Reply)) (process other : ℕ) (items : List Reply) → other ≢ process
         → items_of (with_items all process items) other ≡ items_of all other }
 {}
 

@@ -10,4 +10,4 @@ mod laws;
 
 pub use calls::Calls;
 pub use held::{Held, Reply};
-pub use laws::{each_process_has_its_own, earlier_reply_goes_first};
+pub use laws::{each_has_its_own_replies, each_holds_its_own, earlier_reply_goes_first};

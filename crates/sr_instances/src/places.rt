@@ -3,7 +3,7 @@ ghost use Rattle.std.specs.List.{Contains};
 ghost use Rattle.sr_instances.specs.Instances.{IsAdded, component_of, global_in, instance_of, machine_of, names_of, state_of, with_instance, with_machine, with_state};
 
 use crate::state::State;
-use crate::tables::{Spot, Standing, put};
+use crate::tables::{Spot, Standing, note_first, put};
 use indexmap::IndexMap;
 use sr_value::{Duplicate, NoMemory, Row};
 use std::alloc::Global;
@@ -60,9 +60,7 @@ impl Places {
             component,
             machine: vm,
         };
-        if !self.globals.contains_key(&spot) {
-            put(&mut self.globals, spot, name);
-        }
+        note_first(&mut self.globals, spot, name);
         let standing = Standing {
             component,
             machine: vm,

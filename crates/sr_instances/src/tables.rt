@@ -1,5 +1,8 @@
-ghost use Rattle.std.specs.Prelude.{◌≡◌, ◌<◌};
-ghost use Rattle.indexmap.specs.IndexMap.{insert_entry, spare};
+ghost use Rattle.std.specs.Prelude.{◌≡◌, ◌<◌, None, Some, if◌then◌else◌};
+ghost use Rattle.std.specs.Map.{lookup};
+ghost use Rattle.indexmap.specs.IndexMap.{Updates, insert_entry, spare};
+ghost use Rattle.sr_instances.specs.Tables.{first_of, same_spot};
+ghost use Rattle.sr_instances.specs.declared.tables.Spot.{Spot};
 
 use crate::state::State;
 use indexmap::IndexMap;
@@ -23,7 +26,18 @@ pub struct Spot {
 /// Puts an entry into a table that has room for it.
 pub fn put<K: Eq + Hash + Drop, V: Drop>(table: &mut IndexMap<K, V>, key: K, value: V)
     requires { 0 < spare table.old }
-    ensures { table.new.entries ≡ insert_entry K.eq table.old.entries key value }
+    ensures entries { table.new.entries ≡ insert_entry K.eq table.old.entries key value }
+    ensures updates { Updates K.eq table.old table.new key (Some value) }
 {
     let _ = table.insert(key, value);
+}
+
+/// Notes an instance as the first of its component on its machine, unless there is one.
+pub fn note_first(globals: &mut IndexMap<Spot, u32>, spot: Spot, name: u32)
+    requires { 0 < spare globals.old }
+    ensures { (q : Spot) → lookup (same_spot q) globals.new.entries ≡ first_of (lookup (same_spot q) globals.old.entries) (if same_spot q spot then Some name else None) }
+{
+    if !globals.contains_key(&spot) {
+        put(globals, spot, name);
+    }
 }
