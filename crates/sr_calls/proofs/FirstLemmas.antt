@@ -1,6 +1,6 @@
 -- The first item that passes a test, and the list without it.
-use Rattle.std.proofs.Common.{◌≡◌, ℕ, suc, ◌+◌, ◌≤◌, Bool, true, false, cond, not, List, [], ◌∷◌, ◌++◌, Option, None, Some, length, refl, ap, sym, ◌∙◌, true≢false, is_some, arith}
-use Rattle.std.proofs.lemmas.Bool.{ltb-false}
+use Rattle.std.proofs.Common.{◌≡◌, ℕ, suc, ◌+◌, ◌<◌, ◌≤◌, Bool, true, false, cond, not, List, [], ◌∷◌, ◌++◌, Option, None, Some, length, refl, ap, subst, sym, ◌∙◌, true≢false, is_some, arith}
+use Rattle.std.proofs.lemmas.Bool.{ltb-false, ltb-true}
 use Rattle.std.proofs.lemmas.List.Folds.{find_at}
 use Rattle.std.proofs.lemmas.Option.{slice_get_past}
 use Rattle.std.specs.Prelude.{find, position, remove, slice_get, nat_lt}
@@ -30,6 +30,13 @@ module _ {A : Type 0} (test : A → Bool) where
       by : (b : Bool) → nat_lt (position_or_len test xs) (length xs) ≡ b → cond b (Some (position_or_len test xs)) None ≡ None → length xs ≤ position_or_len test xs
       by true is h = cc
       by false is h = ltb-false (position_or_len test xs) (length xs) is
+
+  pub place-within : (xs : List A) (i : ℕ) → position test xs ≡ Some i → i < length xs
+  place-within xs i at = by (nat_lt (position_or_len test xs) (length xs)) refl at
+    where
+      by : (b : Bool) → nat_lt (position_or_len test xs) (length xs) ≡ b → cond b (Some (position_or_len test xs)) None ≡ Some i → i < length xs
+      by true is h = let place : position_or_len test xs ≡ i = cc in subst (λ n. n < length xs) place (ltb-true (position_or_len test xs) (length xs) is)
+      by false is h = cc
 
   pub none-found : (xs : List A) → position test xs ≡ None → find test xs ≡ None
   none-found xs none = find_at test xs ∙ slice_get_past xs (position_or_len test xs) (no-position xs none)

@@ -1,4 +1,4 @@
-ghost use Rattle.std.specs.Prelude.{◌≡◌, ◌<◌, ◌≤◌, [], ◌∷◌, ◌++◌, IsOk, OnErr, OnOk, Some, find};
+ghost use Rattle.std.specs.Prelude.{◌≡◌, ◌<◌, ◌≤◌, [], ◌∷◌, ◌++◌, IsOk, OnErr, OnOk, Some, find, position};
 ghost use Rattle.std.specs.Option.{option_map};
 ghost use Rattle.sr_calls.specs.Calls.{answers_one, is_held_as, without_first};
 ghost use Rattle.sr_calls.specs.Desks.{KeepsRoom};
@@ -85,7 +85,7 @@ impl Desk {
         ensures replies { self.new.replies ≡ self.old.replies }
         ensures kept { KeepsRoom self.old.room self.new.room }
     {
-        let at = self.held.iter().position(|held| held.id == id)?;
+        let at = place_of(self.held.as_slice(), id)?;
         Some(self.held.remove(at))
     }
 
@@ -126,10 +126,21 @@ impl Desk {
         ensures held { self.new.held ≡ self.old.held }
         ensures kept { KeepsRoom self.old.room self.new.room }
     {
-        let at = self
-            .replies
-            .iter()
-            .position(|reply| ids.as_slice().contains(&reply.id))?;
+        let at = place_among(&self.replies, ids.as_slice())?;
         self.replies.remove(at)
     }
+}
+
+/// Where an invocation stands among those that are held.
+fn place_of(held: &[Held], id: u32) -> Option<usize>
+    ensures { result ≡ position (is_held_as id) held.now }
+{
+    held.iter().position(|held| held.id == id)
+}
+
+/// Where the earliest reply stands whose number is among `ids`.
+fn place_among(replies: &VecDeque<Reply>, ids: &[u32]) -> Option<usize>
+    ensures { result ≡ position (answers_one ids.now) replies.now.items }
+{
+    replies.iter().position(|reply| ids.contains(&reply.id))
 }
