@@ -99,9 +99,20 @@ impl Calls {
         ensures holds { KeepsHolds self.old self.new }
         ensures answers { KeepsAnswers self.old self.new }
     {
-        let desk = self.desks.get_mut(&actor)?;
-        let held = desk.release(id)?;
+        let held = self.released(actor, id)?;
         Some((held.back, held.back_id))
+    }
+
+    fn released(&mut self, actor: u32, id: u32) -> Option<Held>
+        ensures found { result ≡ held_as self.old.held actor id }
+        ensures held { self.new.held ≡ without_held self.old.held actor id }
+        ensures replies { self.new.replies ≡ self.old.replies }
+        ensures none { IfNone result (self.new ≡ self.old) }
+        ensures holds { KeepsHolds self.old self.new }
+        ensures answers { KeepsAnswers self.old self.new }
+    {
+        let desk = self.desks.get_mut(&actor)?;
+        desk.release(id)
     }
 
     /// Adds a reply to a caller as the latest to it.
@@ -137,9 +148,20 @@ impl Calls {
         ensures holds { KeepsHolds self.old self.new }
         ensures answers { KeepsAnswers self.old self.new }
     {
-        let desk = self.desks.get_mut(&caller)?;
-        let Reply { id, results } = desk.take(ids)?;
+        let Reply { id, results } = self.taken(caller, ids)?;
         Some((id, results))
+    }
+
+    fn taken(&mut self, caller: u32, ids: &Row<u32>) -> Option<Reply>
+        ensures found { result ≡ earliest_reply self.old.replies caller ids.now }
+        ensures replies { self.new.replies ≡ without_reply self.old.replies caller ids.now }
+        ensures held { self.new.held ≡ self.old.held }
+        ensures none { IfNone result (self.new ≡ self.old) }
+        ensures holds { KeepsHolds self.old self.new }
+        ensures answers { KeepsAnswers self.old self.new }
+    {
+        let desk = self.desks.get_mut(&caller)?;
+        desk.take(ids)
     }
 
     /// Drops what a process held, and the replies to it.

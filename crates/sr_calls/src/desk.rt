@@ -1,4 +1,4 @@
-ghost use Rattle.std.specs.Prelude.{◌≡◌, ◌<◌, ◌≤◌, [], ◌∷◌, ◌++◌, IsOk, OnErr, OnOk, Some, find, position};
+ghost use Rattle.std.specs.Prelude.{◌≡◌, ◌<◌, ◌≤◌, [], ◌∷◌, ◌++◌, IfNone, IsOk, OnErr, OnOk, Some, find, position};
 ghost use Rattle.std.specs.Option.{option_map};
 ghost use Rattle.sr_calls.specs.Calls.{answers_one, is_held_as, without_first};
 ghost use Rattle.sr_calls.specs.Desks.{KeepsRoom};
@@ -83,6 +83,7 @@ impl Desk {
         ensures found { result ≡ find (is_held_as id) self.old.held }
         ensures held { self.new.held ≡ without_first (is_held_as id) self.old.held }
         ensures replies { self.new.replies ≡ self.old.replies }
+        ensures none { IfNone result (self.new ≡ self.old) }
         ensures kept { KeepsRoom self.old.room self.new.room }
     {
         let at = place_of(self.held.as_slice(), id)?;
@@ -124,6 +125,7 @@ impl Desk {
         ensures found { result ≡ find (answers_one ids.now) self.old.replies }
         ensures replies { self.new.replies ≡ without_first (answers_one ids.now) self.old.replies }
         ensures held { self.new.held ≡ self.old.held }
+        ensures none { IfNone result (self.new ≡ self.old) }
         ensures kept { KeepsRoom self.old.room self.new.room }
     {
         let at = place_among(&self.replies, ids.as_slice())?;
