@@ -6,11 +6,11 @@ use Rattle.std.specs.FinMap as map
 use Rattle.std.specs.Map.{lookup}
 use Rattle.std.specs.BTreeMap.{is_at}
 use Rattle.std.specs.Option.{option_map}
-use Rattle.std.specs.Ordering.{nat_cmp, is_eq, eq_by_cmp}
+use Rattle.std.specs.Ordering.{nat_cmp, is_eq}
 use Rattle.std.specs.declared.cmp.Ordering.{Ordering}
 use Rattle.std.specs.declared.cmp.Ordering.TheVariants.{Less, Equal, Greater}
 use Rattle.sr_calls.specs.Calls.{ByProcess, Called, Room, CanHold, CanAnswer, KeepsHolds, KeepsAnswers, KeepsOtherHolds, KeepsOtherAnswers, items_of, room_of, with_items}
-use Rattle.sr_calls.specs.Desks.{Desked, called_on, lists_on, rooms_on}
+use Rattle.sr_calls.specs.Desks.{Desked, called_on, lists_on}
 
 -- ---- numbers that are told apart
 

@@ -1,8 +1,8 @@
 -- A call changes one desk, and what that says of the calls.
-use Rattle.std.proofs.Common.{◌≡◌, ℕ, ◌<◌, ◌≤◌, List, [], ◌∷◌, ◌++◌, Option, None, Some, IsSome, is_some, IfNone, IsOk, OnErr, OnOk, Result, Ok, Err, refl, ap, subst, sym, ◌∙◌, unwrap_or, arith}
+use Rattle.std.proofs.Common.{◌≡◌, ℕ, ◌<◌, ◌≤◌, List, [], ◌∷◌, ◌++◌, Option, None, Some, is_some, IfNone, OnErr, OnOk, Result, Ok, Err, ap, subst, sym, ◌∙◌, unwrap_or}
 use Rattle.std.proofs.lemmas.Map.Steps.{set_value_same}
 use Rattle.std.specs.BTreeMap.{BTreeMap, Updates, WritesThrough, get_by, is_at}
-use Rattle.std.specs.Map.{lookup, set_value}
+use Rattle.std.specs.Map.{set_value}
 use Rattle.std.specs.Ordering.{nat_cmp}
 use Rattle.std.specs.Prelude.{find}
 use Rattle.sr_calls.specs.Calls.{Called, CanAnswer, CanHold, KeepsAnswers, KeepsHolds, KeepsOtherAnswers, KeepsOtherHolds, answers_one, earliest_reply, held_as, is_held_as, items_of, with_item, with_items, without_first, without_held, without_reply}

@@ -1,5 +1,4 @@
 ghost use Rattle.std.specs.Prelude.{◌≡◌, ◌<◌, ◌≤◌, [], ◌∷◌, ◌++◌, IfNone, IsOk, OnErr, OnOk, Some, find, position};
-ghost use Rattle.std.specs.Option.{option_map};
 ghost use Rattle.sr_calls.specs.Calls.{answers_one, is_held_as, without_first};
 ghost use Rattle.sr_calls.specs.Desks.{KeepsRoom};
 

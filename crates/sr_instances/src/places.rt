@@ -1,4 +1,4 @@
-ghost use Rattle.std.specs.Prelude.{◌≡◌, [], None, OnErr, OnOk, Some, map};
+ghost use Rattle.std.specs.Prelude.{◌≡◌, [], None, OnErr, OnOk, Some};
 ghost use Rattle.std.specs.List.{Contains};
 ghost use Rattle.sr_instances.specs.Instances.{IsAdded, component_of, global_in, instance_of, machine_of, names_of, state_of, with_instance, with_machine, with_state};
 

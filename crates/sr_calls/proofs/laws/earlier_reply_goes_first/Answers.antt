@@ -1,4 +1,4 @@
-use Rattle.std.proofs.Common.{◌≡◌, [], ◌∷◌, ◌++◌, ap, ◌∙◌}
+use Rattle.std.proofs.Common.{[], ◌∷◌, ◌++◌, ap, ◌∙◌}
 use Rattle.std.specs.Prelude.{find}
 use Rattle.sr_calls.specs.Calls.{answers_one, items_of}
 use Rattle.sr_calls.proofs.DeskLemmas.{items-with_items}

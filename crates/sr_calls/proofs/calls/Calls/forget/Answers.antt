@@ -1,4 +1,4 @@
-use Rattle.std.proofs.Common.{ℕ, None}
+use Rattle.std.proofs.Common.{None}
 use Rattle.sr_calls.proofs.DeskLemmas.{Changes, answers-others, changes, held-changed, holds-others, no_desk, replies-changed}
 use Rattle.sr_calls.proofs.calls.Calls.forget.Goals as goal
 

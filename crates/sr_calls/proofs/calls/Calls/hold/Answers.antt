@@ -1,9 +1,6 @@
-use Rattle.std.proofs.Common.{◌≡◌, ℕ, ◌<◌, ◌≤◌, List, [], ◌∷◌, ◌++◌, None, ap, refl, sym, ◌∙◌, subst, arith}
-use Rattle.sr_calls.specs.Desks.{Desked}
-use Rattle.sr_calls.specs.declared.held.Held.{Held}
-use Rattle.sr_calls.specs.declared.held.Reply.{Reply}
+use Rattle.std.proofs.Common.{[], ◌∷◌, ◌++◌, ap, refl, ◌∙◌, arith}
 use Rattle.sr_calls.proofs.DeskLemmas.{no_desk}
-use Rattle.sr_calls.proofs.StepLemmas.{Step, absent, answers-more, can-answer-now, can-hold-now, could-answer, could-hold, held-found, held-stays, holds-more, if_none, keeps-answers, keeps-holds, keeps-other-answers, keeps-other-holds, lent, lent-same, made, on_err, on_ok, releases, replies-stay, reply-found, takes}
+use Rattle.sr_calls.proofs.StepLemmas.{Step, absent, could-hold, holds-more, keeps-answers, keeps-other-holds, lent, lent-same, made, on_err, on_ok, replies-stay}
 use Rattle.sr_calls.proofs.calls.Calls.hold.Goals as goal
 
 some : (c : goal.After-self-in-Some-1) → Step c.self.inside.desks.entries (c.get_mut.follows.lender c.hold.new.self).entries c.args.self.now c.args.actor c.in-Some.desk.now c.hold.new.self

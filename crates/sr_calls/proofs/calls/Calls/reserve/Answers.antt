@@ -1,9 +1,6 @@
-use Rattle.std.proofs.Common.{◌≡◌, ℕ, ◌<◌, ◌≤◌, List, [], ◌∷◌, ◌++◌, None, ap, sym, ◌∙◌, subst, arith}
-use Rattle.sr_calls.specs.Desks.{Desked}
-use Rattle.sr_calls.specs.declared.held.Held.{Held}
-use Rattle.sr_calls.specs.declared.held.Reply.{Reply}
+use Rattle.std.proofs.Common.{◌∙◌, arith}
 use Rattle.sr_calls.proofs.DeskLemmas.{no_desk}
-use Rattle.sr_calls.proofs.StepLemmas.{Step, absent, answers-more, can-answer-now, can-hold-now, could-answer, could-hold, held-found, held-stays, holds-more, if_none, keeps-answers, keeps-holds, keeps-other-answers, keeps-other-holds, lent, lent-same, made, on_err, on_ok, releases, replies-stay, reply-found, takes}
+use Rattle.sr_calls.proofs.StepLemmas.{Step, can-answer-now, can-hold-now, held-stays, keeps-answers, keeps-holds, lent, made, on_ok, replies-stay}
 use Rattle.sr_calls.proofs.calls.Calls.reserve.Goals as goal
 
 some : (c : goal.After-self-in-Some-1) → Step c.self.inside.desks.entries (c.get_mut.follows.lender c.reserve.new.self).entries c.args.self.now c.args.process c.in-Some.desk.now c.reserve.new.self

@@ -1,5 +1,5 @@
 use Rattle.std.proofs.Common.{◌≡◌, None, Some, ap, sym, ◌∙◌}
-use Rattle.std.specs.Prelude.{position, slice_get}
+use Rattle.std.specs.Prelude.{position}
 use Rattle.std.proofs.lemmas.Option.{slice_get_read}
 use Rattle.sr_calls.specs.Calls.{is_held_as, without_first}
 use Rattle.sr_calls.specs.Desks.{Desked}

@@ -1,4 +1,4 @@
-use Rattle.std.proofs.Common.{◌≡◌, ℕ, List, ◌<◌, None, Some, Option, OnSome, ap, get_or, length, subst, sym, ◌∙◌}
+use Rattle.std.proofs.Common.{◌≡◌, ◌<◌, None, Some, Option, OnSome, ap, get_or, subst, sym, ◌∙◌}
 use Rattle.std.specs.Prelude.{find, position}
 use Rattle.std.proofs.lemmas.Option.{slice_get-get_or}
 use Rattle.sr_calls.specs.Calls.{answers_one, without_first}

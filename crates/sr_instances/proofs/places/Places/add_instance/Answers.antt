@@ -17,7 +17,7 @@ unfolding entry
 grown c =
     let entries = c.self.inside.instances.entries in
     let none : lookup (nat_eq c.args.name) c.reserve.new.self.entries ≡ None =
-        ap (lookup (nat_eq c.args.name)) c.in_ok-reserve.ensures.entries ∙ absent c.args.name entries (ap (λ places. instance_of places c.args.name) c.self.view_is ∙ c.requires) in
+    ap (lookup (nat_eq c.args.name)) c.in_ok-reserve.ensures.entries ∙ absent c.args.name entries (ap (λ places. instance_of places c.args.name) c.self.view_is ∙ c.requires) in
     c.put.ensures.entries ∙ insert_entry-new nat_eq c.reserve.new.self c.args.name (entry c).1 none ∙ ap (λ es. es ++ entry c ∷ []) c.in_ok-reserve.ensures.entries
 
 pub invariant_of-self-2 : goal.invariant_of-self-2
@@ -26,7 +26,7 @@ invariant_of-self-2 c =
     let spot : Spot = record { component = c.args.component; machine = c.args.vm } in
     let entries = c.self.inside.instances.entries in
     let noted : (q : Spot) → lookup (same_spot q) c.note_first.new.globals.entries ≡ first_of (lookup (same_spot q) c.self.inside.globals.entries) (cond (same_spot q spot) (Some c.args.name) None) =
-        λ q. c.note_first.ensures q ∙ ap (λ es. first_of (lookup (same_spot q) es) (cond (same_spot q spot) (Some c.args.name) None)) c.in_ok-reserve-2.ensures.entries in
+    λ q. c.note_first.ensures q ∙ ap (λ es. first_of (lookup (same_spot q) es) (cond (same_spot q spot) (Some c.args.name) None)) c.in_ok-reserve-2.ensures.entries in
     indexed-along (entries ++ entry c ∷ []) c.put.new.table.entries (c.self.inside.names ++ c.args.name ∷ []) c.push.new.self c.note_first.new.globals.entries (grown c) c.in_ok-push.ensures.ok
     (indexed-push entries c.self.inside.names c.self.inside.globals.entries c.note_first.new.globals.entries (entry c) spot refl refl noted c.self.invariant)
 

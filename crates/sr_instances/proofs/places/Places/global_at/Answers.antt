@@ -1,4 +1,4 @@
-use Rattle.std.proofs.Common.{ap, sym, ◌∙◌}
+use Rattle.std.proofs.Common.{ap, ◌∙◌}
 use Rattle.sr_instances.specs.Instances.{global_in}
 use Rattle.sr_instances.proofs.places.Places.global_at.Goals as goal
 
