@@ -38,12 +38,12 @@ is_some-look-up name es =
     ∙ ap is_some (look-up (λ i. i.component) (λ s. s.component) (λ e. refl) name es)
     ∙ is_some-option_map (λ s. s.component) (lookup (nat_eq name) es)
 
-none_from_is_some : {A : Type 0} (o : Option A) → is_some o ≡ false → o ≡ None
-none_from_is_some None e = refl
-none_from_is_some (Some x) e = absurd (true≢false e)
+none_from_is_some : {A : Type 0} (o : Option A) → (IsSome o → ⊥) → o ≡ None
+none_from_is_some None not = refl
+none_from_is_some (Some x) not = absurd (not refl)
 
-pub absent : (name : ℕ) (es : List (ℕ × Standing)) → find (named name) (instances_in es) ≡ None → lookup (nat_eq name) es ≡ None
-absent name es none = none_from_is_some (lookup (nat_eq name) es) (sym (is_some-look-up name es) ∙ ap is_some none)
+pub absent : (name : ℕ) (es : List (ℕ × Standing)) → (IsSome (find (named name) (instances_in es)) → ⊥) → lookup (nat_eq name) es ≡ None
+absent name es not = none_from_is_some (lookup (nat_eq name) es) (λ there. not (is_some-look-up name es ∙ there))
 
 pub names-in : (es : List (ℕ × Standing)) → keys_of es ≡ map (λ (i : Instance). i.name) (instances_in es)
 names-in [] = refl

@@ -1,6 +1,6 @@
-ghost use Rattle.std.specs.Prelude.{◌≡◌, [], None, OnErr, OnOk, Some};
+ghost use Rattle.std.specs.Prelude.{◌≡◌, ◌↔◌, [], IsTrue, OnErr, OnOk};
 ghost use Rattle.std.specs.List.{Contains};
-ghost use Rattle.sr_instances.specs.Instances.{IsAdded, component_of, global_in, instance_of, machine_of, names_of, state_of, with_instance, with_machine, with_state};
+ghost use Rattle.sr_instances.specs.Instances.{IsAdded, component_of, global_in, machine_of, names_of, state_of, with_instance, with_machine, with_state};
 
 use crate::state::State;
 use crate::tables::{Spot, Standing, note_first, put};
@@ -49,7 +49,7 @@ impl Places {
 
     /// Adds an instance of a component on a machine. It is starting.
     pub fn add_instance(&mut self, name: u32, component: u32, vm: u32) -> Result<(), NoMemory>
-        requires { instance_of self.old name ≡ None }
+        requires { ¬ IsAdded self.old name }
         ensures ok { OnOk result (self.new ≡ with_instance self.old name component vm) }
         ensures err { OnErr result (self.new ≡ self.old) }
     {
@@ -68,6 +68,13 @@ impl Places {
         };
         put(&mut self.instances, name, standing);
         Ok(())
+    }
+
+    /// Whether an instance of this name was added.
+    pub fn is_added(&self, instance: u32) -> bool
+        ensures { IsTrue result ↔ IsAdded self.now instance }
+    {
+        self.instances.contains_key(&instance)
     }
 
     /// Adds a machine.

@@ -1,7 +1,7 @@
-use Rattle.std.proofs.Common.{◌≡◌, ℕ, List, [], ◌∷◌, ◌++◌, None, Some, cond, ap, refl, nat_eq, ◌∙◌}
+use Rattle.std.proofs.Common.{◌≡◌, ℕ, List, [], ◌∷◌, ◌++◌, None, Some, cond, ap, refl, nat_eq, subst, sym, ◌∙◌}
 use Rattle.std.specs.Map.{lookup}
 use Rattle.indexmap.proofs.CallerLemmas.{insert_entry-new}
-use Rattle.sr_instances.specs.Instances.{Instance, Placed, instance_of, with_instance}
+use Rattle.sr_instances.specs.Instances.{Instance, Placed, IsAdded, with_instance}
 use Rattle.sr_instances.specs.Tables.{first_of, instances_in, same_spot}
 use Rattle.sr_instances.specs.declared.state.State.TheVariants.{Starting}
 use Rattle.sr_instances.specs.declared.tables.Spot.{Spot}
@@ -17,7 +17,7 @@ unfolding entry
 grown c =
     let entries = c.self.inside.instances.entries in
     let none : lookup (nat_eq c.args.name) c.reserve.new.self.entries ≡ None =
-    ap (lookup (nat_eq c.args.name)) c.in_ok-reserve.ensures.entries ∙ absent c.args.name entries (ap (λ places. instance_of places c.args.name) c.self.view_is ∙ c.requires) in
+    ap (lookup (nat_eq c.args.name)) c.in_ok-reserve.ensures.entries ∙ absent c.args.name entries (subst (λ places. ¬ IsAdded places c.args.name) (sym c.self.view_is) c.requires) in
     c.put.ensures.entries ∙ insert_entry-new nat_eq c.reserve.new.self c.args.name (entry c).1 none ∙ ap (λ es. es ++ entry c ∷ []) c.in_ok-reserve.ensures.entries
 
 pub invariant_of-self-2 : goal.invariant_of-self-2
