@@ -1,0 +1,176 @@
+ghost use Rattle.std.specs.Prelude.{◌≡◌, IfNone, IsOk, OnErr, OnOk};
+ghost use Rattle.std.specs.Option.{option_map};
+ghost use Rattle.std.specs.FinMap as map;
+ghost use Rattle.sr_calls.specs.Calls.{CanAnswer, CanHold, KeepsAnswers, KeepsHolds, KeepsOtherAnswers, KeepsOtherHolds, earliest_reply, held_as, with_item, without_held, without_reply};
+
+use crate::desk::Desk;
+use crate::held::{Held, Reply};
+use sr_value::{NoMemory, Row, Value};
+use std::alloc::Global;
+use std::collections::BTreeMap;
+use std::marker::Model;
+
+/// The invocations that processes hold, and the replies that wait for processes.
+#[derive(Drop)]
+pub struct Calls {
+    alloc: Global,
+    /// By process. An empty desk keeps its room.
+    desks: BTreeMap<u32, Desk>,
+}
+
+impl Model for Calls {
+    ghost use Rattle.std.specs.Prelude.{List, refl};
+    ghost use Rattle.std.specs.Coded.{code_by, coded×, coded_list, coded_ℕ};
+    ghost use Rattle.std.specs.FinMap as map;
+    ghost use Rattle.sr_calls.specs.Calls.{ByProcess, Called, Room, room_code};
+    ghost use Rattle.sr_calls.specs.declared.held.Held.{Held};
+    ghost use Rattle.sr_calls.specs.declared.held.Reply.{Reply};
+    ghost use Rattle.sr_calls.specs.contracts.held.Held as held;
+    ghost use Rattle.sr_calls.specs.contracts.held.Reply as reply;
+
+    ghost Value = { Called };
+
+    ghost coded = { code_by (ByProcess (List Held) × (ByProcess (List Reply) × ByProcess Room))
+        (coded× (map.code coded_ℕ (coded_list held.the_row.coded)) (coded× (map.code coded_ℕ (coded_list reply.the_row.coded)) (map.code coded_ℕ room_code)))
+        (λ c. (c.held, (c.replies, c.room))) (λ p. record { held = p.0; replies = p.1.0; room = p.1.1 }) (λ _. refl) };
+
+    ghost use Rattle.sr_calls.specs.Desks.{called_on};
+
+    ghost view = { λ calls. called_on calls.desks.entries };
+}
+
+impl Calls {
+    /// Nothing is held, and there are no replies. It takes no memory.
+    pub fn new(alloc: Global) -> Self
+        ensures held { result.held ≡ map.empty }
+        ensures replies { result.replies ≡ map.empty }
+    {
+        Calls {
+            alloc,
+            desks: BTreeMap::new(alloc),
+        }
+    }
+
+    /// Makes room for one more hold by a process, and for one more reply to it.
+    pub fn reserve(&mut self, process: u32) -> Result<(), NoMemory>
+        ensures can_hold { OnOk result (CanHold self.new process) }
+        ensures can_answer { OnOk result (CanAnswer self.new process) }
+
+        // Whether or not there is memory, all else stays, and no room is lost.
+        ensures held { self.new.held ≡ self.old.held }
+        ensures replies { self.new.replies ≡ self.old.replies }
+        ensures holds { KeepsHolds self.old self.new }
+        ensures answers { KeepsAnswers self.old self.new }
+    {
+        if let Some(desk) = self.desks.get_mut(&process) {
+            return desk.reserve();
+        }
+        let mut desk = Desk::new(self.alloc);
+        desk.reserve()?;
+        self.desks.insert(process, desk)?;
+        Ok(())
+    }
+
+    /// Notes that a process has taken over an invocation, and who waits for the reply.
+    pub fn hold(&mut self, actor: u32, id: u32, back: u32, back_id: u32) -> Result<(), NoMemory>
+        ensures held { OnOk result (self.new.held ≡ with_item self.old.held actor (record { id = id; back = back; back_id = back_id })) }
+        ensures replies { self.new.replies ≡ self.old.replies }
+        ensures succeeds { CanHold self.old actor → IsOk result }
+        ensures holds { KeepsOtherHolds self.old self.new actor }
+        ensures answers { KeepsAnswers self.old self.new }
+        ensures err { OnErr result (self.new ≡ self.old) }
+    {
+        let held = Held { id, back, back_id };
+        if let Some(desk) = self.desks.get_mut(&actor) {
+            return desk.hold(held);
+        }
+        let mut desk = Desk::new(self.alloc);
+        desk.hold(held)?;
+        self.desks.insert(actor, desk)?;
+        Ok(())
+    }
+
+    /// Takes an invocation from a process that holds it, and says who waits for the reply.
+    pub fn release(&mut self, actor: u32, id: u32) -> Option<(u32, u32)>
+        ensures found { result ≡ option_map (λ held. (held.back, held.back_id)) (held_as self.old.held actor id) }
+        ensures held { self.new.held ≡ without_held self.old.held actor id }
+        ensures replies { self.new.replies ≡ self.old.replies }
+        ensures none { IfNone result (self.new ≡ self.old) }
+        ensures holds { KeepsHolds self.old self.new }
+        ensures answers { KeepsAnswers self.old self.new }
+    {
+        let held = self.released(actor, id)?;
+        Some((held.back, held.back_id))
+    }
+
+    fn released(&mut self, actor: u32, id: u32) -> Option<Held>
+        ensures found { result ≡ held_as self.old.held actor id }
+        ensures held { self.new.held ≡ without_held self.old.held actor id }
+        ensures replies { self.new.replies ≡ self.old.replies }
+        ensures none { IfNone result (self.new ≡ self.old) }
+        ensures holds { KeepsHolds self.old self.new }
+        ensures answers { KeepsAnswers self.old self.new }
+    {
+        let desk = self.desks.get_mut(&actor)?;
+        desk.release(id)
+    }
+
+    /// Adds a reply to a caller as the latest to it.
+    pub fn answer(
+        &mut self,
+        caller: u32,
+        id: u32,
+        results: Option<Row<Value>>,
+    ) -> Result<(), NoMemory>
+        ensures replies { OnOk result (self.new.replies ≡ with_item self.old.replies caller (record { id = id; results = results })) }
+        ensures held { self.new.held ≡ self.old.held }
+        ensures succeeds { CanAnswer self.old caller → IsOk result }
+        ensures holds { KeepsHolds self.old self.new }
+        ensures answers { KeepsOtherAnswers self.old self.new caller }
+        ensures err { OnErr result (self.new ≡ self.old) }
+    {
+        let reply = Reply { id, results };
+        if let Some(desk) = self.desks.get_mut(&caller) {
+            return desk.answer(reply);
+        }
+        let mut desk = Desk::new(self.alloc);
+        desk.answer(reply)?;
+        self.desks.insert(caller, desk)?;
+        Ok(())
+    }
+
+    /// Takes the earliest reply to a caller whose number is among `ids`.
+    pub fn take(&mut self, caller: u32, ids: &Row<u32>) -> Option<(u32, Option<Row<Value>>)>
+        ensures found { result ≡ option_map (λ reply. (reply.id, reply.results)) (earliest_reply self.old.replies caller ids.now) }
+        ensures replies { self.new.replies ≡ without_reply self.old.replies caller ids.now }
+        ensures held { self.new.held ≡ self.old.held }
+        ensures none { IfNone result (self.new ≡ self.old) }
+        ensures holds { KeepsHolds self.old self.new }
+        ensures answers { KeepsAnswers self.old self.new }
+    {
+        let Reply { id, results } = self.taken(caller, ids)?;
+        Some((id, results))
+    }
+
+    fn taken(&mut self, caller: u32, ids: &Row<u32>) -> Option<Reply>
+        ensures found { result ≡ earliest_reply self.old.replies caller ids.now }
+        ensures replies { self.new.replies ≡ without_reply self.old.replies caller ids.now }
+        ensures held { self.new.held ≡ self.old.held }
+        ensures none { IfNone result (self.new ≡ self.old) }
+        ensures holds { KeepsHolds self.old self.new }
+        ensures answers { KeepsAnswers self.old self.new }
+    {
+        let desk = self.desks.get_mut(&caller)?;
+        desk.take(ids)
+    }
+
+    /// Drops what a process held, and the replies to it.
+    pub fn forget(&mut self, process: u32)
+        ensures held { self.new.held ≡ map.remove self.old.held process }
+        ensures replies { self.new.replies ≡ map.remove self.old.replies process }
+        ensures holds { KeepsOtherHolds self.old self.new process }
+        ensures answers { KeepsOtherAnswers self.old self.new process }
+    {
+        self.desks.remove(&process);
+    }
+}

@@ -1,0 +1,13 @@
+//! Who holds which invocation, and which replies wait for whom.
+//!
+//! What a process holds and the replies to it stand together, and are found by its number.
+#![tactic(auto)]
+
+mod calls;
+mod desk;
+mod held;
+mod laws;
+
+pub use calls::Calls;
+pub use held::{Held, Reply};
+pub use laws::{each_has_its_own_replies, each_holds_its_own, earlier_reply_goes_first};

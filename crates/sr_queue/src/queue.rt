@@ -1,0 +1,120 @@
+ghost use Rattle.std.specs.Prelude.{◌≡◌, ◌<◌, ◌≤◌, [], ◌∷◌, ◌++◌, length, remove, slice_get, IfErr, IfOk, IsOk, OnErr, OnOk};
+ghost use Rattle.sr_queue.specs.Queues.{waiting};
+
+use crate::pending::Pending;
+use sr_value::{Duplicate, NoMemory, Owner};
+use std::alloc::Global;
+use std::marker::Model;
+
+/// The greatest number of invocations that a queue holds.
+pub const MOST_PENDING: usize = 2_100_000_000;
+
+/// Pending invocations in the order in which they arrived.
+#[derive(Drop)]
+pub struct Queue {
+    pending: Vec<Pending>,
+}
+
+impl Model for Queue {
+    ghost use Rattle.std.specs.Prelude.{◌-◌, ◌≤◌, length};
+    ghost use Rattle.std.specs.Vec.{vec_capacity};
+    ghost use Rattle.std.specs.Coded.{codes};
+    ghost use Rattle.sr_value.specs.contracts.value.Value as value;
+    ghost use Rattle.sr_queue.specs.declared.queue.TheConstants.{MOST_PENDING};
+    ghost use Rattle.sr_queue.specs.Queues.{Queued};
+
+    ghost Value = { Queued };
+
+    ghost coded = { Prim.hlevel (codes, value.the_row.coded) };
+
+    ghost view = { λ queue. record { items = queue.pending.items; room = vec_capacity queue.pending - length queue.pending.items } };
+
+    ghost invariant = { λ queue. length queue.pending.items ≤ MOST_PENDING };
+}
+
+impl Queue {
+    /// No invocations. It takes no memory.
+    pub fn new(alloc: Global) -> Self
+        ensures { result.items ≡ [] }
+    {
+        Queue {
+            pending: Vec::new(alloc),
+        }
+    }
+
+    /// The number of invocations.
+    pub fn len(&self) -> u32
+        ensures { result ≡ length self.now.items }
+    {
+        self.pending.len() as u32
+    }
+
+    /// How many invocations of an operation of an owner there are.
+    pub fn count(&self, owner: Owner, op: u32) -> u32
+        ensures { result ≡ waiting owner op self.now.items }
+    {
+        self.pending
+            .iter()
+            .filter(|pending| pending.is_of(owner, op))
+            .count() as u32
+    }
+
+    /// The invocation at a place, counted from the oldest.
+    pub fn at(&self, i: u32) -> &Pending
+        requires { i < length self.now.items }
+        ensures { slice_get self.now.items i ≡ Some result.now }
+    {
+        &self.pending[i as usize]
+    }
+
+    /// Makes room for one more invocation.
+    pub fn reserve(&mut self) -> Result<(), NoMemory>
+        requires { length self.old.items < MOST_PENDING }
+        ensures room { OnOk result (0 < self.new.room) }
+        ensures items { self.new.items ≡ self.old.items }
+        ensures err { OnErr result (self.new ≡ self.old) }
+    {
+        self.pending.try_reserve(1)?;
+        Ok(())
+    }
+
+    /// Adds an invocation as the youngest, or hands it back.
+    pub fn push(&mut self, pending: Pending) -> Result<(), (NoMemory, Pending)>
+        requires { length self.old.items < MOST_PENDING }
+        ensures ok { OnOk result (self.new.items ≡ self.old.items ++ pending ∷ []) }
+        ensures succeeds { 0 < self.old.room → IsOk result }
+
+        // Where memory ran out the invocation comes back, and the queue is as before.
+        ensures back { IfErr result (λ refused. refused.1 ≡ pending) }
+        ensures err { OnErr result (self.new ≡ self.old) }
+    {
+        match self.pending.try_reserve(1) {
+            Ok(()) => {
+                self.pending.push_reserved(pending);
+                Ok(())
+            }
+            Err(_) => Err((NoMemory, pending)),
+        }
+    }
+
+    /// Takes the invocation at a place out. Younger ones move up.
+    pub fn remove_at(&mut self, i: u32) -> Pending
+        requires { i < length self.old.items }
+        ensures item { slice_get self.old.items i ≡ Some result }
+        ensures others { self.new.items ≡ remove self.old.items i }
+        ensures room { self.old.room ≤ self.new.room }
+    {
+        self.pending.remove(i as usize)
+    }
+
+    /// A queue of equal invocations in the same order.
+    pub fn copy(&self, alloc: Global) -> Result<Queue, NoMemory>
+        ensures { IfOk result (λ c. c.items ≡ self.now.items) }
+    {
+        let mut pending = Vec::with_capacity(alloc, self.pending.len())?;
+        for item in &self.pending {
+            pending.push(item.copy(alloc)?)?;
+        }
+        Ok(Queue { pending })
+    }
+}
