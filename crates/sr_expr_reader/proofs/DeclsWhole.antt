@@ -19,7 +19,7 @@ use Rattle.sr_tree.specs.Tests.{is_sign}
 use Rattle.sr_tree.specs.Types as g
 use Rattle.sr_tree.specs.Types.{SpellsNames, SpellsMoreNames, SpellsRange, SpellsSecondRange, SpellsDims, SpellsDecl, SpellsDecls, SpellsMoreDecls}
 use Rattle.sr_expr_reader.specs.Readers.{is_comma, operand_at, qualified_at}
-use Rattle.sr_expr_reader.specs.Tokens.{sign_at, name_at}
+use Rattle.sr_tree.specs.Tokens.{sign_at, name_at}
 use Rattle.sr_expr_reader.specs.TypeReaders.{next_name_at, more_names_at, names_at, upper_bound_at, range_at, second_range_at, dims_at, decl_at, next_decl_at, more_decls_at, decls_at}
 use Rattle.sr_expr_reader.proofs.ExpressionEdges.{expr-begins, begins-no-sign, continues_expr, token-stops}
 use Rattle.sr_expr_reader.proofs.ExpressionsWhole.{whole-operand, operand-below}

@@ -22,7 +22,7 @@ use Rattle.sr_tree.specs.Expressions.{SpellsExpr, SpellsFactor, SpellsCreate, Sp
 use Rattle.sr_tree.specs.Tables.{IsSign, IsWord, IsName, name_of, literal_of, basic_of, conversion_of, unary_of, binary_of, right_level}
 use Rattle.sr_tree.specs.Tests.{is_sign, is_word, is_name}
 use Rattle.sr_expr_reader.specs.Readers.{binary_at, unary_at, literal_at, conversion_at, qualified_at, enclosed_at, is_comma, next_argument_at, more_arguments_at, arguments_at, on_at, create_at, repeated_part_at, part_at, next_part_at, more_parts_at, array_at, bracketed_at, unconverted_at, converted_at, start_at, field_at, second_at, index_at, call_at, is_callable, is_suffix, suffix_at, suffixes_at, primary_at, signed_at, pending_at, factor_at, is_operator, operation_at, operators_at, operand_at}
-use Rattle.sr_expr_reader.specs.Tokens.{sign_at, word_at, name_at}
+use Rattle.sr_tree.specs.Tokens.{sign_at, word_at, name_at}
 use Rattle.sr_expr_reader.proofs.ExpressionsLocal.{alone}
 use Rattle.sr_expr_reader.proofs.Quiet.{QuietExpr, stops-quiet}
 use Rattle.sr_expr_reader.proofs.TokensWhole.{is_that_sign, is_that_word, sign-reads, word-reads, name-reads, binary-reads, unary-reads, literal-reads, conversion-reads, only_literal, basic_cases, Stops, comma-stops, paren-stops, bracket-stops, stops-operator, unary_create, IsNoPrefix, sign_starts, name_starts, literal_starts, conversion_starts, basic_starts, unary_opens}

@@ -15,7 +15,7 @@ use Rattle.sr_tree.specs.declared.token.Word.{Word}
 use Rattle.sr_tree.specs.Tables.{IsSign, IsWord, IsName, IsSeparator, name_of, literal_of, conversion_of, unary_of}
 use Rattle.sr_tree.specs.Tests.{is_sign, is_word, is_name}
 use Rattle.sr_expr_reader.specs.Readers.{unary_at, literal_at, conversion_at}
-use Rattle.sr_expr_reader.specs.Tokens.{sign_at, word_at, name_at, is_separator, separator_at}
+use Rattle.sr_tree.specs.Tokens.{sign_at, word_at, name_at, is_separator, separator_at}
 
 pub kind_of_sign : (s : Sign) (k : TokenKind) → is_sign s k ≡ true → k ≡ kind.Sign s
 kind_of_sign s (kind.Sign found) e = ap kind.Sign (same_true signs.the_type tt found s e)

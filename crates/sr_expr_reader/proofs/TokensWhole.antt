@@ -25,7 +25,7 @@ use Rattle.sr_tree.specs.Expressions.{is_conversion_word}
 use Rattle.sr_tree.specs.Tables.{IsSign, IsWord, IsName, name_of, literal_of, word_literal, basic_of, word_basic, conversion_of, word_conversion, unary_of, sign_unary, word_unary, binary_of, sign_binary, word_binary, right_level, left_level}
 use Rattle.sr_tree.specs.Tests.{is_sign, is_word, is_name}
 use Rattle.sr_expr_reader.specs.Readers.{binary_at, unary_at, literal_at, conversion_at, is_suffix, may_follow, is_operator}
-use Rattle.sr_expr_reader.specs.Tokens.{sign_at, word_at, name_at}
+use Rattle.sr_tree.specs.Tokens.{sign_at, word_at, name_at}
 use Rattle.sr_expr_reader.proofs.ExpressionsLocal.{alone}
 use Rattle.sr_expr_reader.proofs.TokensLocal.{none_some, some_some}
 

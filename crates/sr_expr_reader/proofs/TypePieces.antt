@@ -26,7 +26,7 @@ use Rattle.sr_tree.specs.Tests.{is_sign, is_word}
 use Rattle.sr_tree.specs.Types as g
 use Rattle.sr_tree.specs.Types.{SpellsNames, SpellsDims, SpellsDecl, SpellsDecls, SpellsMode, SpellsKinds, SpellsMoreKinds, SpellsFormal, SpellsMoreFormals, SpellsField, SpellsMoreFields, SpellsFormals, SpellsSignature, kind_of, pass_mode_of}
 use Rattle.sr_expr_reader.specs.Readers.{qualified_at}
-use Rattle.sr_expr_reader.specs.Tokens.{sign_at, word_at, separator_at, is_separator}
+use Rattle.sr_tree.specs.Tokens.{sign_at, word_at, separator_at, is_separator}
 use Rattle.sr_expr_reader.specs.TypeReaders.{basic_type, basic_type_at, mode_of, mode_word_at, invocation_kind_of, kind_at, names_at, dims_at, decl_at, decls_at, mode_at, formal_behind_at, formal_at, is_separated, next_formal_at, more_formals_at, formals_behind_at, formals_at, returned_at, more_kinds_at, kinds_at, returns_open, own_kinds_at, signature_at, string_at, cap_at, array_type_at, plain_type_at, enum_at, next_field_at, more_fields_at, record_type_at, type_at, nested, type_readers}
 use Rattle.sr_expr_reader.proofs.DeclsWhole.{name-first, dims-first, decls-first, whole-name, whole-names, whole-dims, whole-decl, whole-decls}
 use Rattle.sr_expr_reader.proofs.ExpressionEdges.{expr-begins, begins-no-sign, continues_expr, token-stops}

@@ -21,7 +21,7 @@ use Rattle.sr_tree.specs.Tables.{IsSign, IsSeparator, basic_of}
 use Rattle.sr_tree.specs.Tests.{is_sign, is_word}
 use Rattle.sr_tree.specs.Types as g
 use Rattle.sr_tree.specs.Types.{SpellsPlainType, SpellsFormal, SpellsMoreFormals, SpellsFormals, SpellsReturned, SpellsKinds, SpellsSignature, SpellsField, SpellsMoreFields, SpellsType, EndsOpen, BracesBelong, formal_span}
-use Rattle.sr_expr_reader.specs.Tokens.{is_separator, separator_at}
+use Rattle.sr_tree.specs.Tokens.{is_separator, separator_at}
 use Rattle.sr_expr_reader.specs.TypeReaders.{mode_of, formal_behind_at, formal_at, is_separated, next_formal_at, formals_behind_at, formals_at, returned_at, ends_open, returns_open, own_kinds_at, signature_at, plain_type_at, next_field_at, type_at, type_readers}
 use Rattle.sr_expr_reader.proofs.DeclsWhole.{name-first, dims-first, decls-first}
 use Rattle.sr_expr_reader.proofs.Families.{YieldsIn, LoopsIn, below}

@@ -22,7 +22,7 @@ use Rattle.sr_tree.specs.declared.token.Word.TheVariants as word
 use Rattle.sr_tree.specs.Expressions.{expr_span, invocation, is_conversion_word, part}
 use Rattle.sr_tree.specs.Tables.{literal_of, conversion_of, unary_of, binary_of, right_level, left_level}
 use Rattle.sr_tree.specs.Tests.{is_sign, is_word, is_name}
-use Rattle.sr_expr_reader.specs.Tokens.{sign_at, word_at, name_at}
+use Rattle.sr_tree.specs.Tokens.{sign_at, word_at, name_at}
 
 pub record Readers : Type 0 where
   pub steps : ℕ

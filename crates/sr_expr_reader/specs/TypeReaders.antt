@@ -30,7 +30,7 @@ use Rattle.sr_tree.specs.Tables.{basic_of}
 use Rattle.sr_tree.specs.Tests.{is_sign, is_word}
 use Rattle.sr_tree.specs.Types.{kind_of, pass_mode_of}
 use Rattle.sr_expr_reader.specs.Readers.{Readers, readers, qualified_at, is_comma, operand_at}
-use Rattle.sr_expr_reader.specs.Tokens.{sign_at, word_at, name_at, separator_at, is_separator}
+use Rattle.sr_tree.specs.Tokens.{sign_at, word_at, name_at, separator_at, is_separator}
 
 pub record TypeReaders : Type 0 where
   pub expressions : Readers

@@ -6,7 +6,7 @@ use Rattle.sr_expr_reader.specs.Readers.{readers, operand_at, factor_at, primary
 use Rattle.sr_expr_reader.specs.TypeReaders.{nested, plain_type_at}
 use Rattle.sr_tree.specs.declared.types.TypeTree.{TypeTree}
 use Rattle.sr_parse_expr.specs.Reads.{ReadsBelow, ReadsTypeBelow, ReadsTypeUpTo, ReadsUpTo}
-use Rattle.sr_parse_expr.specs.declared.reading.ReadFail.{ReadFail}
+use Rattle.sr_parse_tokens.specs.declared.reading.ReadFail.{ReadFail}
 
 module _ {X : Type 0} (view : X → Expr × List Token) (s : List Token) (result : Result X ReadFail) where
   pub below_operand : (limit : ℕ) → ReadsUpTo view s result (λ r. operand_at r limit) → ReadsBelow view s result (λ r. r.operand limit)

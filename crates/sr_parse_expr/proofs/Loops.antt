@@ -3,9 +3,9 @@ use Rattle.std.proofs.Common.{◌≡◌, refl, sym, ◌∙◌, ap, ℕ, ◌<◌,
 use Rattle.sr_reader.specs.Reader.{Reader, next_is, while}
 use Rattle.sr_reader.proofs.Loops.{while-stop, while-fail, while-go}
 use Rattle.sr_tree.specs.declared.token.Token.{Token}
-use Rattle.sr_parse_expr.specs.Gives.{Gives}
-use Rattle.sr_parse_expr.specs.declared.reading.ReadFail.{ReadFail}
-use Rattle.sr_parse_expr.specs.declared.reading.ReadFail.TheVariants as fail
+use Rattle.sr_parse_tokens.specs.Gives.{Gives}
+use Rattle.sr_parse_tokens.specs.declared.reading.ReadFail.{ReadFail}
+use Rattle.sr_parse_tokens.specs.declared.reading.ReadFail.TheVariants as fail
 
 -- what a loop gives from here is what it gives from the start
 abbrev pub LeadsOn : {R A : Type 0} → (ℕ → R) → (A → Token → Bool) → (R → A → Reader Token A) → A → List Token → A → List Token → Type 0

@@ -13,10 +13,10 @@ use Rattle.sr_expr_reader.specs.Readers.{readers, operand_at}
 use Rattle.sr_expr_reader.specs.TypeReaders.{type_readers, type_at}
 use Rattle.sr_expr_reader.proofs.ExpressionLaws as expressions
 use Rattle.sr_expr_reader.proofs.TypeLaws as types
-use Rattle.sr_parse_expr.specs.Gives.{Fails}
+use Rattle.sr_parse_tokens.specs.Gives.{Fails}
 use Rattle.sr_parse_expr.specs.Refused.{HasNoTree, IsDeadAt, IsRefusedIn, refusal_of, refused_at, syntax_at}
-use Rattle.sr_parse_expr.specs.declared.reading.ReadFail.{ReadFail}
-use Rattle.sr_parse_expr.specs.declared.reading.ReadFail.TheVariants as fail
+use Rattle.sr_parse_tokens.specs.declared.reading.ReadFail.{ReadFail}
+use Rattle.sr_parse_tokens.specs.declared.reading.ReadFail.TheVariants as fail
 
 -- where reading stops, nothing that has a tree goes on
 pub record Stops {A : Type 0} (Spells : A → List Token → Type 0) (reading : ℕ → Reader Token A) : Type 0 where

@@ -6,8 +6,8 @@ use Rattle.sr_text.specs.declared.refusal.FrontFail.TheVariants as front
 use Rattle.sr_text.specs.declared.refusal.Kind.TheVariants as refusal
 use Rattle.sr_text.specs.declared.refusal.Refusal.{Refusal}
 use Rattle.sr_tree.specs.declared.token.Token.{Token}
-use Rattle.sr_parse_expr.specs.declared.reading.ReadFail.{ReadFail}
-use Rattle.sr_parse_expr.specs.declared.reading.ReadFail.TheVariants as fail
+use Rattle.sr_parse_tokens.specs.declared.reading.ReadFail.{ReadFail}
+use Rattle.sr_parse_tokens.specs.declared.reading.ReadFail.TheVariants as fail
 
 -- a refusal of the grammar at a token
 abbrev pub syntax_at : Token → Refusal

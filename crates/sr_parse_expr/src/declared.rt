@@ -3,9 +3,9 @@ ghost use Rattle.sr_parse_expr.specs.Reads.{ReadsUpTo};
 ghost use Rattle.sr_expr_reader.specs.TypeReaders.{decl_at, decls_at, dims_at, more_decls_at, more_names_at, names_at, next_decl_at, next_name_at, range_at, second_range_at, upper_bound_at};
 
 use crate::expression::{LOOSEST, expression, operand};
-use crate::reading::{ReadFail, name, next_is_sign, sign, sign_behind};
+use sr_parse_tokens::{ReadFail, name, next_is_sign, sign, sign_behind};
 use sr_tree::{Decl, DimsTree, Expr, Name, RangeTree, Sign, Token};
-use sr_value::Row;
+use sr_value::{Boxed, Row};
 use std::alloc::Global;
 
 /// Reads names with commas between.
@@ -137,6 +137,15 @@ pub fn dims(alloc: Global, tokens: &[Token]) -> Result<(DimsTree, &[Token]), Rea
     ))
 }
 
+/// Reads the dimensions of an array into a place of their own, where they may wait for what stands behind them.
+pub fn boxed_dims(alloc: Global, tokens: &[Token]) -> Result<(Boxed<DimsTree>, &[Token]), ReadFail>
+    ensures reads { ReadsUpTo (λ x. (x.0, x.1.now)) tokens.now result (λ r. dims_at r) }
+    ensures shorter { IfOk result (λ x. length x.1.now < length tokens.now) }
+{
+    let (dims, rest) = dims(alloc, tokens)?;
+    Ok((Boxed::new(alloc, dims)?, rest))
+}
+
 /// Reads a name that is declared, with its dimensions where they stand.
 #[tactic(auto, unfolding(sr_expr_reader::specs::TypeReaders::decl_at))]
 pub fn decl(alloc: Global, tokens: &[Token]) -> Result<(Decl, &[Token]), ReadFail>
@@ -153,6 +162,15 @@ pub fn decl(alloc: Global, tokens: &[Token]) -> Result<(Decl, &[Token]), ReadFai
         let dims = None;
         Ok((Decl { span, name, dims }, rest))
     }
+}
+
+/// Reads a name that is declared into a place of its own, where it may wait for what stands behind it.
+pub fn boxed_decl(alloc: Global, tokens: &[Token]) -> Result<(Boxed<Decl>, &[Token]), ReadFail>
+    ensures reads { ReadsUpTo (λ x. (x.0, x.1.now)) tokens.now result (λ r. decl_at r) }
+    ensures shorter { IfOk result (λ x. length x.1.now < length tokens.now) }
+{
+    let (decl, rest) = decl(alloc, tokens)?;
+    Ok((Boxed::new(alloc, decl)?, rest))
 }
 
 /// Reads declared names with commas between.

@@ -10,7 +10,7 @@ use crate::operators::{
 use crate::pieces::{
     basic_word, field, next_is_call, next_is_suffix, pending, qualified_name, single_part,
 };
-use crate::reading::{
+use sr_parse_tokens::{
     ReadFail, name, next_is_name, next_is_sign, next_is_word, sign, sign_behind, word,
 };
 use sr_tree::{BasicType, BinaryOperator, Create, Expr, Invocation, Part, Sign, Token, Word};

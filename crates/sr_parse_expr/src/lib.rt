@@ -6,7 +6,6 @@ pub mod expression;
 mod operators;
 mod parse;
 pub mod pieces;
-pub mod reading;
 mod type_words;
 pub mod types;
 

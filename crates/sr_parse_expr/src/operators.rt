@@ -1,10 +1,10 @@
 ghost use Rattle.std.specs.Prelude.{◌≡◌, ◌<◌, length, is_some, IfOk};
 ghost use Rattle.sr_reader.specs.Reader.{next_is};
 ghost use Rattle.sr_tree.specs.Tables.{binary_of, conversion_of, left_level, literal_of, right_level, unary_of};
-ghost use Rattle.sr_parse_expr.specs.Gives.{Gives};
+ghost use Rattle.sr_parse_tokens.specs.Gives.{Gives};
 ghost use Rattle.sr_expr_reader.specs.Readers.{binary_at, conversion_at, is_operator, level_of, literal_at, unary_at};
 
-use crate::reading::ReadFail;
+use sr_parse_tokens::ReadFail;
 use sr_tree::{
     BinaryOperator, Conversion, Expr, Literal, Sign, Token, TokenKind, UnaryOperator, Word,
 };

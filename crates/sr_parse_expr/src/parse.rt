@@ -5,8 +5,8 @@ ghost use Rattle.sr_tree.specs.Expressions.{SpellsExpr};
 ghost use Rattle.sr_tree.specs.Types.{SpellsType};
 
 use crate::expression::{LOOSEST, operand};
-use crate::reading::ReadFail;
 use crate::types::type_tree;
+use sr_parse_tokens::ReadFail;
 use sr_text::{FrontFail, Kind, Refusal};
 use sr_tree::{Expr, Token, Tokens, TypeTree};
 use sr_value::Place;

@@ -1,10 +1,10 @@
 ghost use Rattle.std.specs.Prelude.{◌≡◌, ◌<◌, length, IfOk};
 ghost use Rattle.sr_reader.specs.Reader.{next_is};
 ghost use Rattle.sr_tree.specs.Expressions.{expr_span, is_conversion_word, part};
-ghost use Rattle.sr_parse_expr.specs.Gives.{Gives};
+ghost use Rattle.sr_parse_tokens.specs.Gives.{Gives};
 ghost use Rattle.sr_expr_reader.specs.Readers.{field_at, is_callable, is_suffix, pending_at, qualified_at, unconverted_at};
 
-use crate::reading::{ReadFail, name, next_is_sign, sign};
+use sr_parse_tokens::{ReadFail, name, next_is_sign, sign};
 use sr_tree::{BasicType, Conversion, Expr, Part, QualifiedName, Sign, Token};
 use sr_value::{Boxed, NoMemory, Span};
 use std::alloc::Global;

@@ -2,9 +2,9 @@ ghost use Rattle.std.specs.Prelude.{◌≡◌, ◌<◌, ◌≤◌, length, is_so
 ghost use Rattle.sr_reader.specs.Reader.{next_is};
 ghost use Rattle.sr_tree.specs.Tables.{basic_of};
 ghost use Rattle.sr_expr_reader.specs.TypeReaders.{basic_type, basic_type_at, ends_open, invocation_kind_of, kind_at, kinds_at, mode_at, mode_of, mode_word_at, more_kinds_at, own_kinds_at, returns_open};
-ghost use Rattle.sr_parse_expr.specs.Gives.{Gives};
+ghost use Rattle.sr_parse_tokens.specs.Gives.{Gives};
 
-use crate::reading::{ReadFail, next_is_sign, sign};
+use sr_parse_tokens::{ReadFail, next_is_sign, sign};
 use sr_tree::{
     BasicType, InvocationKind, PassMode, Returned, Sign, Token, TokenKind, TypeTree, Word,
 };

@@ -2,13 +2,13 @@ ghost use Rattle.std.specs.Prelude.{◌≡◌, ◌<◌, ◌≤◌, length, None,
 ghost use Rattle.sr_parse_expr.specs.Reads.{ReadsTypeBelow, ReadsTypeUpTo, ReadsUpTo};
 ghost use Rattle.sr_expr_reader.specs.TypeReaders.{array_type_at, cap_at, enum_at, formal_at, formal_behind_at, formal_start, formals_at, formals_behind_at, more_fields_at, more_formals_at, next_field_at, next_formal_at, plain_type_at, record_type_at, returned_at, signature_at, string_at, type_at};
 
-use crate::declared::{decl, decls, dims, names};
+use crate::declared::{boxed_decl, boxed_dims, decls, names};
 use crate::expression::expression;
 use crate::pieces::qualified_name;
-use crate::reading::{
+use crate::type_words::{mode, next_is_basic, own_kinds, read_basic};
+use sr_parse_tokens::{
     ReadFail, next_is_separator, next_is_sign, next_is_word, separator, sign, sign_behind, word,
 };
-use crate::type_words::{mode, next_is_basic, own_kinds, read_basic};
 use sr_tree::{Decl, Formal, PassMode, Returned, Sign, Signature, Token, TypeTree, Word};
 use sr_value::{Boxed, Row, Span};
 use std::alloc::Global;
@@ -92,10 +92,11 @@ fn array_type(alloc: Global, tokens: &[Token]) -> Result<(TypeTree, &[Token]), R
     ensures reads { ReadsTypeUpTo (λ x. (x.0, x.1.now)) tokens.now result (λ r. array_type_at r) }
     ensures shorter { IfOk result (λ x. length x.1.now < length tokens.now) }
 {
-    let (dims, rest) = dims(alloc, tokens)?;
+    let (dims, rest) = boxed_dims(alloc, tokens)?;
     let (item, rest) = nested_type(alloc, rest)?;
-    let span = dims.span;
     let item = Boxed::new(alloc, item)?;
+    let dims = dims.into_inner();
+    let span = dims.span;
     Ok((TypeTree::Array { span, dims, item }, rest))
 }
 
@@ -264,10 +265,11 @@ fn returned(alloc: Global, tokens: &[Token]) -> Result<(Option<Returned>, &[Toke
 {
     if next_is_word(tokens, Word::Returns) {
         let (span, rest) = word(tokens, Word::Returns)?;
-        let (decl, rest) = decl(alloc, rest)?;
+        let (decl, rest) = boxed_decl(alloc, rest)?;
         let (_, rest) = sign(rest, Sign::Colon)?;
         let (ty, rest) = nested_type(alloc, rest)?;
         let ty = Boxed::new(alloc, ty)?;
+        let decl = decl.into_inner();
         Ok((Some(Returned { span, decl, ty }), rest))
     } else {
         Ok((None, tokens))

@@ -12,7 +12,7 @@ use Rattle.sr_tree.specs.declared.token.Token.{Token}
 use Rattle.sr_tree.specs.declared.token.Word.TheVariants as word
 use Rattle.sr_tree.specs.Expressions.{expr_span}
 use Rattle.sr_tree.specs.Tests.{is_sign, is_word}
-use Rattle.sr_expr_reader.specs.Tokens.{sign_at, word_at, name_at}
+use Rattle.sr_tree.specs.Tokens.{sign_at, word_at, name_at}
 use Rattle.sr_program_reader.specs.StatementReaders.{StatementReaders, arm_at, arrow_block_at, behind_invocation_at, behind_quantifiers_at, behind_target_at, by_at, co_arm_at, co_block_at, co_called_at, co_primary_at, co_start_at, condition_at, enclosed_names_at, enclosed_quantifiers_at, first_of, invocation_at, invocation_of, invoked_at, returned_name_at}
 use Rattle.sr_parser.specs.declared.heads.ArmHead.{ArmHead}
 use Rattle.sr_parser.specs.declared.heads.CoHead.{CoHead}

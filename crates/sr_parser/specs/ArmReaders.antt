@@ -14,7 +14,7 @@ use Rattle.sr_tree.specs.declared.token.Word.TheVariants as word
 use Rattle.sr_tree.specs.Expressions.{expr_span}
 use Rattle.sr_tree.specs.Tests.{is_sign, is_word}
 use Rattle.sr_expr_reader.specs.Readers.{Readers}
-use Rattle.sr_expr_reader.specs.Tokens.{sign_at, word_at, name_at}
+use Rattle.sr_tree.specs.Tokens.{sign_at, word_at, name_at}
 use Rattle.sr_program_reader.specs.StatementReaders.{StatementReaders, arrow_block_at, by_at, co_block_at, co_start_at, condition_at, enclosed_names_at, enclosed_quantifiers_at, first_of, invocation_at, invocation_of, invoked_at, returned_name_at}
 use Rattle.sr_parser.specs.declared.heads.ArmHead.{ArmHead}
 use Rattle.sr_parser.specs.declared.heads.CoHead.{CoHead}

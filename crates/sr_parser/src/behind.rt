@@ -5,7 +5,7 @@ ghost use Rattle.std.specs.Prelude.{◌≡◌, ◌<◌, length, IfOk};
 ghost use Rattle.sr_parse_expr.specs.Gives.{Gives};
 ghost use Rattle.sr_parse_expr.specs.Reads.{ReadsUpTo};
 ghost use Rattle.sr_expr_reader.specs.Readers.{operand_at, primary_at};
-ghost use Rattle.sr_expr_reader.specs.Tokens.{word_at};
+ghost use Rattle.sr_tree.specs.Tokens.{word_at};
 ghost use Rattle.sr_program_reader.specs.StatementReaders.{invocation_at};
 
 use crate::parts::invocation;

@@ -1,6 +1,6 @@
 ghost use Rattle.std.specs.Prelude.{◌≡◌, ◌<◌, ◌≤◌, length, true, false, if◌then◌else◌, IfOk};
 ghost use Rattle.sr_reader.specs.Reader.{next_is};
-ghost use Rattle.sr_expr_reader.specs.Tokens.{is_separator};
+ghost use Rattle.sr_tree.specs.Tokens.{is_separator};
 ghost use Rattle.sr_parser.specs.Reads.{ReadsStatementUpTo};
 ghost use Rattle.sr_program_reader.specs.ComponentReaders.{begins_component, component_at, file_at, global_at, global_body_at, resource_at, split_resource_at, whole_resource_at};
 ghost use Rattle.sr_program_reader.specs.DeclarationReaders.{items_at, list_at, next_item_at};

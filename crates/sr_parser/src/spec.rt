@@ -1,6 +1,6 @@
 ghost use Rattle.std.specs.Prelude.{◌≡◌, ◌<◌, ◌≤◌, length, true, false, if◌then◌else◌, IfOk};
 ghost use Rattle.sr_reader.specs.Reader.{next_is};
-ghost use Rattle.sr_expr_reader.specs.Tokens.{is_separator};
+ghost use Rattle.sr_tree.specs.Tokens.{is_separator};
 ghost use Rattle.sr_parse_expr.specs.Reads.{ReadsTypeUpTo};
 ghost use Rattle.sr_program_reader.specs.ComponentReaders.{begins_resource_spec, begins_spec, global_spec_at, resource_spec_at, resource_spec_item_at, spec_item_at};
 ghost use Rattle.sr_program_reader.specs.DeclarationReaders.{items_at, next_item_at};

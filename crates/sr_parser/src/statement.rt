@@ -2,7 +2,7 @@ ghost use Rattle.std.specs.Prelude.{◌≡◌, ◌<◌, ◌≤◌, length, true,
 ghost use Rattle.sr_reader.specs.Reader.{next_is, while};
 ghost use Rattle.sr_tree.specs.Tests.{is_sign};
 ghost use Rattle.sr_tree.specs.declared.token.Sign.TheVariants as sign;
-ghost use Rattle.sr_expr_reader.specs.Tokens.{is_separator};
+ghost use Rattle.sr_tree.specs.Tokens.{is_separator};
 ghost use Rattle.sr_parser.specs.ArmReaders.{arm_of, co_arm_of, split_arm_at, split_co_arm_at};
 ghost use Rattle.sr_parser.specs.Reads.{ReadsStatementBelow, ReadsStatementUpTo};
 ghost use Rattle.sr_program_reader.specs.DeclarationReaders.{items_at, next_item_at};

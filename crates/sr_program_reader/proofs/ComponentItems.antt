@@ -26,7 +26,7 @@ use Rattle.sr_tree.specs.Components.{SpellsList, SpellsEndName, SpellsEnd, Spell
 use Rattle.sr_tree.specs.Statements.{SpellsStatement}
 use Rattle.sr_tree.specs.Tables.{IsName, IsSeparator, name_of}
 use Rattle.sr_tree.specs.Tests.{is_sign, is_word, is_name}
-use Rattle.sr_expr_reader.specs.Tokens.{word_at, name_at, is_separator}
+use Rattle.sr_tree.specs.Tokens.{word_at, name_at, is_separator}
 use Rattle.sr_expr_reader.specs.TypeReaders.{TypeReaders, type_readers, signature_at}
 use Rattle.sr_expr_reader.proofs.Families.{YieldsIn, BelowIn, below, token_then, below_token, below_then, below_seq, yields_then, below_returned, yields_returned, yields_met, yields_unmet, below_met, below_unmet, yields_part, below_part}
 use Rattle.sr_expr_reader.proofs.TokensLocal.{kind_of_sign, kind_of_word}

@@ -14,7 +14,7 @@ use Rattle.sr_tree.specs.declared.token.Word.TheVariants as word
 use Rattle.sr_tree.specs.Components as g
 use Rattle.sr_tree.specs.Components.{SpellsSpecItem, SpellsProcItem, SpellsProc, SpellsProcedure, SpellsProcess, SpellsFinal, SpellsItem, SpellsComponent, IsOfResource}
 use Rattle.sr_tree.specs.Tests.{is_word}
-use Rattle.sr_expr_reader.specs.Tokens.{is_separator}
+use Rattle.sr_tree.specs.Tokens.{is_separator}
 use Rattle.sr_program_reader.specs.ComponentReaders.{begins_resource_spec, begins_spec, begins_proc_item, begins_item, begins_component}
 use Rattle.sr_program_reader.specs.StatementReaders.{begins_statement}
 use Rattle.sr_program_reader.proofs.DeclarationStarts.{Begins, begins, begins-test, import-begins, const-begins, type-begins, optype-begins, op-begins, var-begins, sem-begins}

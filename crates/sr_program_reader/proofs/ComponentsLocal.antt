@@ -38,7 +38,7 @@ use Rattle.sr_tree.specs.Tables.{IsSign, IsWord, IsName, name_of}
 use Rattle.sr_tree.specs.Tests.{is_word, is_name}
 use Rattle.sr_tree.specs.Types as types
 use Rattle.sr_tree.specs.Types.{SpellsFormal, SpellsMoreFormals, SpellsFormals, SpellsMode, SpellsSignature, pass_mode_of}
-use Rattle.sr_expr_reader.specs.Tokens.{separator_at, is_separator}
+use Rattle.sr_tree.specs.Tokens.{separator_at, is_separator}
 use Rattle.sr_expr_reader.specs.TypeReaders.{TypeReaders, is_separated, formal_at}
 use Rattle.sr_expr_reader.proofs.ExpressionsLocal.{both}
 use Rattle.sr_expr_reader.proofs.ListsLocal.{Grows, grows, list-local}

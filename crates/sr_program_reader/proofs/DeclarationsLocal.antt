@@ -26,7 +26,7 @@ use Rattle.sr_tree.specs.Expressions.{SpellsExpr, SpellsMoreExprs, SpellsQualifi
 use Rattle.sr_tree.specs.Tables.{IsSign, IsName, name_of}
 use Rattle.sr_tree.specs.Types.{SpellsNames, SpellsDecls, SpellsPlainType, SpellsType, SpellsSignature}
 use Rattle.sr_expr_reader.specs.Readers.{Readers, is_comma, next_argument_at, more_arguments_at}
-use Rattle.sr_expr_reader.specs.Tokens.{sign_at}
+use Rattle.sr_tree.specs.Tokens.{sign_at}
 use Rattle.sr_expr_reader.specs.TypeReaders.{TypeReaders}
 use Rattle.sr_expr_reader.proofs.ExpressionsLocal.{LocalReaders, operand-local, qualified-local}
 use Rattle.sr_expr_reader.proofs.ListsLocal.{Grows, grows, list-local}

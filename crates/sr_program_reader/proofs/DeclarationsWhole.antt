@@ -27,7 +27,7 @@ use Rattle.sr_tree.specs.Tables.{IsSign, IsName, name_of, binary_of}
 use Rattle.sr_tree.specs.Tests.{is_sign, is_word}
 use Rattle.sr_tree.specs.Types.{SpellsSignature}
 use Rattle.sr_expr_reader.specs.Readers.{readers, is_comma, is_operator, operation_at, operand_at, qualified_at, next_argument_at, more_arguments_at}
-use Rattle.sr_expr_reader.specs.Tokens.{sign_at, word_at, name_at}
+use Rattle.sr_tree.specs.Tokens.{sign_at, word_at, name_at}
 use Rattle.sr_expr_reader.specs.TypeReaders.{type_readers, names_at, decls_at, plain_type_at, type_at, signature_at}
 use Rattle.sr_expr_reader.proofs.ExpressionPieces.{whole-qualified, next-argument}
 use Rattle.sr_expr_reader.proofs.ExpressionsWhole.{whole-expr}

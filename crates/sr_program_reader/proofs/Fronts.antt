@@ -8,7 +8,7 @@ use Rattle.sr_tree.specs.declared.token.Token.{Token}
 use Rattle.sr_tree.specs.Components as g
 use Rattle.sr_tree.specs.Components.{SpellsList}
 use Rattle.sr_tree.specs.Tables.{IsSeparator}
-use Rattle.sr_expr_reader.specs.Tokens.{separator_at, is_separator}
+use Rattle.sr_tree.specs.Tokens.{separator_at, is_separator}
 use Rattle.sr_expr_reader.proofs.Families.{LoopsIn, token_then, yields_then, below_returned, yields_returned, yields_met, yields_unmet, loop_stops, loop_goes}
 use Rattle.sr_expr_reader.proofs.TokensLocal.{ASeparator, a_separator, separator-local}
 use Rattle.sr_program_reader.specs.DeclarationReaders.{may_go_on, next_item_at, items_at}

@@ -6,7 +6,7 @@ use Rattle.sr_tree.specs.declared.token.Sign.{Sign}
 use Rattle.sr_tree.specs.declared.token.Token.{Token}
 use Rattle.sr_tree.specs.Tables.{IsSign}
 use Rattle.sr_tree.specs.Tests.{is_sign}
-use Rattle.sr_expr_reader.specs.Tokens.{sign_at}
+use Rattle.sr_tree.specs.Tokens.{sign_at}
 use Rattle.sr_expr_reader.proofs.Families.{YieldsIn, LoopsIn, below, token_then, below_then, below_returned, loop_stops, loop_goes}
 use Rattle.sr_expr_reader.proofs.TokensWhole.{is_that_sign, sign-reads}
 

@@ -13,7 +13,7 @@ use Rattle.sr_tree.specs.declared.token.Word.TheVariants as word
 use Rattle.sr_tree.specs.Statements.{direction_of}
 use Rattle.sr_tree.specs.Tables.{IsSign, IsWord, IsSeparator}
 use Rattle.sr_tree.specs.Tests.{is_sign, is_word}
-use Rattle.sr_expr_reader.specs.Tokens.{is_separator}
+use Rattle.sr_tree.specs.Tokens.{is_separator}
 use Rattle.sr_expr_reader.proofs.ExpressionEdges.{continues_expr, token-stops, end-stops}
 use Rattle.sr_expr_reader.proofs.TokensLocal.{none_some}
 use Rattle.sr_expr_reader.proofs.TokensWhole.{Stops}

@@ -25,7 +25,7 @@ use Rattle.sr_tree.specs.Tables.{IsSign, IsWord, name_of}
 use Rattle.sr_tree.specs.Tests.{is_name}
 use Rattle.sr_tree.specs.Types.{SpellsNames}
 use Rattle.sr_expr_reader.specs.Readers.{Readers, is_comma, primary_at}
-use Rattle.sr_expr_reader.specs.Tokens.{sign_at}
+use Rattle.sr_tree.specs.Tokens.{sign_at}
 use Rattle.sr_expr_reader.proofs.ExpressionsLocal.{LocalReaders, primary-local, operand-local}
 use Rattle.sr_expr_reader.proofs.ListsLocal.{Grows, grows, list-local}
 use Rattle.sr_expr_reader.proofs.TokensLocal.{ASign, a_sign, AWord, a_word, AName, a_name, Spanned, spanned, spanned_from, sign-local, word-local, name-local, kind_of_name, none_some}

@@ -23,7 +23,7 @@ use Rattle.sr_tree.specs.Statements.{SpellsNamed, SpellsInvocation, SpellsStatus
 use Rattle.sr_tree.specs.Tables.{IsSign, IsWord, name_of}
 use Rattle.sr_tree.specs.Tests.{is_sign, is_word, is_name}
 use Rattle.sr_expr_reader.specs.Readers.{readers, is_suffix, suffix_at, primary_at, operand_at}
-use Rattle.sr_expr_reader.specs.Tokens.{sign_at, word_at, name_at}
+use Rattle.sr_tree.specs.Tokens.{sign_at, word_at, name_at}
 use Rattle.sr_expr_reader.specs.TypeReaders.{names_at}
 use Rattle.sr_expr_reader.proofs.DeclsWhole.{whole-names, names-first}
 use Rattle.sr_expr_reader.proofs.ExpressionEdges.{primary-begins, begins-no-sign, continues_expr, token-stops}

@@ -25,7 +25,7 @@ use Rattle.sr_tree.specs.Statements.{SpellsNamed, SpellsInvocation, SpellsBy, Sp
 use Rattle.sr_tree.specs.Tables.{IsSign, IsWord, IsName, name_of}
 use Rattle.sr_tree.specs.Tests.{is_sign, is_word, is_name}
 use Rattle.sr_expr_reader.specs.Readers.{Readers, primary_at, operand_at}
-use Rattle.sr_expr_reader.specs.Tokens.{sign_at, word_at, name_at}
+use Rattle.sr_tree.specs.Tokens.{sign_at, word_at, name_at}
 use Rattle.sr_expr_reader.specs.TypeReaders.{TypeReaders, type_readers}
 use Rattle.sr_expr_reader.proofs.ExpressionEdges.{begins_expr, primary-begins, begins-no-word, continues_expr, token-stops}
 use Rattle.sr_expr_reader.proofs.ExpressionsWhole.{whole-operand}

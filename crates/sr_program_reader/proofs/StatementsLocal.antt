@@ -30,7 +30,7 @@ use Rattle.sr_tree.specs.Statements.{SpellsNamed, SpellsInvocation, SpellsStatus
 use Rattle.sr_tree.specs.Tables.{IsSign, IsWord, name_of}
 use Rattle.sr_tree.specs.Tests.{is_name}
 use Rattle.sr_expr_reader.specs.Readers.{primary_at}
-use Rattle.sr_expr_reader.specs.Tokens.{sign_at}
+use Rattle.sr_tree.specs.Tokens.{sign_at}
 use Rattle.sr_expr_reader.proofs.ExpressionsLocal.{LocalReaders, create-local, primary-local, operand-local}
 use Rattle.sr_expr_reader.proofs.ListsLocal.{Grows, grows, list-local}
 use Rattle.sr_expr_reader.proofs.TokensLocal.{ASign, a_sign, AWord, a_word, AName, a_name, sign-local, word-local, name-local, none_some}

@@ -30,7 +30,7 @@ use Rattle.sr_tree.specs.Statements.{SpellsInvocation, SpellsStatus, SpellsPlace
 use Rattle.sr_tree.specs.Tables.{IsSign, IsWord, IsName, name_of}
 use Rattle.sr_tree.specs.Tests.{is_sign, is_word}
 use Rattle.sr_expr_reader.specs.Readers.{create_at, primary_at}
-use Rattle.sr_expr_reader.specs.Tokens.{word_at, name_at}
+use Rattle.sr_tree.specs.Tokens.{word_at, name_at}
 use Rattle.sr_expr_reader.proofs.ExpressionEdges.{continues_expr, token-stops, expr-begins, begins-no-word}
 use Rattle.sr_expr_reader.proofs.ExpressionsWhole.{whole-create}
 use Rattle.sr_expr_reader.proofs.Families.{YieldsIn, below, token_then, below_token, below_then, below_seq, yields_then, below_returned, yields_returned, yields_met, yields_unmet, loop_within}

@@ -23,7 +23,7 @@ use Rattle.sr_tree.specs.declared.token.TokenKind.{TokenKind}
 use Rattle.sr_tree.specs.declared.token.Word.TheVariants as word
 use Rattle.sr_tree.specs.declared.types.Formal.{Formal}
 use Rattle.sr_tree.specs.Tests.{is_sign, is_word, is_name}
-use Rattle.sr_expr_reader.specs.Tokens.{sign_at, word_at, name_at, separator_at}
+use Rattle.sr_tree.specs.Tokens.{sign_at, word_at, name_at, separator_at}
 use Rattle.sr_expr_reader.specs.TypeReaders.{TypeReaders, is_separated, formal_at, signature_at}
 use Rattle.sr_program_reader.specs.DeclarationReaders.{items_at, list_at, import_at, const_at, type_decl_at, optype_at, op_at, var_at, sem_at}
 use Rattle.sr_program_reader.specs.StatementReaders.{StatementReaders, begins_statement, statement_at, enclosed_names_at, returned_name_at, optional_quantifiers_at}

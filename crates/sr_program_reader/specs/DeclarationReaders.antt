@@ -18,7 +18,7 @@ use Rattle.sr_tree.specs.declared.token.Word.TheVariants as word
 use Rattle.sr_tree.specs.declared.types.TypeTree.{TypeTree}
 use Rattle.sr_tree.specs.Tests.{is_sign}
 use Rattle.sr_expr_reader.specs.Readers.{Readers, qualified_at, is_comma, more_arguments_at, operand_at}
-use Rattle.sr_expr_reader.specs.Tokens.{sign_at, word_at, name_at, separator_at, is_separator}
+use Rattle.sr_tree.specs.Tokens.{sign_at, word_at, name_at, separator_at, is_separator}
 use Rattle.sr_expr_reader.specs.TypeReaders.{TypeReaders, names_at, decls_at, signature_at, plain_type_at, type_at}
 
 -- ---- lists of items

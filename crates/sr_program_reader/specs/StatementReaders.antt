@@ -28,7 +28,7 @@ use Rattle.sr_tree.specs.Expressions.{expr_span, create_span}
 use Rattle.sr_tree.specs.Statements.{direction_of, condition_word_of}
 use Rattle.sr_tree.specs.Tests.{is_sign, is_word, is_name}
 use Rattle.sr_expr_reader.specs.Readers.{Readers, is_comma, create_at, primary_at, operand_at}
-use Rattle.sr_expr_reader.specs.Tokens.{sign_at, word_at, name_at}
+use Rattle.sr_tree.specs.Tokens.{sign_at, word_at, name_at}
 use Rattle.sr_expr_reader.specs.TypeReaders.{TypeReaders, type_readers, names_at}
 use Rattle.sr_program_reader.specs.DeclarationReaders.{list_at, const_at, var_at}
 

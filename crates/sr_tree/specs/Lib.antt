@@ -5,4 +5,5 @@ pub mod Parts
 pub mod Statements
 pub mod Tables
 pub mod Tests
+pub mod Tokens
 pub mod Types

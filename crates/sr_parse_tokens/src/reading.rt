@@ -1,9 +1,10 @@
-ghost use Rattle.std.specs.Prelude.{◌≡◌, ◌<◌, length, IfOk};
+ghost use Rattle.std.specs.Prelude.{◌≡◌, ◌<◌, length, false, if◌then◌else◌, IfOk};
 ghost use Rattle.sr_reader.specs.Reader.{next_is};
 ghost use Rattle.sr_tree.specs.Tests.{is_name, is_sign, is_word};
-ghost use Rattle.sr_parse_expr.specs.Gives.{Gives};
-ghost use Rattle.sr_expr_reader.specs.Tokens.{is_separator, sign_at, word_at, name_at, separator_at};
-ghost use Rattle.sr_parse_expr.specs.declared.reading.ReadFail.TheVariants.{NoMemory as out_of_memory};
+ghost use Rattle.sr_tree.specs.declared.token.Sign.TheVariants as signs;
+ghost use Rattle.sr_parse_tokens.specs.Gives.{Gives};
+ghost use Rattle.sr_tree.specs.Tokens.{is_separator, sign_at, word_at, name_at, separator_at};
+ghost use Rattle.sr_parse_tokens.specs.declared.reading.ReadFail.TheVariants.{NoMemory as out_of_memory};
 
 use sr_tree::{Name, Sign, Token, TokenKind, Word};
 use sr_value::{Duplicate, NoMemory, Span};
@@ -36,6 +37,13 @@ pub fn next_is_sign(tokens: &[Token], wanted: Sign) -> bool
             _ => false,
         },
     }
+}
+
+/// Whether a further arm or branch may follow: `[]` stands next, and no `else` was read before it.
+pub fn arm_may_follow(has_else: bool, tokens: &[Token]) -> bool
+    ensures { result ≡ next_is (λ t. if has_else then false else is_sign signs.Alternative t.kind) tokens.now }
+{
+    !has_else && next_is_sign(tokens, Sign::Alternative)
 }
 
 /// Whether the next token is this word.

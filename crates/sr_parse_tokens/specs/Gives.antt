@@ -1,8 +1,7 @@
 -- How what a function of the parser answers is told by a reader.
-use Rattle.std.specs.Prelude.{◌≡◌, ℕ, List, Result, Ok, Err}
-use Rattle.sr_parse_expr.specs.declared.reading.ReadFail.{ReadFail}
-use Rattle.sr_parse_expr.specs.declared.reading.ReadFail.TheVariants as fail
-use Rattle.sr_tree.specs.declared.token.Token.{Token}
+use Rattle.std.specs.Prelude.{◌≡◌, ℕ, Result, Ok, Err}
+use Rattle.sr_parse_tokens.specs.declared.reading.ReadFail.{ReadFail}
+use Rattle.sr_parse_tokens.specs.declared.reading.ReadFail.TheVariants as fail
 
 abbrev pub Fails : {Y : Type 0} → ReadFail → Result Y ℕ → Type 0
 Fails (fail.Unexpected left) read = read ≡ Err left
