@@ -47,7 +47,7 @@ pub fn expr(
             value,
         } => {
             let inner = boxed(alloc, value.get(), facts, notes)?;
-            conversion(notes, *span, *written, inner.get())
+            conversion(notes, *span, *written, inner)
         }
         Expr::Group { span, inner } => {
             let inner = boxed(alloc, inner.get(), facts, notes)?;
@@ -63,7 +63,7 @@ pub fn expr(
             field: part,
         } => {
             let owner = boxed(alloc, record.get(), facts, notes)?;
-            field(alloc, facts, notes, *span, owner.get(), part)
+            field(alloc, facts, notes, *span, owner, part)
         }
         Expr::Index {
             span,
@@ -74,7 +74,7 @@ pub fn expr(
             let array = boxed(alloc, array.get(), facts, notes)?;
             let first = boxed(alloc, first.get(), facts, notes)?;
             let second = optional(alloc, second, facts, notes)?;
-            indexed(alloc, notes, *span, array.get(), first.get(), &second)
+            indexed(alloc, notes, *span, array, first, second)
         }
         Expr::Call(invoked) => {
             let parts = invocation(alloc, invoked, facts, notes)?;
@@ -87,7 +87,7 @@ pub fn expr(
             operand,
         } => {
             let operand = boxed(alloc, operand.get(), facts, notes)?;
-            before(alloc, notes, *span, *operator, operand.get())
+            before(alloc, notes, *span, *operator, operand)
         }
         Expr::Pending { span, operation } => pending(facts, notes, *span, operation.span),
         Expr::Binary {
@@ -98,7 +98,7 @@ pub fn expr(
         } => {
             let left = boxed(alloc, left.get(), facts, notes)?;
             let right = boxed(alloc, right.get(), facts, notes)?;
-            between(alloc, notes, *span, *operator, left.get(), right.get())
+            between(alloc, notes, *span, *operator, left, right)
         }
     }
 }

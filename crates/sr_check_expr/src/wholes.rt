@@ -1,5 +1,4 @@
 ghost use Rattle.std.specs.Prelude.{◌≡◌, IfOk, OnOk, option_copied};
-ghost use Rattle.std.specs.Option.{option_map};
 ghost use Rattle.sr_names.specs.Notes.{all_noted};
 ghost use Rattle.sr_types.specs.Aggregates.{bracketed_rule};
 ghost use Rattle.sr_types.specs.Operators.{unary_rule};
@@ -26,11 +25,12 @@ pub(crate) fn conversion(
     notes: &mut Notes,
     span: Span,
     written: Conversion,
-    inner: &Judged,
+    inner: Boxed<Judged>,
 ) -> Result<Judged, NoMemory>
-    ensures value { IfOk result (λ judged. judged ≡ (around span inner.now (conversion_outcome written inner.now.typed)).judged) }
-    ensures noted { OnOk result (notes.new ≡ all_noted notes.old (around span inner.now (conversion_outcome written inner.now.typed)).found) }
+    ensures value { IfOk result (λ judged. judged ≡ (around span inner (conversion_outcome written inner.typed)).judged) }
+    ensures noted { OnOk result (notes.new ≡ all_noted notes.old (around span inner (conversion_outcome written inner.typed)).found) }
 {
+    let inner = inner.get();
     note_value(notes, inner)?;
     settle(notes, span, converted(written, &inner.typed))
 }
@@ -41,11 +41,12 @@ pub(crate) fn before(
     notes: &mut Notes,
     span: Span,
     written: UnaryOperator,
-    operand: &Judged,
+    operand: Boxed<Judged>,
 ) -> Result<Judged, NoMemory>
-    ensures value { IfOk result (λ judged. judged ≡ (around span operand.now (unary_rule (prefix_of written) operand.now.typed)).judged) }
-    ensures noted { OnOk result (notes.new ≡ all_noted notes.old (around span operand.now (unary_rule (prefix_of written) operand.now.typed)).found) }
+    ensures value { IfOk result (λ judged. judged ≡ (around span operand (unary_rule (prefix_of written) operand.typed)).judged) }
+    ensures noted { OnOk result (notes.new ≡ all_noted notes.old (around span operand (unary_rule (prefix_of written) operand.typed)).found) }
 {
+    let operand = operand.get();
     note_value(notes, operand)?;
     let outcome = unary(alloc, prefix_of(written), &operand.typed)?;
     settle(notes, span, outcome)
@@ -79,12 +80,14 @@ pub(crate) fn between(
     notes: &mut Notes,
     span: Span,
     written: BinaryOperator,
-    left: &Judged,
-    right: &Judged,
+    left: Boxed<Judged>,
+    right: Boxed<Judged>,
 ) -> Result<Judged, NoMemory>
-    ensures value { IfOk result (λ judged. judged ≡ (between span (operator_of written) left.now right.now).judged) }
-    ensures noted { OnOk result (notes.new ≡ all_noted notes.old (between span (operator_of written) left.now right.now).found) }
+    ensures value { IfOk result (λ judged. judged ≡ (between span (operator_of written) left right).judged) }
+    ensures noted { OnOk result (notes.new ≡ all_noted notes.old (between span (operator_of written) left right).found) }
 {
+    let left = left.get();
+    let right = right.get();
     note_value(notes, left)?;
     note_value(notes, right)?;
     let outcome = binary(alloc, operator_of(written), &left.typed, &right.typed)?;
@@ -119,6 +122,20 @@ pub(crate) fn indexed(
     alloc: Global,
     notes: &mut Notes,
     span: Span,
+    array: Boxed<Judged>,
+    first: Boxed<Judged>,
+    second: Option<Boxed<Judged>>,
+) -> Result<Judged, NoMemory>
+    ensures value { IfOk result (λ judged. judged ≡ (indexed span array first second).judged) }
+    ensures noted { OnOk result (notes.new ≡ all_noted notes.old (indexed span array first second).found) }
+{
+    picked(alloc, notes, span, array.get(), first.get(), &second)
+}
+
+fn picked(
+    alloc: Global,
+    notes: &mut Notes,
+    span: Span,
     array: &Judged,
     first: &Judged,
     second: &Option<Boxed<Judged>>,
@@ -139,12 +156,13 @@ pub(crate) fn field(
     facts: &Facts,
     notes: &mut Notes,
     span: Span,
-    owner: &Judged,
+    owner: Boxed<Judged>,
     part: &Name,
 ) -> Result<Judged, NoMemory>
-    ensures value { IfOk result (λ judged. judged ≡ (field_judged facts.now span owner.now part.now owner.now.named).judged) }
-    ensures noted { OnOk result (notes.new ≡ all_noted notes.old (field_judged facts.now span owner.now part.now owner.now.named).found) }
+    ensures value { IfOk result (λ judged. judged ≡ (field_judged facts.now span owner part.now owner.named).judged) }
+    ensures noted { OnOk result (notes.new ≡ all_noted notes.old (field_judged facts.now span owner part.now owner.named).found) }
 {
+    let owner = owner.get();
     match &owner.named {
         Named::Component(_) => name(alloc, facts, notes, span, part.span),
         _ => value_field(alloc, facts, notes, span, owner, part.text.as_bytes()),

@@ -1,9 +1,8 @@
 ghost use Rattle.std.specs.Prelude.{◌≡◌, ◌++◌, OnOk, map};
-ghost use Rattle.std.specs.Option.{option_map};
 ghost use Rattle.sr_names.specs.Notes.{all_noted};
 ghost use Rattle.sr_scope.specs.Declarations.{with_inner};
 ghost use Rattle.sr_scope.specs.Exprs.{all_found, invocation_found};
-ghost use Rattle.sr_scope.specs.Statements.{condition_found, statement_found, plain_statement_found, for_all_found, item_read, arm_found, branch_found, co_arm_found, block_found, maybe_block_found};
+ghost use Rattle.sr_scope.specs.Statements.{condition_found, statement_found, plain_statement_found, for_all_found, item_read, arm_found, branch_found, co_arm_found, block_found};
 ghost use Rattle.sr_scope.specs.Types.{maybe_expr_found};
 
 use crate::declarations::{constant, quantifiers, variables};
@@ -15,7 +14,7 @@ use sr_names::{Blocks, Notes, Place, Sort};
 use sr_tree::{
     Arm, ArmCondition, BlockItem, Branch, CoArm, Expr, Invocation, Quantifier, Statement,
 };
-use sr_value::{NoMemory, Row};
+use sr_value::NoMemory;
 use std::alloc::Global;
 
 /// Notes what is found in a statement. The scopes are then as before.
@@ -42,7 +41,10 @@ pub fn statement(
             ..
         } => {
             branches(alloc, all.as_slice(), place, blocks, notes)?;
-            maybe_block(alloc, otherwise, place, blocks, notes)
+            match otherwise {
+                Some(items) => block(alloc, items.as_slice(), place, blocks, notes),
+                None => Ok(()),
+            }
         }
         Statement::ForAll {
             quantifiers: all,
@@ -55,7 +57,10 @@ pub fn statement(
             ..
         } => {
             arms(alloc, all.as_slice(), place, blocks, notes)?;
-            maybe_block(alloc, otherwise, place, blocks, notes)
+            match otherwise {
+                Some(items) => block(alloc, items.as_slice(), place, blocks, notes),
+                None => Ok(()),
+            }
         }
         Statement::Co { arms: all, .. } => co_arms(alloc, all.as_slice(), place, blocks, notes),
         _ => plain_statement(statement, place, blocks, notes),
@@ -141,24 +146,6 @@ fn block(
     }
     blocks.close();
     Ok(())
-}
-
-/// Notes what is found in a block, where there is one.
-#[cycle(statements)]
-fn maybe_block(
-    alloc: Global,
-    maybe: &Option<Row<BlockItem>>,
-    place: &Place,
-    blocks: &mut Blocks,
-    notes: &mut Notes,
-) -> Result<(), NoMemory>
-    ensures scopes { OnOk result (blocks.new ≡ blocks.old) }
-    ensures noted { OnOk result (notes.new ≡ all_noted notes.old (maybe_block_found (option_map (map item_read) maybe.now) place.now blocks.old)) }
-{
-    match maybe {
-        Some(items) => block(alloc, items.as_slice(), place, blocks, notes),
-        None => Ok(()),
-    }
 }
 
 #[cycle(statements)]
@@ -304,7 +291,9 @@ fn co_arm(
     blocks.open(alloc)?;
     quantifiers(alloc, arm.quantifiers.as_slice(), place, blocks, notes)?;
     co_target(&arm.target, &arm.invocation, place, blocks, notes)?;
-    maybe_block(alloc, &arm.block, place, blocks, notes)?;
+    if let Some(items) = &arm.block {
+        block(alloc, items.as_slice(), place, blocks, notes)?;
+    }
     blocks.close();
     Ok(())
 }

@@ -18,10 +18,10 @@ pub expr-returns-in_ok-second-in-Index-clause-noted :
     goal.expr-returns-in_ok-second-in-Index-clause-noted
 expr-returns-in_ok-second-in-Index-clause-noted t c =
     index-noted c.indexed.result c.in-Index.span c.in-Index.array c.get-in-Index.result.now c.in-Index.first c.get-in-Index-2.result.now c.in-Index.second
-    c.get-in-Index-3.result.now c.get-in-Index-4.result.now c.in_ok-second-in-Index.second
+    c.in_ok-array-in-Index.array c.in_ok-first-in-Index.first c.in_ok-second-in-Index.second
     c.args.facts.now c.args.tree.now c.args.notes.now c.boxed-in-Index.new.notes c.boxed-in-Index-2.new.notes c.optional.new.notes c.indexed.new.notes
     c.in-Index.is c.get-in-Index.ensures c.get-in-Index-2.ensures
-    (c.get-in-Index-3.ensures ∙ c.in_ok-array-in-Index.ensures.value) (c.get-in-Index-4.ensures ∙ c.in_ok-first-in-Index.ensures.value) c.in_ok-second-in-Index.ensures.value
+    c.in_ok-array-in-Index.ensures.value c.in_ok-first-in-Index.ensures.value c.in_ok-second-in-Index.ensures.value
     c.in_ok-array-in-Index.ensures.noted c.in_ok-first-in-Index.ensures.noted c.in_ok-second-in-Index.ensures.noted c.indexed.ensures.noted
 
 pub expr-returns-in_ok-parts-in-Call-clause-noted :
@@ -35,17 +35,17 @@ pub expr-returns-in_ok-operand-in-Unary-clause-noted :
     goal.expr-returns-in_ok-operand-in-Unary-clause-noted
 expr-returns-in_ok-operand-in-Unary-clause-noted t c =
     unary-noted c.before-in-Unary.result c.in-Unary.span c.in-Unary.operator c.in-Unary.operand c.get-in-Unary.result.now
-    c.get-in-Unary-2.result.now
+    c.in_ok-operand-in-Unary.operand
     c.args.facts.now c.args.tree.now c.args.notes.now c.boxed-in-Unary.new.notes c.before-in-Unary.new.notes
     c.in-Unary.is c.get-in-Unary.ensures
-    (c.get-in-Unary-2.ensures ∙ c.in_ok-operand-in-Unary.ensures.value) c.in_ok-operand-in-Unary.ensures.noted c.before-in-Unary.ensures.noted
+    c.in_ok-operand-in-Unary.ensures.value c.in_ok-operand-in-Unary.ensures.noted c.before-in-Unary.ensures.noted
 
 pub expr-returns-in_ok-right-in-Binary-clause-noted :
     goal.expr-returns-in_ok-right-in-Binary-clause-noted
 expr-returns-in_ok-right-in-Binary-clause-noted t c =
     binary-noted c.between.result c.in-Binary.span c.in-Binary.operator c.in-Binary.left c.get-in-Binary.result.now c.in-Binary.right c.get-in-Binary-2.result.now
-    c.get-in-Binary-3.result.now c.get-in-Binary-4.result.now
+    c.in_ok-left-in-Binary.left c.in_ok-right-in-Binary.right
     c.args.facts.now c.args.tree.now c.args.notes.now c.boxed-in-Binary.new.notes c.boxed-in-Binary-2.new.notes c.between.new.notes
     c.in-Binary.is c.get-in-Binary.ensures c.get-in-Binary-2.ensures
-    (c.get-in-Binary-3.ensures ∙ c.in_ok-left-in-Binary.ensures.value) (c.get-in-Binary-4.ensures ∙ c.in_ok-right-in-Binary.ensures.value)
+    c.in_ok-left-in-Binary.ensures.value c.in_ok-right-in-Binary.ensures.value
     c.in_ok-left-in-Binary.ensures.noted c.in_ok-right-in-Binary.ensures.noted c.between.ensures.noted
