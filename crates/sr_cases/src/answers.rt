@@ -1,8 +1,7 @@
 //! What processes are made with and are answered, from its text.
 
-use crate::nodes::{Words, nodes_of};
-use crate::value_reader::{next_value, values_of};
 use sr_ask::{Answer, Role, Start};
+use sr_case_values::{Words, next_value, nodes_of, values_of};
 use sr_value::{NoMemory, Row};
 use std::alloc::Global;
 

@@ -1,7 +1,7 @@
 //! What a process asks, as text.
 
-use crate::value_printer::{print_cap, print_quoted, print_shape, print_value, print_values};
 use sr_ask::{Ask, ReadKind, Request, Role};
+use sr_case_values::{print_cap, print_quoted, print_shape, print_value, print_values};
 use sr_value::{Cap, Place, Sel, Value};
 use std::alloc::AllocError;
 
@@ -181,7 +181,7 @@ fn print_request(out: &mut String, request: &Request) -> Result<(), AllocError> 
     }
 }
 
-/// `2 write "a"`: the line and the request, behind the file where it isn't the first, and the role where it isn't the
+/// `2 write "a"`: the line and the request, after the file where it isn't the first, and the role where it isn't the
 /// expected one.
 pub fn print_ask(out: &mut String, ask: &Ask, role: Role) -> Result<(), AllocError> {
     let Place { file, line } = ask.place;

@@ -1,7 +1,6 @@
 //! Whether programs, and pieces within one program, are accepted, or which rule is broken.
 
-use crate::case_file::Case;
-use crate::refusals::{tell_fail, tell_refusal};
+use sr_case_files::{Case, tell_fail, tell_refusal};
 use sr_front::accept;
 use sr_text::{FrontFail, Refusal};
 use sr_value::{NoMemory, Place, Row, Text};
@@ -25,8 +24,8 @@ fn refusal_of(alloc: Global, files: &[(Text, Text)]) -> Result<Option<Refusal>, 
     }
 }
 
-/// The refusal, with its line counted from behind so many lines.
-fn behind(refusal: Refusal, lines: u32) -> Refusal {
+/// The refusal, with its line counted from the first after so many lines.
+fn counted_after(refusal: Refusal, lines: u32) -> Refusal {
     let Refusal { kind, place } = refusal;
     let Place { file, line } = place;
     let line = line.wrapping_sub(lines);
@@ -36,11 +35,11 @@ fn behind(refusal: Refusal, lines: u32) -> Refusal {
     }
 }
 
-/// What is told of files, with the lines of the first counted from behind so many.
+/// What is told of files, with the lines of the first counted from the first after so many.
 fn tell_files(alloc: Global, files: &[(Text, Text)], lines: u32) -> Result<String, NoMemory> {
     match refusal_of(alloc, files) {
         Ok(None) => Ok(String::from_str(alloc, "accepted")?),
-        Ok(Some(refusal)) => Ok(tell_refusal(alloc, behind(refusal, lines), 0)?),
+        Ok(Some(refusal)) => Ok(tell_refusal(alloc, counted_after(refusal, lines), 0)?),
         Err(fail) => tell_fail(alloc, fail, 0),
     }
 }

@@ -1,8 +1,6 @@
 //! The cores of programs: abbreviations beside their long forms, and the classes of operations.
 
-use crate::case_file::Case;
-use crate::escape::push_bytes;
-use crate::refusals::tell_fail;
+use sr_case_files::{Case, push_bytes, tell_fail};
 use sr_core::{Classes, Core};
 use sr_front::core_of;
 use sr_text::FrontFail;

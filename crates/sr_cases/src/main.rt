@@ -4,26 +4,11 @@
 
 mod answers;
 mod asks;
-mod case_file;
 mod checks;
 mod cores;
-mod edits;
-mod escape;
-mod expr_printer;
-mod fragments;
-mod limits;
 mod names;
-mod nodes;
 mod processes;
-mod refusals;
-mod spelling;
 mod subject;
-mod tally;
-mod tokens;
-mod type_printer;
-mod value_printer;
-mod value_reader;
-mod values;
 
 use crate::subject::{Subject, report_of};
 use std::alloc::Global;

@@ -1,9 +1,7 @@
 //! What the names of a program mean: for each use of a name in order the name, its line and that of its declaration,
 //! which is 0 for a predefined name; or the rule that is broken.
 
-use crate::case_file::Case;
-use crate::escape::push_bytes;
-use crate::refusals::{lexed, tell_fail};
+use sr_case_files::{Case, lexed, push_bytes, tell_fail};
 use sr_front::read;
 use sr_names::{Meaning, Spot};
 use sr_scope::{Names, resolve};

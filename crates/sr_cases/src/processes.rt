@@ -3,10 +3,9 @@
 
 use crate::answers::{Origin, answer_of, origin_of};
 use crate::asks::print_ask;
-use crate::case_file::{Case, push_line};
 use crate::cores::program_of;
-use crate::refusals::tell_fail;
 use sr_ask::{Answer, Asks};
+use sr_case_files::{Case, push_line, tell_fail};
 use sr_core::Core;
 use sr_value::{NoMemory, Row};
 use sr_walker::tree_ask;

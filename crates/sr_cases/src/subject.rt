@@ -1,9 +1,9 @@
 //! What the cases of a file are about.
 
-use crate::case_file::{Case, CaseFile, cases_in};
-use crate::fragments::Fragment;
-use crate::tally::Tally;
-use crate::{checks, cores, edits, fragments, limits, names, processes, tokens, values};
+use crate::{checks, cores, names, processes};
+use sr_case_files::{Case, CaseFile, Tally, cases_in};
+use sr_case_trees::{Fragment, tell_edit, tell_fragment, tell_limits, tell_tokens};
+use sr_case_values::tell_call;
 use sr_value::NoMemory;
 use std::alloc::Global;
 
@@ -52,10 +52,10 @@ impl Subject {
     /// What is told of a case, where the head of the file is `head`.
     fn tell(self, alloc: Global, head: &str, case: &Case) -> Result<String, NoMemory> {
         match self {
-            Subject::Tokens => tokens::tell(alloc, case),
-            Subject::Limits => limits::tell(alloc, case),
-            Subject::Expressions => fragments::tell(alloc, Fragment::Expr, case),
-            Subject::Types => fragments::tell(alloc, Fragment::Type, case),
+            Subject::Tokens => tell_tokens(alloc, case),
+            Subject::Limits => tell_limits(alloc, case),
+            Subject::Expressions => tell_fragment(alloc, Fragment::Expr, case),
+            Subject::Types => tell_fragment(alloc, Fragment::Type, case),
             Subject::Names => names::tell(alloc, case),
             Subject::Pieces => checks::tell_piece(alloc, head, case),
             Subject::Programs => checks::tell(alloc, case),
@@ -69,8 +69,8 @@ impl Subject {
     /// What is told of a line of a case.
     fn tell_line(self, alloc: Global, case: &Case, line: &str) -> Result<String, NoMemory> {
         match self {
-            Subject::Values => values::tell_line(alloc, line),
-            _ => edits::tell(alloc, case, line),
+            Subject::Values => tell_call(alloc, line),
+            _ => tell_edit(alloc, case, line),
         }
     }
 }

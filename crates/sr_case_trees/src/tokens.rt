@@ -1,9 +1,7 @@
 //! The tokens of a text, each with its line, or the refusal of the text.
 
-use crate::case_file::Case;
-use crate::escape::push_bytes;
-use crate::refusals::{lexed, tell_fail};
 use crate::spelling::{spelling_of_sign, spelling_of_word};
+use sr_case_files::{Case, lexed, push_bytes, tell_fail};
 use sr_tree::{Token, TokenKind};
 use sr_value::NoMemory;
 use std::alloc::{AllocError, Global};
@@ -55,7 +53,7 @@ fn tell_token(out: &mut String, text: &[u8], token: &Token) -> Result<(), AllocE
 }
 
 /// `name a 1, sign := 1`
-fn tell_tokens(out: &mut String, text: &[u8], tokens: &[Token]) -> Result<(), AllocError> {
+fn tell_all(out: &mut String, text: &[u8], tokens: &[Token]) -> Result<(), AllocError> {
     for token in tokens {
         if !out.is_empty() {
             out.push_str(", ")?;
@@ -66,11 +64,11 @@ fn tell_tokens(out: &mut String, text: &[u8], tokens: &[Token]) -> Result<(), Al
 }
 
 /// What is told of the tokens of a text.
-pub fn tell(alloc: Global, case: &Case) -> Result<String, NoMemory> {
+pub fn tell_tokens(alloc: Global, case: &Case) -> Result<String, NoMemory> {
     let text = case.fragment(alloc)?;
     let mut out = String::new(alloc);
     match lexed(alloc, FILE, &text) {
-        Ok(tokens) => tell_tokens(&mut out, &text, tokens.items.as_slice())?,
+        Ok(tokens) => tell_all(&mut out, &text, tokens.items.as_slice())?,
         Err(fail) => return tell_fail(alloc, fail, FILE),
     }
     Ok(out)

@@ -22,7 +22,7 @@ pub struct CaseFile {
     pub cases: Vec<Case>,
 }
 
-/// Puts a line with its end behind a text.
+/// Puts a line with its end at the end of a text.
 pub fn push_line(text: &mut String, line: &str) -> Result<(), AllocError> {
     text.push_str(line)?;
     text.push('\n')

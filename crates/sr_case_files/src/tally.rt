@@ -12,6 +12,11 @@ pub struct Tally {
     told: String,
 }
 
+/// The text without the end of its last line.
+fn without_end(text: &str) -> &str {
+    text.strip_suffix('\n').unwrap_or(text)
+}
+
 impl Tally {
     pub fn new(alloc: Global) -> Tally {
         Tally {
@@ -21,7 +26,7 @@ impl Tally {
         }
     }
 
-    /// Puts lines behind the told ones, each after a word.
+    /// Puts lines at the end of the told ones, each after a word.
     fn push_lines(&mut self, word: &str, lines: &str) -> Result<(), AllocError> {
         for line in lines.lines() {
             self.told.push_str(word)?;
@@ -33,7 +38,7 @@ impl Tally {
     /// Takes a case in: its name, what is wanted and what is found.
     pub fn note(&mut self, name: &str, wanted: &str, found: &str) -> Result<(), AllocError> {
         self.cases = self.cases.wrapping_add(1);
-        if wanted.trim_end() == found.trim_end() {
+        if without_end(wanted) == without_end(found) {
             return Ok(());
         }
         self.differ = self.differ.wrapping_add(1);

@@ -75,7 +75,7 @@ pub fn unescaped(alloc: Global, text: &str) -> Result<Vec<u8>, AllocError> {
     Ok(bytes)
 }
 
-/// Puts a byte behind a text, as `\xHH` where it is no printable one.
+/// Puts a byte at the end of a text, as `\xHH` where it is no printable one.
 pub fn push_byte(out: &mut String, byte: u8) -> Result<(), AllocError> {
     if byte.is_ascii_graphic() || byte == b' ' {
         out.push(char::from(byte))
@@ -84,7 +84,7 @@ pub fn push_byte(out: &mut String, byte: u8) -> Result<(), AllocError> {
     }
 }
 
-/// Puts bytes behind a text.
+/// Puts bytes at the end of a text.
 pub fn push_bytes(out: &mut String, bytes: &[u8]) -> Result<(), AllocError> {
     for byte in bytes {
         push_byte(out, *byte)?;

@@ -1,6 +1,6 @@
 //! Lines of words, quoted bytes and lists in brackets.
 
-use crate::escape::unescaped;
+use sr_case_files::unescaped;
 use std::alloc::{AllocError, Global};
 use std::mem;
 
@@ -151,7 +151,7 @@ impl<'a> Words<'a> {
         self.word().parse().unwrap_or(0)
     }
 
-    /// The number behind the word that comes next.
+    /// The number after the word that comes next.
     pub fn named(&mut self) -> u32 {
         let _ = self.word();
         self.number()

@@ -1,13 +1,12 @@
 //! What the limits on tokens say of a text that is written as parts, each with how often it stands there.
 
-use crate::case_file::Case;
-use crate::refusals::{lexed, tell_fail, tell_refusal};
+use sr_case_files::{Case, lexed, tell_fail, tell_refusal};
 use sr_lexer::profile;
 use sr_tree::Tokens;
 use sr_value::NoMemory;
 use std::alloc::{AllocError, Global};
 
-/// Puts a part behind a text so often, with a space behind each.
+/// Puts a part at the end of a text so often, with a space after each.
 fn push_part(text: &mut Vec<u8>, count: u32, part: &[u8]) -> Result<(), AllocError> {
     for _ in 0..count {
         text.extend_from_slice(part)?;
@@ -29,7 +28,7 @@ fn repeated(alloc: Global, case: &Case) -> Result<Vec<u8>, AllocError> {
 }
 
 /// What is told of the limits.
-fn tell_limits(alloc: Global, tokens: &Tokens) -> Result<String, NoMemory> {
+fn tell_outcome(alloc: Global, tokens: &Tokens) -> Result<String, NoMemory> {
     match profile(tokens) {
         Ok(()) => Ok(String::from_str(alloc, "within the limits")?),
         Err(refusal) => Ok(tell_refusal(alloc, refusal, 0)?),
@@ -37,10 +36,10 @@ fn tell_limits(alloc: Global, tokens: &Tokens) -> Result<String, NoMemory> {
 }
 
 /// What is told of the text that a case stands for.
-pub fn tell(alloc: Global, case: &Case) -> Result<String, NoMemory> {
+pub fn tell_limits(alloc: Global, case: &Case) -> Result<String, NoMemory> {
     let text = repeated(alloc, case)?;
     match lexed(alloc, 0, &text) {
-        Ok(tokens) => tell_limits(alloc, &tokens),
+        Ok(tokens) => tell_outcome(alloc, &tokens),
         Err(fail) => tell_fail(alloc, fail, 0),
     }
 }

@@ -1,7 +1,7 @@
 //! Values, shapes and paths from their text.
 
-use crate::escape::unescaped;
 use crate::nodes::{Node, Words};
+use sr_case_files::unescaped;
 use sr_value::{Boxed, Cap, Dims, NoMemory, Owner, Row, Sel, Shape, Text, Value};
 use std::alloc::Global;
 

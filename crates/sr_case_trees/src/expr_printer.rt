@@ -1,6 +1,6 @@
 //! Expressions as text, each with its operator or word in front and brackets around.
 
-use crate::escape::push_bytes;
+use sr_case_files::push_bytes;
 use sr_tree::{
     BasicType, BinaryOperator, Conversion, Create, Expr, Invocation, Literal, Name, Part,
     QualifiedName, UnaryOperator,

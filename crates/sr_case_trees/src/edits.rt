@@ -1,15 +1,14 @@
 //! Programs with one line changed: the line of the token that is refused, and 0 where the tokens spell a file.
 
-use crate::case_file::{Case, push_line};
 use crate::fragments::on_lines;
-use crate::refusals::lexed;
+use sr_case_files::{Case, lexed, push_line};
 use sr_parser::parse;
 use sr_text::FrontFail;
 use sr_tree::Tokens;
 use sr_value::{NoMemory, Row};
 use std::alloc::{AllocError, Global};
 
-/// Puts the lines of a text behind another, with `new` in the place of one; up to there where it is cut.
+/// Puts the lines of a text after another, with `new` in the place of one; up to there where it is cut.
 fn push_edited(
     out: &mut String,
     text: &str,
@@ -114,7 +113,7 @@ fn found(alloc: Global, case: &Case, edit: &str) -> Result<u32, NoMemory> {
 }
 
 /// What is told of a line such as `7: TEXT => 9`.
-pub fn tell(alloc: Global, case: &Case, line: &str) -> Result<String, NoMemory> {
+pub fn tell_edit(alloc: Global, case: &Case, line: &str) -> Result<String, NoMemory> {
     let edit = match line.rsplit_once(" => ") {
         Some((edit, _)) => edit,
         None => line,

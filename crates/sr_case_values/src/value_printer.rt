@@ -1,6 +1,6 @@
 //! Values and shapes as text.
 
-use crate::escape::push_byte;
+use sr_case_files::push_byte;
 use sr_value::{Cap, Dims, Owner, Shape, Value};
 use std::alloc::AllocError;
 
@@ -68,7 +68,7 @@ pub fn print_value(out: &mut String, value: &Value) -> Result<(), AllocError> {
     }
 }
 
-/// Values, each behind a space.
+/// Values, each after a space.
 #[cycle(printing_values)]
 fn print_items(out: &mut String, values: &[Value]) -> Result<(), AllocError> {
     for value in values {
@@ -110,7 +110,7 @@ pub fn print_shape(out: &mut String, shape: &Shape) -> Result<(), AllocError> {
     }
 }
 
-/// Shapes, each behind a space.
+/// Shapes, each after a space.
 #[cycle(printing_shapes)]
 fn print_next_shapes(out: &mut String, shapes: &[Shape]) -> Result<(), AllocError> {
     for shape in shapes {

@@ -103,7 +103,7 @@ fn dimension(number: u32) -> Dimension {
     }
 }
 
-/// The value of a predefined function of one value, and of a number behind it.
+/// The value of a predefined function of one value, and of a number after it.
 fn predefined(name: &str, value: &Value, words: &mut Words<'_>) -> Result<Value, Fault> {
     match name {
         "abs" => absolute(value),
@@ -238,7 +238,7 @@ fn found(alloc: Global, nodes: &[Node]) -> Result<String, NoMemory> {
 }
 
 /// What is told of a line such as `min 1 2 => 1`.
-pub fn tell_line(alloc: Global, line: &str) -> Result<String, NoMemory> {
+pub fn tell_call(alloc: Global, line: &str) -> Result<String, NoMemory> {
     let call = match line.rsplit_once(" => ") {
         Some((call, _)) => call,
         None => line,

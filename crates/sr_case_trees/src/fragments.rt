@@ -1,9 +1,8 @@
 //! Expressions and types that are read from the tokens of a text, and from each beginning of these.
 
-use crate::case_file::{Case, push_line};
 use crate::expr_printer::print_expr;
-use crate::refusals::{lexed, tell_fail};
 use crate::type_printer::print_type;
+use sr_case_files::{Case, lexed, push_line, tell_fail};
 use sr_parse_expr::{parse_expr, parse_type};
 use sr_text::FrontFail;
 use sr_tree::{Expr, Token, Tokens, TypeTree};
@@ -157,7 +156,7 @@ fn tell_outcome(alloc: Global, fragment: Fragment, tokens: Tokens) -> Result<Str
 }
 
 /// What is told of the text of a case. A point marks a beginning that is read, and an `x` one that is refused.
-pub fn tell(alloc: Global, fragment: Fragment, case: &Case) -> Result<String, NoMemory> {
+pub fn tell_fragment(alloc: Global, fragment: Fragment, case: &Case) -> Result<String, NoMemory> {
     let text = case.fragment(alloc)?;
     match lexed(alloc, 0, &text) {
         Ok(tokens) => tell_outcome(alloc, fragment, on_lines(alloc, tokens)?),
