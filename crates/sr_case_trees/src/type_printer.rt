@@ -166,11 +166,11 @@ fn print_enum(out: &mut String, literals: &[Name]) -> Result<(), AllocError> {
 
 /// ` {call send}`, or nothing where there is no kind
 fn print_kinds(out: &mut String, kinds: &[InvocationKind]) -> Result<(), AllocError> {
-    let mut before = " {";
+    let mut is_first = true;
     for kind in kinds {
-        out.push_str(before)?;
+        out.push_str(if is_first { " {" } else { " " })?;
+        is_first = false;
         out.push_str(kind_text(*kind))?;
-        before = " ";
     }
     if kinds.is_empty() {
         Ok(())

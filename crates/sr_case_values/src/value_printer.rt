@@ -81,10 +81,14 @@ fn print_items(out: &mut String, values: &[Value]) -> Result<(), AllocError> {
 /// `(1 2)`
 #[cycle(printing_values)]
 pub fn print_values(out: &mut String, values: &[Value]) -> Result<(), AllocError> {
+    let mut is_first = true;
     out.push('(')?;
-    if let Some((first, others)) = values.split_first() {
-        print_value(out, first)?;
-        print_items(out, others)?;
+    for value in values {
+        if !is_first {
+            out.push(' ')?;
+        }
+        is_first = false;
+        print_value(out, value)?;
     }
     out.push(')')
 }
@@ -110,23 +114,17 @@ pub fn print_shape(out: &mut String, shape: &Shape) -> Result<(), AllocError> {
     }
 }
 
-/// Shapes, each after a space.
-#[cycle(printing_shapes)]
-fn print_next_shapes(out: &mut String, shapes: &[Shape]) -> Result<(), AllocError> {
-    for shape in shapes {
-        out.push(' ')?;
-        print_shape(out, shape)?;
-    }
-    Ok(())
-}
-
 /// `(int bool)`
 #[cycle(printing_shapes)]
 fn print_shapes(out: &mut String, shapes: &[Shape]) -> Result<(), AllocError> {
+    let mut is_first = true;
     out.push('(')?;
-    if let Some((first, others)) = shapes.split_first() {
-        print_shape(out, first)?;
-        print_next_shapes(out, others)?;
+    for shape in shapes {
+        if !is_first {
+            out.push(' ')?;
+        }
+        is_first = false;
+        print_shape(out, shape)?;
     }
     out.push(')')
 }

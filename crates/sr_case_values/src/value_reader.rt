@@ -124,7 +124,7 @@ pub fn values_of(alloc: Global, nodes: &[Node]) -> Result<Row<Value>, NoMemory> 
     Ok(values)
 }
 
-/// The capability that a word stands for.
+/// The value that comes next, or `null`.
 pub fn next_value(alloc: Global, words: &mut Words<'_>) -> Result<Value, NoMemory> {
     match words.next() {
         Some(node) => value_of(alloc, node),
@@ -179,7 +179,7 @@ fn shapes_of(alloc: Global, nodes: &[Node]) -> Result<Row<Shape>, NoMemory> {
     Ok(shapes)
 }
 
-/// The shape that comes next.
+/// The shape that comes next, or that of capabilities.
 pub fn next_shape(alloc: Global, words: &mut Words<'_>) -> Result<Shape, NoMemory> {
     match words.next() {
         Some(node) => shape_of(alloc, node),

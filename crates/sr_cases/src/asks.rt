@@ -53,10 +53,14 @@ fn print_store(
 
 /// `(3 4)`
 fn print_numbers(out: &mut String, numbers: &[u32]) -> Result<(), AllocError> {
-    let mut before = "(";
+    let mut is_first = true;
+    out.push('(')?;
     for number in numbers {
-        write!(out, "{before}{number}")?;
-        before = " ";
+        if !is_first {
+            out.push(' ')?;
+        }
+        is_first = false;
+        write!(out, "{number}")?;
     }
     out.push(')')
 }
