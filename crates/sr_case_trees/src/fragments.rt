@@ -26,7 +26,7 @@ struct Outcome {
 }
 
 /// The token, on the line of this number.
-pub fn on_line(token: Token, line: u32) -> Token {
+fn on_line(token: Token, line: u32) -> Token {
     let Token { kind, text, span } = token;
     let span = Span { line, ..span };
     Token { kind, text, span }

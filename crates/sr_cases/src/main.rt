@@ -6,6 +6,7 @@ mod answers;
 mod asks;
 mod checks;
 mod cores;
+mod edits;
 mod names;
 mod processes;
 mod subject;

@@ -1,8 +1,8 @@
 //! What the cases of a file are about.
 
-use crate::{checks, cores, names, processes};
+use crate::{checks, cores, edits, names, processes};
 use sr_case_files::{Case, CaseFile, Tally, cases_in};
-use sr_case_trees::{Fragment, tell_edit, tell_fragment, tell_limits, tell_tokens};
+use sr_case_trees::{Fragment, tell_fragment, tell_limits, tell_tokens};
 use sr_case_values::tell_call;
 use sr_value::NoMemory;
 use std::alloc::Global;
@@ -70,7 +70,7 @@ impl Subject {
     fn tell_line(self, alloc: Global, case: &Case, line: &str) -> Result<String, NoMemory> {
         match self {
             Subject::Values => tell_call(alloc, line),
-            _ => tell_edit(alloc, case, line),
+            _ => edits::tell(alloc, case, line),
         }
     }
 }

@@ -1,7 +1,7 @@
 //! Programs with one line changed: the line of the token that is refused, and 0 where the tokens spell a file.
 
-use crate::fragments::on_lines;
 use sr_case_files::{Case, lexed, push_line};
+use sr_case_trees::on_lines;
 use sr_parser::parse;
 use sr_text::FrontFail;
 use sr_tree::Tokens;
@@ -113,7 +113,7 @@ fn found(alloc: Global, case: &Case, edit: &str) -> Result<u32, NoMemory> {
 }
 
 /// What is told of a line such as `7: TEXT => 9`.
-pub fn tell_edit(alloc: Global, case: &Case, line: &str) -> Result<String, NoMemory> {
+pub fn tell(alloc: Global, case: &Case, line: &str) -> Result<String, NoMemory> {
     let edit = match line.rsplit_once(" => ") {
         Some((edit, _)) => edit,
         None => line,
