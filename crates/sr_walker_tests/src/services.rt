@@ -1,5 +1,0 @@
-//! Services, and how they are left.
-
-mod leaving;
-mod nested;
-mod replying;
