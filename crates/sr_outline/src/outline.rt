@@ -225,8 +225,7 @@ pub fn tables_of(alloc: Global, files: &[File], facts: &Facts) -> Result<Tables,
     ensures { IfOk result (λ tables. tables ≡ outline.tables_of facts.now (components_in files.now)) }
 {
     let mut tables = empty_tables(alloc);
-    note_all(alloc, files, facts, &mut tables)?;
-    Ok(tables)
+    note_all(alloc, files, facts, &mut tables).and(Ok(tables))
 }
 
 fn literal_names(alloc: Global, literals: &[Name]) -> Result<Row<Text>, NoMemory>
