@@ -1,5 +1,5 @@
--- The signatures that have names, and the operations, put into the tables.
-use Rattle.std.proofs.Common.{◌≡◌, ℕ, List, flat_map, ap, ◌∙◌}
+-- The operations, put into the tables.
+use Rattle.std.proofs.Common.{◌≡◌, ℕ, List, [], flat_map, ap, ◌∙◌, Result, Ok, Err, OnOk}
 use Rattle.std.specs.List.{enumerate_from}
 use Rattle.sr_check_expr.specs.declared.facts.Facts.{Facts}
 use Rattle.sr_core.specs.declared.component.Operation.{Operation}
@@ -8,10 +8,10 @@ use Rattle.sr_tree.specs.declared.component.Component.{Component}
 use Rattle.sr_tables.specs.declared.tables.Tables.{Tables}
 use Rattle.sr_tables.specs.Tables.{with_entries}
 use Rattle.sr_outline.specs.declared.operations.Opening.{Opening}
-use Rattle.sr_outline.specs.Heads.{Heads, with_heads}
-use Rattle.sr_outline.specs.Outline.{all_optypes, component_entries}
+use Rattle.sr_outline.specs.Heads.{Heads}
+use Rattle.sr_outline.specs.Outline.{component_entries}
 use Rattle.sr_outline.specs.Shapes.{Shapes}
-use Rattle.sr_outline.proofs.Together.{with_rest}
+use Rattle.sr_outline.proofs.Together.{with_operations}
 
 abbrev pub start_of : Tables → Opening
 start_of tables = record { shapes = tables.shapes; heads = tables.heads; procs = tables.procs; component = 0; operations = tables.operations }
@@ -28,16 +28,21 @@ same_parts tables p p' s s' h h' o o' procs shapes heads operations =
     ∙ ap (λ (q : Heads). with_opened_parts tables p' s' q o) heads
     ∙ ap (λ (q : List (Spot × Operation)). with_opened_parts tables p' s' h' q) operations
 
-pub opened_whole : (facts : Facts) (components : List Component) (tables : Tables) (middle last : Opening)
-    → middle ≡ record (start_of tables) { heads = with_heads facts tables.shapes tables.heads (all_optypes components) }
-    → last.operations ≡ with_entries middle.operations (flat_map (component_entries facts middle.shapes middle.heads middle.procs) (enumerate_from 0 components))
-    → last.shapes ≡ middle.shapes
-    → last.heads ≡ middle.heads
-    → last.procs ≡ middle.procs
-    → record tables { procs = last.procs; shapes = last.shapes; heads = last.heads; operations = last.operations } ≡ with_rest facts components tables
-opened_whole facts components tables middle last e operations shapes heads procs =
-    same_parts tables _ _ _ _ _ _ _ _
-    (procs ∙ ap (λ (o : Opening). o.procs) e)
-    (shapes ∙ ap (λ (o : Opening). o.shapes) e)
-    (heads ∙ ap (λ (o : Opening). o.heads) e)
-    (operations ∙ ap (λ (o : Opening). with_entries o.operations (flat_map (component_entries facts o.shapes o.heads o.procs) (enumerate_from 0 components))) e)
+pub opened_whole : {A E : Type 0} (result : Result A E) (facts : Facts) (components : List Component) (tables without filled : Tables) (taken last : Opening)
+    → taken ≡ start_of tables
+    → without ≡ with_opened_parts tables [] [] [] []
+    → OnOk result (last.operations ≡ with_entries taken.operations (flat_map (component_entries facts taken.shapes taken.heads taken.procs) (enumerate_from 0 components)))
+    → OnOk result (last.shapes ≡ taken.shapes)
+    → OnOk result (last.heads ≡ taken.heads)
+    → OnOk result (last.procs ≡ taken.procs)
+    → filled ≡ with_opened_parts without last.procs last.shapes last.heads last.operations
+    → OnOk result (filled ≡ with_operations facts components tables)
+opened_whole (Ok _) facts components tables without filled taken last t w operations shapes heads procs f =
+    f
+    ∙ ap (λ (rest : Tables). with_opened_parts rest last.procs last.shapes last.heads last.operations) w
+    ∙ same_parts tables _ _ _ _ _ _ _ _
+    (procs ∙ ap (λ (o : Opening). o.procs) t)
+    (shapes ∙ ap (λ (o : Opening). o.shapes) t)
+    (heads ∙ ap (λ (o : Opening). o.heads) t)
+    (operations ∙ ap (λ (o : Opening). with_entries o.operations (flat_map (component_entries facts o.shapes o.heads o.procs) (enumerate_from 0 components))) t)
+opened_whole (Err _) facts components tables without filled taken last t w operations shapes heads procs f = tt

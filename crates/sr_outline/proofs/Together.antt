@@ -1,5 +1,5 @@
 -- The tables that come of one component after another are those of all.
-use Rattle.std.proofs.Common.{◌≡◌, ℕ, ◌+◌, List, [], ◌∷◌, fold, flat_map, map, refl, ap, ◌∙◌, Result, Ok, Err, IfOk}
+use Rattle.std.proofs.Common.{◌≡◌, ℕ, ◌+◌, List, [], ◌∷◌, fold, flat_map, map, refl, ap, ◌∙◌, Result, Ok, Err, OnOk}
 use Rattle.std.specs.List.{enumerate_from}
 use Rattle.sr_check_expr.specs.declared.facts.Facts.{Facts}
 use Rattle.sr_names.specs.declared.spot.Spot.{Spot}
@@ -10,7 +10,7 @@ use Rattle.sr_tables.specs.Parts.{component_spot, in_component}
 use Rattle.sr_tables.specs.Tables.{with_entries, with_spots}
 use Rattle.sr_tables.proofs.Appends.{entries_append, spots_append}
 use Rattle.sr_outline.specs.Numbers.{component_served, component_shared, component_sites}
-use Rattle.sr_outline.specs.Heads.{with_heads}
+use Rattle.sr_outline.specs.Heads.{Heads, with_heads}
 use Rattle.sr_outline.specs.Outline.{all_optypes, component_entries, no_tables, tables_of, with_component}
 use Rattle.sr_outline.specs.Shapes.{Shapes, spec_item_types, with_types}
 use Rattle.sr_outline.proofs.Appends.{types_append}
@@ -51,19 +51,24 @@ together facts tables n (c ∷ cs) =
     (entries_append tables.shared (component_shared facts n c) (flat_map (numbered_shared facts) (enumerate_from (n + 1) cs)))
     (types_append facts tables.shapes (in_component spec_item_types c) (flat_map (in_component spec_item_types) cs))
 
+-- with the operations
+abbrev pub with_operations : Facts → List Component → Tables → Tables
+with_operations facts components tables =
+    record tables { operations = with_entries tables.operations (flat_map (component_entries facts tables.shapes tables.heads tables.procs) (enumerate_from 0 components)) }
+
 -- with the signatures that have names, and with the operations
 abbrev pub with_rest : Facts → List Component → Tables → Tables
-with_rest facts components tables = record tables {
-  heads = with_heads facts tables.shapes tables.heads (all_optypes components);
-  operations = with_entries tables.operations (flat_map (component_entries facts tables.shapes (with_heads facts tables.shapes tables.heads (all_optypes components)) tables.procs) (enumerate_from 0 components));
-}
+with_rest facts components tables =
+    with_operations facts components (record tables { heads = with_heads facts tables.shapes tables.heads (all_optypes components) })
 
-pub whole : {E : Type 0} (result : Result Tables E) (facts : Facts) (components : List Component) (start tables : Tables)
+pub whole : {A E : Type 0} (result : Result A E) (facts : Facts) (components : List Component) (start noted made : Tables) (heads : Heads)
     → start ≡ no_tables
-    → tables ≡ fold (with_component facts) start (enumerate_from 0 components)
-    → IfOk result (λ made. made ≡ with_rest facts components tables)
-    → IfOk result (λ made. made ≡ tables_of facts components)
-whole (Ok made) facts components start tables s e h =
-    h
+    → noted ≡ fold (with_component facts) start (enumerate_from 0 components)
+    → heads ≡ with_heads facts noted.shapes noted.heads (all_optypes components)
+    → OnOk result (made ≡ with_operations facts components (record noted { heads = heads }))
+    → OnOk result (made ≡ tables_of facts components)
+whole (Ok _) facts components start noted made heads s e h m =
+    m
+    ∙ ap (λ (hs : Heads). with_operations facts components (record noted { heads = hs })) h
     ∙ ap (with_rest facts components) (e ∙ ap (λ (t : Tables). fold (with_component facts) t (enumerate_from 0 components)) s ∙ together facts no_tables 0 components)
-whole (Err error) facts components start tables s e h = tt
+whole (Err error) facts components start noted made heads s e h m = tt

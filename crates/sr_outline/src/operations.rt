@@ -48,8 +48,8 @@ fn open(
     ensures { OnOk result (opening.new ≡ heads.with_opened opening.old ((record { name = name.now; scope = scope; head = head }) ∷ [])) }
 {
     let spot = spot_named(name);
-    let text = name.text.copy(alloc)?;
     let proc = proc_of(&opening.procs, spot)?;
+    let text = name.text.copy(alloc)?;
     let Head {
         parameters,
         returns,

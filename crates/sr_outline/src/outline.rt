@@ -1,5 +1,5 @@
 //! What a program declares outside of code.
-ghost use Rattle.std.specs.Prelude.{◌≡◌, IfOk, ◌+◌, ◌++◌, OnOk, fold, length, map, flat_map};
+ghost use Rattle.std.specs.Prelude.{◌≡◌, [], IfOk, ◌+◌, ◌++◌, OnOk, fold, length, map, flat_map};
 ghost use Rattle.sr_outline.specs.Outline as outline;
 ghost use Rattle.sr_tables.specs.Parts.{components_in, in_item};
 ghost use Rattle.std.specs.List.{enumerate_from};
@@ -12,10 +12,11 @@ use crate::shapes::declare_types;
 use crate::variables::note_shared;
 use crate::waits::{note_procs, note_sites};
 use sr_check_expr::Facts;
-use sr_tables::{BySpot, Spots, Tables, number_of, spot_named};
+use sr_tables::{BySpot, Head, Spots, Tables, number_of, spot_named};
 use sr_tree::{File, Name, SpecItem, TypeTree};
-use sr_value::{Duplicate, EnumNames, NoMemory, Row, Text};
+use sr_value::{Duplicate, EnumNames, NoMemory, Row, Shape, Text};
 use std::alloc::Global;
+use std::mem;
 
 fn empty_tables(alloc: Global) -> Tables
     ensures { result ≡ outline.no_tables }
@@ -84,39 +85,33 @@ fn note_files(
     Ok(())
 }
 
-/// What a program declares outside of code.
-pub fn tables_of(alloc: Global, files: &[File], facts: &Facts) -> Result<Tables, NoMemory>
-    ensures { IfOk result (λ tables. tables ≡ outline.tables_of facts.now (components_in files.now)) }
-{
-    let mut tables = empty_tables(alloc);
-    note_files(alloc, files, facts, &mut tables)?;
-    with_operations(alloc, files, facts, tables)
-}
-
 fn declare_components(
     alloc: Global,
     components: &[sr_tree::Component],
     facts: &Facts,
-    opening: &mut Opening,
+    table: &BySpot<Shape>,
+    all: &mut BySpot<Head>,
 ) -> Result<(), NoMemory>
-    ensures { OnOk result (opening.new ≡ record opening.old { heads = with_heads facts.now opening.old.shapes opening.old.heads (outline.all_optypes components.now) }) }
+    ensures { OnOk result (all.new ≡ with_heads facts.now table.now all.old (outline.all_optypes components.now)) }
 {
     for component in components {
-        declare_heads(alloc, component, facts, &opening.shapes, &mut opening.heads)?;
+        declare_heads(alloc, component, facts, table, all)?;
     }
     Ok(())
 }
 
+/// Puts in the signatures that have names.
 fn declare_all(
     alloc: Global,
     files: &[File],
     facts: &Facts,
-    opening: &mut Opening,
+    table: &BySpot<Shape>,
+    all: &mut BySpot<Head>,
 ) -> Result<(), NoMemory>
-    ensures { OnOk result (opening.new ≡ record opening.old { heads = with_heads facts.now opening.old.shapes opening.old.heads (outline.all_optypes (components_in files.now)) }) }
+    ensures { OnOk result (all.new ≡ with_heads facts.now table.now all.old (outline.all_optypes (components_in files.now))) }
 {
     for file in files {
-        declare_components(alloc, file.components.as_slice(), facts, opening)?;
+        declare_components(alloc, file.components.as_slice(), facts, table, all)?;
     }
     Ok(())
 }
@@ -164,33 +159,24 @@ fn open_all(
     Ok(())
 }
 
-/// The tables with the signatures that have names, and with the operations.
-fn with_operations(
-    alloc: Global,
-    files: &[File],
-    facts: &Facts,
-    tables: Tables,
-) -> Result<Tables, NoMemory>
-    ensures { IfOk result (λ made. made ≡ record tables { heads = with_heads facts.now tables.shapes tables.heads (outline.all_optypes (components_in files.now)); operations = with_entries tables.operations (flat_map (outline.component_entries facts.now tables.shapes (with_heads facts.now tables.shapes tables.heads (outline.all_optypes (components_in files.now))) tables.procs) (enumerate_from 0 (components_in files.now))) }) }
+/// What operations are made with, taken out of the tables.
+fn take_opening(alloc: Global, tables: &mut Tables) -> Opening
+    ensures opening { result ≡ record { shapes = tables.old.shapes; heads = tables.old.heads; procs = tables.old.procs; component = 0; operations = tables.old.operations } }
+    ensures tables { tables.new ≡ record tables.old { shapes = []; heads = []; procs = []; operations = [] } }
 {
-    let Tables {
-        components,
-        procs,
-        sites,
-        shared,
-        shapes,
-        heads,
-        operations,
-    } = tables;
-    let mut opening = Opening {
-        shapes,
-        heads,
-        procs,
+    Opening {
+        shapes: mem::replace(&mut tables.shapes, BySpot::new(alloc)),
+        heads: mem::replace(&mut tables.heads, BySpot::new(alloc)),
+        procs: mem::replace(&mut tables.procs, Spots::new(alloc)),
         component: 0,
-        operations,
-    };
-    declare_all(alloc, files, facts, &mut opening)?;
-    open_all(alloc, files, facts, &mut opening)?;
+        operations: mem::replace(&mut tables.operations, BySpot::new(alloc)),
+    }
+}
+
+/// Puts what operations were made with back into the tables.
+fn put_back(opening: Opening, tables: &mut Tables)
+    ensures { tables.new ≡ record tables.old { shapes = opening.shapes; heads = opening.heads; procs = opening.procs; operations = opening.operations } }
+{
     let Opening {
         shapes,
         heads,
@@ -198,15 +184,48 @@ fn with_operations(
         component: _,
         operations,
     } = opening;
-    Ok(Tables {
-        components,
-        procs,
-        sites,
-        shared,
-        shapes,
-        heads,
-        operations,
-    })
+    tables.shapes = shapes;
+    tables.heads = heads;
+    tables.procs = procs;
+    tables.operations = operations;
+}
+
+/// Puts in the operations.
+fn note_operations(
+    alloc: Global,
+    files: &[File],
+    facts: &Facts,
+    tables: &mut Tables,
+) -> Result<(), NoMemory>
+    ensures { OnOk result (tables.new ≡ record tables.old { operations = with_entries tables.old.operations (flat_map (outline.component_entries facts.now tables.old.shapes tables.old.heads tables.old.procs) (enumerate_from 0 (components_in files.now))) }) }
+{
+    let mut opening = take_opening(alloc, tables);
+    let opened = open_all(alloc, files, facts, &mut opening);
+    put_back(opening, tables);
+    opened
+}
+
+/// Puts what a program declares outside of code into tables that are empty.
+fn note_all(
+    alloc: Global,
+    files: &[File],
+    facts: &Facts,
+    tables: &mut Tables,
+) -> Result<(), NoMemory>
+    requires { tables.old ≡ outline.no_tables }
+    ensures { OnOk result (tables.new ≡ outline.tables_of facts.now (components_in files.now)) }
+{
+    note_files(alloc, files, facts, tables)?;
+    declare_all(alloc, files, facts, &tables.shapes, &mut tables.heads)?;
+    note_operations(alloc, files, facts, tables)
+}
+
+/// What a program declares outside of code.
+pub fn tables_of(alloc: Global, files: &[File], facts: &Facts) -> Result<Tables, NoMemory>
+    ensures { IfOk result (λ tables. tables ≡ outline.tables_of facts.now (components_in files.now)) }
+{
+    let mut tables = empty_tables(alloc);
+    note_all(alloc, files, facts, &mut tables).and(Ok(tables))
 }
 
 fn literal_names(alloc: Global, literals: &[Name]) -> Result<Row<Text>, NoMemory>

@@ -1,12 +1,14 @@
 //! What places of a type can hold: types with their bounds and the lengths of their strings.
 #![tactic(auto, using(crate::proofs::Appends::types_append))]
 
-ghost use Rattle.std.specs.Prelude.{◌≡◌, ◌++◌, IfOk, OnOk, None, flat_map, map};
-ghost use Rattle.std.specs.Option.{option_map};
+ghost use Rattle.std.specs.Prelude.{◌≡◌, ◌++◌, IfOk, OnOk, None, flat_map, map, pos, unwrap_or};
+ghost use Rattle.std.specs.Option.{option_and_then, option_map};
 ghost use Rattle.sr_check_expr.specs.Infos.{info_at};
+ghost use Rattle.sr_outline.specs.Meanings.{known};
 ghost use Rattle.sr_outline.specs.Shapes as shapes;
 ghost use Rattle.sr_tables.specs.Lists.{lists};
 ghost use Rattle.sr_tables.specs.Parts.{in_item, in_component};
+ghost use Rattle.sr_value.specs.Operands.{int_in};
 
 use crate::meanings::{judge, meant_by};
 use sr_check_expr::{Facts, Info, name_spot};
@@ -24,15 +26,22 @@ use std::alloc::Global;
 /// So many bytes a string place holds without a length.
 const MOST_BYTES: u32 = 65_535;
 
+/// The number that a value is; 0 where it isn't known.
+fn known_number(value: &Static) -> i32
+    ensures { result ≡ unwrap_or (option_and_then int_in (known value.now)) (pos 0) }
+{
+    match value {
+        Static::Known(value) => value.as_int().unwrap_or(0),
+        _ => 0,
+    }
+}
+
 /// The number that a static expression is; 0 where it isn't known.
 fn fixed_number(alloc: Global, tree: &Expr, facts: &Facts) -> Result<i32, NoMemory>
     ensures { IfOk result (λ number. number ≡ shapes.fixed_number facts.now tree.now) }
 {
     let judged = judge(alloc, tree, facts)?;
-    match &judged.typed.value {
-        Static::Known(value) => Ok(value.as_int().unwrap_or(0)),
-        _ => Ok(0),
-    }
+    Ok(known_number(&judged.typed.value))
 }
 
 /// The number as a length; 0 below 0.

@@ -1,7 +1,7 @@
 //! The procs and the statements that wait for invocations, by their numbers.
 #![tactic(auto, using(sr_tables::proofs::Appends::spots_append))]
 
-ghost use Rattle.std.specs.Prelude.{◌≡◌, IfOk, OnOk, flat_map, map};
+ghost use Rattle.std.specs.Prelude.{◌≡◌, [], ◌∷◌, IfOk, OnOk, flat_map, if◌then◌else◌, map};
 ghost use Rattle.sr_outline.specs.Numbers as numbers;
 ghost use Rattle.sr_tables.specs.Tables.{with_spots};
 ghost use Rattle.sr_tables.specs.Lists.{lists};
@@ -13,11 +13,18 @@ use sr_tables::{Spots, spot_named};
 use sr_tree::{Arm, BlockItem, Branch, CoArm, Component, Invocation, Item, ProcItem, Statement};
 use sr_value::{NoMemory, Span};
 
+/// Whether a predefined function is `P`.
+fn is_p(function: Option<Predefined>) -> bool
+    ensures { result ≡ numbers.is_p function }
+{
+    matches!(&function, Some(Predefined::P))
+}
+
 /// Whether an invocation is `P(s)`, which is `receive s()`.
 pub fn is_wait(invocation: &Invocation, facts: &Facts) -> bool
     ensures { result ≡ numbers.is_wait facts.now invocation.now }
 {
-    matches!(&function_called(invocation, facts), Some(Predefined::P))
+    is_p(function_called(invocation, facts))
 }
 
 /// The operation that `P` receives.
@@ -97,6 +104,16 @@ fn note_co_arms(arms: &[CoArm], facts: &Facts, sites: &mut Spots) -> Result<(), 
     Ok(())
 }
 
+/// Puts in a statement, if it waits.
+fn note_waiting(waits: bool, spot: Spot, sites: &mut Spots) -> Result<(), NoMemory>
+    ensures { OnOk result (sites.new ≡ with_spots sites.old (if waits then spot ∷ [] else [])) }
+{
+    if waits {
+        return sites.insert(spot);
+    }
+    Ok(())
+}
+
 fn note_call(
     span: Span,
     invocation: &Invocation,
@@ -105,10 +122,7 @@ fn note_call(
 ) -> Result<(), NoMemory>
     ensures { OnOk result (sites.new ≡ with_spots sites.old (numbers.call_sites facts.now span invocation.now)) }
 {
-    if is_wait(invocation, facts) {
-        return sites.insert(Spot::of(span));
-    }
-    Ok(())
+    note_waiting(is_wait(invocation, facts), Spot::of(span), sites)
 }
 
 /// Puts in the waiting statements of a statement, itself before those in its blocks.

@@ -6,6 +6,4 @@ use Rattle.sr_tables.specs.Parts.{components_in}
 use Rattle.sr_outline.proofs.outline.declare_all.Given as goal
 
 abbrev pub invariant-loop-file : goal.invariant-loop-file
-invariant-loop-file l =
-    (l.opening ≡ record l.fn.opening { heads = l.opening.heads })
-    × (with_heads l.facts l.fn.opening.shapes l.opening.heads (all_optypes (components_in (drop l.file-index l.files))) ≡ with_heads l.facts l.fn.opening.shapes l.fn.opening.heads (all_optypes (components_in l.files)))
+invariant-loop-file l = with_heads l.facts l.table l.all (all_optypes (components_in (drop l.file-index l.files))) ≡ with_heads l.facts l.table l.fn.all (all_optypes (components_in l.files))

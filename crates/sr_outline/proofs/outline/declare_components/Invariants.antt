@@ -5,6 +5,4 @@ use Rattle.sr_outline.specs.Outline.{all_optypes}
 use Rattle.sr_outline.proofs.outline.declare_components.Given as goal
 
 abbrev pub invariant-loop-component : goal.invariant-loop-component
-invariant-loop-component l =
-    (l.opening ≡ record l.fn.opening { heads = l.opening.heads })
-    × (with_heads l.facts l.fn.opening.shapes l.opening.heads (all_optypes (drop l.component-index l.components)) ≡ with_heads l.facts l.fn.opening.shapes l.fn.opening.heads (all_optypes l.components))
+invariant-loop-component l = with_heads l.facts l.table l.all (all_optypes (drop l.component-index l.components)) ≡ with_heads l.facts l.table l.fn.all (all_optypes l.components)
