@@ -2,7 +2,7 @@
 use Rattle.std.proofs.Common.{zero, suc, List, Result, arith}
 use Rattle.sr_tree.specs.declared.statement.BlockItem.{BlockItem}
 use Rattle.sr_tree.specs.declared.token.Token.{Token}
-use Rattle.sr_parse_expr.specs.declared.reading.ReadFail.{ReadFail}
+use Rattle.sr_parse_tokens.specs.declared.reading.ReadFail.{ReadFail}
 use Rattle.sr_program_reader.specs.StatementReaders.{block_at, blocks}
 use Rattle.sr_parser.specs.Reads.{ReadsStatementBelow, ReadsStatementUpTo}
 

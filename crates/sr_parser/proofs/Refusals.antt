@@ -3,10 +3,10 @@ use Rattle.std.proofs.Common.{◌≡◌, refl, ◌∙◌, ap, subst, ℕ, suc, �
 use Rattle.std.specs.Prelude.{slice_get}
 use Rattle.sr_reader.specs.Pieces.{IsDead}
 use Rattle.sr_tree.specs.declared.token.Token.{Token}
-use Rattle.sr_parse_expr.specs.Gives.{Fails}
+use Rattle.sr_parse_tokens.specs.Gives.{Fails}
 use Rattle.sr_parse_expr.specs.Refused.{IsRefusedIn, refusal_of, refused_at}
-use Rattle.sr_parse_expr.specs.declared.reading.ReadFail.{ReadFail}
-use Rattle.sr_parse_expr.specs.declared.reading.ReadFail.TheVariants as fail
+use Rattle.sr_parse_tokens.specs.declared.reading.ReadFail.{ReadFail}
+use Rattle.sr_parse_tokens.specs.declared.reading.ReadFail.TheVariants as fail
 use Rattle.sr_program_reader.specs.ComponentReaders.{file_at}
 use Rattle.sr_program_reader.specs.Files.{SpellsFile}
 use Rattle.sr_program_reader.specs.StatementReaders.{statement_readers}

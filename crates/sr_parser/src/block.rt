@@ -5,14 +5,15 @@ ghost use Rattle.sr_parser.specs.Reads.{ReadsStatementUpTo};
 ghost use Rattle.sr_program_reader.specs.ComponentReaders.{begins_proc_item, final_at, proc_at, proc_block_at, proc_item_at, procedure_at, process_at};
 ghost use Rattle.sr_program_reader.specs.DeclarationReaders.{items_at, next_item_at};
 
+use crate::behind::{let_go, pushed, separator_behind, word_behind};
 use crate::declaration::{const_decl, op_decl, sem_decl, var_decl};
-use crate::ends::end;
+use crate::ends::end_behind;
 use crate::parts::{enclosed_names, returned_name};
 use crate::quantifier::optional_quantifiers;
 use crate::statement::statement;
 use crate::words::next_is_statement;
-use sr_parse_expr::reading::{ReadFail, name, next_is_separator, next_is_word, separator, word};
 use sr_parse_expr::types::signature;
+use sr_parse_tokens::{ReadFail, name, next_is_separator, next_is_word, word};
 use sr_tree::{FinalCode, Proc, ProcItem, Procedure, Process, Token, Word};
 use sr_value::Row;
 use std::alloc::Global;
@@ -62,6 +63,20 @@ fn proc_block(alloc: Global, tokens: &[Token]) -> Result<(Row<ProcItem>, &[Token
     Ok((block, rest))
 }
 
+/// Reads such a block behind a tree.
+fn proc_block_behind<T: Drop>(
+    alloc: Global,
+    tree: T,
+    tokens: &[Token],
+) -> Result<(T, Row<ProcItem>, &[Token]), ReadFail>
+    ensures reads { ReadsStatementUpTo (λ x. (x.1, x.2.now)) tokens.now result (λ r. proc_block_at r) }
+    ensures kept { IfOk result (λ x. x.0 ≡ tree) }
+    ensures shorter { IfOk result (λ x. length x.2.now ≤ length tokens.now) }
+{
+    let (block, rest) = proc_block(alloc, tokens)?;
+    Ok((tree, block, rest))
+}
+
 /// Reads items of a block as long as they go on, behind others; the flag says whether one may begin here.
 #[tactic(auto, unfolding(sr_program_reader::specs::DeclarationReaders::items_at))]
 fn proc_items(
@@ -92,14 +107,18 @@ fn next_proc_item(
     ensures reads { ReadsStatementUpTo (λ x. (x.0, x.1.now)) tokens.now result (λ r. next_item_at (proc_item_at r) state) }
     ensures shorter { IfOk result (λ x. length x.1.now < length tokens.now) }
 {
-    let (mut items, _) = state;
+    let (items, _) = state;
     if next_is_separator(tokens) {
-        let (_, rest) = separator(tokens)?;
+        let (_, items, rest) = separator_behind(items, tokens)?;
         Ok(((items, true), rest))
     } else {
-        let (item, rest) = proc_item(alloc, tokens)?;
-        items.push(item)?;
-        Ok(((items, false), rest))
+        match proc_item(alloc, tokens) {
+            Ok((item, rest)) => Ok(((pushed(items, item)?, false), rest)),
+            Err(fail) => {
+                let_go(items);
+                Err(fail)
+            }
+        }
     }
 }
 
@@ -120,8 +139,9 @@ pub fn proc_decl(alloc: Global, tokens: &[Token]) -> Result<(Proc, &[Token]), Re
     let (name, rest) = name(alloc, rest)?;
     let (formals, rest) = enclosed_names(alloc, rest)?;
     let (returned, rest) = returned_name(alloc, rest)?;
-    let (block, rest) = proc_block(alloc, rest)?;
-    let (_, rest) = end(&name, rest)?;
+    let (before, block, rest) = proc_block_behind(alloc, (formals, returned), rest)?;
+    let (_, (before, block), rest) = end_behind((before, block), &name, rest)?;
+    let (formals, returned) = before;
     Ok((
         Proc {
             span,
@@ -143,8 +163,8 @@ pub fn procedure_decl(alloc: Global, tokens: &[Token]) -> Result<(Procedure, &[T
     let (span, rest) = word(tokens, Word::Procedure)?;
     let (name, rest) = name(alloc, rest)?;
     let (signature, rest) = signature(alloc, rest)?;
-    let (block, rest) = proc_block(alloc, rest)?;
-    let (_, rest) = end(&name, rest)?;
+    let (signature, block, rest) = proc_block_behind(alloc, signature, rest)?;
+    let (_, (signature, block), rest) = end_behind((signature, block), &name, rest)?;
     Ok((
         Procedure {
             span,
@@ -165,8 +185,8 @@ pub fn process_decl(alloc: Global, tokens: &[Token]) -> Result<(Process, &[Token
     let (span, rest) = word(tokens, Word::Process)?;
     let (name, rest) = name(alloc, rest)?;
     let (quantifiers, rest) = optional_quantifiers(alloc, rest)?;
-    let (block, rest) = proc_block(alloc, rest)?;
-    let (_, rest) = end(&name, rest)?;
+    let (quantifiers, block, rest) = proc_block_behind(alloc, quantifiers, rest)?;
+    let (_, (quantifiers, block), rest) = end_behind((quantifiers, block), &name, rest)?;
     Ok((
         Process {
             span,
@@ -186,6 +206,6 @@ pub fn final_code(alloc: Global, tokens: &[Token]) -> Result<(FinalCode, &[Token
 {
     let (span, rest) = word(tokens, Word::Final)?;
     let (block, rest) = proc_block(alloc, rest)?;
-    let (_, rest) = word(rest, Word::End)?;
+    let (_, block, rest) = word_behind(block, rest, Word::End)?;
     Ok((FinalCode { span, block }, rest))
 }

@@ -3,10 +3,9 @@ ghost use Rattle.sr_reader.specs.Reader.{next_is};
 ghost use Rattle.sr_parse_expr.specs.Reads.{ReadsTypeUpTo};
 ghost use Rattle.sr_program_reader.specs.ComponentReaders.{is_mode_by_place, more_value_formals_at, next_value_formal_at, optional_value_formals_at, value_formal_at, value_formals_at};
 
-use sr_parse_expr::reading::{
-    ReadFail, next_is_separator, next_is_sign, next_is_word, separator, sign,
-};
+use crate::behind::{let_go, pushed, row_of, separator_behind};
 use sr_parse_expr::types::formal;
+use sr_parse_tokens::{ReadFail, next_is_separator, next_is_sign, next_is_word, sign, sign_behind};
 use sr_tree::{Formal, Sign, Token, Word};
 use sr_value::Row;
 use std::alloc::Global;
@@ -61,11 +60,14 @@ fn next_value_formal(
     ensures reads { ReadsTypeUpTo (λ x. (x.0, x.1.now)) tokens.now result (λ r. next_value_formal_at r formals) }
     ensures shorter { IfOk result (λ x. length x.1.now < length tokens.now) }
 {
-    let mut formals = formals;
-    let (_, rest) = separator(tokens)?;
-    let (next, rest) = value_formal(alloc, rest)?;
-    formals.push(next)?;
-    Ok((formals, rest))
+    let (_, formals, rest) = separator_behind(formals, tokens)?;
+    match value_formal(alloc, rest) {
+        Ok((next, rest)) => Ok((pushed(formals, next)?, rest)),
+        Err(fail) => {
+            let_go(formals);
+            Err(fail)
+        }
+    }
 }
 
 /// Reads formals in parentheses that are passed by value.
@@ -80,16 +82,15 @@ pub fn value_formals(alloc: Global, tokens: &[Token]) -> Result<(Row<Formal>, &[
         return Ok((Row::new(alloc), rest));
     }
     let (formal, rest) = value_formal(alloc, rest)?;
-    let mut first = Row::new(alloc);
-    first.push(formal)?;
+    let first = row_of(alloc, formal)?;
     let (formals, rest) = more_value_formals(alloc, first, rest)?;
-    let (_, rest) = sign(rest, Sign::CloseParen)?;
+    let (_, formals, rest) = sign_behind(formals, rest, Sign::CloseParen)?;
     Ok((formals, rest))
 }
 
 /// Reads such formals, where they stand.
 #[tactic(auto, unfolding(sr_program_reader::specs::ComponentReaders::optional_value_formals_at))]
-pub fn optional_value_formals(
+fn optional_value_formals(
     alloc: Global,
     tokens: &[Token],
 ) -> Result<(Row<Formal>, &[Token]), ReadFail>
@@ -101,4 +102,18 @@ pub fn optional_value_formals(
     } else {
         Ok((Row::new(alloc), tokens))
     }
+}
+
+/// Reads such formals behind a tree, where they stand.
+pub fn optional_value_formals_behind<T: Drop>(
+    alloc: Global,
+    tree: T,
+    tokens: &[Token],
+) -> Result<(T, Row<Formal>, &[Token]), ReadFail>
+    ensures reads { ReadsTypeUpTo (λ x. (x.1, x.2.now)) tokens.now result (λ r. optional_value_formals_at r) }
+    ensures kept { IfOk result (λ x. x.0 ≡ tree) }
+    ensures shorter { IfOk result (λ x. length x.2.now ≤ length tokens.now) }
+{
+    let (formals, rest) = optional_value_formals(alloc, tokens)?;
+    Ok((tree, formals, rest))
 }

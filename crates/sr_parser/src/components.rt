@@ -5,13 +5,12 @@ ghost use Rattle.sr_parser.specs.Reads.{ReadsStatementUpTo};
 ghost use Rattle.sr_program_reader.specs.ComponentReaders.{begins_component, component_at, file_at, global_at, global_body_at, resource_at, split_resource_at, whole_resource_at};
 ghost use Rattle.sr_program_reader.specs.DeclarationReaders.{items_at, list_at, next_item_at};
 
-use crate::by_value::{optional_value_formals, value_formals};
-use crate::ends::{end, nothing_more, this_name};
-use crate::items::{global_items, resource_items};
+use crate::behind::{let_go, pushed, separator_behind, word_behind};
+use crate::by_value::{optional_value_formals_behind, value_formals};
+use crate::ends::{end_behind, nothing_more, this_name, this_name_behind};
+use crate::items::{global_items, resource_items_behind};
 use crate::spec::{global_spec, resource_spec};
-use sr_parse_expr::reading::{
-    ReadFail, name, next_is_separator, next_is_sign, next_is_word, separator, word,
-};
+use sr_parse_tokens::{ReadFail, name, next_is_separator, next_is_sign, next_is_word, word};
 use sr_tree::{Component, File, Item, Name, Sign, Token, Word};
 use sr_value::{Row, Span};
 use std::alloc::Global;
@@ -28,8 +27,8 @@ fn whole_resource(
     ensures shorter { IfOk result (λ x. length x.1.now < length tokens.now) }
 {
     let (formals, rest) = value_formals(alloc, tokens)?;
-    let (items, rest) = resource_items(alloc, rest)?;
-    let (_, rest) = end(&name, rest)?;
+    let (formals, items, rest) = resource_items_behind(alloc, formals, rest)?;
+    let (_, (formals, items), rest) = end_behind((formals, items), &name, rest)?;
     Ok((
         Component::Resource {
             span,
@@ -53,11 +52,12 @@ fn split_resource(
     ensures shorter { IfOk result (λ x. length x.1.now < length tokens.now) }
 {
     let (spec, rest) = resource_spec(alloc, tokens)?;
-    let (_, rest) = word(rest, Word::Body)?;
-    let (_, rest) = this_name(&name, rest)?;
-    let (formals, rest) = optional_value_formals(alloc, rest)?;
-    let (items, rest) = resource_items(alloc, rest)?;
-    let (_, rest) = end(&name, rest)?;
+    let (_, spec, rest) = word_behind(spec, rest, Word::Body)?;
+    let (_, spec, rest) = this_name_behind(spec, &name, rest)?;
+    let (spec, formals, rest) = optional_value_formals_behind(alloc, spec, rest)?;
+    let (before, items, rest) = resource_items_behind(alloc, (spec, formals), rest)?;
+    let (_, (before, items), rest) = end_behind((before, items), &name, rest)?;
+    let (spec, formals) = before;
     Ok((
         Component::SplitResource {
             span,
@@ -105,6 +105,21 @@ fn global_body<'a>(
     }
 }
 
+/// Reads the body of a global behind a tree, where one stands.
+fn global_body_behind<'a, T: Drop>(
+    alloc: Global,
+    tree: T,
+    name: &Name,
+    tokens: &'a [Token],
+) -> Result<(T, Option<Row<Item>>, &'a [Token]), ReadFail>
+    ensures reads { ReadsStatementUpTo (λ x. (x.1, x.2.now)) tokens.now result (λ r. global_body_at r name.now) }
+    ensures kept { IfOk result (λ x. x.0 ≡ tree) }
+    ensures shorter { IfOk result (λ x. length x.2.now ≤ length tokens.now) }
+{
+    let (body, rest) = global_body(alloc, name, tokens)?;
+    Ok((tree, body, rest))
+}
+
 /// Reads a global.
 #[tactic(auto, unfolding(sr_program_reader::specs::ComponentReaders::global_at))]
 fn global(alloc: Global, tokens: &[Token]) -> Result<(Component, &[Token]), ReadFail>
@@ -114,8 +129,8 @@ fn global(alloc: Global, tokens: &[Token]) -> Result<(Component, &[Token]), Read
     let (span, rest) = word(tokens, Word::Global)?;
     let (name, rest) = name(alloc, rest)?;
     let (spec, rest) = global_spec(alloc, rest)?;
-    let (body, rest) = global_body(alloc, &name, rest)?;
-    let (_, rest) = end(&name, rest)?;
+    let (spec, body, rest) = global_body_behind(alloc, spec, &name, rest)?;
+    let (_, (spec, body), rest) = end_behind((spec, body), &name, rest)?;
     Ok((
         Component::Global {
             span,
@@ -163,8 +178,13 @@ pub fn file(alloc: Global, tokens: &[Token]) -> Result<(File, &[Token]), ReadFai
     ensures reads { ReadsStatementUpTo (λ x. (x.0, x.1.now)) tokens.now result (λ r. file_at r) }
 {
     let (components, rest) = component_list(alloc, tokens)?;
-    let (_, rest) = nothing_more(rest)?;
-    Ok((File { components }, rest))
+    match nothing_more(rest) {
+        Ok((_, rest)) => Ok((File { components }, rest)),
+        Err(fail) => {
+            let_go(components);
+            Err(fail)
+        }
+    }
 }
 
 /// Reads components as long as they go on, behind others; the flag says whether one may begin here.
@@ -197,14 +217,18 @@ fn next_component(
     ensures reads { ReadsStatementUpTo (λ x. (x.0, x.1.now)) tokens.now result (λ r. next_item_at (component_at r) state) }
     ensures shorter { IfOk result (λ x. length x.1.now < length tokens.now) }
 {
-    let (mut items, _) = state;
+    let (items, _) = state;
     if next_is_separator(tokens) {
-        let (_, rest) = separator(tokens)?;
+        let (_, items, rest) = separator_behind(items, tokens)?;
         Ok(((items, true), rest))
     } else {
-        let (item, rest) = component(alloc, tokens)?;
-        items.push(item)?;
-        Ok(((items, false), rest))
+        match component(alloc, tokens) {
+            Ok((item, rest)) => Ok(((pushed(items, item)?, false), rest)),
+            Err(fail) => {
+                let_go(items);
+                Err(fail)
+            }
+        }
     }
 }
 

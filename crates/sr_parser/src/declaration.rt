@@ -2,12 +2,12 @@ ghost use Rattle.std.specs.Prelude.{◌≡◌, ◌<◌, ◌≤◌, length, IfOk}
 ghost use Rattle.sr_parse_expr.specs.Reads.{ReadsTypeUpTo, ReadsUpTo};
 ghost use Rattle.sr_program_reader.specs.DeclarationReaders.{const_at, import_at, initial_at, more_op_items_at, more_semaphores_at, next_op_item_at, next_semaphore_at, op_at, op_item_at, optional_type_at, optype_at, sem_at, semaphore_at, type_decl_at, values_at, var_at};
 
-use crate::behind::expression_behind;
+use crate::behind::{expression_behind, let_go, pushed, row_of};
 use sr_parse_expr::declared::{decls, names};
 use sr_parse_expr::expression::{LOOSEST, more_arguments, operand};
 use sr_parse_expr::pieces::qualified_name;
-use sr_parse_expr::reading::{ReadFail, name, next_is_sign, sign, sign_behind, word};
 use sr_parse_expr::types::{plain_type, signature, type_tree};
+use sr_parse_tokens::{ReadFail, name, next_is_sign, sign, sign_behind, word};
 use sr_tree::{
     ConstDecl, Expr, Import, OpDecl, OpItem, OpTypeDecl, SemDecl, Semaphore, Sign, Token, TypeDecl,
     TypeTree, VarDecl, Word,
@@ -151,11 +151,14 @@ fn next_op_item(
     ensures reads { ReadsTypeUpTo (λ x. (x.0, x.1.now)) tokens.now result (λ r. next_op_item_at r items) }
     ensures shorter { IfOk result (λ x. length x.1.now < length tokens.now) }
 {
-    let mut items = items;
-    let (_, rest) = sign(tokens, Sign::Comma)?;
-    let (next, rest) = op_item(alloc, rest)?;
-    items.push(next)?;
-    Ok((items, rest))
+    let (_, items, rest) = sign_behind(items, tokens, Sign::Comma)?;
+    match op_item(alloc, rest) {
+        Ok((next, rest)) => Ok((pushed(items, next)?, rest)),
+        Err(fail) => {
+            let_go(items);
+            Err(fail)
+        }
+    }
 }
 
 /// Reads the declaration of operations.
@@ -166,8 +169,7 @@ pub fn op_decl(alloc: Global, tokens: &[Token]) -> Result<(OpDecl, &[Token]), Re
 {
     let (span, rest) = word(tokens, Word::Op)?;
     let (first, rest) = op_item(alloc, rest)?;
-    let mut items = Row::new(alloc);
-    items.push(first)?;
+    let items = row_of(alloc, first)?;
     let (items, rest) = more_op_items(alloc, items, rest)?;
     Ok((OpDecl { span, items }, rest))
 }
@@ -186,8 +188,7 @@ fn values<T: Drop>(
     if next_is_sign(tokens, Sign::Assign) {
         let (_, rest) = sign(tokens, Sign::Assign)?;
         let (first, rest) = operand(alloc, LOOSEST, rest)?;
-        let mut values = Row::new(alloc);
-        values.push(first)?;
+        let values = row_of(alloc, first)?;
         let (values, rest) = more_arguments(alloc, values, rest)?;
         Ok((ty, values, rest))
     } else {
@@ -204,7 +205,7 @@ pub fn var_decl(alloc: Global, tokens: &[Token]) -> Result<(VarDecl, &[Token]), 
     let (span, rest) = word(tokens, Word::Var)?;
     let (decls, rest) = decls(alloc, rest)?;
     let (ty, rest) = optional_type(alloc, rest)?;
-    let (ty, values, rest) = values(alloc, ty, rest)?;
+    let ((decls, ty), values, rest) = values(alloc, (decls, ty), rest)?;
     Ok((
         VarDecl {
             span,
@@ -273,11 +274,14 @@ fn next_semaphore(
     ensures reads { ReadsUpTo (λ x. (x.0, x.1.now)) tokens.now result (λ r. next_semaphore_at r semaphores) }
     ensures shorter { IfOk result (λ x. length x.1.now < length tokens.now) }
 {
-    let mut semaphores = semaphores;
-    let (_, rest) = sign(tokens, Sign::Comma)?;
-    let (next, rest) = semaphore(alloc, rest)?;
-    semaphores.push(next)?;
-    Ok((semaphores, rest))
+    let (_, semaphores, rest) = sign_behind(semaphores, tokens, Sign::Comma)?;
+    match semaphore(alloc, rest) {
+        Ok((next, rest)) => Ok((pushed(semaphores, next)?, rest)),
+        Err(fail) => {
+            let_go(semaphores);
+            Err(fail)
+        }
+    }
 }
 
 /// Reads the declaration of semaphores.
@@ -288,8 +292,7 @@ pub fn sem_decl(alloc: Global, tokens: &[Token]) -> Result<(SemDecl, &[Token]), 
 {
     let (span, rest) = word(tokens, Word::Sem)?;
     let (first, rest) = semaphore(alloc, rest)?;
-    let mut semaphores = Row::new(alloc);
-    semaphores.push(first)?;
+    let semaphores = row_of(alloc, first)?;
     let (semaphores, rest) = more_semaphores(alloc, semaphores, rest)?;
     Ok((SemDecl { span, semaphores }, rest))
 }

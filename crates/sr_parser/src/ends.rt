@@ -1,8 +1,8 @@
 ghost use Rattle.std.specs.Prelude.{◌≡◌, ◌<◌, length, IfOk};
-ghost use Rattle.sr_parse_expr.specs.Gives.{Gives};
+ghost use Rattle.sr_parse_tokens.specs.Gives.{Gives};
 ghost use Rattle.sr_program_reader.specs.ComponentReaders.{end_at, end_of_tokens, is_this_name, this_name_at};
 
-use sr_parse_expr::reading::{ReadFail, next_is_name, word};
+use sr_parse_tokens::{ReadFail, next_is_name, word};
 use sr_tree::{Name, Token, TokenKind, Word};
 use sr_value::Span;
 
@@ -33,7 +33,7 @@ pub fn this_name<'a>(wanted: &Name, tokens: &'a [Token]) -> Result<(Span, &'a [T
 
 /// Reads `end`, and the name of what ends where one is written.
 #[tactic(auto, unfolding(sr_program_reader::specs::ComponentReaders::end_at))]
-pub fn end<'a>(name: &Name, tokens: &'a [Token]) -> Result<(Span, &'a [Token]), ReadFail>
+fn end<'a>(name: &Name, tokens: &'a [Token]) -> Result<(Span, &'a [Token]), ReadFail>
     ensures reads { Gives (λ x. (x.0, x.1.now)) result (end_at name.now tokens.now) }
     ensures shorter { IfOk result (λ x. length x.1.now < length tokens.now) }
 {
@@ -43,6 +43,34 @@ pub fn end<'a>(name: &Name, tokens: &'a [Token]) -> Result<(Span, &'a [Token]), 
     } else {
         Ok((span, rest))
     }
+}
+
+/// Reads a name of the same text behind a tree.
+pub fn this_name_behind<'a, T: Drop>(
+    tree: T,
+    wanted: &Name,
+    tokens: &'a [Token],
+) -> Result<(Span, T, &'a [Token]), ReadFail>
+    ensures reads { Gives (λ x. (x.0, x.2.now)) result (this_name_at wanted.now tokens.now) }
+    ensures kept { IfOk result (λ x. x.1 ≡ tree) }
+    ensures shorter { IfOk result (λ x. length x.2.now < length tokens.now) }
+{
+    let (span, rest) = this_name(wanted, tokens)?;
+    Ok((span, tree, rest))
+}
+
+/// Reads `end`, and the name of what ends where one is written, behind a tree.
+pub fn end_behind<'a, T: Drop>(
+    tree: T,
+    name: &Name,
+    tokens: &'a [Token],
+) -> Result<(Span, T, &'a [Token]), ReadFail>
+    ensures reads { Gives (λ x. (x.0, x.2.now)) result (end_at name.now tokens.now) }
+    ensures kept { IfOk result (λ x. x.1 ≡ tree) }
+    ensures shorter { IfOk result (λ x. length x.2.now < length tokens.now) }
+{
+    let (span, rest) = end(name, tokens)?;
+    Ok((span, tree, rest))
 }
 
 /// Reads the end of the tokens.

@@ -3,11 +3,11 @@ ghost use Rattle.sr_parse_expr.specs.Reads.{ReadsUpTo};
 ghost use Rattle.sr_parser.specs.ArmReaders.{arm_head_at, arm_head_behind_at, called_head_at, co_head_at, primary_head_at, quantified_head_at, target_head_at};
 ghost use Rattle.sr_program_reader.specs.StatementReaders.{co_start_at, first_of};
 
-use crate::behind::{invocation_behind, word_behind};
+use crate::behind::{invocation_behind, let_go, word_behind};
 use crate::parts::{by, condition, enclosed_names, invoked, named, returned_name};
 use crate::quantifier::enclosed_quantifiers;
 use sr_parse_expr::expression::primary;
-use sr_parse_expr::reading::{ReadFail, name, next_is_sign, next_is_word, sign_behind};
+use sr_parse_tokens::{ReadFail, name, next_is_sign, next_is_word, sign_behind};
 use sr_tree::{ArmCondition, Expr, Invocation, Name, Quantifier, Sign, Token, Word};
 use sr_value::{Row, Span};
 use std::alloc::Global;
@@ -56,7 +56,11 @@ fn arm_head_behind(
 {
     let (returned, rest) = returned_name(alloc, tokens)?;
     let (condition, rest) = condition(alloc, rest)?;
-    let (condition, order, rest) = by(alloc, condition, rest)?;
+    let ((operation, formals, returned, condition), order, rest) = by(
+        alloc,
+        (operation, formals, returned, condition),
+        rest,
+    )?;
     Ok((
         ArmHead {
             operation,
@@ -81,8 +85,8 @@ fn called_head(
     ensures reads { ReadsUpTo (λ x. (x.0, x.1.now)) tokens.now result (λ r. called_head_at r start quantifiers target) }
     ensures shorter { IfOk result (λ x. length x.1.now < length tokens.now) }
 {
-    let (span, target, rest) = word_behind(target, tokens, Word::Call)?;
-    let (target, invocation, rest) = invocation_behind(alloc, target, rest)?;
+    let (span, before, rest) = word_behind((quantifiers, target), tokens, Word::Call)?;
+    let ((quantifiers, target), invocation, rest) = invocation_behind(alloc, before, rest)?;
     let span = first_of(start, span);
     let with_call = true;
     Ok((
@@ -112,7 +116,11 @@ fn target_head(
     if next_is_word(tokens, Word::Call) {
         called_head(alloc, Some(span), quantifiers, Some(target), tokens)
     } else {
-        let (target, invocation, rest) = invocation_behind(alloc, target, tokens)?;
+        let ((quantifiers, target), invocation, rest) = invocation_behind(
+            alloc,
+            (quantifiers, target),
+            tokens,
+        )?;
         let target = Some(target);
         let with_call = false;
         Ok((
@@ -158,22 +166,33 @@ fn primary_head(
     let (primary, rest) = first_primary(alloc, start, tokens)?;
     let span = first_of(start, primary.span());
     if next_is_sign(rest, Sign::Assign) {
-        let (_, primary, rest) = sign_behind(primary, rest, Sign::Assign)?;
-        target_head(alloc, span, quantifiers, primary, rest)
-    } else {
-        let (invocation, rest) = invoked(primary, rest)?;
-        let target = None;
-        let with_call = false;
-        Ok((
-            CoHead {
-                span,
-                quantifiers,
-                target,
-                with_call,
-                invocation,
-            },
+        let (_, (quantifiers, target), rest) = sign_behind(
+            (quantifiers, primary),
             rest,
-        ))
+            Sign::Assign,
+        )?;
+        target_head(alloc, span, quantifiers, target, rest)
+    } else {
+        match invoked(primary, rest) {
+            Ok((invocation, rest)) => {
+                let target = None;
+                let with_call = false;
+                Ok((
+                    CoHead {
+                        span,
+                        quantifiers,
+                        target,
+                        with_call,
+                        invocation,
+                    },
+                    rest,
+                ))
+            }
+            Err(fail) => {
+                let_go(quantifiers);
+                Err(fail)
+            }
+        }
     }
 }
 

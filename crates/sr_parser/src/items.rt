@@ -2,15 +2,16 @@ ghost use Rattle.std.specs.Prelude.{◌≡◌, ◌<◌, ◌≤◌, length, true,
 ghost use Rattle.sr_reader.specs.Reader.{next_is};
 ghost use Rattle.sr_tree.specs.Tokens.{is_separator};
 ghost use Rattle.sr_parser.specs.Reads.{ReadsStatementUpTo};
-ghost use Rattle.sr_program_reader.specs.ComponentReaders.{begins_item, final_and_items_at, global_items_at, is_final_code, item_at, plain_items_at, resource_items_at};
+ghost use Rattle.sr_program_reader.specs.ComponentReaders.{begins_item, final_and_items_at, final_at, global_items_at, is_final_code, item_at, plain_items_at, resource_items_at};
 ghost use Rattle.sr_program_reader.specs.DeclarationReaders.{items_at, next_item_at};
 
+use crate::behind::{let_go, pushed, separator_behind};
 use crate::block::{final_code, proc_decl, procedure_decl, process_decl};
 use crate::spec::{next_is_spec, spec_item};
 use crate::statement::statement;
 use crate::words::next_is_statement;
-use sr_parse_expr::reading::{ReadFail, next_is_separator, next_is_word, separator};
-use sr_tree::{Item, Token, Word};
+use sr_parse_tokens::{ReadFail, next_is_separator, next_is_word};
+use sr_tree::{FinalCode, Item, Token, Word};
 use sr_value::Row;
 use std::alloc::Global;
 
@@ -69,6 +70,20 @@ fn next_is_final(state: &(Row<Item>, bool), tokens: &[Token]) -> bool
     state.1 && next_is_word(tokens, Word::Final)
 }
 
+/// Reads final code behind a tree.
+fn final_code_behind<T: Drop>(
+    alloc: Global,
+    tree: T,
+    tokens: &[Token],
+) -> Result<(T, FinalCode, &[Token]), ReadFail>
+    ensures reads { ReadsStatementUpTo (λ x. (x.1, x.2.now)) tokens.now result (λ r. final_at r) }
+    ensures kept { IfOk result (λ x. x.0 ≡ tree) }
+    ensures shorter { IfOk result (λ x. length x.2.now < length tokens.now) }
+{
+    let (code, rest) = final_code(alloc, tokens)?;
+    Ok((tree, code, rest))
+}
+
 /// Reads final code and the items behind it, behind others.
 #[tactic(auto, unfolding(sr_program_reader::specs::ComponentReaders::final_and_items_at))]
 fn final_and_items(
@@ -79,16 +94,15 @@ fn final_and_items(
     ensures reads { ReadsStatementUpTo (λ x. (x.0, x.1.now)) tokens.now result (λ r. final_and_items_at r before) }
     ensures shorter { IfOk result (λ x. length x.1.now < length tokens.now) }
 {
-    let mut items = before;
-    let (code, rest) = final_code(alloc, tokens)?;
-    items.push(Item::Final(code))?;
+    let (before, code, rest) = final_code_behind(alloc, before, tokens)?;
+    let items = pushed(before, Item::Final(code))?;
     let ((items, _), rest) = plain_items(alloc, (items, false), rest)?;
     Ok((items, rest))
 }
 
 /// Reads the items of a resource.
 #[tactic(auto, unfolding(sr_program_reader::specs::ComponentReaders::resource_items_at))]
-pub fn resource_items(alloc: Global, tokens: &[Token]) -> Result<(Row<Item>, &[Token]), ReadFail>
+fn resource_items(alloc: Global, tokens: &[Token]) -> Result<(Row<Item>, &[Token]), ReadFail>
     ensures reads { ReadsStatementUpTo (λ x. (x.0, x.1.now)) tokens.now result (λ r. resource_items_at r) }
     ensures shorter { IfOk result (λ x. length x.1.now ≤ length tokens.now) }
 {
@@ -98,6 +112,20 @@ pub fn resource_items(alloc: Global, tokens: &[Token]) -> Result<(Row<Item>, &[T
     } else {
         Ok((state.0, rest))
     }
+}
+
+/// Reads the items of a resource behind a tree.
+pub fn resource_items_behind<T: Drop>(
+    alloc: Global,
+    tree: T,
+    tokens: &[Token],
+) -> Result<(T, Row<Item>, &[Token]), ReadFail>
+    ensures reads { ReadsStatementUpTo (λ x. (x.1, x.2.now)) tokens.now result (λ r. resource_items_at r) }
+    ensures kept { IfOk result (λ x. x.0 ≡ tree) }
+    ensures shorter { IfOk result (λ x. length x.2.now ≤ length tokens.now) }
+{
+    let (items, rest) = resource_items(alloc, tokens)?;
+    Ok((tree, items, rest))
 }
 
 /// Reads the items of a global.
@@ -140,14 +168,18 @@ fn next_item(
     ensures reads { ReadsStatementUpTo (λ x. (x.0, x.1.now)) tokens.now result (λ r. next_item_at (item_at r) state) }
     ensures shorter { IfOk result (λ x. length x.1.now < length tokens.now) }
 {
-    let (mut items, _) = state;
+    let (items, _) = state;
     if next_is_separator(tokens) {
-        let (_, rest) = separator(tokens)?;
+        let (_, items, rest) = separator_behind(items, tokens)?;
         Ok(((items, true), rest))
     } else {
-        let (item, rest) = item(alloc, tokens)?;
-        items.push(item)?;
-        Ok(((items, false), rest))
+        match item(alloc, tokens) {
+            Ok((item, rest)) => Ok(((pushed(items, item)?, false), rest)),
+            Err(fail) => {
+                let_go(items);
+                Err(fail)
+            }
+        }
     }
 }
 

@@ -1,12 +1,13 @@
 ghost use Rattle.std.specs.Prelude.{◌≡◌, ◌<◌, ◌≤◌, length, IfOk};
-ghost use Rattle.sr_parse_expr.specs.Gives.{Gives};
+ghost use Rattle.sr_parse_tokens.specs.Gives.{Gives};
 ghost use Rattle.sr_parse_expr.specs.Reads.{ReadsUpTo};
 ghost use Rattle.sr_program_reader.specs.StatementReaders.{by_at, condition_at, enclosed_names_at, invocation_at, invocation_of, invoked_at, more_places_at, named_at, next_place_at, optional_names_at, places_at, returned_name_at, status_at, such_that_at};
 
+use crate::behind::{let_go, pushed, row_of};
 use crate::words::{next_is_condition, read_condition_word};
 use sr_parse_expr::declared::names;
 use sr_parse_expr::expression::{LOOSEST, operand, primary};
-use sr_parse_expr::reading::{
+use sr_parse_tokens::{
     ReadFail, name, next_is_name, next_is_sign, next_is_word, sign, sign_behind, word,
 };
 use sr_tree::{ArmCondition, Expr, Invocation, Name, Sign, Token, Word};
@@ -76,10 +77,9 @@ pub fn places(alloc: Global, tokens: &[Token]) -> Result<(Row<Expr>, &[Token]), 
         return Ok((Row::new(alloc), rest));
     }
     let (place, rest) = primary(alloc, rest)?;
-    let mut first = Row::new(alloc);
-    first.push(place)?;
+    let first = row_of(alloc, place)?;
     let (places, rest) = more_places(alloc, first, rest)?;
-    let (_, rest) = sign(rest, Sign::CloseParen)?;
+    let (_, places, rest) = sign_behind(places, rest, Sign::CloseParen)?;
     Ok((places, rest))
 }
 
@@ -113,11 +113,14 @@ fn next_place(
     ensures reads { ReadsUpTo (λ x. (x.0, x.1.now)) tokens.now result (λ r. next_place_at r places) }
     ensures shorter { IfOk result (λ x. length x.1.now < length tokens.now) }
 {
-    let mut places = places;
-    let (_, rest) = sign(tokens, Sign::Comma)?;
-    let (next, rest) = primary(alloc, rest)?;
-    places.push(next)?;
-    Ok((places, rest))
+    let (_, places, rest) = sign_behind(places, tokens, Sign::Comma)?;
+    match primary(alloc, rest) {
+        Ok((next, rest)) => Ok((pushed(places, next)?, rest)),
+        Err(fail) => {
+            let_go(places);
+            Err(fail)
+        }
+    }
 }
 
 /// Reads `by` and an expression behind a tree, where they stand, and hands the tree back.

@@ -2,11 +2,11 @@ ghost use Rattle.std.specs.Prelude.{◌≡◌, ◌<◌, ◌≤◌, length, IfOk}
 ghost use Rattle.sr_parse_expr.specs.Reads.{ReadsUpTo};
 ghost use Rattle.sr_program_reader.specs.StatementReaders.{enclosed_quantifiers_at, more_quantifiers_at, next_quantifier_at, optional_quantifiers_at, quantifier_at, quantifiers_at};
 
-use crate::behind::expression_behind;
+use crate::behind::{expression_behind, let_go, pushed, row_of};
 use crate::parts::{by, such_that};
 use crate::words::read_direction;
 use sr_parse_expr::expression::{LOOSEST, operand};
-use sr_parse_expr::reading::{ReadFail, name, next_is_sign, sign};
+use sr_parse_tokens::{ReadFail, name, next_is_sign, sign, sign_behind};
 use sr_tree::{Quantifier, Sign, Token};
 use sr_value::{Row, Span};
 use std::alloc::Global;
@@ -21,10 +21,11 @@ fn quantifier(alloc: Global, tokens: &[Token]) -> Result<(Quantifier, &[Token]),
     let span = name.span;
     let (_, rest) = sign(rest, Sign::Assign)?;
     let (first, rest) = operand(alloc, LOOSEST, rest)?;
-    let (first, direction, rest) = read_direction(first, rest)?;
-    let (first, last, rest) = expression_behind(alloc, first, rest)?;
-    let ((first, last), step, rest) = by(alloc, (first, last), rest)?;
-    let ((first, last, step), such_that, rest) = such_that(alloc, (first, last, step), rest)?;
+    let (before, direction, rest) = read_direction((name, first), rest)?;
+    let (before, last, rest) = expression_behind(alloc, before, rest)?;
+    let (before, step, rest) = by(alloc, (before, last), rest)?;
+    let ((before, step), such_that, rest) = such_that(alloc, (before, step), rest)?;
+    let ((name, first), last) = before;
     Ok((
         Quantifier {
             span,
@@ -46,8 +47,7 @@ pub fn quantifiers(alloc: Global, tokens: &[Token]) -> Result<(Row<Quantifier>, 
     ensures shorter { IfOk result (λ x. length x.1.now < length tokens.now) }
 {
     let (first, rest) = quantifier(alloc, tokens)?;
-    let mut quantifiers = Row::new(alloc);
-    quantifiers.push(first)?;
+    let quantifiers = row_of(alloc, first)?;
     more_quantifiers(alloc, quantifiers, rest)
 }
 
@@ -81,11 +81,14 @@ fn next_quantifier(
     ensures reads { ReadsUpTo (λ x. (x.0, x.1.now)) tokens.now result (λ r. next_quantifier_at r quantifiers) }
     ensures shorter { IfOk result (λ x. length x.1.now < length tokens.now) }
 {
-    let mut quantifiers = quantifiers;
-    let (_, rest) = sign(tokens, Sign::Comma)?;
-    let (next, rest) = quantifier(alloc, rest)?;
-    quantifiers.push(next)?;
-    Ok((quantifiers, rest))
+    let (_, quantifiers, rest) = sign_behind(quantifiers, tokens, Sign::Comma)?;
+    match quantifier(alloc, rest) {
+        Ok((next, rest)) => Ok((pushed(quantifiers, next)?, rest)),
+        Err(fail) => {
+            let_go(quantifiers);
+            Err(fail)
+        }
+    }
 }
 
 /// Reads quantifiers in parentheses, and gives the span of the opening one too.
@@ -99,7 +102,7 @@ pub fn enclosed_quantifiers(
 {
     let (span, rest) = sign(tokens, Sign::OpenParen)?;
     let (quantifiers, rest) = quantifiers(alloc, rest)?;
-    let (_, rest) = sign(rest, Sign::CloseParen)?;
+    let (_, quantifiers, rest) = sign_behind(quantifiers, rest, Sign::CloseParen)?;
     Ok(((span, quantifiers), rest))
 }
 

@@ -1,5 +1,5 @@
 ghost use Rattle.std.specs.Prelude.{◌≡◌, ◌<◌, ◌≤◌, length, IfOk};
-ghost use Rattle.sr_parse_expr.specs.Gives.{Gives};
+ghost use Rattle.sr_parse_tokens.specs.Gives.{Gives};
 ghost use Rattle.sr_parse_expr.specs.Reads.{ReadsUpTo};
 ghost use Rattle.sr_tree.specs.declared.statement.Statement.TheVariants as statement;
 ghost use Rattle.sr_tree.specs.declared.token.Word.TheVariants as words;
@@ -8,7 +8,7 @@ ghost use Rattle.sr_program_reader.specs.StatementReaders.{assign_at, behind_pri
 use crate::behind::{expression_behind, primary_behind};
 use crate::parts::{invocation, invoked, places, status};
 use sr_parse_expr::expression::{create, primary};
-use sr_parse_expr::reading::{ReadFail, name, next_is_sign, sign_behind, word};
+use sr_parse_tokens::{ReadFail, name, next_is_sign, sign_behind, word};
 use sr_tree::{Expr, Sign, Statement, Token, Word};
 use std::alloc::Global;
 

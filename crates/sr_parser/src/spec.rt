@@ -5,10 +5,11 @@ ghost use Rattle.sr_parse_expr.specs.Reads.{ReadsTypeUpTo};
 ghost use Rattle.sr_program_reader.specs.ComponentReaders.{begins_resource_spec, begins_spec, global_spec_at, resource_spec_at, resource_spec_item_at, spec_item_at};
 ghost use Rattle.sr_program_reader.specs.DeclarationReaders.{items_at, next_item_at};
 
+use crate::behind::{let_go, pushed, separator_behind};
 use crate::declaration::{
     const_decl, import_decl, op_decl, optype_decl, sem_decl, type_decl, var_decl,
 };
-use sr_parse_expr::reading::{ReadFail, next_is_separator, next_is_word, separator};
+use sr_parse_tokens::{ReadFail, next_is_separator, next_is_word};
 use sr_tree::{SpecItem, Token, Word};
 use sr_value::Row;
 use std::alloc::Global;
@@ -124,14 +125,18 @@ fn next_resource_spec_item(
     ensures reads { ReadsTypeUpTo (λ x. (x.0, x.1.now)) tokens.now result (λ r. next_item_at (resource_spec_item_at r) state) }
     ensures shorter { IfOk result (λ x. length x.1.now < length tokens.now) }
 {
-    let (mut items, _) = state;
+    let (items, _) = state;
     if next_is_separator(tokens) {
-        let (_, rest) = separator(tokens)?;
+        let (_, items, rest) = separator_behind(items, tokens)?;
         Ok(((items, true), rest))
     } else {
-        let (item, rest) = resource_spec_item(alloc, tokens)?;
-        items.push(item)?;
-        Ok(((items, false), rest))
+        match resource_spec_item(alloc, tokens) {
+            Ok((item, rest)) => Ok(((pushed(items, item)?, false), rest)),
+            Err(fail) => {
+                let_go(items);
+                Err(fail)
+            }
+        }
     }
 }
 
@@ -172,14 +177,18 @@ fn next_spec_item(
     ensures reads { ReadsTypeUpTo (λ x. (x.0, x.1.now)) tokens.now result (λ r. next_item_at (spec_item_at r) state) }
     ensures shorter { IfOk result (λ x. length x.1.now < length tokens.now) }
 {
-    let (mut items, _) = state;
+    let (items, _) = state;
     if next_is_separator(tokens) {
-        let (_, rest) = separator(tokens)?;
+        let (_, items, rest) = separator_behind(items, tokens)?;
         Ok(((items, true), rest))
     } else {
-        let (item, rest) = spec_item(alloc, tokens)?;
-        items.push(item)?;
-        Ok(((items, false), rest))
+        match spec_item(alloc, tokens) {
+            Ok((item, rest)) => Ok(((pushed(items, item)?, false), rest)),
+            Err(fail) => {
+                let_go(items);
+                Err(fail)
+            }
+        }
     }
 }
 

@@ -8,6 +8,7 @@ ghost use Rattle.sr_parser.specs.Reads.{ReadsStatementBelow, ReadsStatementUpTo}
 ghost use Rattle.sr_program_reader.specs.DeclarationReaders.{items_at, next_item_at};
 ghost use Rattle.sr_program_reader.specs.StatementReaders.{arm_at, arms_at, arrow_block_at, begins_block_item, block_at, block_item_at, branch_at, branches_at, closed_statement_at, co_arm_at, co_at, co_block_at, do_at, for_all_at, if_at, in_at, is_alternative, more_co_arms_at, next_alternative_at, next_co_arm_at, operating_statement_at, otherwise_at, statement_at, worded_statement_at};
 
+use crate::behind::{let_go, pushed, row_of, separator_behind, word_behind};
 use crate::declaration::{const_decl, var_decl};
 use crate::heads::{ArmHead, CoHead, arm_head, co_head};
 use crate::quantifier::quantifiers;
@@ -18,8 +19,9 @@ use crate::simple::{
 };
 use crate::words::next_is_block_item;
 use sr_parse_expr::expression::{LOOSEST, operand};
-use sr_parse_expr::reading::{
-    ReadFail, next_is_name, next_is_separator, next_is_sign, next_is_word, separator, sign, word,
+use sr_parse_tokens::{
+    ReadFail, arm_may_follow, next_is_name, next_is_separator, next_is_sign, next_is_word, sign,
+    sign_behind, word,
 };
 use sr_tree::{Arm, BlockItem, Branch, CoArm, Sign, Statement, Token, Word};
 use sr_value::Row;
@@ -64,9 +66,16 @@ fn branch(alloc: Global, tokens: &[Token]) -> Result<(Branch, &[Token]), ReadFai
     ensures shorter { IfOk result (λ x. length x.1.now < length tokens.now) }
 {
     let (guard, rest) = operand(alloc, LOOSEST, tokens)?;
-    let (block, rest) = arrow_block(alloc, rest)?;
-    let span = guard.span();
-    Ok((Branch { span, guard, block }, rest))
+    match arrow_block(alloc, rest) {
+        Ok((block, rest)) => {
+            let span = guard.span();
+            Ok((Branch { span, guard, block }, rest))
+        }
+        Err(fail) => {
+            let_go(guard);
+            Err(fail)
+        }
+    }
 }
 
 /// Reads branches with `[]` between, and what stands behind `else`.
@@ -80,8 +89,7 @@ fn branches(
     ensures shorter { IfOk result (λ x. length x.1.now < length tokens.now) }
 {
     let (first, rest) = branch(alloc, tokens)?;
-    let mut branches = Row::new(alloc);
-    branches.push(first)?;
+    let branches = row_of(alloc, first)?;
     more_branches(alloc, (branches, None), rest)
 }
 
@@ -116,15 +124,24 @@ fn next_branch(
     ensures reads { ReadsStatementUpTo (λ x. (x.0, x.1.now)) tokens.now result (λ r. next_alternative_at r (branch_at r) state) }
     ensures shorter { IfOk result (λ x. length x.1.now < length tokens.now) }
 {
-    let (mut branches, _) = state;
-    let (_, rest) = sign(tokens, Sign::Alternative)?;
+    let branches = without_block(state);
+    let (_, branches, rest) = sign_behind(branches, tokens, Sign::Alternative)?;
     if next_is_word(rest, Word::Else) {
-        let (block, rest) = otherwise(alloc, rest)?;
-        Ok(((branches, Some(block)), rest))
+        match otherwise(alloc, rest) {
+            Ok((block, rest)) => Ok(((branches, Some(block)), rest)),
+            Err(fail) => {
+                let_go(branches);
+                Err(fail)
+            }
+        }
     } else {
-        let (next, rest) = branch(alloc, rest)?;
-        branches.push(next)?;
-        Ok(((branches, None), rest))
+        match branch(alloc, rest) {
+            Ok((next, rest)) => Ok(((pushed(branches, next)?, None), rest)),
+            Err(fail) => {
+                let_go(branches);
+                Err(fail)
+            }
+        }
     }
 }
 
@@ -145,8 +162,13 @@ fn split_arm(alloc: Global, tokens: &[Token]) -> Result<(Arm, &[Token]), ReadFai
     ensures shorter { IfOk result (λ x. length x.1.now < length tokens.now) }
 {
     let (head, rest) = arm_head(alloc, tokens)?;
-    let (block, rest) = arrow_block(alloc, rest)?;
-    Ok((arm_from(head, block), rest))
+    match arrow_block(alloc, rest) {
+        Ok((block, rest)) => Ok((arm_from(head, block), rest)),
+        Err(fail) => {
+            let_go(head);
+            Err(fail)
+        }
+    }
 }
 
 /// Reads arms of `in` with `[]` between, and what stands behind `else`.
@@ -160,8 +182,7 @@ fn arms(
     ensures shorter { IfOk result (λ x. length x.1.now < length tokens.now) }
 {
     let (first, rest) = arm(alloc, tokens)?;
-    let mut arms = Row::new(alloc);
-    arms.push(first)?;
+    let arms = row_of(alloc, first)?;
     more_arms(alloc, (arms, None), rest)
 }
 
@@ -196,15 +217,24 @@ fn next_arm(
     ensures reads { ReadsStatementUpTo (λ x. (x.0, x.1.now)) tokens.now result (λ r. next_alternative_at r (arm_at r) state) }
     ensures shorter { IfOk result (λ x. length x.1.now < length tokens.now) }
 {
-    let (mut arms, _) = state;
-    let (_, rest) = sign(tokens, Sign::Alternative)?;
+    let arms = without_block(state);
+    let (_, arms, rest) = sign_behind(arms, tokens, Sign::Alternative)?;
     if next_is_word(rest, Word::Else) {
-        let (block, rest) = otherwise(alloc, rest)?;
-        Ok(((arms, Some(block)), rest))
+        match otherwise(alloc, rest) {
+            Ok((block, rest)) => Ok(((arms, Some(block)), rest)),
+            Err(fail) => {
+                let_go(arms);
+                Err(fail)
+            }
+        }
     } else {
-        let (next, rest) = arm(alloc, rest)?;
-        arms.push(next)?;
-        Ok(((arms, None), rest))
+        match arm(alloc, rest) {
+            Ok((next, rest)) => Ok(((pushed(arms, next)?, None), rest)),
+            Err(fail) => {
+                let_go(arms);
+                Err(fail)
+            }
+        }
     }
 }
 
@@ -240,8 +270,13 @@ fn split_co_arm(alloc: Global, tokens: &[Token]) -> Result<(CoArm, &[Token]), Re
     ensures shorter { IfOk result (λ x. length x.1.now < length tokens.now) }
 {
     let (head, rest) = co_head(alloc, tokens)?;
-    let (block, rest) = co_block(alloc, rest)?;
-    Ok((co_arm_from(head, block), rest))
+    match co_block(alloc, rest) {
+        Ok((block, rest)) => Ok((co_arm_from(head, block), rest)),
+        Err(fail) => {
+            let_go(head);
+            Err(fail)
+        }
+    }
 }
 
 /// Reads further arms of `co`, each behind `//`.
@@ -276,11 +311,14 @@ fn next_co_arm(
     ensures reads { ReadsStatementUpTo (λ x. (x.0, x.1.now)) tokens.now result (λ r. next_co_arm_at r arms) }
     ensures shorter { IfOk result (λ x. length x.1.now < length tokens.now) }
 {
-    let mut arms = arms;
-    let (_, rest) = sign(tokens, Sign::Parallel)?;
-    let (next, rest) = co_arm(alloc, rest)?;
-    arms.push(next)?;
-    Ok((arms, rest))
+    let (_, arms, rest) = sign_behind(arms, tokens, Sign::Parallel)?;
+    match co_arm(alloc, rest) {
+        Ok((next, rest)) => Ok((pushed(arms, next)?, rest)),
+        Err(fail) => {
+            let_go(arms);
+            Err(fail)
+        }
+    }
 }
 
 /// Reads `if` and its branches.
@@ -291,8 +329,8 @@ fn if_statement(alloc: Global, tokens: &[Token]) -> Result<(Statement, &[Token])
     ensures shorter { IfOk result (λ x. length x.1.now < length tokens.now) }
 {
     let (span, rest) = word(tokens, Word::If)?;
-    let ((branches, otherwise), rest) = branches(alloc, rest)?;
-    let (_, rest) = word(rest, Word::Fi)?;
+    let (branches, rest) = branches(alloc, rest)?;
+    let (_, (branches, otherwise), rest) = word_behind(branches, rest, Word::Fi)?;
     Ok((
         Statement::If {
             span,
@@ -311,8 +349,8 @@ fn do_statement(alloc: Global, tokens: &[Token]) -> Result<(Statement, &[Token])
     ensures shorter { IfOk result (λ x. length x.1.now < length tokens.now) }
 {
     let (span, rest) = word(tokens, Word::Do)?;
-    let ((branches, otherwise), rest) = branches(alloc, rest)?;
-    let (_, rest) = word(rest, Word::Od)?;
+    let (branches, rest) = branches(alloc, rest)?;
+    let (_, (branches, otherwise), rest) = word_behind(branches, rest, Word::Od)?;
     Ok((
         Statement::Do {
             span,
@@ -332,16 +370,27 @@ fn for_all_statement(alloc: Global, tokens: &[Token]) -> Result<(Statement, &[To
 {
     let (span, rest) = word(tokens, Word::Fa)?;
     let (quantifiers, rest) = quantifiers(alloc, rest)?;
-    let (block, rest) = arrow_block(alloc, rest)?;
-    let (_, rest) = word(rest, Word::Af)?;
-    Ok((
-        Statement::ForAll {
-            span,
-            quantifiers,
-            block,
-        },
-        rest,
-    ))
+    match arrow_block(alloc, rest) {
+        Ok((block, rest)) => {
+            let (_, (quantifiers, block), rest) = word_behind(
+                (quantifiers, block),
+                rest,
+                Word::Af,
+            )?;
+            Ok((
+                Statement::ForAll {
+                    span,
+                    quantifiers,
+                    block,
+                },
+                rest,
+            ))
+        }
+        Err(fail) => {
+            let_go(quantifiers);
+            Err(fail)
+        }
+    }
 }
 
 /// Reads `in` and its arms.
@@ -352,8 +401,8 @@ fn in_statement(alloc: Global, tokens: &[Token]) -> Result<(Statement, &[Token])
     ensures shorter { IfOk result (λ x. length x.1.now < length tokens.now) }
 {
     let (span, rest) = word(tokens, Word::In)?;
-    let ((arms, otherwise), rest) = arms(alloc, rest)?;
-    let (_, rest) = word(rest, Word::Ni)?;
+    let (arms, rest) = arms(alloc, rest)?;
+    let (_, (arms, otherwise), rest) = word_behind(arms, rest, Word::Ni)?;
     Ok((
         Statement::In {
             span,
@@ -373,10 +422,9 @@ fn co_statement(alloc: Global, tokens: &[Token]) -> Result<(Statement, &[Token])
 {
     let (span, rest) = word(tokens, Word::Co)?;
     let (first, rest) = co_arm(alloc, rest)?;
-    let mut arms = Row::new(alloc);
-    arms.push(first)?;
+    let arms = row_of(alloc, first)?;
     let (arms, rest) = more_co_arms(alloc, arms, rest)?;
-    let (_, rest) = word(rest, Word::Oc)?;
+    let (_, arms, rest) = word_behind(arms, rest, Word::Oc)?;
     Ok((Statement::Co { span, arms }, rest))
 }
 
@@ -524,14 +572,18 @@ fn next_item(
     ensures reads { ReadsStatementUpTo (λ x. (x.0, x.1.now)) tokens.now result (λ r. next_item_at (block_item_at r) state) }
     ensures shorter { IfOk result (λ x. length x.1.now < length tokens.now) }
 {
-    let (mut items, _) = state;
+    let (items, _) = state;
     if next_is_separator(tokens) {
-        let (_, rest) = separator(tokens)?;
+        let (_, items, rest) = separator_behind(items, tokens)?;
         Ok(((items, true), rest))
     } else {
-        let (item, rest) = block_item(alloc, tokens)?;
-        items.push(item)?;
-        Ok(((items, false), rest))
+        match block_item(alloc, tokens) {
+            Ok((item, rest)) => Ok(((pushed(items, item)?, false), rest)),
+            Err(fail) => {
+                let_go(items);
+                Err(fail)
+            }
+        }
     }
 }
 
@@ -546,7 +598,15 @@ fn next_goes_on(may_begin: bool, tokens: &[Token]) -> bool
 fn next_is_alternative(otherwise: &Option<Row<BlockItem>>, tokens: &[Token]) -> bool
     ensures { result ≡ next_is (λ t. if is_some otherwise.now then false else is_sign sign.Alternative t.kind) tokens.now }
 {
-    otherwise.is_none() && next_is_sign(tokens, Sign::Alternative)
+    arm_may_follow(otherwise.is_some(), tokens)
+}
+
+/// What has stood between `[]` so far, without what stands behind `else`.
+fn without_block<A, B: Drop>(state: (A, B)) -> A
+    ensures { result ≡ state.0 }
+{
+    let (so_far, _) = state;
+    so_far
 }
 
 /// The arm of `in` of a head and a block.

@@ -1,9 +1,9 @@
 ghost use Rattle.std.specs.Prelude.{◌≡◌, ◌<◌, length, is_some, IfOk};
 ghost use Rattle.sr_reader.specs.Reader.{next_is};
-ghost use Rattle.sr_parse_expr.specs.Gives.{Gives};
+ghost use Rattle.sr_parse_tokens.specs.Gives.{Gives};
 ghost use Rattle.sr_program_reader.specs.StatementReaders.{begins_block_item, begins_statement, condition_word_at, direction_at, token_condition, token_direction, word_begins};
 
-use sr_parse_expr::reading::{ReadFail, next_is_word};
+use sr_parse_tokens::{ReadFail, next_is_word};
 use sr_tree::{ConditionWord, Direction, Token, TokenKind, Word};
 use sr_value::Span;
 

@@ -8,7 +8,7 @@ use Rattle.sr_tree.specs.declared.statement.Branch.{Branch}
 use Rattle.sr_tree.specs.declared.statement.CoArm.{CoArm}
 use Rattle.sr_tree.specs.declared.token.Token.{Token}
 use Rattle.sr_expr_reader.proofs.Yields.{steps-readers}
-use Rattle.sr_parse_expr.specs.Gives.{Gives}
+use Rattle.sr_parse_tokens.specs.Gives.{Gives}
 use Rattle.sr_parse_expr.proofs.Loops.{leads-step, leads-fail, leads-end}
 use Rattle.sr_program_reader.specs.DeclarationReaders.{items_at, may_go_on, next_item_at}
 use Rattle.sr_program_reader.specs.StatementReaders.{arm_at, begins_block_item, block_item_at, branch_at, is_alternative, is_parallel, more_co_arms_at, next_alternative_at, next_co_arm_at, statement_readers}
