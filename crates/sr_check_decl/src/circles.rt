@@ -61,11 +61,7 @@ fn push_left(
 }
 
 /// What the values of the declarations name that have no type.
-pub(crate) fn leads_left(
-    alloc: Global,
-    facts: &Facts,
-    all: &[Waits<'_>],
-) -> Result<Row<Import>, NoMemory>
+fn leads_left(alloc: Global, facts: &Facts, all: &[Waits<'_>]) -> Result<Row<Import>, NoMemory>
     ensures { IfOk result (λ leads. leads ≡ leads_left facts.now (map seen all.now)) }
 {
     let mut leads = Row::new(alloc);
@@ -86,14 +82,23 @@ fn note_refused(notes: &mut Notes, first: Option<Wrong>) -> Result<(), NoMemory>
 }
 
 /// Notes the first declaration that leads to itself.
-pub(crate) fn note_circles(
-    alloc: Global,
-    notes: &mut Notes,
-    leads: &[Import],
-) -> Result<(), NoMemory>
+fn note_circles(alloc: Global, notes: &mut Notes, leads: &[Import]) -> Result<(), NoMemory>
     ensures { OnOk result (notes.new ≡ all_noted notes.old (circles_found leads.now)) }
 {
     let mut circles = Notes::new(alloc);
     note_cycles(alloc, leads, &mut circles)?;
     note_refused(notes, circles.first)
+}
+
+/// Notes the first of the declarations without a type that leads to itself.
+pub(crate) fn note_left(
+    alloc: Global,
+    facts: &Facts,
+    all: &[Waits<'_>],
+    notes: &mut Notes,
+) -> Result<(), NoMemory>
+    ensures { OnOk result (notes.new ≡ all_noted notes.old (circles_found (leads_left facts.now (map seen all.now)))) }
+{
+    let leads = leads_left(alloc, facts, all)?;
+    note_circles(alloc, notes, leads.as_slice())
 }

@@ -1,12 +1,14 @@
-ghost use Rattle.std.specs.Prelude.{◌≡◌, IfOk, OnOk};
+ghost use Rattle.std.specs.Prelude.{◌≡◌, ◌++◌, IfOk, OnOk};
 ghost use Rattle.sr_names.specs.Notes.{all_noted};
+ghost use Rattle.sr_check_expr.specs.Exprs.{judge_expr};
+ghost use Rattle.sr_check_expr.specs.Judgements.{valued, value_found};
 ghost use Rattle.sr_check_decl.specs.Constants.{is_static, is_fault, written_kind, written_found, has_type_of, const_rule, known_if, type_of_value, const_type, const_typed, const_of, const_value_found, const_found};
 
 use crate::kind::Kind;
 use crate::written::{FREE, type_kind};
 use sr_check_expr::{Facts, Judged, expr, note_unless, note_value};
 use sr_names::{Notes, Rule};
-use sr_tree::{ConstDecl, TypeTree};
+use sr_tree::{ConstDecl, Expr, TypeTree};
 use sr_types::{Static, Ty, Typed, fits};
 use sr_value::NoMemory;
 use std::alloc::Global;
@@ -107,6 +109,36 @@ fn note_const(
     note_unless(notes, met, Rule::BadType, value.span)
 }
 
+/// Notes where an expression is no value, or one that a constant may not have.
+fn note_const_value(
+    notes: &mut Notes,
+    in_spec: bool,
+    kind: &Option<Kind>,
+    value: &Judged,
+) -> Result<(), NoMemory>
+    ensures { OnOk result (notes.new ≡ all_noted notes.old (value_found value.now ++ const_value_found in_spec kind.now value.now)) }
+{
+    note_value(notes, value)?;
+    note_const(notes, in_spec, kind, value)
+}
+
+/// Notes what is found in the value of a constant, and answers what that is.
+fn const_value(
+    alloc: Global,
+    facts: &Facts,
+    notes: &mut Notes,
+    in_spec: bool,
+    kind: &Option<Kind>,
+    tree: &Expr,
+) -> Result<Typed, NoMemory>
+    ensures value { IfOk result (λ typed. typed ≡ (judge_expr tree.now facts.now).judged.typed) }
+    ensures noted { let value = judge_expr tree.now facts.now in OnOk result (notes.new ≡ all_noted notes.old (valued value ++ const_value_found in_spec kind.now value.judged)) }
+{
+    let judged = expr(alloc, tree, facts, notes)?;
+    note_const_value(notes, in_spec, kind, &judged)?;
+    Ok(judged.typed)
+}
+
 /// Notes what is found in the declaration of a constant, and answers what the constant is.
 pub fn constant(
     alloc: Global,
@@ -119,8 +151,6 @@ pub fn constant(
     ensures noted { OnOk result (notes.new ≡ all_noted notes.old (const_found in_spec facts.now tree.now)) }
 {
     let kind = written_kind(alloc, facts, notes, &tree.ty)?;
-    let judged = expr(alloc, &tree.value, facts, notes)?;
-    note_value(notes, &judged)?;
-    note_const(notes, in_spec, &kind, &judged)?;
-    Ok(const_typed(in_spec, kind, judged.typed))
+    let value = const_value(alloc, facts, notes, in_spec, &kind, &tree.value)?;
+    Ok(const_typed(in_spec, kind, value))
 }

@@ -1,6 +1,8 @@
-ghost use Rattle.std.specs.Prelude.{◌≡◌, OnOk};
+ghost use Rattle.std.specs.Prelude.{◌≡◌, ◌++◌, OnOk};
 ghost use Rattle.sr_names.specs.Notes.{all_noted};
 ghost use Rattle.sr_check_expr.specs.Exprs.{judge_expr};
+ghost use Rattle.sr_check_expr.specs.Judgements.{broken_unless, value_found};
+ghost use Rattle.sr_check_decl.specs.Bounds.{int_rule};
 ghost use Rattle.sr_check_decl.specs.Declarations.{op_found, ops_found, count_found, initial_found, sems_found, spec_item_found, spec_items_found};
 
 use crate::bounds::may_be_bound;
@@ -8,7 +10,7 @@ use crate::constants::constant;
 use crate::operations::op_type;
 use crate::variables::note_variables;
 use crate::written::{FIXED, signature, type_kind};
-use sr_check_expr::{Facts, expr, note_unless, note_value};
+use sr_check_expr::{Facts, Judged, expr, note_unless, note_value};
 use sr_names::{Notes, Rule};
 use sr_tree::{Expr, OpItem, Semaphore, SpecItem};
 use sr_value::NoMemory;
@@ -29,13 +31,19 @@ pub fn note_operations(
     Ok(())
 }
 
+fn note_judged_count(notes: &mut Notes, count: &Judged) -> Result<(), NoMemory>
+    ensures { OnOk result (notes.new ≡ all_noted notes.old (value_found count.now ++ broken_unless (int_rule count.now.typed) Rule.BadType count.now.span)) }
+{
+    note_value(notes, count)?;
+    note_unless(notes, may_be_bound(&count.typed), Rule::BadType, count.span)
+}
+
 /// Notes what is found in the value that a semaphore begins with.
 fn note_count(alloc: Global, facts: &Facts, notes: &mut Notes, tree: &Expr) -> Result<(), NoMemory>
     ensures { OnOk result (notes.new ≡ all_noted notes.old (count_found (judge_expr tree.now facts.now))) }
 {
     let count = expr(alloc, tree, facts, notes)?;
-    note_value(notes, &count)?;
-    note_unless(notes, may_be_bound(&count.typed), Rule::BadType, count.span)
+    note_judged_count(notes, &count)
 }
 
 fn note_initial(

@@ -1,6 +1,7 @@
 ghost use Rattle.std.specs.Prelude.{◌≡◌, [], None, IfOk, OnOk, map};
 ghost use Rattle.sr_check_decl.specs.TypeTrees.{type_kinded, fixed_bounds};
-ghost use Rattle.sr_check_decl.specs.Declaring.{declared_if, const_declared, untyped_vars_declared, var_declared, literal_info, literals_declared, enumeration_declared, field_info, fields_of, type_declared, spec_item_declared, item_declared, spec_items_declared, items_declared, params_declared, making, component_typed, component_formals, with_formals, head_declared, behind_spec, component_declared, components_declared, files_declared, components_named, files_named, no_facts, program_declared, declare_name, at_facts, nowhere};
+ghost use Rattle.sr_check_decl.specs.Entering.{formals_entered, signed_entered};
+ghost use Rattle.sr_check_decl.specs.Declaring.{declared_if, const_declared, untyped_vars_declared, var_declared, literal_info, literals_declared, enumeration_declared, field_info, fields_of, type_declared, spec_item_declared, item_declared, spec_items_declared, items_declared, params_declared, making, component_typed, component_formals, with_formals, behind_spec, component_declared, components_declared, files_declared, components_named, files_named, no_facts, program_declared, declare_name, at_facts, nowhere};
 
 use crate::constants::{constant, is_static};
 use crate::entering::{enter_formals, enter_operations, enter_signed, enter_type, enter_written};
@@ -264,6 +265,20 @@ fn declare_component_type(
     declare_name(facts, name, Info::Component(ty))
 }
 
+/// Declares a component by what makes its instances, and the formals of that.
+fn declare_made(
+    alloc: Global,
+    facts: &mut Facts,
+    name: &Name,
+    signed: &Signed,
+) -> Result<(), NoMemory>
+    ensures { OnOk result (facts.new ≡ params_declared signed.now.params (component_typed name.now signed.now (signed_entered signed.now facts.old))) }
+{
+    enter_signed(alloc, facts, signed)?;
+    declare_component_type(alloc, facts, name, signed)?;
+    declare_params(alloc, facts, signed.params.as_slice())
+}
+
 fn with_formals(
     alloc: Global,
     facts: &mut Facts,
@@ -272,20 +287,31 @@ fn with_formals(
 ) -> Result<(), NoMemory>
     ensures { OnOk result (facts.new ≡ with_formals name.now params facts.old) }
 {
-    let signed = making(params);
-    enter_signed(alloc, facts, &signed)?;
-    declare_component_type(alloc, facts, name, &signed)?;
-    declare_params(alloc, facts, signed.params.as_slice())
+    declare_made(alloc, facts, name, &making(params))
+}
+
+fn component_formals(
+    alloc: Global,
+    facts: &Facts,
+    trees: &[Formal],
+) -> Result<Row<NamedParam>, NoMemory>
+    ensures { IfOk result (λ params. params ≡ component_formals facts.now trees.now) }
+{
+    all_formals(alloc, trees, facts, &mut Notes::new(alloc), false)
 }
 
 /// Declares a component by its formals, and these.
-fn declare_head(alloc: Global, facts: &mut Facts, component: &Component) -> Result<(), NoMemory>
-    ensures { OnOk result (facts.new ≡ head_declared component.now facts.old) }
+fn declare_head(
+    alloc: Global,
+    facts: &mut Facts,
+    name: &Name,
+    formals: &[Formal],
+) -> Result<(), NoMemory>
+    ensures { let entered = formals_entered formals.now facts.old in OnOk result (facts.new ≡ with_formals name.now (component_formals entered formals.now) entered) }
 {
-    enter_formals(alloc, facts, component.formals())?;
-    let mut aside = Notes::new(alloc);
-    let params = all_formals(alloc, component.formals(), facts, &mut aside, false)?;
-    with_formals(alloc, facts, component.name(), params)
+    enter_formals(alloc, facts, formals)?;
+    let params = component_formals(alloc, facts, formals)?;
+    with_formals(alloc, facts, name, params)
 }
 
 fn declare_component(
@@ -297,7 +323,12 @@ fn declare_component(
 {
     stand(&mut tally.facts, component_decl(component));
     declare_spec(alloc, tally, component.spec())?;
-    declare_head(alloc, &mut tally.facts, component)?;
+    declare_head(
+        alloc,
+        &mut tally.facts,
+        component.name(),
+        component.formals(),
+    )?;
     declare_items(alloc, tally, component.body())
 }
 
@@ -360,6 +391,13 @@ fn no_facts(alloc: Global, uses: Uses, specs: Members) -> Facts
     }
 }
 
+fn declare_program(alloc: Global, tally: &mut Tally, files: &[File]) -> Result<(), NoMemory>
+    ensures { OnOk result (tally.new ≡ files_declared files.now (at_facts tally.old (files_named files.now tally.old.facts))) }
+{
+    name_files(&mut tally.facts, files)?;
+    declare_files(alloc, tally, files)
+}
+
 /// What is declared outside of procs and blocks, as far as it has a type of its own.
 pub(crate) fn program_declared(
     alloc: Global,
@@ -369,12 +407,10 @@ pub(crate) fn program_declared(
 ) -> Result<Facts, NoMemory>
     ensures { IfOk result (λ facts. facts ≡ program_declared uses specs files.now) }
 {
-    let mut facts = no_facts(alloc, uses, specs);
-    name_files(&mut facts, files)?;
     let mut tally = Tally {
-        facts,
+        facts: no_facts(alloc, uses, specs),
         enumerations: 0,
     };
-    declare_files(alloc, &mut tally, files)?;
+    declare_program(alloc, &mut tally, files)?;
     Ok(tally.facts)
 }

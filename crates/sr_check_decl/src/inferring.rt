@@ -1,17 +1,18 @@
-ghost use Rattle.std.specs.Prelude.{◌≡◌, IfOk, OnOk, map, slice_get};
+ghost use Rattle.std.specs.Prelude.{◌≡◌, [], IfOk, OnOk, map, slice_get};
 ghost use Rattle.std.specs.Option.{option_map};
 ghost use Rattle.sr_check_decl.specs.Waits.{seen};
 ghost use Rattle.sr_check_decl.specs.Inferring.{is_settled, info_by, settled, all_settled, inferred, given_up, given_up_if, program_inferred, program_known};
+ghost use Rattle.sr_check_decl.specs.Needers.{with_all_needs};
 ghost use Rattle.sr_check_decl.specs.Needs.{needs_in, FirstAreKnown};
 ghost use Rattle.sr_check_decl.specs.Picked.{settling, picked};
 ghost use Rattle.sr_names.specs.Notes.{all_noted};
 ghost use Rattle.sr_check_decl.specs.Circles.{circles_found, leads_left};
 ghost use Rattle.sr_check_decl.specs.Waiting.{files_waiting};
 
-use crate::circles::{leads_left, note_circles};
+use crate::circles::note_left;
 use crate::constants::{const_typed, type_of_value};
 use crate::declaring::program_declared;
-use crate::needers::{in_order, needers_behind, needers_of_all, places_below};
+use crate::needers::{Needers, in_order, needers_behind, needers_of_all, places_below};
 use crate::needs::{Needs, needs_of_all};
 use crate::tally::{declare, stand, variable};
 use crate::waiting::{Waits, files_waiting};
@@ -113,23 +114,52 @@ fn next_wave<'a>(
     Ok(wave)
 }
 
-/// Gives all declarations their types that can have one, in waves. Behind a wave only those are looked at that name
+/// Gives all declarations their types that can have one, in waves. After a wave only those are looked at that name
 /// one of it.
-fn infer(alloc: Global, facts: &mut Facts, all: &Row<Waits<'_>>) -> Result<(), NoMemory>
+fn infer_waves(
+    alloc: Global,
+    facts: &mut Facts,
+    all: &Row<Waits<'_>>,
+    needs: &mut Needs,
+    needers: &Needers,
+) -> Result<(), NoMemory>
+    requires spots { needs.old.spots ≡ map (needs_in facts.old.uses) (map seen all.now) }
+    requires known { FirstAreKnown facts.old needs.old.spots needs.old.known }
+    requires needers { needers.now ≡ with_all_needs [] 0 needs.old.spots }
     ensures { OnOk result (facts.new ≡ inferred (map seen all.now) facts.old) }
 {
-    let mut needs = needs_of_all(alloc, facts, all.as_slice())?;
-    let needers = needers_of_all(alloc, needs.spots.as_slice())?;
     let mut places = places_below(alloc, all.len())?;
     for _wave in 0..all.len() {
-        let wave = next_wave(alloc, facts, all, &mut needs, places.as_slice())?;
+        let wave = next_wave(alloc, facts, all, needs, places.as_slice())?;
         if wave.is_empty() {
             break;
         }
         settle_all(alloc, facts, wave.as_slice())?;
-        places = in_order(needers_behind(alloc, &needers, wave.as_slice())?);
+        places = in_order(needers_behind(alloc, needers, wave.as_slice())?);
     }
     Ok(())
+}
+
+fn infer_by(
+    alloc: Global,
+    facts: &mut Facts,
+    all: &Row<Waits<'_>>,
+    needs: &mut Needs,
+) -> Result<(), NoMemory>
+    requires spots { needs.old.spots ≡ map (needs_in facts.old.uses) (map seen all.now) }
+    requires known { FirstAreKnown facts.old needs.old.spots needs.old.known }
+    ensures { OnOk result (facts.new ≡ inferred (map seen all.now) facts.old) }
+{
+    let needers = needers_of_all(alloc, needs.spots.as_slice())?;
+    infer_waves(alloc, facts, all, needs, &needers)
+}
+
+/// Gives all declarations their types that can have one.
+fn infer(alloc: Global, facts: &mut Facts, all: &Row<Waits<'_>>) -> Result<(), NoMemory>
+    ensures { OnOk result (facts.new ≡ inferred (map seen all.now) facts.old) }
+{
+    let mut needs = needs_of_all(alloc, facts, all.as_slice())?;
+    infer_by(alloc, facts, all, &mut needs)
 }
 
 fn give_up_one(facts: &mut Facts, waiting: &Waits<'_>) -> Result<(), NoMemory>
@@ -151,6 +181,34 @@ fn give_up(facts: &mut Facts, all: &[Waits<'_>]) -> Result<(), NoMemory>
     Ok(())
 }
 
+/// Declares those that wait for the types of their values, and notes those whose types lead to themselves.
+fn declare_all(
+    alloc: Global,
+    facts: &mut Facts,
+    all: &Row<Waits<'_>>,
+    notes: &mut Notes,
+) -> Result<(), NoMemory>
+    ensures value { OnOk result (facts.new ≡ given_up (map seen all.now) (inferred (map seen all.now) facts.old)) }
+    ensures noted { OnOk result (notes.new ≡ all_noted notes.old (circles_found (leads_left (inferred (map seen all.now) facts.old) (map seen all.now)))) }
+{
+    infer(alloc, facts, all)?;
+    note_left(alloc, facts, all.as_slice(), notes)?;
+    give_up(facts, all.as_slice())
+}
+
+fn declare_waiting(
+    alloc: Global,
+    facts: &mut Facts,
+    files: &[File],
+    notes: &mut Notes,
+) -> Result<(), NoMemory>
+    ensures value { OnOk result (facts.new ≡ given_up (files_waiting files.now) (inferred (files_waiting files.now) facts.old)) }
+    ensures noted { OnOk result (notes.new ≡ all_noted notes.old (circles_found (leads_left (inferred (files_waiting files.now) facts.old) (files_waiting files.now)))) }
+{
+    let all = files_waiting(alloc, files)?;
+    declare_all(alloc, facts, &all, notes)
+}
+
 /// Notes the declarations whose types lead to themselves, and answers all that is declared outside of procs and
 /// blocks.
 pub fn program(
@@ -164,10 +222,6 @@ pub fn program(
     ensures noted { OnOk result (notes.new ≡ all_noted notes.old (circles_found (leads_left (program_inferred uses specs files.now) (files_waiting files.now)))) }
 {
     let mut facts = program_declared(alloc, uses, specs, files)?;
-    let all = files_waiting(alloc, files)?;
-    infer(alloc, &mut facts, &all)?;
-    let leads = leads_left(alloc, &facts, all.as_slice())?;
-    note_circles(alloc, notes, leads.as_slice())?;
-    give_up(&mut facts, all.as_slice())?;
+    declare_waiting(alloc, &mut facts, files, notes)?;
     Ok(facts)
 }

@@ -36,6 +36,16 @@ fn is_length(fixed: bool, length: &Typed) -> bool
     }
 }
 
+fn judged_bound(notes: &mut Notes, fixed: bool, judged: &Judged) -> Result<Option<i32>, NoMemory>
+    ensures value { IfOk result (λ number. number ≡ static_int judged.now.typed.value) }
+    ensures noted { OnOk result (notes.new ≡ all_noted notes.old (value_found judged.now ++ broken_unless (bound_rule fixed judged.now.typed) Rule.BadType judged.now.span)) }
+{
+    let met = is_bound(fixed, &judged.typed);
+    note_value(notes, judged)?;
+    note_unless(notes, met, Rule::BadType, judged.span)?;
+    Ok(known_int(&judged.typed.value))
+}
+
 /// Notes what is found in a bound, and answers its number where it is known.
 fn bound(
     alloc: Global,
@@ -48,20 +58,15 @@ fn bound(
     ensures noted { OnOk result (notes.new ≡ all_noted notes.old (bound_found fixed (judge_expr tree.now facts.now))) }
 {
     let judged = expr(alloc, tree, facts, notes)?;
-    note_bound(notes, fixed, &judged)?;
-    Ok(known_int(&judged.typed.value))
+    judged_bound(notes, fixed, &judged)
 }
 
-fn note_bound(notes: &mut Notes, fixed: bool, judged: &Judged) -> Result<(), NoMemory>
-    ensures { OnOk result (notes.new ≡ all_noted notes.old (value_found judged.now ++ broken_unless (bound_rule fixed judged.now.typed) Rule.BadType judged.now.span)) }
+fn note_length(notes: &mut Notes, fixed: bool, judged: &Judged) -> Result<(), NoMemory>
+    ensures { OnOk result (notes.new ≡ all_noted notes.old (value_found judged.now ++ broken_unless (length_rule fixed judged.now.typed) Rule.BadType judged.now.span)) }
 {
+    let met = is_length(fixed, &judged.typed);
     note_value(notes, judged)?;
-    note_unless(
-        notes,
-        is_bound(fixed, &judged.typed),
-        Rule::BadType,
-        judged.span,
-    )
+    note_unless(notes, met, Rule::BadType, judged.span)
 }
 
 /// Notes what is found in the length of a string.
@@ -75,13 +80,7 @@ fn length(
     ensures { OnOk result (notes.new ≡ all_noted notes.old (length_found fixed (judge_expr tree.now facts.now))) }
 {
     let judged = expr(alloc, tree, facts, notes)?;
-    note_value(notes, &judged)?;
-    note_unless(
-        notes,
-        is_length(fixed, &judged.typed),
-        Rule::BadType,
-        judged.span,
-    )
+    note_length(notes, fixed, &judged)
 }
 
 /// Whether two bounds are in range, where they have to be static.

@@ -10,7 +10,7 @@ use crate::types::{decl_type, note_decls};
 use crate::written::{FREE, type_kind};
 use sr_check_expr::{Facts, Judged, all, as_many, note_unless, note_values};
 use sr_names::{Notes, Rule};
-use sr_tree::{Decl, DimsTree, TypeTree, VarDecl};
+use sr_tree::{Decl, DimsTree, Expr, TypeTree, VarDecl};
 use sr_types::{Ty, fits};
 use sr_value::{Duplicate, NoMemory, Span};
 use std::alloc::Global;
@@ -190,16 +190,21 @@ fn type_by_values(alloc: Global, values: &[Judged]) -> Result<Ty, NoMemory>
     }
 }
 
+fn type_of_values(alloc: Global, facts: &Facts, trees: &[Expr]) -> Result<Ty, NoMemory>
+    ensures { IfOk result (λ ty. ty ≡ type_by_values (judged_of (values_judged facts.now trees.now))) }
+{
+    let values = all(alloc, trees, facts, &mut Notes::new(alloc))?;
+    type_by_values(alloc, values.as_slice())
+}
+
 /// The type of variables of a block: what is written, or that of their value.
 fn vars_type(alloc: Global, facts: &Facts, tree: &VarDecl) -> Result<Kind, NoMemory>
     ensures { IfOk result (λ kind. kind.ty ≡ vars_type facts.now tree.now.ty tree.now.values) }
 {
-    let mut aside = Notes::new(alloc);
     match &tree.ty {
-        Some(written) => type_kind(alloc, written, facts, &mut aside, FREE),
+        Some(written) => type_kind(alloc, written, facts, &mut Notes::new(alloc), FREE),
         None => {
-            let values = all(alloc, tree.values.as_slice(), facts, &mut aside)?;
-            let ty = type_by_values(alloc, values.as_slice())?;
+            let ty = type_of_values(alloc, facts, tree.values.as_slice())?;
             Ok(Kind {
                 span: tree.span,
                 ty,
