@@ -70,7 +70,7 @@ pub fn next_is_name(tokens: &[Token]) -> bool
 }
 
 /// Reads this sign, and gives its span.
-#[tactic(auto, unfolding(sr_expr_reader::specs::Tokens::sign_at))]
+#[tactic(auto, unfolding(sr_tree::specs::Tokens::sign_at))]
 pub fn sign(tokens: &[Token], wanted: Sign) -> Result<(Span, &[Token]), ReadFail>
     ensures reads { Gives (λ x. (x.0, x.1.now)) result (sign_at wanted tokens.now) }
     ensures shorter { IfOk result (λ x. length x.1.now < length tokens.now) }
@@ -105,7 +105,7 @@ pub fn sign_behind<T: Drop>(
 }
 
 /// Reads this word, and gives its span.
-#[tactic(auto, unfolding(sr_expr_reader::specs::Tokens::word_at))]
+#[tactic(auto, unfolding(sr_tree::specs::Tokens::word_at))]
 pub fn word(tokens: &[Token], wanted: Word) -> Result<(Span, &[Token]), ReadFail>
     ensures reads { Gives (λ x. (x.0, x.1.now)) result (word_at wanted tokens.now) }
     ensures shorter { IfOk result (λ x. length x.1.now < length tokens.now) }
@@ -126,7 +126,7 @@ pub fn word(tokens: &[Token], wanted: Word) -> Result<(Span, &[Token]), ReadFail
 }
 
 /// Reads a name.
-#[tactic(auto, unfolding(sr_expr_reader::specs::Tokens::name_at))]
+#[tactic(auto, unfolding(sr_tree::specs::Tokens::name_at))]
 pub fn name(alloc: Global, tokens: &[Token]) -> Result<(Name, &[Token]), ReadFail>
     ensures reads { Gives (λ x. (x.0, x.1.now)) result (name_at tokens.now) }
     ensures shorter { IfOk result (λ x. length x.1.now < length tokens.now) }
@@ -155,7 +155,7 @@ pub fn next_is_separator(tokens: &[Token]) -> bool
 }
 
 /// Reads a separator, and gives its span.
-#[tactic(auto, unfolding(sr_expr_reader::specs::Tokens::separator_at))]
+#[tactic(auto, unfolding(sr_tree::specs::Tokens::separator_at))]
 pub fn separator(tokens: &[Token]) -> Result<(Span, &[Token]), ReadFail>
     ensures reads { Gives (λ x. (x.0, x.1.now)) result (separator_at tokens.now) }
     ensures shorter { IfOk result (λ x. length x.1.now < length tokens.now) }
