@@ -7,7 +7,7 @@ use sr_literal::number_of;
 use sr_value::{
     Dimension, EnumNames, Fault, NoMemory, Operator, Row, Text, Value, ValueFail, absolute, arith,
     char_of, default_of, fitted, greatest, highest, int_of, least, length_of, loaded, lower_bound,
-    lowest, misfit, predecessor, stored, string_of, successor, unary, upper_bound,
+    lowest, predecessor, stored, string_of, successor, unary, upper_bound,
 };
 use std::alloc::{AllocError, Global};
 
@@ -198,16 +198,6 @@ fn tell_count(alloc: Global, words: &mut Words<'_>) -> Result<String, NoMemory> 
     }
 }
 
-/// Why a place of a shape doesn't take a value.
-fn tell_misfit(alloc: Global, words: &mut Words<'_>) -> Result<String, NoMemory> {
-    let shape = next_shape(alloc, words)?;
-    let value = next_value(alloc, words)?;
-    match misfit(&shape, &value) {
-        Some(fault) => Ok(format!(in alloc; "{fault:?}")?),
-        None => Ok(String::from_str(alloc, "fits")?),
-    }
-}
-
 /// The number that digits spell.
 fn tell_number(alloc: Global, digits: &str) -> Result<String, AllocError> {
     match number_of(digits.as_bytes()) {
@@ -229,7 +219,6 @@ fn found(alloc: Global, nodes: &[Node]) -> Result<String, NoMemory> {
     let mut words = Words::new(nodes);
     match words.word() {
         "items" => tell_count(alloc, &mut words),
-        "misfit" => tell_misfit(alloc, &mut words),
         "number" => Ok(tell_number(alloc, words.word())?),
         "literal" => tell_literal(alloc, words.quoted()),
         name => tell(alloc, answer(alloc, name, &mut words)?),
