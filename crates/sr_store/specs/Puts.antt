@@ -1,9 +1,10 @@
 -- What a call that puts a value into a place leaves there.
-use Rattle.std.specs.Prelude.{◌≡◌, ℕ, List, length, Option, Some, None, Result, Ok, Err, nat_lt, if◌then◌else◌}
+use Rattle.std.specs.Prelude.{◌≡◌, ℕ, List, length, Option, Some, None, Result, Ok, Err, nat_lt, slice_get, slice_set, if◌then◌else◌}
 use Rattle.std.specs.Option.{option_and_then}
 use Rattle.sr_value.specs.declared.fault.Fault.{Fault}
 use Rattle.sr_value.specs.declared.fault.Fault.TheVariants.{Index}
 use Rattle.sr_value.specs.declared.shape.Sel.{Sel}
+use Rattle.sr_value.specs.declared.shape.Shape.{Shape}
 use Rattle.sr_value.specs.declared.shape.Shape.TheOpen.{Shape-F}
 use Rattle.sr_value.specs.declared.shape.Shape.TheVariants.{Char as a_char}
 use Rattle.sr_value.specs.declared.value.Value.{Value, out-Value}
@@ -25,6 +26,16 @@ AllFitted (Err fault) new meant = meant ≡ Err fault
 abbrev pub Wrote : Result (Unit {0}) Fault → Value → Value → Result Value Fault → Type 0
 Wrote (Ok done) old new meant = meant ≡ Ok new
 Wrote (Err fault) old new meant = (meant ≡ Err fault) × (new ≡ old)
+
+-- the same of the items of an array or the fields of a record, of which one is written
+abbrev pub WroteOne : Result (Unit {0}) Fault → List Value → List Value → Result (List Value) Fault → Type 0
+WroteOne (Ok done) old new meant = meant ≡ Ok new
+WroteOne (Err fault) old new meant = (meant ≡ Err fault) × (new ≡ old)
+
+-- the items after a value was put at the end of a path in one of them
+abbrev pub item_stored : Shape → List Value → ℕ → List Sel → Value → Result (List Value) Fault
+item_stored shape items spot path value =
+    with_ok (or_fault Index (slice_get items spot)) (λ old. with_ok (stored_at shape old path value) (λ held. Ok (slice_set items spot held)))
 
 -- ---- chars of strings
 

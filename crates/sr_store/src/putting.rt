@@ -1,11 +1,11 @@
 ghost use Rattle.std.specs.Prelude.{◌≡◌, ◌<◌, drop};
 ghost use Rattle.sr_value.specs.declared.value.Value.{out-Value};
 ghost use Rattle.sr_value.specs.Parts.{stored_at, with_part};
-ghost use Rattle.sr_store.specs.Puts.{IsCharStored, Wrote, byte_count, char_stored, layer_spot};
+ghost use Rattle.sr_store.specs.Puts.{IsCharStored, Wrote, WroteOne, byte_count, char_stored, item_stored, layer_spot};
 
 use crate::fitting::fit;
 use crate::indices::{byte_place, field_place, item_place, step_at};
-use sr_value::{Fault, Sel, Shape, Text, Value};
+use sr_value::{Fault, Row, Sel, Shape, Text, Value};
 
 /// Puts a value at the end of a path in a place of this shape. E3 where the path leads nowhere, before the
 /// value is looked at; else the faults of [`fit`]. After a fault the place is as before. It takes no memory.
@@ -17,6 +17,7 @@ pub fn put(shape: &Shape, place: &mut Value, path: &[Sel], value: Value) -> Resu
 }
 
 /// The same for what is left of a path from a step on, with the value taken out of `value`.
+#[cycle(putting)]
 fn put_from(
     shape: &Shape,
     place: &mut Value,
@@ -36,13 +37,7 @@ fn put_from(
         Shape::Rec(shapes) => match place {
             Value::Rec(fields) => match field_place(step) {
                 Some(spot) => match shapes.get(spot) {
-                    Some(inner) => {
-                        if spot < fields.len() {
-                            put_from(inner, fields.at_mut(spot), path, at + 1, value)
-                        } else {
-                            Err(Fault::Index)
-                        }
-                    }
+                    Some(inner) => put_item(inner, fields, spot, path, at + 1, value),
                     None => Err(Fault::Index),
                 },
                 None => Err(Fault::Index),
@@ -51,18 +46,31 @@ fn put_from(
         },
         Shape::Arr { dims: _, item } => match place {
             Value::Arr { dims, items } => match item_place(*dims, step) {
-                Some(spot) => {
-                    if spot < items.len() {
-                        put_from(item.get(), items.at_mut(spot), path, at + 1, value)
-                    } else {
-                        Err(Fault::Index)
-                    }
-                }
+                Some(spot) => put_item(item.get(), items, spot, path, at + 1, value),
                 None => Err(Fault::Index),
             },
             _ => Err(Fault::Index),
         },
         _ => Err(Fault::Index),
+    }
+}
+
+/// The same in one of several places of this shape.
+#[cycle(putting)]
+fn put_item(
+    shape: &Shape,
+    items: &mut Row<Value>,
+    spot: usize,
+    path: &[Sel],
+    at: usize,
+    value: &mut Value,
+) -> Result<(), Fault>
+    ensures { WroteOne result items.old items.new (item_stored shape.now items.old spot (drop at path.now) value.old) }
+{
+    if spot < items.len() {
+        put_from(shape, items.at_mut(spot), path, at, value)
+    } else {
+        Err(Fault::Index)
     }
 }
 
@@ -100,10 +108,13 @@ fn byte_spot(value: &Value, step: Sel) -> Option<usize>
 fn char_at_end(path: &[Sel], at: usize, value: &Value) -> Result<u8, Fault>
     ensures { IsCharStored (drop at path.now) value.now result }
 {
-    if step_at(path, at).is_some() {
-        return Err(Fault::Index);
+    match step_at(path, at) {
+        None => match value {
+            Value::Char(byte) => Ok(*byte),
+            _ => Err(Fault::Index),
+        },
+        Some(_) => Err(Fault::Index),
     }
-    value.as_char().ok_or(Fault::Index)
 }
 
 /// Changes a byte of a string. It takes no memory.
