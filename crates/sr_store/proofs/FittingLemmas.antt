@@ -7,7 +7,7 @@ use Rattle.sr_value.specs.declared.shape.Shape.{Shape}
 use Rattle.sr_value.specs.declared.value.Value.{Value}
 use Rattle.sr_value.specs.declared.value.Value.TheVariants.{Rec}
 use Rattle.sr_value.specs.Parts.{all_fit, each_fits, fitted_in, with_ok}
-use Rattle.sr_store.specs.Puts.{AllFitted, Fitted}
+use Rattle.sr_store.specs.Puts.{Fitted}
 
 -- what all items give, where the first `at` were fitted already and `rest` is what those after them give
 abbrev pub after_first : ℕ → (List Value → Result (List Value) Fault) → List Value → Result (List Value) Fault
@@ -104,6 +104,6 @@ fields-past at shapes end first more = ap (λ left. each_fits (map fitted_in lef
 -- ---- the results
 
 pub recorded : (result : Result (Unit {0}) Fault) (values : List Value) (meant : Result (List Value) Fault) (whole : Result Value Fault)
-    → whole ≡ with_ok meant (λ held. Ok (Rec held)) → AllFitted result values meant → Fitted result (Rec values) whole
+    → whole ≡ with_ok meant (λ held. Ok (Rec held)) → Fitted result values meant → Fitted result (Rec values) whole
 recorded (Ok done) values meant whole is fits = is ∙ ap (λ m. with_ok m (λ held. Ok (Rec held))) fits
 recorded (Err fault) values meant whole is fits = is ∙ ap (λ m. with_ok m (λ held. Ok (Rec held))) fits

@@ -13,7 +13,7 @@ use Rattle.sr_value.specs.declared.value.Value.{Value, out-Value, out-roll-Value
 use Rattle.sr_value.specs.declared.value.Value.TheOpen.{Value-F}
 use Rattle.sr_value.specs.declared.value.Value.TheVariants.{Rec, Arr, rolls-Rec, rolls-Arr}
 use Rattle.sr_value.specs.Parts.{Part_of, field_place, item_place, layer_parts, layer_with_part, or_fault, part_at, some_part, stored_at, with_ok, with_part}
-use Rattle.sr_store.specs.Puts.{Wrote, WroteOne, item_stored}
+use Rattle.sr_store.specs.Puts.{Wrote, item_stored}
 
 set-same : (at : ℕ) (values : List Value) (part : Value) → slice_get values at ≡ Some part → slice_set values at part ≡ values
 set-same at [] part here = absurd (true≢false (sym (ap is_some here)))
@@ -45,7 +45,7 @@ module _ (shape : Shape) (place : Value) (path : List Sel) (step : Sel) (rest : 
   -- one of the parts was written
   wrote : (result : Result (Unit {0}) Fault) (whole : List Value → Value) (old new : List Value) (at : ℕ) (inner : Shape)
       → layer_parts (out-Shape shape) (out-Value place) step ≡ some_part at (slice_get old at) (Some inner) → ((held : Value) → with_part place at held ≡ whole (slice_set old at held)) → place ≡ whole old
-      → WroteOne result old new (item_stored inner old at rest value) → Wrote result place (whole new) (stored_at shape place path value)
+      → Wrote result old new (item_stored inner old at rest value) → Wrote result place (whole new) (stored_at shape place path value)
   wrote result whole old new at inner is changed same one =
       by result (at-step (some_part at (slice_get old at) (Some inner)) is ∙ found (slice_get old at)) one
     where
@@ -59,13 +59,13 @@ module _ (shape : Shape) (place : Value) (path : List Sel) (step : Sel) (rest : 
           held (Ok h) = ap (λ w. Ok w) (changed h)
           held (Err fault) = refl
       by : (r : Result (Unit {0}) Fault) → stored_at shape place path value ≡ with_ok (item_stored inner old at rest value) (λ all. Ok (whole all))
-          → WroteOne r old new (item_stored inner old at rest value) → Wrote r place (whole new) (stored_at shape place path value)
+          → Wrote r old new (item_stored inner old at rest value) → Wrote r place (whole new) (stored_at shape place path value)
       by (Ok done) all meant = all ∙ ap (λ r. with_ok r (λ items. Ok (whole items))) meant
       by (Err fault) all meant = (all ∙ ap (λ r. with_ok r (λ items. Ok (whole items))) meant.0, ap whole meant.1 ∙ sym same)
 
   pub wrote-field : (shapes : List Shape) (fields new : List Value) → shape ≡ rec_shape shapes → place ≡ Rec fields → (at : ℕ) → Some at ≡ field_place step
       → (inner : Shape) → Some inner ≡ slice_get shapes at → (result : Result (Unit {0}) Fault)
-      → WroteOne result fields new (item_stored inner fields at rest value) → Wrote result place (Rec new) (stored_at shape place path value)
+      → Wrote result fields new (item_stored inner fields at rest value) → Wrote result place (Rec new) (stored_at shape place path value)
   wrote-field shapes fields new shape-is place-is at place-at inner inner-is result one =
       wrote result Rec fields new at inner
       (ap (λ s. layer_parts s (out-Value place) step) (ap out-Shape shape-is ∙ out-rec-shape shapes)
@@ -75,7 +75,7 @@ module _ (shape : Shape) (place : Value) (path : List Sel) (step : Sel) (rest : 
       (λ held. ap (λ v. layer_with_part place v at held) (ap out-Value place-is ∙ out-rec fields)) place-is one
 
   pub wrote-item : (dims' : Dims) (inner : Shape) (dims : Dims) (items new : List Value) → shape ≡ arr_shape dims' inner → place ≡ Arr dims items → (at : ℕ) → Some at ≡ item_place dims step
-      → (result : Result (Unit {0}) Fault) → WroteOne result items new (item_stored inner items at rest value) → Wrote result place (Arr dims new) (stored_at shape place path value)
+      → (result : Result (Unit {0}) Fault) → Wrote result items new (item_stored inner items at rest value) → Wrote result place (Arr dims new) (stored_at shape place path value)
   wrote-item dims' inner dims items new shape-is place-is at place-at result one =
       wrote result (Arr dims) items new at inner
       (ap (λ s. layer_parts s (out-Value place) step) (ap out-Shape shape-is ∙ out-arr-shape dims' inner)
@@ -86,13 +86,13 @@ module _ (shape : Shape) (place : Value) (path : List Sel) (step : Sel) (rest : 
   -- the same, with the parts as they were read
   pub wrote-read : (dims' : Dims) (inner : Shape) (dims : Dims) (items new : List Value) → shape ≡ arr_shape dims' inner → place ≡ Arr dims items
       → (read : Dims) → read ≡ dims → (old : List Value) → old ≡ items → (kind : Shape) → kind ≡ inner → (at : ℕ) → Some at ≡ item_place read step
-      → (result : Result (Unit {0}) Fault) → WroteOne result old new (item_stored kind old at rest value) → Wrote result place (Arr read new) (stored_at shape place path value)
+      → (result : Result (Unit {0}) Fault) → Wrote result old new (item_stored kind old at rest value) → Wrote result place (Arr read new) (stored_at shape place path value)
   wrote-read dims' inner dims items new shape-is place-is read read-is old old-is kind kind-is at place-at result one =
       wrote-item dims' kind read old new (shape-is ∙ ap (arr_shape dims') (sym kind-is)) (place-is ∙ ap (λ d. Arr d items) (sym read-is) ∙ ap (Arr read) (sym old-is)) at place-at result one
 
 -- the item was written, or all are as before
 pub wrote-one : (result : Result (Unit {0}) Fault) (items : List Value) (spot : ℕ) (shape : Shape) (path : List Sel) (value part new : Value) → slice_get items spot ≡ Some part
-    → Wrote result part new (stored_at shape part path value) → WroteOne result items (slice_set items spot new) (item_stored shape items spot path value)
+    → Wrote result part new (stored_at shape part path value) → Wrote result items (slice_set items spot new) (item_stored shape items spot path value)
 wrote-one (Ok done) items spot shape path value part new here wrote =
     ap (λ p. with_ok (or_fault Index p) (λ old. with_ok (stored_at shape old path value) (λ held. Ok (slice_set items spot held)))) here
     ∙ ap (λ r. with_ok r (λ held. Ok (slice_set items spot held))) wrote

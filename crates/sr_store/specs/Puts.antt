@@ -3,6 +3,8 @@ use Rattle.std.specs.Prelude.{◌≡◌, ℕ, List, length, Option, Some, None, 
 use Rattle.std.specs.Option.{option_and_then}
 use Rattle.sr_value.specs.declared.fault.Fault.{Fault}
 use Rattle.sr_value.specs.declared.fault.Fault.TheVariants.{Index}
+use Rattle.sr_value.specs.declared.fault.ValueFail.{ValueFail}
+use Rattle.sr_value.specs.declared.fault.ValueFail.TheVariants.{Fault as a_fault, NoMemory as out_of_memory}
 use Rattle.sr_value.specs.declared.shape.Sel.{Sel}
 use Rattle.sr_value.specs.declared.shape.Shape.{Shape}
 use Rattle.sr_value.specs.declared.shape.Shape.TheOpen.{Shape-F}
@@ -12,25 +14,21 @@ use Rattle.sr_value.specs.declared.value.Value.TheOpen.{Value-F}
 use Rattle.sr_value.specs.declared.value.Value.TheVariants.{Char}
 use Rattle.sr_value.specs.Parts.{byte_place, layer_parts, or_fault, stored_at, with_ok, with_part}
 
--- the value was given the bounds of its place, or doesn't fit it
-abbrev pub Fitted : Result (Unit {0}) Fault → Value → Result Value Fault → Type 0
+-- the value or the values were given the bounds of their places, or one doesn't fit
+abbrev pub Fitted : {A : Type 0} → Result (Unit {0}) Fault → A → Result A Fault → Type 0
 Fitted (Ok done) new meant = meant ≡ Ok new
 Fitted (Err fault) new meant = meant ≡ Err fault
 
--- the same of the values of an array or a record
-abbrev pub AllFitted : Result (Unit {0}) Fault → List Value → Result (List Value) Fault → Type 0
-AllFitted (Ok done) new meant = meant ≡ Ok new
-AllFitted (Err fault) new meant = meant ≡ Err fault
-
--- the place holds what was meant, or there is this fault and the place is as before
-abbrev pub Wrote : Result (Unit {0}) Fault → Value → Value → Result Value Fault → Type 0
+-- what was meant is there now, or there is this fault and all is as before
+abbrev pub Wrote : {A : Type 0} → Result (Unit {0}) Fault → A → A → Result A Fault → Type 0
 Wrote (Ok done) old new meant = meant ≡ Ok new
 Wrote (Err fault) old new meant = (meant ≡ Err fault) × (new ≡ old)
 
--- the same of the items of an array or the fields of a record, of which one is written
-abbrev pub WroteOne : Result (Unit {0}) Fault → List Value → List Value → Result (List Value) Fault → Type 0
-WroteOne (Ok done) old new meant = meant ≡ Ok new
-WroteOne (Err fault) old new meant = (meant ≡ Err fault) × (new ≡ old)
+-- the same where memory may run out
+abbrev pub Made : {A : Type 0} → Result (Unit {0}) ValueFail → A → A → Result A Fault → Type 0
+Made (Ok done) old new meant = meant ≡ Ok new
+Made (Err (a_fault fault)) old new meant = (meant ≡ Err fault) × (new ≡ old)
+Made (Err out_of_memory) old new meant = new ≡ old
 
 -- the items after a value was put at the end of a path in one of them
 abbrev pub item_stored : Shape → List Value → ℕ → List Sel → Value → Result (List Value) Fault

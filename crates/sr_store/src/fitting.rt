@@ -1,6 +1,6 @@
 ghost use Rattle.std.specs.Prelude.{map};
 ghost use Rattle.sr_value.specs.Parts.{all_fit, each_fits, fitted_in};
-ghost use Rattle.sr_store.specs.Puts.{AllFitted, Fitted};
+ghost use Rattle.sr_store.specs.Puts.{Fitted};
 
 use crate::indices::check_extents;
 use sr_value::{Fault, Row, Shape, Value};
@@ -65,7 +65,7 @@ pub fn fit(shape: &Shape, value: &mut Value) -> Result<(), Fault>
 
 #[cycle(fitting)]
 fn fit_all(shape: &Shape, values: &mut Row<Value>) -> Result<(), Fault>
-    ensures { AllFitted result values.new (all_fit (fitted_in shape.now) values.old) }
+    ensures { Fitted result values.new (all_fit (fitted_in shape.now) values.old) }
 {
     for at in 0..values.len() {
         fit(shape, values.at_mut(at))?;
@@ -75,7 +75,7 @@ fn fit_all(shape: &Shape, values: &mut Row<Value>) -> Result<(), Fault>
 
 #[cycle(fitting)]
 fn fit_each(shapes: &[Shape], values: &mut Row<Value>) -> Result<(), Fault>
-    ensures { AllFitted result values.new (each_fits (map fitted_in shapes.now) values.old) }
+    ensures { Fitted result values.new (each_fits (map fitted_in shapes.now) values.old) }
 {
     for (at, shape) in shapes.iter().enumerate() {
         if at >= values.len() {

@@ -1,7 +1,7 @@
 ghost use Rattle.std.specs.Prelude.{◌≡◌, ◌<◌, drop};
 ghost use Rattle.sr_value.specs.declared.value.Value.{out-Value};
 ghost use Rattle.sr_value.specs.Parts.{stored_at, with_part};
-ghost use Rattle.sr_store.specs.Puts.{IsCharStored, Wrote, WroteOne, byte_count, char_stored, item_stored, layer_spot};
+ghost use Rattle.sr_store.specs.Puts.{IsCharStored, Wrote, byte_count, char_stored, item_stored, layer_spot};
 
 use crate::fitting::fit;
 use crate::indices::{byte_place, field_place, item_place, step_at};
@@ -65,7 +65,7 @@ fn put_item(
     at: usize,
     value: &mut Value,
 ) -> Result<(), Fault>
-    ensures { WroteOne result items.old items.new (item_stored shape.now items.old spot (drop at path.now) value.old) }
+    ensures { Wrote result items.old items.new (item_stored shape.now items.old spot (drop at path.now) value.old) }
 {
     if spot < items.len() {
         put_from(shape, items.at_mut(spot), path, at, value)
