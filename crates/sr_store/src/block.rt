@@ -1,4 +1,5 @@
-ghost use Rattle.std.specs.Prelude.{◌≡◌, ◌<◌, ◌≤◌, IsOk, OnErr, OnOk};
+ghost use Rattle.std.specs.Prelude.{◌≡◌, ◌<◌, ◌≤◌, IsOk, OnErr, OnOk, Some, nat_eq};
+ghost use Rattle.std.specs.HashMap.{Updates, spare};
 ghost use Rattle.std.specs.FinMap as map;
 ghost use Rattle.sr_value.specs.Operators.{Answers};
 ghost use Rattle.sr_store.specs.Puts.{Wrote};
@@ -73,7 +74,7 @@ impl Block {
         requires { 0 < self.old.room }
         ensures { self.new.variables ≡ map.insert self.old.variables var variable }
     {
-        let _ = self.variables.insert(var, variable);
+        set_entry(&mut self.variables, var, variable);
     }
 
     /// A copy of the value at the end of a path in a variable.
@@ -92,9 +93,17 @@ impl Block {
         ensures room { self.new.room ≡ self.old.room }
         ensures err { OnErr result (self.new ≡ self.old) }
     {
-        match self.variables.get_mut(&var) {
-            Some(variable) => put(&variable.shape, &mut variable.value, path, value),
-            None => Err(Fault::Early),
-        }
+        let Some(variable) = self.variables.get_mut(&var) else {
+            return Err(Fault::Early);
+        };
+        put(&variable.shape, &mut variable.value, path, value)
     }
+}
+
+/// Puts an entry into a table that has room for it.
+fn set_entry<V: Drop>(table: &mut HashMap<u32, V>, key: u32, value: V)
+    requires { 0 < spare table.old }
+    ensures { Updates nat_eq table.old table.new key (Some value) }
+{
+    let _ = table.insert(key, value);
 }
