@@ -1,3 +1,4 @@
 pub mod BlockLemmas
 pub mod FittingLemmas
+pub mod KeptLemmas
 pub mod PuttingLemmas

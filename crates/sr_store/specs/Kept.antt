@@ -1,17 +1,13 @@
 -- The tables in which the variables of blocks are kept.
-use Rattle.std.specs.Prelude.{ℕ, List, [], ◌∷◌, Option, Some, None, ◌==◌, if◌then◌else◌, map as each}
+use Rattle.std.specs.Prelude.{ℕ, List, [], ◌∷◌, map as each}
 use Rattle.std.specs.FinMap as map
-use Rattle.sr_store.specs.Variables.{ByNumber, Stored, Variables}
+use Rattle.sr_store.specs.Variables.{ByNumber, Stored, Variables, with_block}
 use Rattle.sr_store.specs.declared.variable.Variable.{Variable}
 
 -- the variables of one block, and how many more take no memory
 pub record Kept : Type 0 where
   pub variables : ByNumber Variable
   pub room : ℕ
-
--- a block without variables has no entry
-abbrev pub with_block : Variables → ℕ → ByNumber Variable → Variables
-with_block all block variables = if map.len variables == 0 then map.remove all block else map.insert all block variables
 
 abbrev pub variables_on : List (ℕ × Kept) → Variables
 variables_on [] = map.empty

@@ -1,5 +1,5 @@
 -- The shared variables of a world, and what is loaded from them and stored to them.
-use Rattle.std.specs.Prelude.{ℕ, ◌<◌, ◌≢◌, Option, unwrap_or, Result, Ok, Err, List}
+use Rattle.std.specs.Prelude.{ℕ, ◌<◌, ◌≢◌, ◌==◌, if◌then◌else◌, Option, unwrap_or, Result, Ok, Err, List}
 use Rattle.std.specs.Ordering.{nat_cmp}
 use Rattle.std.specs.FinMap as map
 use Rattle.sr_value.specs.declared.fault.Fault.{Fault}
@@ -44,8 +44,12 @@ block_of all block = unwrap_or (map.get all block) map.empty
 abbrev pub variable_at : Variables → ℕ → ℕ → Option Variable
 variable_at all block var = map.get (block_of all block) var
 
+-- a block without variables has no entry
+abbrev pub with_block : Variables → ℕ → ByNumber Variable → Variables
+with_block all block variables = if map.len variables == 0 then map.remove all block else map.insert all block variables
+
 abbrev pub with_variable : Variables → ℕ → ℕ → Variable → Variables
-with_variable all block var variable = map.insert all block (map.insert (block_of all block) var variable)
+with_variable all block var variable = with_block all block (map.insert (block_of all block) var variable)
 
 -- a declaration gives the variable its default, and replaces what it was; bounds out of range are E6, and too large a shape is E10
 abbrev pub declared_in : Variables → ℕ → ℕ → Shape → Result Variables Fault
@@ -55,7 +59,7 @@ abbrev pub loaded_in : Variables → ℕ → ℕ → List Sel → Result Value F
 loaded_in all block var path = block_loaded (block_of all block) var path
 
 abbrev pub stored_in : Variables → ℕ → ℕ → List Sel → Value → Result Variables Fault
-stored_in all block var path value = with_ok (block_stored (block_of all block) var path value) (λ changed. Ok (map.insert all block changed))
+stored_in all block var path value = with_ok (block_stored (block_of all block) var path value) (λ changed. Ok (with_block all block changed))
 
 -- ---- room
 

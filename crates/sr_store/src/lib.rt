@@ -2,11 +2,13 @@
 #![tactic(auto)]
 
 mod block;
+mod blocks;
 mod fitting;
 mod indices;
 mod putting;
 mod variable;
 
+pub use blocks::Blocks;
 pub use fitting::fit;
 pub use putting::put;
 pub use variable::Variable;
