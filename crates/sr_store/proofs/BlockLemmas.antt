@@ -103,9 +103,10 @@ module _ (es : List (ℕ × Variable)) (block : ByNumber Variable) (is : map.fro
         ∙ ap (λ r. with_ok r (λ h. Ok (map.insert block var (record variable { value = h })))) wrote
         ∙ ap (λ b. Ok (map.insert b var (record variable { value = held }))) (sym is)
         ∙ ap (λ b. Ok b) (sym (set-table es new var (record variable { value = held }) updates))
-    stored-here new variable held (Err fault) at updates same wrote =
-        (stored-by (Some variable) at ∙ ap (λ r. with_ok r (λ h. Ok (map.insert block var (record variable { value = h })))) wrote.0,
-        ap map.from_entries (same wrote.1) ∙ is)
+    stored-here new variable held (Err fault) at updates same wrote = (
+      stored-by (Some variable) at ∙ ap (λ r. with_ok r (λ h. Ok (map.insert block var (record variable { value = h })))) wrote.0,
+      ap map.from_entries (same wrote.1) ∙ is,
+    )
 
 -- a variable that is written back as it was
 pub written-same : (es new : List (ℕ × Variable)) (var : ℕ) (variable : Variable) (held : Value) → Some variable ≡ lookup (nat_eq var) es

@@ -28,6 +28,13 @@ pub on_err : {T E : Type 0} {P Q : Type 0} (r : Result T E) → OnErr r P → (P
 on_err (Ok x) h f = h
 on_err (Err e) h f = f h
 
+pub at_err : {T E : Type 0} {P : Type 0} (r : Result T E) → P → OnErr r P
+at_err (Ok x) h = tt
+at_err (Err e) h = h
+
+pub same-room : (stored next : Stored) → next ≡ stored → KeepsRoom stored next
+same-room stored next same q can = subst (λ s. CanPlace s q) (sym same) can
+
 -- ---- the variables of blocks
 
 abbrev pub listed : ByNumber Variable → Option (ByNumber Variable)
@@ -204,9 +211,11 @@ module _ (old new : List (ℕ × Kept)) (stored : Stored) (p : ℕ) (was block :
   wrote var path value (Ok done) is =
       ap (λ b. with_ok (block_stored b var path value) (λ changed. Ok (with_block stored.variables p changed))) was-here
       ∙ ap (λ r. with_ok r (λ changed. Ok (with_block stored.variables p changed))) is ∙ ap (λ all. Ok all) (sym all-changed)
-  wrote var path value (Err fault) is =
-      (ap (λ b. with_ok (block_stored b var path value) (λ changed. Ok (with_block stored.variables p changed))) was-here
-      ∙ ap (λ r. with_ok r (λ changed. Ok (with_block stored.variables p changed))) is.0, stays is.1)
+  wrote var path value (Err fault) is = (
+    ap (λ b. with_ok (block_stored b var path value) (λ changed. Ok (with_block stored.variables p changed))) was-here
+        ∙ ap (λ r. with_ok r (λ changed. Ok (with_block stored.variables p changed))) is.0,
+    stays is.1,
+  )
 
   -- ---- room
 

@@ -58,6 +58,7 @@ module _ (shape : Shape) (place : Value) (path : List Sel) (step : Sel) (rest : 
           held : (r : Result Value Fault) → with_ok r (λ h. Ok (with_part place at h)) ≡ with_ok (with_ok r (λ h. Ok (slice_set old at h))) (λ all. Ok (whole all))
           held (Ok h) = ap (λ w. Ok w) (changed h)
           held (Err fault) = refl
+
       by : (r : Result (Unit {0}) Fault) → stored_at shape place path value ≡ with_ok (item_stored inner old at rest value) (λ all. Ok (whole all))
           → Wrote r old new (item_stored inner old at rest value) → Wrote r place (whole new) (stored_at shape place path value)
       by (Ok done) all meant = all ∙ ap (λ r. with_ok r (λ items. Ok (whole items))) meant
@@ -96,9 +97,11 @@ pub wrote-one : (result : Result (Unit {0}) Fault) (items : List Value) (spot : 
 wrote-one (Ok done) items spot shape path value part new here wrote =
     ap (λ p. with_ok (or_fault Index p) (λ old. with_ok (stored_at shape old path value) (λ held. Ok (slice_set items spot held)))) here
     ∙ ap (λ r. with_ok r (λ held. Ok (slice_set items spot held))) wrote
-wrote-one (Err fault) items spot shape path value part new here wrote =
-    (ap (λ p. with_ok (or_fault Index p) (λ old. with_ok (stored_at shape old path value) (λ held. Ok (slice_set items spot held)))) here
-    ∙ ap (λ r. with_ok r (λ held. Ok (slice_set items spot held))) wrote.0, ap (slice_set items spot) wrote.1 ∙ set-same spot items part here)
+wrote-one (Err fault) items spot shape path value part new here wrote = (
+  ap (λ p. with_ok (or_fault Index p) (λ old. with_ok (stored_at shape old path value) (λ held. Ok (slice_set items spot held)))) here
+      ∙ ap (λ r. with_ok r (λ held. Ok (slice_set items spot held))) wrote.0,
+  ap (slice_set items spot) wrote.1 ∙ set-same spot items part here,
+)
 
 pub no-item : (items : List Value) (spot : ℕ) (shape : Shape) (path : List Sel) (value : Value) → length items ≤ spot → item_stored shape items spot path value ≡ Err Index
 no-item items spot shape path value past =

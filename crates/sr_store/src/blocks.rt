@@ -16,7 +16,7 @@ use std::marker::Model;
 pub struct Blocks {
     alloc: Global,
     /// A block without variables keeps its room.
-    blocks: BTreeMap<u32, Block>,
+    tables: BTreeMap<u32, Block>,
 }
 
 impl Model for Blocks {
@@ -32,7 +32,7 @@ impl Model for Blocks {
     ghost coded = { code_by (Variables × ByNumber ℕ) (coded× (map.code coded_ℕ (map.code coded_ℕ variable.the_row.coded)) (map.code coded_ℕ coded_ℕ))
         (λ s. (s.variables, s.room)) (λ p. record { variables = p.0; room = p.1 }) (λ _. refl) };
 
-    ghost view = { λ blocks. stored_on blocks.blocks.entries };
+    ghost view = { λ blocks. stored_on blocks.tables.entries };
 }
 
 impl Blocks {
@@ -42,7 +42,7 @@ impl Blocks {
     {
         Blocks {
             alloc,
-            blocks: BTreeMap::new(alloc),
+            tables: BTreeMap::new(alloc),
         }
     }
 
@@ -54,12 +54,12 @@ impl Blocks {
         ensures variables { self.new.variables ≡ self.old.variables }
         ensures room { KeepsRoom self.old self.new }
     {
-        if let Some(kept) = self.blocks.get_mut(&block) {
+        if let Some(kept) = self.tables.get_mut(&block) {
             return kept.reserve();
         }
         let mut kept = Block::new(self.alloc);
         kept.reserve()?;
-        self.blocks.insert(block, kept)?;
+        self.tables.insert(block, kept)?;
         Ok(())
     }
 
@@ -81,12 +81,12 @@ impl Blocks {
         ensures kept { OnErr result (KeepsRoom self.old self.new) }
         ensures room { KeepsOtherRoom self.old self.new block }
     {
-        if let Some(kept) = self.blocks.get_mut(&block) {
+        if let Some(kept) = self.tables.get_mut(&block) {
             return kept.set(var, variable);
         }
         let mut kept = Block::new(self.alloc);
         kept.set(var, variable)?;
-        self.blocks.insert(block, kept)?;
+        self.tables.insert(block, kept)?;
         Ok(())
     }
 
@@ -94,7 +94,7 @@ impl Blocks {
     pub fn load(&self, block: u32, var: u32, path: &[Sel]) -> Result<Value, ValueFail>
         ensures { Answers result (loaded_in self.now.variables block var path.now) }
     {
-        match self.blocks.get(&block) {
+        match self.tables.get(&block) {
             Some(kept) => kept.load(self.alloc, var, path),
             None => Err(ValueFail::Fault(Fault::Early)),
         }
@@ -107,7 +107,7 @@ impl Blocks {
         ensures room { KeepsRoom self.old self.new }
         ensures err { OnErr result (self.new ≡ self.old) }
     {
-        let Some(kept) = self.blocks.get_mut(&block) else {
+        let Some(kept) = self.tables.get_mut(&block) else {
             return Err(Fault::Early);
         };
         kept.store(var, path, value)

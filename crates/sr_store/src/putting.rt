@@ -97,9 +97,7 @@ fn byte_spot(value: &Value, step: Sel) -> Option<usize>
     ensures { result ≡ layer_spot (out-Value value.now) step }
 {
     match value {
-        Value::Str(text) => {
-            byte_place(text.as_bytes(), step).filter(|spot| *spot < text.len())
-        }
+        Value::Str(text) => { byte_place(text.as_bytes(), step).filter(|spot| *spot < text.len()) }
         _ => None,
     }
 }

@@ -37,7 +37,7 @@ fit_each-returns-then-at-len t c =
 pub fit_each-returns-in_err-fit : goal.fit_each-returns-in_err-fit
 fit_each-returns-in_err-fit t c =
     let none = sym c.loop-at.invariant.left ∙ not-fitted c.loop-at.at (fields_from c.loop-at.at c.args.shapes.now) c.loop-at.values c.at_mut.result.now c.in_err-fit.field-0.0 c.at_mut.ensures.value
-        (field-fails c.loop-at.at c.args.shapes.now c.index-shapes-at.result (slice_get_read c.args.shapes.now _ c.loop-at.at c.index-shapes-at.result refl c.loop-at-test.true c.index-shapes-at.is) c.at_mut.result.now c.in_err-fit.field-0.0 c.in_err-fit.ensures) in
+    (field-fails c.loop-at.at c.args.shapes.now c.index-shapes-at.result (slice_get_read c.args.shapes.now _ c.loop-at.at c.index-shapes-at.result refl c.loop-at-test.true c.index-shapes-at.is) c.at_mut.result.now c.in_err-fit.field-0.0 c.in_err-fit.ensures) in
     search rules
 
 pub fit_each-loop-at-preserved : goal.fit_each-loop-at-preserved

@@ -5,9 +5,10 @@ use Rattle.sr_store.proofs.BlockLemmas.{kept-same, on_fault, stored-early, store
 use Rattle.sr_store.proofs.block.Block.store.Goals as goal
 
 pub returns-in_default-clause-wrote : goal.returns-in_default-clause-wrote
-returns-in_default-clause-wrote c =
-    (stored-early c.self.inside.variables.entries c.args.self.now.variables (ap (λ k. k.variables) c.self.view_is) c.args.var c.args.path.now c.args.value c.in_default.ensures.value,
-    ap (λ m. map.from_entries m.entries) c.get_mut.follows.holds-at-none ∙ ap (λ k. k.variables) c.self.view_is)
+returns-in_default-clause-wrote c = (
+  stored-early c.self.inside.variables.entries c.args.self.now.variables (ap (λ k. k.variables) c.self.view_is) c.args.var c.args.path.now c.args.value c.in_default.ensures.value,
+  ap (λ m. map.from_entries m.entries) c.get_mut.follows.holds-at-none ∙ ap (λ k. k.variables) c.self.view_is,
+)
 
 pub returns-clause-wrote : goal.returns-clause-wrote
 returns-clause-wrote c =
