@@ -1,5 +1,5 @@
 -- The table of a block's variables, seen as a map.
-use Rattle.std.proofs.Common.{◌≡◌, ◌≢◌, ℕ, Bool, true, false, cond, ◌==◌, nat_eq, List, [], ◌∷◌, Option, Some, None, Result, Ok, Err, OnErr, is_some, refl, ap, sym, subst, ◌∙◌, eq-eqb, true≢false}
+use Rattle.std.proofs.Common.{◌≡◌, ◌≢◌, ℕ, Bool, true, false, cond, nat_eq, List, [], ◌∷◌, Option, Some, None, Result, Ok, Err, OnErr, refl, ap, sym, ◌∙◌, eq-eqb, true≢false}
 use Rattle.std.proofs.lemmas.Bool.{eqb-true, false_from_ne_true}
 use Rattle.std.proofs.lemmas.Map.Steps.{set_value_same}
 use Rattle.std.specs.Cmp.{nat_cmp_total, eq_by_cmp_equiv, ranked}

@@ -1,12 +1,12 @@
 -- Items that are given the bounds of their places one after another.
-use Rattle.std.proofs.Common.{◌≡◌, ℕ, zero, suc, ◌+◌, ◌<◌, ◌≤◌, List, [], ◌∷◌, Some, None, Result, Ok, Err, length, map, drop, refl, ap, sym, ◌∙◌, arith, is_some, true≢false, slice_set}
+use Rattle.std.proofs.Common.{◌≡◌, ℕ, zero, suc, ◌+◌, ◌<◌, ◌≤◌, List, [], ◌∷◌, Some, Result, Ok, Err, length, map, drop, refl, ap, sym, ◌∙◌, arith, is_some, true≢false, slice_set}
 use Rattle.std.specs.Prelude.{slice_get}
 use Rattle.sr_value.specs.declared.fault.Fault.{Fault}
 use Rattle.sr_value.specs.declared.fault.Fault.TheVariants.{Index}
 use Rattle.sr_value.specs.declared.shape.Shape.{Shape}
 use Rattle.sr_value.specs.declared.value.Value.{Value}
 use Rattle.sr_value.specs.declared.value.Value.TheVariants.{Rec}
-use Rattle.sr_value.specs.Parts.{all_fit, each_fits, fitted_in, with_ok}
+use Rattle.sr_value.specs.Parts.{each_fits, fitted_in, with_ok}
 use Rattle.sr_store.specs.Puts.{Fitted}
 
 -- what all items give, where the first `at` were fitted already and `rest` is what those after them give

@@ -1,9 +1,9 @@
-use Rattle.std.proofs.Common.{◌≡◌, ◌+◌, List, [], ◌∷◌, Ok, Err, Result, refl, ap, sym, ◌∙◌, rules, arith}
+use Rattle.std.proofs.Common.{◌≡◌, ◌+◌, List, ◌∷◌, Ok, Err, Result, refl, ap, sym, ◌∙◌, rules, arith}
 use Rattle.std.proofs.lemmas.Option.{slice_get_read}
 use Rattle.sr_value.specs.declared.fault.Fault.{Fault}
 use Rattle.sr_value.specs.declared.fault.Fault.TheVariants.{Index}
 use Rattle.sr_value.specs.declared.value.Value.{Value}
-use Rattle.sr_value.specs.Parts.{all_fit, each_fits, fitted_in, with_ok}
+use Rattle.sr_value.specs.Parts.{all_fit, fitted_in, with_ok}
 use Rattle.sr_value.proofs.FitLemmas.{fitted-record}
 use Rattle.sr_store.proofs.FittingLemmas.{all-fitted, field-fails, field-fits, field-missing, fields-end, fields-past, fields_from, next-fitted, not-fitted, recorded, too-few, too-many}
 use Rattle.sr_store.proofs.fitting.+fitting.Goals as goal

@@ -1,4 +1,4 @@
-use Rattle.std.proofs.Common.{ap, sym, ◌∙◌, arith}
+use Rattle.std.proofs.Common.{ap, ◌∙◌, arith}
 use Rattle.sr_store.proofs.KeptLemmas.{keeps, lent, lent-same, none-stored, on_err, wrote}
 use Rattle.sr_store.specs.Kept.{variables_on}
 use Rattle.sr_store.proofs.blocks.Blocks.store.Goals as goal
