@@ -1,0 +1,5 @@
+pub mod BlockLemmas
+pub mod FittingLemmas
+pub mod KeptLemmas
+pub mod LawLemmas
+pub mod PuttingLemmas
