@@ -1,6 +1,8 @@
-ghost use Rattle.std.specs.Prelude.{◌≡◌, [], OnOk, IfOk};
+ghost use Rattle.std.specs.Prelude.{◌≡◌, ◌++◌, [], false, OnOk, IfOk, map};
 ghost use Rattle.sr_names.specs.Notes.{all_noted};
-ghost use Rattle.sr_check.specs.Components.{item_read, items_read, proc_entered, item_procs, items_procs, head_found, component_within, component_read, components_read, files_read};
+ghost use Rattle.sr_check_decl.specs.Declarations.{spec_items_found};
+ghost use Rattle.sr_check_decl.specs.TypeTrees.{formal_read, formals_at, formals_found};
+ghost use Rattle.sr_check.specs.Components.{item_read, items_read, proc_entered, item_procs, items_procs, component_within, component_read, components_read, files_read};
 
 use crate::around::Procs;
 use crate::operation::Operation;
@@ -11,7 +13,7 @@ use crate::statements::statement;
 use sr_check_decl::{all_formals, component_decl, note_spec_item, note_spec_items, stand};
 use sr_check_expr::Facts;
 use sr_names::{Notes, Spot};
-use sr_tree::{Component, File, Item};
+use sr_tree::{Component, File, Formal, Item, SpecItem};
 use sr_value::{NoMemory, Span};
 use std::alloc::Global;
 
@@ -98,14 +100,15 @@ fn enter_items(
 /// Notes what is found in the spec and the formals of a component.
 fn note_head(
     alloc: Global,
-    component: &Component,
+    spec: &[SpecItem],
+    formals: &[Formal],
     facts: &Facts,
     notes: &mut Notes,
 ) -> Result<(), NoMemory>
-    ensures { OnOk result (notes.new ≡ all_noted notes.old (head_found component.now facts.now)) }
+    ensures { OnOk result (notes.new ≡ all_noted notes.old (spec_items_found facts.now spec.now ++ formals_found (formals_at (map formal_read formals.now) facts.now false))) }
 {
-    note_spec_items(alloc, facts, notes, component.spec())?;
-    all_formals(alloc, component.formals(), facts, notes, false)?;
+    note_spec_items(alloc, facts, notes, spec)?;
+    all_formals(alloc, formals, facts, notes, false)?;
     Ok(())
 }
 
@@ -120,7 +123,7 @@ fn component(
     ensures noted { OnOk result (notes.new ≡ all_noted notes.old (component_read component.now facts.old).found) }
 {
     stand(facts, component_decl(component));
-    note_head(alloc, component, facts, notes)?;
+    note_head(alloc, component.spec(), component.formals(), facts, notes)?;
     let mut procs = Procs::new(alloc);
     enter_items(alloc, facts, component.body(), &mut procs)?;
     items(alloc, component.body(), &procs, facts, notes)

@@ -1,8 +1,10 @@
-ghost use Rattle.std.specs.Prelude.{◌≡◌, ◌++◌, [], IfOk, OnOk};
+ghost use Rattle.std.specs.Prelude.{◌≡◌, ◌++◌, [], true, IfOk, OnOk};
 ghost use Rattle.std.specs.Option.{option_copied};
 ghost use Rattle.sr_names.specs.Notes.{all_noted};
+ghost use Rattle.sr_check_expr.specs.Arguments.{is_callable, returned_by};
 ghost use Rattle.sr_check_expr.specs.Calls.{parts_found};
 ghost use Rattle.sr_check_expr.specs.Exprs.{judge_invocation};
+ghost use Rattle.sr_check_expr.specs.Judgements.{broken_unless, value_found};
 ghost use Rattle.sr_check.specs.Contexts.{context_of};
 ghost use Rattle.sr_check.specs.Invoking.{is_operation_name, callee_rule, invoked_found, written_found, named_operation, semaphore_found, p_found, v_found, function_called, called_found, call_found, send_found, is_serving, served_type, same_results, forward_found, may_reply, started_found, result_found, place_found};
 
@@ -278,6 +280,26 @@ fn same_types(alloc: Global, facts: &Facts, own: &Ty, callee: &Ty) -> Result<boo
     }
 }
 
+/// Notes what is found at a `forward`, apart from its parts.
+fn note_forwarded(
+    alloc: Global,
+    facts: &Facts,
+    serving: Serving,
+    notes: &mut Notes,
+    span: Span,
+    parts: &Invoked,
+) -> Result<(), NoMemory>
+    ensures { OnOk result (notes.new ≡ all_noted notes.old (invoked_found facts.now span true parts.now.callee parts.now.arguments
+        ++ (broken_unless (is_serving serving) Rule.BadUse span
+        ++ broken_unless (same_results facts.now (served_type facts.now serving) parts.now.callee.typed.ty) Rule.BadType span))) }
+{
+    let callee = &parts.callee;
+    note_invoked(facts, notes, span, true, callee, parts.arguments.as_slice())?;
+    note_unless(notes, is_serving(serving), Rule::BadUse, span)?;
+    let same = gives_same(alloc, facts, serving, &callee.typed.ty)?;
+    note_unless(notes, same, Rule::BadType, span)
+}
+
 /// Notes what is found at `forward g(a)`.
 pub(crate) fn note_forward(
     alloc: Global,
@@ -290,17 +312,7 @@ pub(crate) fn note_forward(
     ensures { OnOk result (notes.new ≡ all_noted notes.old (forward_found (context_of around.now facts.now) span (judge_invocation tree.now facts.now))) }
 {
     let parts = invocation(alloc, tree, facts, notes)?;
-    note_invoked(
-        facts,
-        notes,
-        span,
-        true,
-        &parts.callee,
-        parts.arguments.as_slice(),
-    )?;
-    note_unless(notes, is_serving(around.serving), Rule::BadUse, span)?;
-    let same = gives_same(alloc, facts, around.serving, &parts.callee.typed.ty)?;
-    note_unless(notes, same, Rule::BadType, span)
+    note_forwarded(alloc, facts, around.serving, notes, span, &parts)
 }
 
 /// Whether `reply` may stand there.
@@ -328,8 +340,44 @@ fn note_result(
     }
 }
 
+/// Notes what is found where what a callee of a type gives back goes to a place.
+fn note_place(
+    alloc: Global,
+    facts: &Facts,
+    notes: &mut Notes,
+    target: &Judged,
+    callee: &Ty,
+    span: Span,
+) -> Result<(), NoMemory>
+    ensures { OnOk result (notes.new ≡ all_noted notes.old (value_found target.now ++ result_found target.now (returned_by facts.now.signatures callee.now) span)) }
+{
+    note_value(notes, target)?;
+    let returned = returned_by(alloc, &facts.signatures, callee)?;
+    note_result(notes, target, returned, span)
+}
+
 /// Notes what is found at the place of an arm of `co`.
 fn note_target(
+    alloc: Global,
+    facts: &Facts,
+    notes: &mut Notes,
+    target: &Option<Expr>,
+    callee: &Ty,
+    span: Span,
+) -> Result<(), NoMemory>
+    ensures { OnOk result (notes.new ≡ all_noted notes.old (place_found facts.now target.now callee.now span)) }
+{
+    match target {
+        None => Ok(()),
+        Some(target) => {
+            let target = expr(alloc, target, facts, notes)?;
+            note_place(alloc, facts, notes, &target, callee, span)
+        }
+    }
+}
+
+/// Notes what is found at an arm of `co`, apart from the parts of its invocation.
+fn note_begun(
     alloc: Global,
     facts: &Facts,
     notes: &mut Notes,
@@ -337,17 +385,20 @@ fn note_target(
     parts: &Invoked,
     span: Span,
 ) -> Result<(), NoMemory>
-    ensures { OnOk result (notes.new ≡ all_noted notes.old (place_found facts.now target.now parts.now.callee.typed.ty span)) }
+    ensures { OnOk result (notes.new ≡ all_noted notes.old (invoked_found facts.now span (is_callable facts.now.signatures parts.now.callee.typed.ty) parts.now.callee parts.now.arguments
+        ++ place_found facts.now target.now parts.now.callee.typed.ty span)) }
 {
-    match target {
-        None => Ok(()),
-        Some(target) => {
-            let target = expr(alloc, target, facts, notes)?;
-            note_value(notes, &target)?;
-            let returned = returned_by(alloc, &facts.signatures, &parts.callee.typed.ty)?;
-            note_result(notes, &target, returned, span)
-        }
-    }
+    let callee = &parts.callee;
+    let allowed = is_callable(&facts.signatures, &callee.typed.ty);
+    note_invoked(
+        facts,
+        notes,
+        span,
+        allowed,
+        callee,
+        parts.arguments.as_slice(),
+    )?;
+    note_target(alloc, facts, notes, target, &callee.typed.ty, span)
 }
 
 /// Notes what is found at the place and the invocation of an arm of `co`.
@@ -361,14 +412,5 @@ pub(crate) fn note_started(
     ensures { OnOk result (notes.new ≡ all_noted notes.old (started_found facts.now target.now (judge_invocation tree.now facts.now))) }
 {
     let parts = invocation(alloc, tree, facts, notes)?;
-    let allowed = is_callable(&facts.signatures, &parts.callee.typed.ty);
-    note_invoked(
-        facts,
-        notes,
-        tree.span,
-        allowed,
-        &parts.callee,
-        parts.arguments.as_slice(),
-    )?;
-    note_target(alloc, facts, notes, target, &parts, tree.span)
+    note_begun(alloc, facts, notes, target, &parts, tree.span)
 }

@@ -1,7 +1,8 @@
 ghost use Rattle.std.specs.Prelude.{◌≡◌, false, OnOk, IfOk, is_some};
 ghost use Rattle.sr_names.specs.Notes.{all_noted};
+ghost use Rattle.sr_check_decl.specs.TypeTrees.{signature_read};
 ghost use Rattle.sr_check.specs.Contexts.{context_of};
-ghost use Rattle.sr_check.specs.Components.{proc_item_read, block_read, proc_rules, proc_read, returned_declared, signed_declared, procedure_read, quantifiers_formal, process_read, final_read};
+ghost use Rattle.sr_check.specs.Components.{proc_item_read, block_read, proc_rules, proc_serving, proc_read, returned_declared, signed_declared, procedure_read, quantifiers_formal, process_read, final_read};
 
 use crate::around::{Around, Procs};
 use crate::operation::Operation;
@@ -15,7 +16,7 @@ use sr_check_decl::{
 };
 use sr_check_expr::{Facts, note_unless};
 use sr_names::{Notes, Rule, Spot};
-use sr_tree::{FinalCode, Proc, ProcItem, Procedure, Process, Quantifier};
+use sr_tree::{FinalCode, Proc, ProcItem, Procedure, Process, Quantifier, Signature};
 use sr_types::Ty;
 use sr_value::{Duplicate, NoMemory};
 use std::alloc::Global;
@@ -99,6 +100,26 @@ fn note_proc(
     }
 }
 
+/// Notes what is found in a proc that serves an operation.
+fn proc_serving(
+    alloc: Global,
+    tree: &Proc,
+    procs: &Procs,
+    facts: &mut Facts,
+    notes: &mut Notes,
+    operation: &Option<Operation>,
+) -> Result<(), NoMemory>
+    ensures known { OnOk result (facts.new ≡ (proc_serving procs.now tree.now operation.now facts.old).facts) }
+    ensures noted { OnOk result (notes.new ≡ all_noted notes.old (proc_serving procs.now tree.now operation.now facts.old).found) }
+{
+    note_proc(facts, notes, tree, operation)?;
+    let formals = tree.formals.as_slice();
+    bind_operation(alloc, facts, formals, &tree.returned, operation)?;
+    let served = spot_or(Spot::of(tree.name.span), operation);
+    let around = beginning(procs, Serving::Serves(served));
+    proc_block(alloc, tree.block.as_slice(), &around, facts, notes)
+}
+
 /// Notes what is found in a proc.
 pub(crate) fn proc(
     alloc: Global,
@@ -111,17 +132,7 @@ pub(crate) fn proc(
     ensures noted { OnOk result (notes.new ≡ all_noted notes.old (proc_read procs.now tree.now facts.old).found) }
 {
     let operation = operation_named(alloc, facts, &tree.name)?;
-    note_proc(facts, notes, tree, &operation)?;
-    bind_operation(
-        alloc,
-        facts,
-        tree.formals.as_slice(),
-        &tree.returned,
-        &operation,
-    )?;
-    let served = spot_or(Spot::of(tree.name.span), &operation);
-    let around = beginning(procs, Serving::Serves(served));
-    proc_block(alloc, tree.block.as_slice(), &around, facts, notes)
+    proc_serving(alloc, tree, procs, facts, notes, &operation)
 }
 
 fn declare_returned(
@@ -144,6 +155,20 @@ fn declare_signed(alloc: Global, facts: &mut Facts, signed: &Signed) -> Result<(
     declare_returned(alloc, facts, &signed.returned)
 }
 
+/// Notes what is found in the signature of a procedure, and declares what is known within it.
+fn enter_procedure(
+    alloc: Global,
+    tree: &Signature,
+    facts: &mut Facts,
+    notes: &mut Notes,
+) -> Result<(), NoMemory>
+    ensures known { OnOk result (facts.new ≡ signed_declared (signature_read tree.now facts.old).signed facts.old) }
+    ensures noted { OnOk result (notes.new ≡ all_noted notes.old (signature_read tree.now facts.old).found) }
+{
+    let signed = signature(alloc, tree, facts, notes)?;
+    declare_signed(alloc, facts, &signed)
+}
+
 /// Notes what is found in a procedure.
 pub(crate) fn procedure(
     alloc: Global,
@@ -155,8 +180,7 @@ pub(crate) fn procedure(
     ensures known { OnOk result (facts.new ≡ (procedure_read procs.now tree.now facts.old).facts) }
     ensures noted { OnOk result (notes.new ≡ all_noted notes.old (procedure_read procs.now tree.now facts.old).found) }
 {
-    let signed = signature(alloc, &tree.signature, facts, notes)?;
-    declare_signed(alloc, facts, &signed)?;
+    enter_procedure(alloc, &tree.signature, facts, notes)?;
     let around = beginning(procs, Serving::Serves(Spot::of(tree.name.span)));
     proc_block(alloc, tree.block.as_slice(), &around, facts, notes)
 }

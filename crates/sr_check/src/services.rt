@@ -250,6 +250,14 @@ fn copied_or_none(alloc: Global, ty: &Option<Ty>) -> Result<Ty, NoMemory>
     }
 }
 
+/// Declares the formals of an operation of this type, by the names that stand for them.
+fn bind_formals(alloc: Global, facts: &mut Facts, formals: &[Name], ty: &Ty) -> Result<(), NoMemory>
+    ensures { OnOk result (facts.new ≡ names_bound formals.now (params_of facts.old.signatures ty.now) facts.old) }
+{
+    let params = copied_params(alloc, &facts.signatures, ty)?;
+    bind_names(alloc, facts, formals, params.as_slice())
+}
+
 /// Declares what is known within a service of an operation of this type.
 pub(crate) fn bind_service(
     alloc: Global,
@@ -260,9 +268,8 @@ pub(crate) fn bind_service(
 ) -> Result<(), NoMemory>
     ensures { OnOk result (facts.new ≡ service_bound formals.now returned.now ty.now facts.old) }
 {
-    let params = copied_params(alloc, &facts.signatures, ty)?;
     let returns = returned_type(alloc, &facts.signatures, ty)?;
-    bind_names(alloc, facts, formals, params.as_slice())?;
+    bind_formals(alloc, facts, formals, ty)?;
     bind_returned(facts, returned, returns)
 }
 

@@ -1,9 +1,12 @@
-ghost use Rattle.std.specs.Prelude.{◌≡◌, OnOk};
+ghost use Rattle.std.specs.Prelude.{◌≡◌, ◌++◌, OnOk};
 ghost use Rattle.sr_names.specs.Notes.{all_noted};
+ghost use Rattle.sr_types.specs.Storing.{store_rule};
+ghost use Rattle.sr_check_expr.specs.Exprs.{judge_expr};
+ghost use Rattle.sr_check_expr.specs.Judgements.{broken_unless, valued, value_found};
 ghost use Rattle.sr_check.specs.Storing.{counter_rule, exchange_rule, assign_found, exchange_found, counter_found, status_found, destroy_found};
 
 use crate::uses::{may_be_destroyed, may_be_number};
-use sr_check_expr::{Facts, expr, note_unless, note_value};
+use sr_check_expr::{Facts, Judged, expr, note_unless, note_value};
 use sr_names::{Notes, Rule};
 use sr_tree::Expr;
 use sr_types::{Typed, may_be_int, may_store};
@@ -24,6 +27,35 @@ fn may_exchange(left: &Typed, right: &Typed) -> bool
     may_store(left, right) && may_store(right, left)
 }
 
+fn note_stored(
+    notes: &mut Notes,
+    span: Span,
+    place: &Judged,
+    value: &Judged,
+) -> Result<(), NoMemory>
+    ensures { OnOk result (notes.new ≡ all_noted notes.old (value_found value.now ++ broken_unless (store_rule place.now.typed value.now.typed) Rule.BadType span)) }
+{
+    let met = may_store(&place.typed, &value.typed);
+    note_value(notes, value)?;
+    note_unless(notes, met, Rule::BadType, span)
+}
+
+/// Notes what is found where an expression is assigned to what was judged already.
+fn note_assign_to(
+    alloc: Global,
+    facts: &Facts,
+    notes: &mut Notes,
+    span: Span,
+    place: &Judged,
+    tree: &Expr,
+) -> Result<(), NoMemory>
+    ensures { let value = judge_expr tree.now facts.now in OnOk result (notes.new ≡ all_noted notes.old (value_found place.now ++ (valued value ++ broken_unless (store_rule place.now.typed value.judged.typed) Rule.BadType span))) }
+{
+    note_value(notes, place)?;
+    let value = expr(alloc, tree, facts, notes)?;
+    note_stored(notes, span, place, &value)
+}
+
 /// Notes what is found at `place := value`.
 pub(crate) fn note_assign(
     alloc: Global,
@@ -36,15 +68,36 @@ pub(crate) fn note_assign(
     ensures { OnOk result (notes.new ≡ all_noted notes.old (assign_found facts.now span place.now value.now)) }
 {
     let place = expr(alloc, place, facts, notes)?;
-    note_value(notes, &place)?;
-    let value = expr(alloc, value, facts, notes)?;
-    note_value(notes, &value)?;
-    note_unless(
-        notes,
-        may_store(&place.typed, &value.typed),
-        Rule::BadType,
-        span,
-    )
+    note_assign_to(alloc, facts, notes, span, &place, value)
+}
+
+fn note_exchanged(
+    notes: &mut Notes,
+    span: Span,
+    left: &Judged,
+    right: &Judged,
+) -> Result<(), NoMemory>
+    ensures { OnOk result (notes.new ≡ all_noted notes.old (value_found right.now ++ broken_unless (exchange_rule left.now.typed right.now.typed) Rule.BadType span)) }
+{
+    let met = may_exchange(&left.typed, &right.typed);
+    note_value(notes, right)?;
+    note_unless(notes, met, Rule::BadType, span)
+}
+
+/// Notes what is found where an expression is exchanged with what was judged already.
+fn note_exchange_with(
+    alloc: Global,
+    facts: &Facts,
+    notes: &mut Notes,
+    span: Span,
+    left: &Judged,
+    tree: &Expr,
+) -> Result<(), NoMemory>
+    ensures { let right = judge_expr tree.now facts.now in OnOk result (notes.new ≡ all_noted notes.old (value_found left.now ++ (valued right ++ broken_unless (exchange_rule left.now.typed right.judged.typed) Rule.BadType span))) }
+{
+    note_value(notes, left)?;
+    let right = expr(alloc, tree, facts, notes)?;
+    note_exchanged(notes, span, left, &right)
 }
 
 /// Notes what is found at `left :=: right`.
@@ -59,15 +112,7 @@ pub(crate) fn note_exchange(
     ensures { OnOk result (notes.new ≡ all_noted notes.old (exchange_found facts.now span left.now right.now)) }
 {
     let left = expr(alloc, left, facts, notes)?;
-    note_value(notes, &left)?;
-    let right = expr(alloc, right, facts, notes)?;
-    note_value(notes, &right)?;
-    note_unless(
-        notes,
-        may_exchange(&left.typed, &right.typed),
-        Rule::BadType,
-        span,
-    )
+    note_exchange_with(alloc, facts, notes, span, &left, right)
 }
 
 /// Notes what is found at `place++` and `place--`.

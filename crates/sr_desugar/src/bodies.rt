@@ -5,7 +5,7 @@ ghost use Rattle.std.specs.Prelude.{◌≡◌, [], ◌∷◌, ◌++◌, IfOk, On
 ghost use Rattle.sr_desugar.specs.Bodies as bodies;
 
 use crate::declarations::{push_const, push_vars};
-use crate::places::{operation_number, own_formals, own_returned};
+use crate::places::{own_formals, own_returned};
 use crate::quantifiers::{process_sends, push_semaphores};
 use crate::scene::Scene;
 use crate::statements::statement;
@@ -96,7 +96,7 @@ fn served(
     ensures value { IfOk result (λ proc. proc ≡ (bodies.served scene.now service.now.span service.now.operation service.now.formals (option_to_list service.now.returned) block.now).made) }
     ensures sites { OnOk result (sites.new ≡ sites.old ++ (bodies.served scene.now service.now.span service.now.operation service.now.formals (option_to_list service.now.returned) block.now).sites) }
 {
-    let op = operation_number(scene, service.operation)?;
+    let op = scene.tables.operations.number(service.operation)?;
     let formals = own_formals(alloc, scene, service.formals.as_slice(), service.operation)?;
     let body = body(alloc, block, scene, sites)?;
     let returned = own_returned(alloc, scene, service.returned, service.operation)?;

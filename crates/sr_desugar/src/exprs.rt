@@ -12,9 +12,7 @@ ghost use Rattle.sr_types.specs.declared.ty.Ty.{out-Ty};
 
 use crate::functions::function;
 use crate::invoked::{arguments_of, returned_by_call};
-use crate::places::{
-    nothing, operation_expr, operation_number, part_of, place_at, place_of, root_of, value_of,
-};
+use crate::places::{nothing, operation_expr, part_of, place_at, place_of, root_of, value_of};
 use crate::scene::{Cored, Scene};
 use sr_check_expr::{Facts, FieldInfo, Info, Named, name_spot};
 use sr_core::{Argument, Function, Leaf, PlaceExpr, Step};
@@ -82,10 +80,10 @@ fn field_place(fields: &[FieldInfo], name: &[u8]) -> Option<usize>
 }
 
 /// The number of the field of this name; 0 where there is none.
-fn field_number(scene: &Scene, spot: sr_types::Spot, name: &[u8]) -> Result<u32, NoMemory>
-    ensures { IfOk result (λ number. number ≡ exprs.field_number scene.now.facts spot name.now) }
+fn field_number(facts: &Facts, spot: sr_types::Spot, name: &[u8]) -> Result<u32, NoMemory>
+    ensures { IfOk result (λ number. number ≡ exprs.field_number facts.now spot name.now) }
 {
-    match scene.facts.infos.get(name_spot(spot)) {
+    match facts.infos.get(name_spot(spot)) {
         Some(Info::Record(fields)) => {
             number_of(field_place(fields.as_slice(), name).unwrap_or(0))
         }
@@ -116,7 +114,7 @@ fn member_expr(
         None => Ok(nothing()),
         Some(_) => Ok(sr_core::Expr::Member {
             of: Boxed::new(alloc, value_of(owner.into_inner()))?,
-            op: operation_number(scene, operation)?,
+            op: scene.tables.operations.number(operation)?,
         }),
     }
 }
@@ -128,7 +126,7 @@ fn pending(scene: &Scene, operation: Spot) -> Result<sr_core::Expr, NoMemory>
     match scene.tables.operations.get(operation) {
         None => Ok(nothing()),
         Some(_) => Ok(sr_core::Expr::Leaf(Leaf::Count {
-            op: operation_number(scene, operation)?,
+            op: scene.tables.operations.number(operation)?,
         })),
     }
 }
@@ -164,7 +162,7 @@ fn member(
 {
     match ty {
         Ty::Rec(spot) => {
-            let field = field_number(scene, *spot, name)?;
+            let field = field_number(&scene.facts, *spot, name)?;
             let step = Boxed::new(alloc, Step::Field(field))?;
             part_of(alloc, owner.into_inner(), step)
         }
@@ -177,10 +175,10 @@ fn member(
 }
 
 /// The value of a literal.
-fn literal(alloc: Global, tree: &Expr, scene: &Scene) -> Result<sr_core::Expr, NoMemory>
-    ensures { IfOk result (λ expr. expr ≡ exprs.static_expr (judged scene.now.facts tree.now).typed.value) }
+fn literal(alloc: Global, tree: &Expr, facts: &Facts) -> Result<sr_core::Expr, NoMemory>
+    ensures { IfOk result (λ expr. expr ≡ exprs.static_expr (judged facts.now tree.now).typed.value) }
 {
-    let judged = judge(alloc, tree, &scene.facts)?;
+    let judged = judge(alloc, tree, facts)?;
     Ok(static_expr(judged.typed.value))
 }
 
@@ -191,7 +189,7 @@ pub fn cored(alloc: Global, tree: &Expr, scene: &Scene) -> Result<Cored, NoMemor
     ensures { IfOk result (λ cored. cored ≡ exprs.core_expr scene.now tree.now) }
 {
     match tree {
-        Expr::Literal { .. } => Ok(Cored::Value(literal(alloc, tree, scene)?)),
+        Expr::Literal { .. } => Ok(Cored::Value(literal(alloc, tree, &scene.facts)?)),
         Expr::Name(name) => named(alloc, scene, name.span),
         Expr::BasicType { .. } => Ok(Cored::Value(nothing())),
         Expr::Conversion {

@@ -4,6 +4,7 @@ ghost use Rattle.std.specs.Prelude.{◌≡◌, IfOk, map, zip};
 ghost use Rattle.sr_core.specs.declared.expression.Expr.TheVariants as nodes;
 ghost use Rattle.sr_desugar.specs.Expressions as exprs;
 ghost use Rattle.sr_outline.specs.Meanings.{type_of};
+ghost use Rattle.sr_outline.specs.Shapes.{shape_of_type};
 
 use crate::places::{nothing, place_of, value_of};
 use crate::scene::{Cored, Scene};
@@ -11,6 +12,7 @@ use sr_check_expr::{Facts, Named};
 use sr_core::{Function, Leaf, Readable, Reading};
 use sr_names::Predefined;
 use sr_outline::{judge, literals_of, shape_of_type, type_of};
+use sr_tables::BySpot;
 use sr_tree::Expr;
 use sr_types::Ty;
 use sr_value::{Fault, NoMemory, Row, Shape, Value, highest, lowest};
@@ -48,10 +50,15 @@ fn end_value(shape: &Shape, is_high: bool) -> Result<Value, Fault>
 }
 
 /// The least or the greatest value of a type.
-fn end_of(alloc: Global, scene: &Scene, ty: &Ty, is_high: bool) -> Result<sr_core::Expr, NoMemory>
-    ensures { IfOk result (λ expr. expr ≡ exprs.end_core scene.now is_high ty.now) }
+fn end_of(
+    alloc: Global,
+    table: &BySpot<Shape>,
+    ty: &Ty,
+    is_high: bool,
+) -> Result<sr_core::Expr, NoMemory>
+    ensures { IfOk result (λ expr. expr ≡ exprs.end_or_nothing (exprs.end_value is_high (shape_of_type table.now ty.now))) }
 {
-    let shape = shape_of_type(alloc, ty, &scene.tables.shapes)?;
+    let shape = shape_of_type(alloc, ty, table)?;
     match end_value(&shape, is_high) {
         Ok(value) => Ok(sr_core::Expr::Leaf(Leaf::Constant(value))),
         Err(_) => Ok(nothing()),
@@ -70,7 +77,7 @@ fn ends(
     for tree in trees {
         let judged = judge(alloc, tree, &scene.facts)?;
         if let Named::Type(ty) = &judged.named {
-            return end_of(alloc, scene, ty, is_high);
+            return end_of(alloc, &scene.tables.shapes, ty, is_high);
         }
     }
     Ok(nothing())
@@ -115,15 +122,15 @@ fn without_number(trees: &[Expr], cored: Row<Cored>) -> Row<Cored>
 /// `lb(a)`, `lb(a, 1)` or `lb(a, 2)`.
 fn bound(
     alloc: Global,
-    scene: &Scene,
+    facts: &Facts,
     functions: (Function, Function),
     trees: &[Expr],
     cored: Row<Cored>,
 ) -> Result<sr_core::Expr, NoMemory>
-    ensures { IfOk result (λ expr. expr ≡ exprs.bound_core scene.now.facts functions.0 functions.1 trees.now cored) }
+    ensures { IfOk result (λ expr. expr ≡ exprs.bound_core facts.now functions.0 functions.1 trees.now cored) }
 {
     let (first, second) = functions;
-    let function = if is_second(alloc, trees, &scene.facts)? {
+    let function = if is_second(alloc, trees, facts)? {
         second
     } else {
         first
@@ -218,7 +225,7 @@ pub fn function(
         Predefined::Lb => {
             bound(
                 alloc,
-                scene,
+                &scene.facts,
                 (Function::LowBound, Function::LowBound2),
                 trees,
                 cored,
@@ -227,7 +234,7 @@ pub fn function(
         Predefined::Ub => {
             bound(
                 alloc,
-                scene,
+                &scene.facts,
                 (Function::HighBound, Function::HighBound2),
                 trees,
                 cored,

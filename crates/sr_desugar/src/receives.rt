@@ -3,7 +3,7 @@ ghost use Rattle.std.specs.Prelude.{◌≡◌, ◌++◌, IfOk, OnOk, map};
 ghost use Rattle.sr_desugar.specs.Statements as statements;
 
 use crate::exprs::core_place;
-use crate::places::{operation_number, own_formals, own_place, own_returned};
+use crate::places::{own_formals, own_place, own_returned};
 use crate::scene::Scene;
 use crate::simple::act;
 use sr_core::{Action, Arm, Expr, Site, Statement};
@@ -45,7 +45,7 @@ fn receive_arm(
     let returned = receive_returned(span, operation, &scene.facts);
     Ok(Arm {
         place: line_of(span),
-        op: operation_number(scene, operation)?,
+        op: scene.tables.operations.number(operation)?,
         formals: own_formals(alloc, scene, spots.as_slice(), operation)?,
         returned: own_returned(alloc, scene, returned, operation)?,
         guard: None,

@@ -7,6 +7,7 @@ use crate::array::settle_array;
 use crate::call::call;
 use crate::globals::create;
 use crate::leaf::leaf_value;
+use crate::letting_go::let_go;
 use crate::places::{load, part, spot_of};
 use crate::reading::{kind_of, read_from};
 use crate::scene::Scene;
@@ -30,19 +31,27 @@ pub fn evaluate(scene: &Scene, walker: &mut Walker, expr: &Expr) -> Result<Value
         }
         Expr::Unary { op, operand } => {
             let x = evaluate(scene, walker, operand.get())?;
-            operated_on(scene, walker, *op, &x)
+            let found = operated_on(scene, walker, *op, &x);
+            let_go(x);
+            found
         }
         Expr::Binary { op, left, right } => {
             let x = evaluate(scene, walker, left.get())?;
-            operate(scene, walker, right.get(), *op, &x)
+            let found = operate(scene, walker, right.get(), *op, &x);
+            let_go(x);
+            found
         }
         Expr::And { left, right } => {
             let x = evaluate(scene, walker, left.get())?;
-            after_and(scene, walker, right.get(), &x)
+            let found = after_and(scene, walker, right.get(), &x);
+            let_go(x);
+            found
         }
         Expr::Or { left, right } => {
             let x = evaluate(scene, walker, left.get())?;
-            after_or(scene, walker, right.get(), &x)
+            let found = after_or(scene, walker, right.get(), &x);
+            let_go(x);
+            found
         }
         Expr::Apply { function, args } => {
             let values = evaluate_all(scene, walker, args.as_slice())?;
@@ -54,11 +63,15 @@ pub fn evaluate(scene: &Scene, walker: &mut Walker, expr: &Expr) -> Result<Value
         }
         Expr::Of { whole, step } => {
             let value = evaluate(scene, walker, whole.get())?;
-            select_part(scene, walker, step.get(), &value)
+            let found = select_part(scene, walker, step.get(), &value);
+            let_go(value);
+            found
         }
         Expr::Member { of, op } => {
             let value = evaluate(scene, walker, of.get())?;
-            member_in(scene, walker, *op, &value)
+            let found = member_in(scene, walker, *op, &value);
+            let_go(value);
+            found
         }
         Expr::Call {
             target,
@@ -66,7 +79,9 @@ pub fn evaluate(scene: &Scene, walker: &mut Walker, expr: &Expr) -> Result<Value
             returns,
         } => {
             let value = evaluate(scene, walker, target.get())?;
-            call_with(scene, walker, args.as_slice(), &value, returns)
+            let found = call_with(scene, walker, args.as_slice(), &value, returns);
+            let_go(value);
+            found
         }
         Expr::Create {
             resource,
@@ -95,7 +110,9 @@ fn operate(
     ensures { Gave (behind_operand op x.now (expr_meaning right.now) (here_of scene.now) (stage_of walker.old)) result (stage_of walker.new) }
 {
     let y = evaluate(scene, walker, right)?;
-    operated(scene, walker, op, x, &y)
+    let found = operated(scene, walker, op, x, &y);
+    let_go(y);
+    found
 }
 
 /// `and` doesn't evaluate the right side after false.
@@ -172,8 +189,9 @@ fn create_on(
     ensures { Gave (behind_values resource values (expr_meaning machine.now) (here_of scene.now) (stage_of walker.old)) result (stage_of walker.new) }
 {
     let value = evaluate(scene, walker, machine)?;
-    let vm = capability(scene, walker, &value)?;
-    create(scene, walker, resource, values, vm)
+    let vm = capability(scene, walker, &value);
+    let_go(value);
+    create(scene, walker, resource, values, vm?)
 }
 
 /// What expressions ask, and what they give, from left to right.
@@ -220,15 +238,19 @@ fn evaluate_step(scene: &Scene, walker: &mut Walker, step: &Step) -> Result<Sel,
     match step {
         Step::At(index) => {
             let x = evaluate(scene, walker, index)?;
-            let i = number(scene, walker, &x)?;
-            Ok(Sel::At(i))
+            let i = number(scene, walker, &x);
+            let_go(x);
+            Ok(Sel::At(i?))
         }
         Step::At2(row, column) => {
             let x = evaluate(scene, walker, row)?;
-            let i = number(scene, walker, &x)?;
+            let i = number(scene, walker, &x);
+            let_go(x);
+            let i = i?;
             let y = evaluate(scene, walker, column)?;
-            let j = number(scene, walker, &y)?;
-            Ok(Sel::At2(i, j))
+            let j = number(scene, walker, &y);
+            let_go(y);
+            Ok(Sel::At2(i, j?))
         }
         Step::Field(field) => Ok(Sel::Field(*field)),
     }
@@ -260,10 +282,17 @@ fn evaluate_part(scene: &Scene, walker: &mut Walker, part: &Part) -> Result<Piec
             value,
         } => {
             let n = evaluate(scene, walker, times)?;
-            let n = number(scene, walker, &n)?;
+            let number = number(scene, walker, &n);
+            let_go(n);
+            let number = number?;
             let value = evaluate(scene, walker, value)?;
-            let count = count(scene, walker, n)?;
-            Ok(Piece { count, value })
+            match count(scene, walker, number) {
+                Ok(count) => Ok(Piece { count, value }),
+                Err(stop) => {
+                    let_go(value);
+                    Err(stop)
+                }
+            }
         }
     }
 }

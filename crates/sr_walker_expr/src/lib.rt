@@ -8,6 +8,7 @@ mod expression;
 mod globals;
 mod invoke;
 mod leaf;
+mod letting_go;
 mod listening;
 mod places;
 mod reading;

@@ -5,6 +5,7 @@ ghost use Rattle.sr_ask.specs.Behaviors.{asking};
 ghost use Rattle.sr_meaning.specs.Here.{request as ask_by};
 ghost use Rattle.sr_walker_expr.specs.Walkers.{Gave, Hears, Nexts, here_of, stage_of};
 
+use crate::letting_go::let_go;
 use crate::scene::Scene;
 use crate::stop::Stop;
 use crate::walker::Walker;
@@ -29,7 +30,10 @@ impl Takes<()> for IsDone {
     fn take(&self, answer: Answer) -> Option<()> {
         match answer {
             Answer::Done => Some(()),
-            _ => None,
+            other => {
+                let_go(other);
+                None
+            }
         }
     }
 }
@@ -43,7 +47,10 @@ impl Takes<Value> for IsGot {
     fn take(&self, answer: Answer) -> Option<Value> {
         match answer {
             Answer::Got(value) => Some(value),
-            _ => None,
+            other => {
+                let_go(other);
+                None
+            }
         }
     }
 }
@@ -57,7 +64,10 @@ impl Takes<u32> for IsMade {
     fn take(&self, answer: Answer) -> Option<u32> {
         match answer {
             Answer::Made(name) => Some(name),
-            _ => None,
+            other => {
+                let_go(other);
+                None
+            }
         }
     }
 }
@@ -71,7 +81,10 @@ impl Takes<()> for IsReady {
     fn take(&self, answer: Answer) -> Option<()> {
         match answer {
             Answer::Ready => Some(()),
-            _ => None,
+            other => {
+                let_go(other);
+                None
+            }
         }
     }
 }
@@ -85,7 +98,10 @@ impl Takes<i32> for IsNumber {
     fn take(&self, answer: Answer) -> Option<i32> {
         match answer {
             Answer::Number(number) => Some(number),
-            _ => None,
+            other => {
+                let_go(other);
+                None
+            }
         }
     }
 }
@@ -99,7 +115,10 @@ impl Takes<i32> for IsMoment {
     fn take(&self, answer: Answer) -> Option<i32> {
         match answer {
             Answer::Number(number) => moment_of(number),
-            _ => None,
+            other => {
+                let_go(other);
+                None
+            }
         }
     }
 }
@@ -121,7 +140,10 @@ impl Takes<InputItem> for IsItem {
             Answer::Got(value) => Some(InputItem::Value(value)),
             Answer::Bad => Some(InputItem::NotOfKind),
             Answer::End => Some(InputItem::NoMore),
-            _ => None,
+            other => {
+                let_go(other);
+                None
+            }
         }
     }
 }
@@ -146,7 +168,10 @@ impl Takes<Taken> for IsReply {
                     None
                 }
             }
-            _ => None,
+            other => {
+                let_go(other);
+                None
+            }
         }
     }
 }
@@ -177,7 +202,10 @@ fn asked<T, F: Takes<T>>(walker: &mut Walker, form: &F, asks: Asks, limit: u32) 
     ensures { Gave (asking (F.takes form.now) asks limit (stage_of walker.old)) result (stage_of walker.new) }
 {
     match heard(walker, form, limit) {
-        Some(got) => Ok(got),
+        Some(got) => {
+            let_go(asks);
+            Ok(got)
+        }
         None => Err(Stop::Asks(asks)),
     }
 }

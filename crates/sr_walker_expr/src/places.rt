@@ -6,6 +6,7 @@ ghost use Rattle.sr_meaning.specs.Places.{block_of, spot_of, own_load, own_store
 ghost use Rattle.sr_walker_expr.specs.Walkers.{Gave, here_of, stage_of};
 ghost use Rattle.sr_ask.specs.Places.{own_at, own_after, declare_own};
 
+use crate::letting_go::let_go;
 use crate::listening::{IsDone, IsGot, ask};
 use crate::scene::Scene;
 use crate::settle::failed;
@@ -99,10 +100,13 @@ fn own_after(
             path.as_slice(),
             value,
         ) {
-            Ok(held) => Ok(Own {
-                shape: own.shape.copy(scene.alloc)?,
-                value: held,
-            }),
+            Ok(value) => match own.shape.copy(scene.alloc) {
+                Ok(shape) => Ok(Own { shape, value }),
+                Err(_) => {
+                    let_go(value);
+                    Err(Stop::NoMemory)
+                }
+            },
             Err(ValueFail::Fault(fault)) => failed(scene, walker, fault),
             Err(ValueFail::NoMemory) => Err(Stop::NoMemory),
         },
@@ -132,13 +136,21 @@ pub fn store(scene: &Scene, walker: &mut Walker, place: &Located, value: Value) 
     match place.spot {
         Spot::Own(var) => store_own(scene, walker, var, &place.path, &value),
         Spot::Shared { block, var } => {
-            let request = Request::Store {
-                block,
-                var,
-                path: place.path.copy(scene.alloc)?,
-                value,
-            };
-            ask(scene, walker, &IsDone, request)
+            match place.path.copy(scene.alloc) {
+                Ok(path) => {
+                    let request = Request::Store {
+                        block,
+                        var,
+                        path,
+                        value,
+                    };
+                    ask(scene, walker, &IsDone, request)
+                }
+                Err(_) => {
+                    let_go(value);
+                    Err(Stop::NoMemory)
+                }
+            }
         }
     }
 }
