@@ -11,7 +11,7 @@ use Rattle.sr_ask.specs.Asking.{made, ready, took, read_item}
 use Rattle.sr_ask.specs.Behaviors.{Doing, give, ◌>>=◌}
 use Rattle.sr_ask.specs.Here.{Here, request, settle}
 use Rattle.sr_ask.specs.Places.{nothing, store_place, store_results}
-use Rattle.sr_ask.specs.declared.environment.Aim.{Aim}
+use Rattle.sr_ask.specs.declared.environment.ReadTarget.{ReadTarget}
 use Rattle.sr_ask.specs.declared.environment.Located.{Located}
 use Rattle.sr_ask.specs.declared.environment.Sent.{Sent}
 use Rattle.sr_ask.specs.declared.forms.InputItem.{InputItem}
@@ -35,9 +35,9 @@ places_back [] = []
 places_back (sent ∷ rest) = with_some sent.back (places_back rest)
 
 -- the value after the results; an operation that returns nothing gives one that nobody uses
-abbrev pub value_behind : List Value → Value
-value_behind [] = nothing
-value_behind (value ∷ rest) = value
+abbrev pub value_after : List Value → Value
+value_after [] = nothing
+value_after (value ∷ rest) = value
 
 -- a call of `noop` gives the default of the returned type
 abbrev pub default_given : Option Shape → Here → Doing Value
@@ -47,7 +47,7 @@ default_given (Some shape) here = settle (default_value shape) here
 -- after a reply the results are stored in the order of the formals; `noop` leaves the arguments as they are
 abbrev pub give_back : List Located → Option Shape → Option (List Value) → Here → Doing Value
 give_back places returns None here = default_given returns here
-give_back places returns (Some results) here = store_results places results here >>= λ rest. give (value_behind rest)
+give_back places returns (Some results) here = store_results places results here >>= λ rest. give (value_after rest)
 
 -- the reply to one invocation
 abbrev pub taken : ℕ → Here → Doing (Option (List Value))
@@ -84,13 +84,13 @@ abbrev pub at_end : ℕ → Here → Doing Value
 at_end zero here = give (Int (negsuc 0))
 at_end (suc n) here = number_read (suc n) here
 
-abbrev pub read_next : ℕ → Aim → (Here → Doing Value) → InputItem → Here → Doing Value
-read_next count aim next (read_value value) here = store_place aim.place value here >>= λ _. next here
-read_next count aim next NotOfKind here = number_read count here
-read_next count aim next NoMore here = at_end count here
+abbrev pub read_next : ℕ → ReadTarget → (Here → Doing Value) → InputItem → Here → Doing Value
+read_next count read_target next (read_value value) here = store_place read_target.place value here >>= λ _. next here
+read_next count read_target next NotOfKind here = number_read count here
+read_next count read_target next NoMore here = at_end count here
 
 -- items are read and stored one after another, up to the first that isn't there or doesn't fit
-abbrev pub read_all : ℕ → List Aim → Here → Doing Value
+abbrev pub read_all : ℕ → List ReadTarget → Here → Doing Value
 read_all count [] here = number_read count here
-read_all count (aim ∷ aims) here =
-    request read_item (read_request aim.kind) here >>= λ item. read_next count aim (read_all (suc count) aims) item here
+read_all count (read_target ∷ read_targets) here =
+    request read_item (read_request read_target.kind) here >>= λ item. read_next count read_target (read_all (suc count) read_targets) item here

@@ -9,7 +9,7 @@ pub enum Answer {
     Done,
     /// The value that was loaded or read.
     Got(Value),
-    /// The number of what was made.
+    /// The number of the new instance.
     Made(u32),
     /// The global's instance is there, and its initial code has ended or replied.
     Ready,

@@ -70,7 +70,7 @@ pub struct Sent {
 
 /// A place that `read` reads into, and what it is read as.
 #[derive(Drop)]
-pub struct Aim {
+pub struct ReadTarget {
     pub kind: ReadKind,
     pub place: Located,
 }

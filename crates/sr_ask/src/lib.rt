@@ -14,7 +14,7 @@ mod start;
 pub use answer::Answer;
 pub use ask::{Ask, Asks, Role};
 pub use entry::{Entry, Seen};
-pub use environment::{Aim, Gives, Located, Out, Own, Sent, Service, Spot};
+pub use environment::{Gives, Located, Out, Own, ReadTarget, Sent, Service, Spot};
 pub use forms::{InputItem, Pick, Selection, Taken};
 pub use item::Item;
 pub use request::{ReadKind, Request};

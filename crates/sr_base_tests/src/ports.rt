@@ -133,7 +133,7 @@ fn reads<F: Files>(
     }
 }
 
-/// Names and contents of files, of which two have the same name.
+/// Names and contents of files. Two files have the same name.
 const CONTENTS: [(&str, &[u8]); 4] = [
     ("a.sr", b"first"),
     ("b.sr", b"other"),

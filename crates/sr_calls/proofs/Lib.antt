@@ -1,3 +1,3 @@
-pub mod DeskLemmas
+pub mod ProcessCallsLemmas
 pub mod FirstLemmas
 pub mod StepLemmas

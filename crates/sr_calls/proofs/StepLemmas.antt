@@ -1,4 +1,4 @@
--- A call changes one desk, and what that says of the calls.
+-- A call changes one record of calls, and what that says of the calls.
 use Rattle.std.proofs.Common.{◌≡◌, ℕ, ◌<◌, ◌≤◌, List, [], ◌∷◌, ◌++◌, Option, None, Some, is_some, IfNone, OnErr, OnOk, Result, Ok, Err, ap, subst, sym, ◌∙◌, unwrap_or}
 use Rattle.std.proofs.lemmas.Map.Steps.{set_value_same}
 use Rattle.std.specs.BTreeMap.{BTreeMap, Updates, WritesThrough, get_by, is_at}
@@ -6,10 +6,10 @@ use Rattle.std.specs.Map.{set_value}
 use Rattle.std.specs.Ordering.{nat_cmp}
 use Rattle.std.specs.Prelude.{find}
 use Rattle.sr_calls.specs.Calls.{Called, CanAnswer, CanHold, KeepsAnswers, KeepsHolds, KeepsOtherAnswers, KeepsOtherHolds, answers_one, earliest_reply, held_as, is_held_as, items_of, with_item, with_items, without_first, without_held, without_reply}
-use Rattle.sr_calls.specs.Desks.{Desked, called_on}
+use Rattle.sr_calls.specs.PerProcess.{ProcessCalled, called_on}
 use Rattle.sr_calls.specs.declared.held.Held.{Held}
 use Rattle.sr_calls.specs.declared.held.Reply.{Reply}
-use Rattle.sr_calls.proofs.DeskLemmas.{Changes, answers-kept, answers-others, can-answer, can-hold, changes, desk_of, held-changed, held-here, held-kept, holds-kept, holds-others, no_desk, replies-changed, replies-here, replies-kept, room-there}
+use Rattle.sr_calls.proofs.ProcessCallsLemmas.{Changes, answers-kept, answers-others, can-answer, can-hold, changes, process_calls_of, held-changed, held-here, held-kept, holds-kept, holds-others, no_process_calls, replies-changed, replies-here, replies-kept, room-there}
 
 pub on_ok : {T E : Type 0} {P Q : Type 0} (r : Result T E) → OnOk r P → (P → Q) → OnOk r Q
 on_ok (Ok x) h f = f h
@@ -23,80 +23,80 @@ pub if_none : {T : Type 0} {P Q : Type 0} (o : Option T) → IfNone o P → (P �
 if_none (Some x) h f = h
 if_none None h f = f h
 
--- the desk of a process was one, and is another
-pub record Step (old new : List (ℕ × Desked)) (calls : Called) (p : ℕ) (was desk : Desked) : Type 0 where
+-- the record of calls of a process changes
+pub record Step (old new : List (ℕ × ProcessCalled)) (calls : Called) (p : ℕ) (was process_calls : ProcessCalled) : Type 0 where
   pub seen : called_on old ≡ calls
-  pub before : desk_of old p ≡ was
-  pub change : Changes old new p desk
+  pub before : process_calls_of old p ≡ was
+  pub change : Changes old new p process_calls
 
-pub lent : (m n : BTreeMap ℕ Desked) (calls : Called) (p : ℕ) (was desk : Desked) → called_on m.entries ≡ calls → Some was ≡ get_by (nat_cmp p) m
-    → WritesThrough nat_cmp (nat_cmp p) m desk n → Step m.entries n.entries calls p was desk
-lent m n calls p was desk seen value written = record {
+pub lent : (m n : BTreeMap ℕ ProcessCalled) (calls : Called) (p : ℕ) (was process_calls : ProcessCalled) → called_on m.entries ≡ calls → Some was ≡ get_by (nat_cmp p) m
+    → WritesThrough nat_cmp (nat_cmp p) m process_calls n → Step m.entries n.entries calls p was process_calls
+lent m n calls p was process_calls seen value written = record {
   seen = seen;
-  before = ap (λ o. unwrap_or o no_desk) (sym value);
-  change = changes m.entries n.entries p (Some desk) (written.3 (sym (ap is_some value))).0;
+  before = ap (λ o. unwrap_or o no_process_calls) (sym value);
+  change = changes m.entries n.entries p (Some process_calls) (written.3 (sym (ap is_some value))).0;
 }
 
--- a desk that is written back as it was
-pub lent-same : (m n : BTreeMap ℕ Desked) (calls : Called) (p : ℕ) (was desk : Desked) → called_on m.entries ≡ calls → Some was ≡ get_by (nat_cmp p) m
-    → WritesThrough nat_cmp (nat_cmp p) m desk n → desk ≡ was → called_on n.entries ≡ calls
-lent-same m n calls p was desk seen value written same =
+-- a record of calls that is written back as it was
+pub lent-same : (m n : BTreeMap ℕ ProcessCalled) (calls : Called) (p : ℕ) (was process_calls : ProcessCalled) → called_on m.entries ≡ calls → Some was ≡ get_by (nat_cmp p) m
+    → WritesThrough nat_cmp (nat_cmp p) m process_calls n → process_calls ≡ was → called_on n.entries ≡ calls
+lent-same m n calls p was process_calls seen value written same =
     ap called_on (written.0 ∙ ap (set_value (is_at (nat_cmp p)) m.entries) same ∙ set_value_same (is_at (nat_cmp p)) m.entries was (sym value)) ∙ seen
 
-pub made : (m k n : BTreeMap ℕ Desked) (calls : Called) (p : ℕ) (desk : Desked) → called_on m.entries ≡ calls → None ≡ get_by (nat_cmp p) m → k ≡ m
-    → Updates nat_cmp k n p (Some desk) → Step m.entries n.entries calls p no_desk desk
-made m k n calls p desk seen value same updates = record {
+pub made : (m k n : BTreeMap ℕ ProcessCalled) (calls : Called) (p : ℕ) (process_calls : ProcessCalled) → called_on m.entries ≡ calls → None ≡ get_by (nat_cmp p) m → k ≡ m
+    → Updates nat_cmp k n p (Some process_calls) → Step m.entries n.entries calls p no_process_calls process_calls
+made m k n calls p process_calls seen value same updates = record {
   seen = seen;
-  before = ap (λ o. unwrap_or o no_desk) (sym value);
-  change = subst (λ x. Changes x.entries n.entries p desk) same (changes k.entries n.entries p (Some desk) updates.0);
+  before = ap (λ o. unwrap_or o no_process_calls) (sym value);
+  change = subst (λ x. Changes x.entries n.entries p process_calls) same (changes k.entries n.entries p (Some process_calls) updates.0);
 }
 
-pub absent : (m k : BTreeMap ℕ Desked) (calls : Called) (p : ℕ) → called_on m.entries ≡ calls → None ≡ get_by (nat_cmp p) m → k ≡ m → Step m.entries k.entries calls p no_desk no_desk
+pub absent : (m k : BTreeMap ℕ ProcessCalled) (calls : Called) (p : ℕ) → called_on m.entries ≡ calls → None ≡ get_by (nat_cmp p) m → k ≡ m → Step m.entries k.entries calls p no_process_calls no_process_calls
 absent m k calls p seen value same = record {
   seen = seen;
-  before = ap (λ o. unwrap_or o no_desk) (sym value);
+  before = ap (λ o. unwrap_or o no_process_calls) (sym value);
   change = record {
-    here = ap (λ x. desk_of x.entries p) same ∙ ap (λ o. unwrap_or o no_desk) (sym value);
-    others = λ q there. ap (λ x. desk_of x.entries q) same;
+    here = ap (λ x. process_calls_of x.entries p) same ∙ ap (λ o. unwrap_or o no_process_calls) (sym value);
+    others = λ q there. ap (λ x. process_calls_of x.entries q) same;
   };
 }
 
-module _ (old new : List (ℕ × Desked)) (calls : Called) (p : ℕ) (was desk : Desked) (s : Step old new calls p was desk) where
+module _ (old new : List (ℕ × ProcessCalled)) (calls : Called) (p : ℕ) (was process_calls : ProcessCalled) (s : Step old new calls p was process_calls) where
   -- ---- what the process holds
 
   held-was : items_of calls.held p ≡ was.held
   held-was = held-here old new calls s.seen p ∙ ap (λ d. d.held) s.before
 
-  pub holds-more : (held : Held) → desk.held ≡ was.held ++ held ∷ [] → (called_on new).held ≡ with_item calls.held p held
+  pub holds-more : (held : Held) → process_calls.held ≡ was.held ++ held ∷ [] → (called_on new).held ≡ with_item calls.held p held
   holds-more held grown =
-      held-changed old new calls s.seen p desk s.change ∙ ap (with_items calls.held p) (grown ∙ ap (λ all. all ++ held ∷ []) (sym held-was))
+      held-changed old new calls s.seen p process_calls s.change ∙ ap (with_items calls.held p) (grown ∙ ap (λ all. all ++ held ∷ []) (sym held-was))
 
-  pub releases : (id : ℕ) → desk.held ≡ without_first (is_held_as id) was.held → (called_on new).held ≡ without_held calls.held p id
-  releases id less = held-changed old new calls s.seen p desk s.change ∙ ap (with_items calls.held p) (less ∙ ap (without_first (is_held_as id)) (sym held-was))
+  pub releases : (id : ℕ) → process_calls.held ≡ without_first (is_held_as id) was.held → (called_on new).held ≡ without_held calls.held p id
+  releases id less = held-changed old new calls s.seen p process_calls s.change ∙ ap (with_items calls.held p) (less ∙ ap (without_first (is_held_as id)) (sym held-was))
 
   pub held-found : (id : ℕ) → find (is_held_as id) was.held ≡ held_as calls.held p id
   held-found id = ap (find (is_held_as id)) (sym held-was)
 
-  pub held-stays : desk.held ≡ was.held → (called_on new).held ≡ calls.held
-  held-stays same = held-kept old new calls s.seen p desk s.change (same ∙ ap (λ d. d.held) (sym s.before))
+  pub held-stays : process_calls.held ≡ was.held → (called_on new).held ≡ calls.held
+  held-stays same = held-kept old new calls s.seen p process_calls s.change (same ∙ ap (λ d. d.held) (sym s.before))
 
   -- ---- the replies to it
 
   replies-were : items_of calls.replies p ≡ was.replies
   replies-were = replies-here old new calls s.seen p ∙ ap (λ d. d.replies) s.before
 
-  pub answers-more : (reply : Reply) → desk.replies ≡ was.replies ++ reply ∷ [] → (called_on new).replies ≡ with_item calls.replies p reply
+  pub answers-more : (reply : Reply) → process_calls.replies ≡ was.replies ++ reply ∷ [] → (called_on new).replies ≡ with_item calls.replies p reply
   answers-more reply grown =
-      replies-changed old new calls s.seen p desk s.change ∙ ap (with_items calls.replies p) (grown ∙ ap (λ all. all ++ reply ∷ []) (sym replies-were))
+      replies-changed old new calls s.seen p process_calls s.change ∙ ap (with_items calls.replies p) (grown ∙ ap (λ all. all ++ reply ∷ []) (sym replies-were))
 
-  pub takes : (ids : List ℕ) → desk.replies ≡ without_first (answers_one ids) was.replies → (called_on new).replies ≡ without_reply calls.replies p ids
-  takes ids less = replies-changed old new calls s.seen p desk s.change ∙ ap (with_items calls.replies p) (less ∙ ap (without_first (answers_one ids)) (sym replies-were))
+  pub takes : (ids : List ℕ) → process_calls.replies ≡ without_first (answers_one ids) was.replies → (called_on new).replies ≡ without_reply calls.replies p ids
+  takes ids less = replies-changed old new calls s.seen p process_calls s.change ∙ ap (with_items calls.replies p) (less ∙ ap (without_first (answers_one ids)) (sym replies-were))
 
   pub reply-found : (ids : List ℕ) → find (answers_one ids) was.replies ≡ earliest_reply calls.replies p ids
   reply-found ids = ap (find (answers_one ids)) (sym replies-were)
 
-  pub replies-stay : desk.replies ≡ was.replies → (called_on new).replies ≡ calls.replies
-  replies-stay same = replies-kept old new calls s.seen p desk s.change (same ∙ ap (λ d. d.replies) (sym s.before))
+  pub replies-stay : process_calls.replies ≡ was.replies → (called_on new).replies ≡ calls.replies
+  replies-stay same = replies-kept old new calls s.seen p process_calls s.change (same ∙ ap (λ d. d.replies) (sym s.before))
 
   -- ---- room
 
@@ -106,20 +106,20 @@ module _ (old new : List (ℕ × Desked)) (calls : Called) (p : ℕ) (was desk :
   pub could-answer : CanAnswer calls p → 0 < was.room.answers
   could-answer can = subst (λ r. 0 < r.answers) (room-there old new calls s.seen p ∙ ap (λ d. d.room) s.before) can
 
-  pub can-hold-now : 0 < desk.room.holds → CanHold (called_on new) p
-  can-hold-now has = can-hold old new calls s.seen p desk s.change has
+  pub can-hold-now : 0 < process_calls.room.holds → CanHold (called_on new) p
+  can-hold-now has = can-hold old new calls s.seen p process_calls s.change has
 
-  pub can-answer-now : 0 < desk.room.answers → CanAnswer (called_on new) p
-  can-answer-now has = can-answer old new calls s.seen p desk s.change has
+  pub can-answer-now : 0 < process_calls.room.answers → CanAnswer (called_on new) p
+  can-answer-now has = can-answer old new calls s.seen p process_calls s.change has
 
-  pub keeps-holds : was.room.holds ≤ desk.room.holds → KeepsHolds calls (called_on new)
-  keeps-holds more = holds-kept old new calls s.seen p desk s.change (subst (λ d. d.room.holds ≤ desk.room.holds) (sym s.before) more)
+  pub keeps-holds : was.room.holds ≤ process_calls.room.holds → KeepsHolds calls (called_on new)
+  keeps-holds more = holds-kept old new calls s.seen p process_calls s.change (subst (λ d. d.room.holds ≤ process_calls.room.holds) (sym s.before) more)
 
-  pub keeps-answers : was.room.answers ≤ desk.room.answers → KeepsAnswers calls (called_on new)
-  keeps-answers more = answers-kept old new calls s.seen p desk s.change (subst (λ d. d.room.answers ≤ desk.room.answers) (sym s.before) more)
+  pub keeps-answers : was.room.answers ≤ process_calls.room.answers → KeepsAnswers calls (called_on new)
+  keeps-answers more = answers-kept old new calls s.seen p process_calls s.change (subst (λ d. d.room.answers ≤ process_calls.room.answers) (sym s.before) more)
 
   pub keeps-other-holds : KeepsOtherHolds calls (called_on new) p
-  keeps-other-holds = holds-others old new calls s.seen p desk s.change
+  keeps-other-holds = holds-others old new calls s.seen p process_calls s.change
 
   pub keeps-other-answers : KeepsOtherAnswers calls (called_on new) p
-  keeps-other-answers = answers-others old new calls s.seen p desk s.change
+  keeps-other-answers = answers-others old new calls s.seen p process_calls s.change

@@ -3,8 +3,8 @@ ghost use Rattle.std.specs.Option.{option_map};
 ghost use Rattle.std.specs.FinMap as map;
 ghost use Rattle.sr_calls.specs.Calls.{CanAnswer, CanHold, KeepsAnswers, KeepsHolds, KeepsOtherAnswers, KeepsOtherHolds, earliest_reply, held_as, with_item, without_held, without_reply};
 
-use crate::desk::Desk;
 use crate::held::{Held, Reply};
+use crate::process_calls::ProcessCalls;
 use sr_value::{NoMemory, Row, Value};
 use std::alloc::Global;
 use std::collections::BTreeMap;
@@ -14,8 +14,8 @@ use std::marker::Model;
 #[derive(Drop)]
 pub struct Calls {
     alloc: Global,
-    /// By process. An empty desk keeps its room.
-    desks: BTreeMap<u32, Desk>,
+    /// By process. An empty one keeps its room.
+    by_process: BTreeMap<u32, ProcessCalls>,
 }
 
 impl Model for Calls {
@@ -34,9 +34,9 @@ impl Model for Calls {
         (coded× (map.code coded_ℕ (coded_list held.the_row.coded)) (coded× (map.code coded_ℕ (coded_list reply.the_row.coded)) (map.code coded_ℕ room_code)))
         (λ c. (c.held, (c.replies, c.room))) (λ p. record { held = p.0; replies = p.1.0; room = p.1.1 }) (λ _. refl) };
 
-    ghost use Rattle.sr_calls.specs.Desks.{called_on};
+    ghost use Rattle.sr_calls.specs.PerProcess.{called_on};
 
-    ghost view = { λ calls. called_on calls.desks.entries };
+    ghost view = { λ calls. called_on calls.by_process.entries };
 }
 
 impl Calls {
@@ -47,7 +47,7 @@ impl Calls {
     {
         Calls {
             alloc,
-            desks: BTreeMap::new(alloc),
+            by_process: BTreeMap::new(alloc),
         }
     }
 
@@ -62,12 +62,12 @@ impl Calls {
         ensures holds { KeepsHolds self.old self.new }
         ensures answers { KeepsAnswers self.old self.new }
     {
-        if let Some(desk) = self.desks.get_mut(&process) {
-            return desk.reserve();
+        if let Some(process_calls) = self.by_process.get_mut(&process) {
+            return process_calls.reserve();
         }
-        let mut desk = Desk::new(self.alloc);
-        desk.reserve()?;
-        self.desks.insert(process, desk)?;
+        let mut process_calls = ProcessCalls::new(self.alloc);
+        process_calls.reserve()?;
+        self.by_process.insert(process, process_calls)?;
         Ok(())
     }
 
@@ -81,12 +81,12 @@ impl Calls {
         ensures err { OnErr result (self.new ≡ self.old) }
     {
         let held = Held { id, back, back_id };
-        if let Some(desk) = self.desks.get_mut(&actor) {
-            return desk.hold(held);
+        if let Some(process_calls) = self.by_process.get_mut(&actor) {
+            return process_calls.hold(held);
         }
-        let mut desk = Desk::new(self.alloc);
-        desk.hold(held)?;
-        self.desks.insert(actor, desk)?;
+        let mut process_calls = ProcessCalls::new(self.alloc);
+        process_calls.hold(held)?;
+        self.by_process.insert(actor, process_calls)?;
         Ok(())
     }
 
@@ -111,8 +111,8 @@ impl Calls {
         ensures holds { KeepsHolds self.old self.new }
         ensures answers { KeepsAnswers self.old self.new }
     {
-        let desk = self.desks.get_mut(&actor)?;
-        desk.release(id)
+        let process_calls = self.by_process.get_mut(&actor)?;
+        process_calls.release(id)
     }
 
     /// Adds a reply to a caller as the latest to it.
@@ -130,12 +130,12 @@ impl Calls {
         ensures err { OnErr result (self.new ≡ self.old) }
     {
         let reply = Reply { id, results };
-        if let Some(desk) = self.desks.get_mut(&caller) {
-            return desk.answer(reply);
+        if let Some(process_calls) = self.by_process.get_mut(&caller) {
+            return process_calls.answer(reply);
         }
-        let mut desk = Desk::new(self.alloc);
-        desk.answer(reply)?;
-        self.desks.insert(caller, desk)?;
+        let mut process_calls = ProcessCalls::new(self.alloc);
+        process_calls.answer(reply)?;
+        self.by_process.insert(caller, process_calls)?;
         Ok(())
     }
 
@@ -160,8 +160,8 @@ impl Calls {
         ensures holds { KeepsHolds self.old self.new }
         ensures answers { KeepsAnswers self.old self.new }
     {
-        let desk = self.desks.get_mut(&caller)?;
-        desk.take(ids)
+        let process_calls = self.by_process.get_mut(&caller)?;
+        process_calls.take(ids)
     }
 
     /// Drops what a process held, and the replies to it.
@@ -171,6 +171,6 @@ impl Calls {
         ensures holds { KeepsOtherHolds self.old self.new process }
         ensures answers { KeepsOtherAnswers self.old self.new process }
     {
-        self.desks.remove(&process);
+        self.by_process.remove(&process);
     }
 }

@@ -4,9 +4,9 @@
 #![tactic(auto)]
 
 mod calls;
-mod desk;
 mod held;
 mod laws;
+mod process_calls;
 
 pub use calls::Calls;
 pub use held::{Held, Reply};

@@ -100,7 +100,7 @@ fn read_first(alloc: Global, fragment: Fragment, tokens: &Tokens) -> Result<Outc
     }
 }
 
-/// What stands for a beginning of the tokens, of which so many are to be read or the last of these is to be refused.
+/// A beginning of the tokens: either this many are to be read, or the last of them is to be refused.
 fn mark_of(outcome: &Outcome, number: u32) -> char {
     if outcome.number != number {
         '?'

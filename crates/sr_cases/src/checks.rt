@@ -24,7 +24,7 @@ fn refusal_of(alloc: Global, files: &[(Text, Text)]) -> Result<Option<Refusal>, 
     }
 }
 
-/// The refusal, with its line counted from the first after so many lines.
+/// The refusal. Its line is counted from after the given number of lines.
 fn counted_after(refusal: Refusal, lines: u32) -> Refusal {
     let Refusal { kind, place } = refusal;
     let Place { file, line } = place;
@@ -35,7 +35,7 @@ fn counted_after(refusal: Refusal, lines: u32) -> Refusal {
     }
 }
 
-/// What is told of files, with the lines of the first counted from the first after so many.
+/// What is told of files. The lines of the first file are counted from after the given number of lines.
 fn tell_files(alloc: Global, files: &[(Text, Text)], lines: u32) -> Result<String, NoMemory> {
     match refusal_of(alloc, files) {
         Ok(None) => Ok(String::from_str(alloc, "accepted")?),

@@ -1,5 +1,5 @@
-//! What the names of a program mean: for each use of a name in order the name, its line and that of its declaration,
-//! which is 0 for a predefined name; or the rule that is broken.
+//! What the names of a program mean: for each use of a name, in order, the name, its line and the line of its
+//! declaration (0 for a predefined name); or the rule that is broken.
 
 use sr_case_files::{Case, lexed, push_bytes, tell_fail};
 use sr_front::read;

@@ -7,8 +7,8 @@ use crate::cores::program_of;
 use sr_ask::{Answer, Asks};
 use sr_case_files::{Case, push_line, tell_fail};
 use sr_core::Core;
+use sr_interpreter::tree_ask;
 use sr_value::{NoMemory, Row};
-use sr_walker::tree_ask;
 use std::alloc::Global;
 
 /// What a process asks after these answers, as text.

@@ -13,7 +13,7 @@ use Rattle.sr_types.specs.declared.signature.Signature.{Signature}
 use Rattle.sr_check_expr.specs.declared.facts.Facts.{Facts}
 use Rattle.sr_check_decl.specs.declared.kind.NamedParam.{NamedParam}
 use Rattle.sr_check_decl.specs.declared.kind.Signed.{Signed}
-use Rattle.sr_check_decl.specs.Entering.{Entered, EntersType, EntersFormals, EntersReturned, EntersSignature, behind_formals, entered, signed_entered, in_turn, maybe_returned, formal_step, returned_step, signature_step, type_step, type_read_in, formal_read_in, returned_read_in, signature_read_in, type_entered, written_entered, formals_entered, signature_entered, op_entered, ops_entered}
+use Rattle.sr_check_decl.specs.Entering.{Entered, EntersType, EntersFormals, EntersReturned, EntersSignature, after_formals, entered, signed_entered, in_turn, maybe_returned, formal_step, returned_step, signature_step, type_step, type_read_in, formal_read_in, returned_read_in, signature_read_in, type_entered, written_entered, formals_entered, signature_entered, op_entered, ops_entered}
 use Rattle.sr_check_decl.specs.TypeTrees.{forms_of, is_refused, whole_signature}
 
 module _ (Q : Facts → Type 0) (q : (facts : Facts) (signatures : List Signature) → Q facts → Q (record facts { signatures = signatures })) where
@@ -76,7 +76,7 @@ module _ (Q : Facts → Type 0) (q : (facts : Facts) (signatures : List Signatur
   returned_node y facts h = y.ty.1 facts h
 
   keeps_both : (forms : Forms) (returned : Option EntersReturned) → ((facts : Facts) → Q facts → Q (maybe_returned returned facts).facts) → (params : Entered (List NamedParam)) → Q params.facts
-      → Q (behind_formals forms returned params).facts
+      → Q (after_formals forms returned params).facts
   keeps_both forms returned keeps params h =
       keeps_signed (record { params = params.read; returned = (maybe_returned returned params.facts).read; forms = forms }) (maybe_returned returned params.facts).facts (keeps params.facts h)
 

@@ -31,13 +31,13 @@ use Rattle.sr_tree.specs.declared.statement.Statement.{Statement, roll-Statement
 use Rattle.sr_types.specs.declared.ty.Ty.{Ty}
 use Rattle.sr_check_expr.specs.declared.facts.Facts.{Facts}
 use Rattle.sr_check_expr.specs.declared.info.Info.TheVariants as info
-use Rattle.sr_check_expr.specs.Exprs.{Judge, JudgeCalled, JudgePart, create_step, expr_step, invocation_step, part_step, judge_create, judge_expr, judge_invocation, judge_part}
+use Rattle.sr_check_expr.specs.Exprs.{Inferrer, CalledInferrer, PartInferrer, create_step, expr_step, invocation_step, part_step, infer_create, infer_expr, infer_invocation, infer_part}
 use Rattle.sr_check_expr.specs.Infos.{info_at}
-use Rattle.sr_check_expr.specs.Judgements.{broken_unless, judged_of}
-use Rattle.sr_check_expr.specs.declared.judged.Judged.{Judged}
+use Rattle.sr_check_expr.specs.Typings.{broken_unless, typed_exprs_of}
+use Rattle.sr_check_expr.specs.declared.typed_expr.TypedExpr.{TypedExpr}
 use Rattle.sr_check_expr.specs.Arguments.{all_found, all_valued, takes_as_many}
-use Rattle.sr_check_expr.specs.Naming.{decl_info, meaning_judged}
-use Rattle.sr_check_decl.specs.Variables.{values_judged}
+use Rattle.sr_check_expr.specs.Naming.{decl_info, meaning_typing}
+use Rattle.sr_check_decl.specs.Variables.{typings_of}
 use Rattle.sr_check.specs.declared.operation.Operation.{Operation}
 use Rattle.sr_check.specs.Contexts.{Context, Steps, with_facts, looping, in_order, with_more}
 use Rattle.sr_check.specs.Invoking.{call_found, called_found, named_operation, p_found, semaphore_found, started_found}
@@ -49,15 +49,15 @@ use Rattle.sr_check.specs.Servicing.{item_step as item_waiting, statement_step a
 use Rattle.sr_check.specs.Statements.{ArmSteps, arm_context, guards_found, mixture_found, is_mixture, then_step, maybe_block, arms_at, item_step, statement_step, arm_step, branch_step, co_arm_step, statement_read, block_item_read, arm_read, branch_read, co_arm_read}
 use Rattle.sr_check.specs.Uses.{condition_rule}
 use Rattle.sr_check.proofs.Each.{Each, each-append}
-use Rattle.sr_check.specs.Unbroken.{Unbroken}
-use Rattle.sr_check.proofs.Unbroken.{rule_met, same_unbroken, unbroken_first, unbroken_second}
+use Rattle.sr_check.specs.ErrorFree.{ErrorFree}
+use Rattle.sr_check.proofs.ErrorFree.{rule_met, same_error_free, error_free_first, error_free_second}
 use Rattle.sr_check.proofs.Named.{Meant, meant_by, by_expr}
 use Rattle.sr_check.proofs.Owners.{Sound}
 use Rattle.sr_check.proofs.Reading.{read_item, read_statement, read_arm, read_branch, read_co_arm, keeps_service, keeps_quantifiers, keeps_block_item, keeps_branch, keeps_arm, keeps_co_arm}
 
 -- ---- what is found where a rule is broken
 
-no_proc : (span : Span) (proc : Option Span) → Unbroken (proc_found span proc) → proc ≡ None
+no_proc : (span : Span) (proc : Option Span) → ErrorFree (proc_found span proc) → proc ≡ None
 no_proc span None e = refl
 no_proc span (Some proc) e = absurd e
 
@@ -92,11 +92,11 @@ module _ (P : Spot → Ty → Spot → Bool → Type 0) (uses : Meanings) (compo
   waiting facts is_local meant h at = record { decl = at.decl; means = at.means; ty = at.ty; meets = h.1.1 at.decl.spot at.ty component is_local at.is; unserved = at.unserved }
 
   -- what is serviced is the component's own, and has no proc
-  pub at_by : (facts : Facts) (span : Span) (meant : Option Decl) (operation : Operation) → Holds facts → Meant facts meant operation → Unbroken (service_found facts procs span operation)
+  pub at_by : (facts : Facts) (span : Span) (meant : Option Decl) (operation : Operation) → Holds facts → Meant facts meant operation → ErrorFree (service_found facts procs span operation)
       → At facts operation.is_local meant
   at_by facts span meant operation h m nothing =
-      let own = rule_met (is_own facts operation) BadUse span (unbroken_first (broken_unless (is_own facts operation) BadUse span) (proc_found span (proc_of procs operation.spot)) nothing) in
-      let free = no_proc span (proc_of procs operation.spot) (unbroken_second (broken_unless (is_own facts operation) BadUse span) (proc_found span (proc_of procs operation.spot)) nothing) in
+      let own = rule_met (is_own facts operation) BadUse span (error_free_first (broken_unless (is_own facts operation) BadUse span) (proc_found span (proc_of procs operation.spot)) nothing) in
+      let free = no_proc span (proc_of procs operation.spot) (error_free_second (broken_unless (is_own facts operation) BadUse span) (proc_found span (proc_of procs operation.spot)) nothing) in
       let whose : operation.component ≡ component = same_spot-eq operation.component facts.here.component.spot own ∙ h.0 in
       record {
         decl = m.decl;
@@ -110,17 +110,17 @@ module _ (P : Spot → Ty → Spot → Bool → Type 0) (uses : Meanings) (compo
   AtSome facts meant = (is_local : Bool) × At facts is_local meant
 
   head_at : {X : Type 0} (facts : Facts) (span : Span) (formals : List X) (returns : Bool) (meant : Option Decl) (found : Option Operation) → Holds facts → operation_at facts meant ≡ found
-      → Unbroken (head_found facts procs span formals returns found) → AtSome facts meant
+      → ErrorFree (head_found facts procs span formals returns found) → AtSome facts meant
   head_at facts span formals returns meant None h is nothing = absurd nothing
   head_at facts span formals returns meant (Some operation) h is nothing =
-      (operation.is_local, at_by facts span meant operation h (meant_by facts meant operation is) (unbroken_second (broken_unless (head_rule facts.signatures formals returns operation.ty) _ span) _ nothing))
+      (operation.is_local, at_by facts span meant operation h (meant_by facts meant operation is) (error_free_second (broken_unless (head_rule facts.signatures formals returns operation.ty) _ span) _ nothing))
 
-  receive_at : (context : Context) (span : Span) (places : List Judged) (meant : Option Decl) (found : Option Operation) → context.procs ≡ procs → Holds context.facts → operation_at context.facts meant ≡ found
-      → Unbroken (receive_by context span places found) → AtSome context.facts meant
+  receive_at : (context : Context) (span : Span) (places : List TypedExpr) (meant : Option Decl) (found : Option Operation) → context.procs ≡ procs → Holds context.facts → operation_at context.facts meant ≡ found
+      → ErrorFree (receive_by context span places found) → AtSome context.facts meant
   receive_at context span places meant None of h is nothing = absurd nothing
   receive_at context span places meant (Some operation) of h is nothing =
-      let services = unbroken_second (received_found (params_of context.facts.signatures operation.ty) places) _ (unbroken_second (broken_unless (takes_all context.facts operation.ty places) _ span) _ nothing) in
-      (operation.is_local, at_by context.facts span meant operation h (meant_by context.facts meant operation is) (same_unbroken (ap (λ p. service_found context.facts p span operation) (sym of)) services))
+      let services = error_free_second (received_found (params_of context.facts.signatures operation.ty) places) _ (error_free_second (broken_unless (takes_all context.facts operation.ty places) _ span) _ nothing) in
+      (operation.is_local, at_by context.facts span meant operation h (meant_by context.facts meant operation is) (same_error_free (ap (λ p. service_found context.facts p span operation) (sym of)) services))
 
   -- ---- one `in`
 
@@ -145,13 +145,13 @@ module _ (P : Spot → Ty → Spot → Bool → Type 0) (uses : Meanings) (compo
   -- ---- trees
 
   abbrev pub Finds : Steps → Waits → Type 0
-  Finds steps waits = (context : Context) → context.procs ≡ procs → Holds context.facts → Unbroken ((steps context).found) → Each Right waits
+  Finds steps waits = (context : Context) → context.procs ≡ procs → Holds context.facts → ErrorFree ((steps context).found) → Each Right waits
 
   -- what an arm names, and what is found in it
   abbrev pub ArmFinds : ArmSteps → ArmWaits → Type 0
   ArmFinds arm waits =
       (meant_at uses arm.operation.span ≡ waits.0)
-      × ((span : Span) (context : Context) → context.procs ≡ procs → Holds context.facts → Unbroken ((arm.steps span context).found) → AtSome context.facts waits.0 × Each Right waits.1)
+      × ((span : Span) (context : Context) → context.procs ≡ procs → Holds context.facts → ErrorFree ((arm.steps span context).found) → AtSome context.facts waits.0 × Each Right waits.1)
 
   abbrev I : Type 0
   I = (tree : BlockItem) × Finds (block_item_read tree) (block_item_waits uses tree)
@@ -174,25 +174,25 @@ module _ (P : Spot → Ty → Spot → Bool → Type 0) (uses : Meanings) (compo
   finds_row read waits keeps (x ∷ xs) context of h nothing =
       let next = with_facts context (read x.0 context).facts in
       let rest = in_order (map read (map (λ x. x.0) xs)) in
-      each-append Right (waits x.0) (joined (map waits (map (λ x. x.0) xs))) (x.1 context of h (unbroken_first (read x.0 context).found (rest next).found nothing))
-      (finds_row read waits keeps xs next of (keeps x.0 context h) (unbroken_second (read x.0 context).found (rest next).found nothing))
+      each-append Right (waits x.0) (joined (map waits (map (λ x. x.0) xs))) (x.1 context of h (error_free_first (read x.0 context).found (rest next).found nothing))
+      (finds_row read waits keeps xs next of (keeps x.0 context h) (error_free_second (read x.0 context).found (rest next).found nothing))
 
   finds_items : (xs : List I) → Finds (in_order (map block_item_read (map (λ x. x.0) xs))) (joined (map (block_item_waits uses) (map (λ x. x.0) xs)))
   finds_items = finds_row block_item_read (block_item_waits uses) (keeps_block_item P uses component)
 
   -- the arms of an `in`, by what is known at it
   finds_arms : (start : Facts) (span : Span) (xs : List A) (context : Context) → context.procs ≡ procs → Holds context.facts → Since start context.facts
-      → Unbroken ((in_order (arms_at span (map arm_read (map (λ x. x.0) xs))) context).found)
+      → ErrorFree ((in_order (arms_at span (map arm_read (map (λ x. x.0) xs))) context).found)
       → Each (AtSome start) (arms_meant (map (arm_waits uses) (map (λ x. x.0) xs))) × Each Right (arms_waits (map (arm_waits uses) (map (λ x. x.0) xs)))
   finds_arms start span [] context of h since nothing = (tt, tt)
   finds_arms start span (x ∷ xs) context of h since nothing =
       let first = (arm_read x.0).steps span context in
       let next = with_facts context first.facts in
       let rest = in_order (arms_at span (map arm_read (map (λ x. x.0) xs))) next in
-      let here = x.1.1 span context of h (unbroken_first first.found rest.found nothing) in
+      let here = x.1.1 span context of h (error_free_first first.found rest.found nothing) in
       let more = finds_arms start span xs next of (keeps_arm P uses component x.0 span context h)
       (keeps_arm (λ spot ty owner is_local. info_at start.infos spot ≡ Some (info.Operation ty owner is_local)) uses component x.0 span context since)
-      (unbroken_second first.found rest.found nothing) in (
+      (error_free_second first.found rest.found nothing) in (
         ((here.0.0, at_start start context.facts here.0.0 (arm_waits uses x.0).0 since here.0.1), more.0),
         each-append Right (arm_waits uses x.0).1 (arms_waits (map (arm_waits uses) (map (λ x. x.0) xs))) here.1 more.1,
       )
@@ -223,7 +223,7 @@ module _ (P : Spot → Ty → Spot → Bool → Type 0) (uses : Meanings) (compo
   not_both false b e = inl refl
 
   -- the operations of one `in` are all of the component or all of procs
-  of_one_sort : (facts : Facts) (span : Span) (xs : List A) → Holds facts → Unbroken (mixture_found facts span (map arm_read (map (λ x. x.0) xs)))
+  of_one_sort : (facts : Facts) (span : Span) (xs : List A) → Holds facts → ErrorFree (mixture_found facts span (map arm_read (map (λ x. x.0) xs)))
       → Each (AtSome facts) (arms_meant (map (arm_waits uses) (map (λ x. x.0) xs))) → Right (arms_meant (map (arm_waits uses) (map (λ x. x.0) xs)))
   of_one_sort facts span xs h nothing ats =
       by (not_both (list_any (λ arm. is_local_name facts arm.operation) (map arm_read (map (λ x. x.0) xs))) (list_any (λ arm. is_shared_name facts arm.operation) (map arm_read (map (λ x. x.0) xs)))
@@ -248,7 +248,7 @@ module _ (P : Spot → Ty → Spot → Bool → Type 0) (uses : Meanings) (compo
   finds_then : (first second : Steps) (a b : Waits) → ((context : Context) → Holds context.facts → Holds (first context).facts) → Finds first a → Finds second b → Finds (then_step first second) (a ++ b)
   finds_then first second a b keeps f g context of h nothing =
       let next = with_facts context (first context).facts in
-      each-append Right a b (f context of h (unbroken_first (first context).found (second next).found nothing)) (g next of (keeps context h) (unbroken_second (first context).found (second next).found nothing))
+      each-append Right a b (f context of h (error_free_first (first context).found (second next).found nothing)) (g next of (keeps context h) (error_free_second (first context).found (second next).found nothing))
 
   finds_none : Finds (maybe_block None) []
   finds_none context of h nothing = tt
@@ -261,18 +261,18 @@ module _ (P : Spot → Ty → Spot → Bool → Type 0) (uses : Meanings) (compo
 
   finds_in : (span : Span) (xs : List A) (otherwise : Steps) (more : Waits) → Finds otherwise more
       → (context : Context) → context.procs ≡ procs → Holds context.facts
-      → Unbroken ((with_more (mixture_found context.facts span (map arm_read (map (λ x. x.0) xs))) (then_step (in_order (arms_at span (map arm_read (map (λ x. x.0) xs)))) otherwise context)).found)
+      → ErrorFree ((with_more (mixture_found context.facts span (map arm_read (map (λ x. x.0) xs))) (then_step (in_order (arms_at span (map arm_read (map (λ x. x.0) xs)))) otherwise context)).found)
       → Each Right (arms_meant (map (arm_waits uses) (map (λ x. x.0) xs)) ∷ (arms_waits (map (arm_waits uses) (map (λ x. x.0) xs)) ++ more))
   finds_in span xs otherwise more finds context of h nothing =
       let arms = map arm_read (map (λ x. x.0) xs) in
       let first = in_order (arms_at span arms) context in
       let next = with_facts context first.facts in
-      let unmixed = unbroken_first (mixture_found context.facts span arms) (first.found ++ (otherwise next).found) nothing in
-      let rest = unbroken_second (mixture_found context.facts span arms) (first.found ++ (otherwise next).found) nothing in
-      let found = finds_arms context.facts span xs context of h (h.0, (h.1.0, λ spot type owner is_local is. is)) (unbroken_first first.found (otherwise next).found rest) in (
+      let unmixed = error_free_first (mixture_found context.facts span arms) (first.found ++ (otherwise next).found) nothing in
+      let rest = error_free_second (mixture_found context.facts span arms) (first.found ++ (otherwise next).found) nothing in
+      let found = finds_arms context.facts span xs context of h (h.0, (h.1.0, λ spot type owner is_local is. is)) (error_free_first first.found (otherwise next).found rest) in (
         of_one_sort context.facts span xs h unmixed found.0,
         each-append Right (arms_waits (map (arm_waits uses) (map (λ x. x.0) xs))) more found.1
-            (finds next of (keeps_arm_trees span (map (λ x. x.0) xs) context h) (unbroken_second first.found (otherwise next).found rest)),
+            (finds next of (keeps_arm_trees span (map (λ x. x.0) xs) context h) (error_free_second first.found (otherwise next).found rest)),
       )
 
   -- ---- nodes of trees
@@ -312,65 +312,65 @@ module _ (P : Spot → Ty → Spot → Bool → Type 0) (uses : Meanings) (compo
   item_node (BlockItem-F.Var variables) context of h nothing = tt
   item_node (BlockItem-F.Statement statement) context of h nothing = statement.1 context of h nothing
 
-  receive_node : (context : Context) (span : Span) (operation : Name) (places : List Expr) → context.procs ≡ procs → Holds context.facts → Unbroken (receive_found context span operation places)
+  receive_node : (context : Context) (span : Span) (operation : Name) (places : List Expr) → context.procs ≡ procs → Holds context.facts → ErrorFree (receive_found context span operation places)
       → Each Right ((meant_at uses operation.span ∷ []) ∷ [])
   receive_node context span operation places of h nothing =
-      let places_judged = judged_of (values_judged context.facts places) in
-      let last = receive_by context span places_judged (operation_named context.facts operation) in
-      let services = unbroken_second (all_valued places_judged) last (unbroken_second (all_found (values_judged context.facts places)) (all_valued places_judged ++ last) nothing) in
-      let at = receive_at context span places_judged (decl_named context.facts operation) (operation_named context.facts operation) of h refl services in
+      let typed_places = typed_exprs_of (typings_of context.facts places) in
+      let last = receive_by context span typed_places (operation_named context.facts operation) in
+      let services = error_free_second (all_valued typed_places) last (error_free_second (all_found (typings_of context.facts places)) (all_valued typed_places ++ last) nothing) in
+      let at = receive_at context span typed_places (decl_named context.facts operation) (operation_named context.facts operation) of h refl services in
       ((at.0, (subst (λ u. Waiting at.0 (meant_at u operation.span)) h.1.0 (waiting context.facts at.0 (decl_named context.facts operation) h at.1), tt)), tt)
 
   -- ---- `P`
 
   semaphore_node : (context : Context) (span : Span) (expr : Expr) (found : Option Operation) → context.procs ≡ procs → Holds context.facts
-      → named_operation context.facts (judge_expr expr context.facts).judged.named ≡ found → Unbroken (semaphore_found context span found) → Right (expr_meant context.facts.uses expr ∷ [])
+      → named_operation context.facts (infer_expr expr context.facts).typed_expr.named ≡ found → ErrorFree (semaphore_found context span found) → Right (expr_meant context.facts.uses expr ∷ [])
   semaphore_node context span expr None of h is nothing = absurd nothing
   semaphore_node context span expr (Some operation) of h is nothing =
-      let services = unbroken_second (broken_unless (takes_as_many context.facts.signatures operation.ty []) _ span) (service_found context.facts context.procs span operation) nothing in
+      let services = error_free_second (broken_unless (takes_as_many context.facts.signatures operation.ty []) _ span) (service_found context.facts context.procs span operation) nothing in
       let meant = expr_meant context.facts.uses expr in
-      let at = at_by context.facts span meant operation h (by_expr context.facts operation expr is) (same_unbroken (ap (λ p. service_found context.facts p span operation) (sym of)) services) in
+      let at = at_by context.facts span meant operation h (by_expr context.facts operation expr is) (same_error_free (ap (λ p. service_found context.facts p span operation) (sym of)) services) in
       (operation.is_local, (waiting context.facts operation.is_local meant h at, tt))
 
   arguments_node : (context : Context) (span : Span) (arguments : List Expr) → context.procs ≡ procs → Holds context.facts
-      → Unbroken (p_found context span (judged_of (values_judged context.facts arguments))) → Right (first_meant context.facts.uses arguments ∷ [])
+      → ErrorFree (p_found context span (typed_exprs_of (typings_of context.facts arguments))) → Right (first_meant context.facts.uses arguments ∷ [])
   arguments_node context span [] of h nothing = absurd nothing
-  arguments_node context span (expr ∷ []) of h nothing = semaphore_node context span expr (named_operation context.facts (judge_expr expr context.facts).judged.named) of h refl nothing
+  arguments_node context span (expr ∷ []) of h nothing = semaphore_node context span expr (named_operation context.facts (infer_expr expr context.facts).typed_expr.named) of h refl nothing
   arguments_node context span (expr ∷ (other ∷ more)) of h nothing = absurd nothing
 
   meaning_node : (context : Context) (span used : Span) (arguments : List Expr) (meaning : Option Meaning) → context.procs ≡ procs → Holds context.facts
-      → Unbroken (called_found context span (meaning_judged context.facts.infos used meaning).judged (judged_of (values_judged context.facts arguments)) (meaning_judged context.facts.infos used meaning).judged.named)
+      → ErrorFree (called_found context span (meaning_typing context.facts.infos used meaning).typed_expr (typed_exprs_of (typings_of context.facts arguments)) (meaning_typing context.facts.infos used meaning).typed_expr.named)
       → Each Right (waits_by context.facts.uses arguments meaning)
   meaning_node context span used arguments (Some (MeansPredefined predefined.P)) of h nothing = (
     arguments_node context span arguments of h
-        (unbroken_second (all_valued (judged_of (values_judged context.facts arguments))) (p_found context span (judged_of (values_judged context.facts arguments))) nothing),
+        (error_free_second (all_valued (typed_exprs_of (typings_of context.facts arguments))) (p_found context span (typed_exprs_of (typings_of context.facts arguments))) nothing),
     tt,
   )
   meaning_node context span used arguments None of h nothing = tt
   meaning_node context span used arguments (Some (Declared decl)) of h nothing = tt
   meaning_node context span used arguments (Some (MeansPredefined _)) of h nothing = tt
 
-  abbrev judge_layer : Expr-F Create Expr Invocation Part → Expr-F Judge Judge JudgeCalled JudgePart
-  judge_layer = map-Expr Create Expr Invocation Part Judge Judge JudgeCalled JudgePart judge_create judge_expr judge_invocation judge_part
+  abbrev infer_layer : Expr-F Create Expr Invocation Part → Expr-F Inferrer Inferrer CalledInferrer PartInferrer
+  infer_layer = map-Expr Create Expr Invocation Part Inferrer Inferrer CalledInferrer PartInferrer infer_create infer_expr infer_invocation infer_part
 
   layer_node : (context : Context) (span : Span) (arguments : List Expr) (layer : Expr-F Create Expr Invocation Part) → context.procs ≡ procs → Holds context.facts
-      → Unbroken (called_found context span (expr_step (judge_layer layer) context.facts).judged (judged_of (values_judged context.facts arguments)) (expr_step (judge_layer layer) context.facts).judged.named)
+      → ErrorFree (called_found context span (expr_step (infer_layer layer) context.facts).typed_expr (typed_exprs_of (typings_of context.facts arguments)) (expr_step (infer_layer layer) context.facts).typed_expr.named)
       → Each Right (layer_waits context.facts.uses arguments layer)
   layer_node context span arguments (Expr-F.Name name) of h nothing = meaning_node context span name.span arguments (meaning_at context.facts.uses (spot_of name.span)) of h nothing
   layer_node context span arguments _ of h nothing = tt
 
-  call_node : (context : Context) (span : Span) (invocation : Invocation) → context.procs ≡ procs → Holds context.facts → Unbroken (call_found context span (judge_invocation invocation context.facts))
+  call_node : (context : Context) (span : Span) (invocation : Invocation) → context.procs ≡ procs → Holds context.facts → ErrorFree (call_found context span (infer_invocation invocation context.facts))
       → Each Right (call_waits uses invocation)
   call_node context span invocation of h nothing =
       let facts = context.facts in
       let callee = (out-Invocation invocation).callee in
       let arguments = (out-Invocation invocation).arguments in
-      let opened = ap (λ judge. call_found context span (judge facts)) (fold_out-Invocation Judge Judge JudgeCalled JudgePart create_step expr_step invocation_step part_step invocation) in
-      let called = unbroken_second ((judge_expr callee facts).found ++ all_found (values_judged facts arguments))
-      (called_found context span (judge_expr callee facts).judged (judged_of (values_judged facts arguments)) (judge_expr callee facts).judged.named) (same_unbroken (sym opened) nothing) in
-      let layer = ap (λ judge. called_found context span (judge facts).judged (judged_of (values_judged facts arguments)) (judge facts).judged.named)
-      (fold_out-Expr Judge Judge JudgeCalled JudgePart create_step expr_step invocation_step part_step callee) in
-      subst (λ u. Each Right (call_waits u invocation)) h.1.0 (layer_node context span arguments (out-Expr callee) of h (same_unbroken (sym layer) called))
+      let opened = ap (λ infer. call_found context span (infer facts)) (fold_out-Invocation Inferrer Inferrer CalledInferrer PartInferrer create_step expr_step invocation_step part_step invocation) in
+      let called = error_free_second ((infer_expr callee facts).found ++ all_found (typings_of facts arguments))
+      (called_found context span (infer_expr callee facts).typed_expr (typed_exprs_of (typings_of facts arguments)) (infer_expr callee facts).typed_expr.named) (same_error_free (sym opened) nothing) in
+      let layer = ap (λ infer. called_found context span (infer facts).typed_expr (typed_exprs_of (typings_of facts arguments)) (infer facts).typed_expr.named)
+      (fold_out-Expr Inferrer Inferrer CalledInferrer PartInferrer create_step expr_step invocation_step part_step callee) in
+      subst (λ u. Each Right (call_waits u invocation)) h.1.0 (layer_node context span arguments (out-Expr callee) of h (same_error_free (sym layer) called))
 
   statement_node : (y : Statement-F I S A B C) → Finds (statement_step (read_statement (first_statement y))) (statement_waiting uses (wait_statement (first_statement y)))
   statement_node (Statement-F.If span branches None) context of h nothing =
@@ -387,7 +387,7 @@ module _ (P : Spot → Ty → Spot → Bool → Type 0) (uses : Meanings) (compo
   statement_node (Statement-F.ForAll span quantifiers block) context of h nothing =
       let inside = looping (with_facts context (quantifiers_known context.facts quantifiers)) in
       finds_items block inside of (keeps_quantifiers P uses component quantifiers context.facts h)
-      (unbroken_second (quantifiers_found context.facts quantifiers) (in_order (map block_item_read (map (λ x. x.0) block)) inside).found nothing)
+      (error_free_second (quantifiers_found context.facts quantifiers) (in_order (map block_item_read (map (λ x. x.0) block)) inside).found nothing)
   statement_node (Statement-F.In span arms None) context of h nothing = finds_in span arms (maybe_block None) [] finds_none context of h nothing
   statement_node (Statement-F.In span arms (Some items)) context of h nothing =
       finds_in span arms (in_order (map block_item_read (map (λ x. x.0) items))) (joined (map (block_item_waits uses) (map (λ x. x.0) items))) (finds_items items) context of h nothing
@@ -399,7 +399,7 @@ module _ (P : Spot → Ty → Spot → Bool → Type 0) (uses : Meanings) (compo
   arm_node : (y : Arm-F I S A B C) → ArmFinds (arm_step (read_arm (first_arm y))) (arm_waiting uses (wait_arm (first_arm y)))
   arm_node y = (refl, by)
     where
-      by : (span : Span) (context : Context) → context.procs ≡ procs → Holds context.facts → Unbroken (((arm_step (read_arm (first_arm y))).steps span context).found)
+      by : (span : Span) (context : Context) → context.procs ≡ procs → Holds context.facts → ErrorFree (((arm_step (read_arm (first_arm y))).steps span context).found)
           → AtSome context.facts (meant_at uses y.operation.span) × Each Right (joined (map (block_item_waits uses) (map (λ x. x.0) y.block)))
       by span context of h nothing =
           let facts = context.facts in
@@ -409,24 +409,24 @@ module _ (P : Spot → Ty → Spot → Bool → Type 0) (uses : Meanings) (compo
           let head = head_found facts context.procs span y.formals (is_some y.returned) operation in
           let guards = guards_found inside.facts y.condition y.order in
           let at = head_at facts span y.formals (is_some y.returned) (decl_named facts y.operation) operation h refl
-          (same_unbroken (ap (λ p. head_found facts p span y.formals (is_some y.returned) operation) (sym of)) (unbroken_first head (guards ++ inner.found) nothing)) in (
+          (same_error_free (ap (λ p. head_found facts p span y.formals (is_some y.returned) operation) (sym of)) (error_free_first head (guards ++ inner.found) nothing)) in (
             (at.0, subst (λ u. At facts at.0 (meant_at u y.operation.span)) h.1.0 at.1),
             finds_items y.block inside of (keeps_service P uses component y.formals y.returned (type_of operation) facts h)
-                (unbroken_second guards inner.found (unbroken_second head (guards ++ inner.found) nothing)),
+                (error_free_second guards inner.found (error_free_second head (guards ++ inner.found) nothing)),
           )
 
   branch_node : (y : Branch-F I S A B C) → Finds (branch_step (read_branch (first_branch y))) (branch_waiting (wait_branch (first_branch y)))
   branch_node y context of h nothing =
-      finds_items y.block context of h (unbroken_second (expr_with condition_rule context.facts y.guard) (in_order (map block_item_read (map (λ x. x.0) y.block)) context).found nothing)
+      finds_items y.block context of h (error_free_second (expr_with condition_rule context.facts y.guard) (in_order (map block_item_read (map (λ x. x.0) y.block)) context).found nothing)
 
   co_arm_by : (y : CoArm-F I S A B C) (block : Option (List I)) → Finds (co_arm_step (read_co_arm (first_co_arm (record y { block = block })))) (co_arm_waiting (wait_co_arm (first_co_arm (record y { block = block }))))
   co_arm_by y None context of h nothing = tt
   co_arm_by y (Some items) context of h nothing =
       let inside = with_facts context (quantifiers_known context.facts y.quantifiers) in
       let inner = in_order (map block_item_read (map (λ x. x.0) items)) (looping inside) in
-      let started = started_found inside.facts y.target (judge_invocation y.invocation inside.facts) in
+      let started = started_found inside.facts y.target (infer_invocation y.invocation inside.facts) in
       finds_items items (looping inside) of (keeps_quantifiers P uses component y.quantifiers context.facts h)
-      (unbroken_second started inner.found (unbroken_second (quantifiers_found context.facts y.quantifiers) (started ++ inner.found) nothing))
+      (error_free_second started inner.found (error_free_second (quantifiers_found context.facts y.quantifiers) (started ++ inner.found) nothing))
 
   co_arm_node : (y : CoArm-F I S A B C) → Finds (co_arm_step (read_co_arm (first_co_arm y))) (co_arm_waiting (wait_co_arm (first_co_arm y)))
   co_arm_node y = co_arm_by y y.block

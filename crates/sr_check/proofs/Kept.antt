@@ -1,12 +1,12 @@
--- The facts of a program that breaks no rule: those known behind all its files, with the meanings that its names had before.
+-- The facts of a program that breaks no rule: those known after all its files, with the meanings that its names had before.
 use Rattle.std.proofs.Common.{◌≡◌, Option, None, Some, Ok, Result, List, refl, sym, ap, is_ok}
 use Rattle.std.specs.List.{All, Contains}
 use Rattle.std.proofs.lemmas.Bool.{false≢true}
 use Rattle.sr_check_expr.specs.declared.facts.Facts.{Facts}
-use Rattle.sr_check_decl.specs.Circles.{circles_found, leads_left}
+use Rattle.sr_check_decl.specs.Cycles.{type_cycles_found, leads_left}
 use Rattle.sr_check_decl.specs.Inferring.{program_inferred, program_known}
 use Rattle.sr_check_decl.specs.Waiting.{files_waiting}
-use Rattle.sr_names.specs.declared.finding.Wrong.{Wrong}
+use Rattle.sr_names.specs.declared.finding.Diagnostic.{Diagnostic}
 use Rattle.sr_names.specs.Noted.{Meanings}
 use Rattle.sr_names.specs.Specs.{Specs}
 use Rattle.sr_text.specs.declared.refusal.Refusal.{Refusal}
@@ -17,27 +17,27 @@ use Rattle.sr_check.specs.Owners.{declared_operations, file_owned}
 use Rattle.sr_check.specs.Servicing.{AllServiceOwn, ServicesOwn}
 use Rattle.sr_check.proofs.Each.{all_of, each-parts}
 use Rattle.sr_check.proofs.Programs.{Sure, all_declared, finds_files, keeps_files, program_sure}
-use Rattle.sr_check.proofs.Unbroken.{unbroken, unbroken_second}
+use Rattle.sr_check.proofs.ErrorFree.{error_free, error_free_second}
 
-pub sure_behind : (uses : Meanings) (specs : Specs) (files : List File) → Sure uses files (program_known uses specs files) (files_read files (program_known uses specs files)).facts
-sure_behind uses specs files =
+pub sure_after : (uses : Meanings) (specs : Specs) (files : List File) → Sure uses files (program_known uses specs files) (files_read files (program_known uses specs files)).facts
+sure_after uses specs files =
     keeps_files uses files (program_known uses specs files) files (program_known uses specs files) (each-parts (Contains (declared_operations files)) file_owned files (all_declared files))
     (program_sure uses specs files)
 
 -- what names mean stays
 pub uses_kept : (uses : Meanings) (specs : Specs) (files : List File) → (checked uses specs files).facts.uses ≡ uses
-uses_kept uses specs files = (sure_behind uses specs files).0
+uses_kept uses specs files = (sure_after uses specs files).0
 
 ok_same : (known facts : Facts) → ◌≡◌ {A = Result Facts Refusal} (Ok known) (Ok facts) → known ≡ facts
 ok_same known facts e = cc
 
-those : (first : Option Wrong) (known facts : Facts) → verdict_by first known ≡ Ok facts → facts ≡ known
+those : (first : Option Diagnostic) (known facts : Facts) → verdict_by first known ≡ Ok facts → facts ≡ known
 those None known facts e = sym (ok_same known facts e)
-those (Some wrong) known facts e = absurd (false≢true (ap is_ok e))
+those (Some diagnostic) known facts e = absurd (false≢true (ap is_ok e))
 
-none_first : (first : Option Wrong) (known facts : Facts) → verdict_by first known ≡ Ok facts → first ≡ None
+none_first : (first : Option Diagnostic) (known facts : Facts) → verdict_by first known ≡ Ok facts → first ≡ None
 none_first None known facts e = refl
-none_first (Some wrong) known facts e = absurd (false≢true (ap is_ok e))
+none_first (Some diagnostic) known facts e = absurd (false≢true (ap is_ok e))
 
 pub facts_known : (uses : Meanings) (specs : Specs) (files : List File) (facts : Facts) → verdict uses specs files ≡ Ok facts → facts ≡ (checked uses specs files).facts
 facts_known uses specs files facts e = those (first_refused uses specs files) (checked uses specs files).facts facts e
@@ -51,5 +51,5 @@ all_service_own uses specs files none =
     let known = program_known uses specs files in
     all_of (λ file. All (ServicesOwn uses files known) file.components) files
     (finds_files uses files known files known (each-parts (Contains (declared_operations files)) file_owned files (all_declared files)) (program_sure uses specs files)
-    (unbroken_second (circles_found (leads_left (program_inferred uses specs files) (files_waiting files))) (files_read files known).found
-    (unbroken (checked uses specs files).found none)))
+    (error_free_second (type_cycles_found (leads_left (program_inferred uses specs files) (files_waiting files))) (files_read files known).found
+    (error_free (checked uses specs files).found none)))

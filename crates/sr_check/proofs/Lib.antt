@@ -6,4 +6,4 @@ pub mod Named
 pub mod Owners
 pub mod Programs
 pub mod Reading
-pub mod Unbroken
+pub mod ErrorFree

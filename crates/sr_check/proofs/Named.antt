@@ -20,15 +20,15 @@ use Rattle.sr_tree.specs.declared.name.Name.{Name}
 use Rattle.sr_check_expr.specs.declared.facts.Facts.{Facts}
 use Rattle.sr_check_expr.specs.declared.info.Info.{Info}
 use Rattle.sr_check_expr.specs.declared.info.Info.TheVariants as info
-use Rattle.sr_check_expr.specs.declared.judged.Judged.{Judged}
-use Rattle.sr_check_expr.specs.declared.judged.Named.{Named}
-use Rattle.sr_check_expr.specs.declared.judged.Named.TheVariants as named
+use Rattle.sr_check_expr.specs.declared.typed_expr.TypedExpr.{TypedExpr}
+use Rattle.sr_check_expr.specs.declared.typed_expr.Named.{Named}
+use Rattle.sr_check_expr.specs.declared.typed_expr.Named.TheVariants as named
 use Rattle.sr_check_expr.specs.Calls.{called_by}
-use Rattle.sr_check_expr.specs.Exprs.{Judge, JudgeCalled, JudgePart, create_step, expr_step, invocation_step, part_step, field_judged, judge_create, judge_expr, judge_invocation, judge_part}
+use Rattle.sr_check_expr.specs.Exprs.{Inferrer, CalledInferrer, PartInferrer, create_step, expr_step, invocation_step, part_step, field_typing, infer_create, infer_expr, infer_invocation, infer_part}
 use Rattle.sr_check_expr.specs.Infos.{info_at}
-use Rattle.sr_check_expr.specs.Judgements.{judged_of}
+use Rattle.sr_check_expr.specs.Typings.{typed_exprs_of}
 use Rattle.sr_check_expr.specs.LiteralTypes.{literal_named, number_named}
-use Rattle.sr_check_expr.specs.Naming.{decl_of, declared_judged, meaning_judged, name_judged, predefined_at}
+use Rattle.sr_check_expr.specs.Naming.{decl_of, declared_typing, meaning_typing, name_typing, predefined_at}
 use Rattle.sr_check.specs.declared.operation.Operation.{Operation}
 use Rattle.sr_check.specs.Invoking.{named_operation}
 use Rattle.sr_check.specs.Services.{operation_by, operation_at}
@@ -67,41 +67,41 @@ module _ (facts : Facts) (operation : Operation) where
   not_predefined span Eof = refl
   not_predefined span _ = refl
 
-  by_info : (span : Span) (decl : Decl) (found : Option Info) → Names (declared_judged span decl found).judged.named → Meant facts (Some decl) operation
+  by_info : (span : Span) (decl : Decl) (found : Option Info) → Names (declared_typing span decl found).typed_expr.named → Meant facts (Some decl) operation
   by_info span decl None is = absurd (none_some operation is)
   by_info span decl (Some (info.Operation ty component is_local)) is = meant_by facts (Some decl) operation is
   by_info span decl (Some _) is = absurd (none_some operation is)
 
-  by_meaning : (span : Span) (meaning : Option Meaning) → Names (meaning_judged facts.infos span meaning).judged.named → Meant facts (decl_of meaning) operation
+  by_meaning : (span : Span) (meaning : Option Meaning) → Names (meaning_typing facts.infos span meaning).typed_expr.named → Meant facts (decl_of meaning) operation
   by_meaning span None is = absurd (none_some operation is)
   by_meaning span (Some (MeansPredefined name)) is = absurd (none_some operation (sym (not_predefined span name) ∙ is))
   by_meaning span (Some (Declared decl)) is = by_info span decl (info_at facts.infos decl.spot) is
 
-  by_name : (span used : Span) → Names (name_judged facts span used).judged.named → Meant facts (meant_at facts.uses used) operation
+  by_name : (span used : Span) → Names (name_typing facts span used).typed_expr.named → Meant facts (meant_at facts.uses used) operation
   by_name span used is = by_meaning span (meaning_at facts.uses (spot_of used)) is
 
-  by_field : (span : Span) (owner : Judged) (field : Name) (name : Named) → Names (field_judged facts span owner field name).judged.named → Meant facts (meant_at facts.uses field.span) operation
+  by_field : (span : Span) (owner : TypedExpr) (field : Name) (name : Named) → Names (field_typing facts span owner field name).typed_expr.named → Meant facts (meant_at facts.uses field.span) operation
   by_field span owner field (named.Component decl) is = by_name span field.span is
   by_field span owner field _ is = absurd (none_some operation is)
 
-  not_called : (span : Span) (callee : Judged) (arguments : List Judged) (name : Named) → named_operation facts (called_by facts span callee arguments name).judged.named ≡ None
+  not_called : (span : Span) (callee : TypedExpr) (arguments : List TypedExpr) (name : Named) → named_operation facts (called_by facts span callee arguments name).typed_expr.named ≡ None
   not_called span callee arguments (named.Predefined name) = refl
   not_called span callee arguments (named.«Type» ty) = refl
   not_called span callee arguments _ = refl
 
-  abbrev judge_layer : Expr-F Create Expr Invocation Part → Expr-F Judge Judge JudgeCalled JudgePart
-  judge_layer = map-Expr Create Expr Invocation Part Judge Judge JudgeCalled JudgePart judge_create judge_expr judge_invocation judge_part
+  abbrev infer_layer : Expr-F Create Expr Invocation Part → Expr-F Inferrer Inferrer CalledInferrer PartInferrer
+  infer_layer = map-Expr Create Expr Invocation Part Inferrer Inferrer CalledInferrer PartInferrer infer_create infer_expr infer_invocation infer_part
 
-  abbrev judge_made : Create-F Create Expr Invocation Part → Create-F Judge Judge JudgeCalled JudgePart
-  judge_made = map-Create Create Expr Invocation Part Judge Judge JudgeCalled JudgePart judge_create judge_expr judge_invocation judge_part
+  abbrev infer_made : Create-F Create Expr Invocation Part → Create-F Inferrer Inferrer CalledInferrer PartInferrer
+  infer_made = map-Create Create Expr Invocation Part Inferrer Inferrer CalledInferrer PartInferrer infer_create infer_expr infer_invocation infer_part
 
-  not_made_by : (layer : Create-F Create Expr Invocation Part) → named_operation facts (create_step (judge_made layer) facts).judged.named ≡ None
+  not_made_by : (layer : Create-F Create Expr Invocation Part) → named_operation facts (create_step (infer_made layer) facts).typed_expr.named ≡ None
   not_made_by (Create-F.Resource span resource arguments machine) = refl
   not_made_by (Create-F.Machine span) = refl
 
-  not_made : (tree : Create) → named_operation facts (judge_create tree facts).judged.named ≡ None
+  not_made : (tree : Create) → named_operation facts (infer_create tree facts).typed_expr.named ≡ None
   not_made tree =
-      ap (λ judge. named_operation facts (judge facts).judged.named) (fold_out-Create Judge Judge JudgeCalled JudgePart create_step expr_step invocation_step part_step tree)
+      ap (λ infer. named_operation facts (infer facts).typed_expr.named) (fold_out-Create Inferrer Inferrer CalledInferrer PartInferrer create_step expr_step invocation_step part_step tree)
       ∙ not_made_by (out-Create tree)
 
   not_number : (number : Option ℕ) → named_operation facts (number_named number) ≡ None
@@ -112,18 +112,18 @@ module _ (facts : Facts) (operation : Operation) where
   not_literal (Number text) = not_number _
   not_literal _ = refl
 
-  by_layer : (layer : Expr-F Create Expr Invocation Part) → Names (expr_step (judge_layer layer) facts).judged.named → Meant facts (layer_meant facts.uses layer) operation
+  by_layer : (layer : Expr-F Create Expr Invocation Part) → Names (expr_step (infer_layer layer) facts).typed_expr.named → Meant facts (layer_meant facts.uses layer) operation
   by_layer (Expr-F.Literal span literal) is = absurd (none_some operation (sym (not_literal literal) ∙ is))
   by_layer (Expr-F.Name name) is = by_name name.span name.span is
-  by_layer (Expr-F.Field span owner field) is = by_field span (judge_expr owner facts).judged field (judge_expr owner facts).judged.named is
+  by_layer (Expr-F.Field span owner field) is = by_field span (infer_expr owner facts).typed_expr field (infer_expr owner facts).typed_expr.named is
   by_layer (Expr-F.Call invocation) is =
-      let called = judge_invocation invocation facts in
-      absurd (none_some operation (sym (not_called called.span called.callee.judged (judged_of called.arguments) called.callee.judged.named) ∙ is))
+      let called = infer_invocation invocation facts in
+      absurd (none_some operation (sym (not_called called.span called.callee.typed_expr (typed_exprs_of called.arguments) called.callee.typed_expr.named) ∙ is))
   by_layer (Expr-F.Create create) is = absurd (none_some operation (sym (not_made create) ∙ is))
   by_layer _ is = absurd (none_some operation is)
 
   -- the operation that an expression names
-  pub by_expr : (expr : Expr) → named_operation facts (judge_expr expr facts).judged.named ≡ Some operation → Meant facts (expr_meant facts.uses expr) operation
+  pub by_expr : (expr : Expr) → named_operation facts (infer_expr expr facts).typed_expr.named ≡ Some operation → Meant facts (expr_meant facts.uses expr) operation
   by_expr expr is =
       by_layer (out-Expr expr)
-      (sym (ap (λ judge. named_operation facts (judge facts).judged.named) (fold_out-Expr Judge Judge JudgeCalled JudgePart create_step expr_step invocation_step part_step expr)) ∙ is)
+      (sym (ap (λ infer. named_operation facts (infer facts).typed_expr.named) (fold_out-Expr Inferrer Inferrer CalledInferrer PartInferrer create_step expr_step invocation_step part_step expr)) ∙ is)

@@ -25,7 +25,7 @@ use Rattle.sr_types.specs.declared.ty.Ty.{Ty}
 use Rattle.sr_check_expr.specs.declared.facts.Facts.{Facts}
 use Rattle.sr_check_expr.specs.declared.info.Info.TheVariants as info
 use Rattle.sr_check_expr.specs.Infos.{info_at}
-use Rattle.sr_check_expr.specs.Judgements.{broken_unless}
+use Rattle.sr_check_expr.specs.Typings.{broken_unless}
 use Rattle.sr_check_decl.specs.Declaring.{standing}
 use Rattle.sr_check_decl.specs.Inferring.{program_known}
 use Rattle.sr_check_decl.specs.Parts.{component_decl}
@@ -40,8 +40,8 @@ use Rattle.sr_check.specs.Quantifying.{quantifiers_found, quantifiers_known}
 use Rattle.sr_check.specs.Services.{operation_at, operation_by, operation_named, decl_named, head_rule, is_own, service_bound, spot_or, type_of}
 use Rattle.sr_check.specs.Servicing.{Together, Own, Waited, AreWaited, Served, ServicesOwn, inner_waits, block_waits, item_waits, component_waits, item_served, component_served, item_procedures, component_procedures, meant_at}
 use Rattle.sr_check.proofs.Each.{Each, all_of, each, each-append, each-left, each-right, each-parts, each-weaker}
-use Rattle.sr_check.specs.Unbroken.{Unbroken}
-use Rattle.sr_check.proofs.Unbroken.{rule_met, unbroken_first, unbroken_second}
+use Rattle.sr_check.specs.ErrorFree.{ErrorFree}
+use Rattle.sr_check.proofs.ErrorFree.{rule_met, error_free_first, error_free_second}
 use Rattle.sr_check.proofs.Finding.{Finds, Right, Waiting, finds_statement}
 use Rattle.sr_check.proofs.Named.{meant_by}
 use Rattle.sr_check.proofs.Owners.{Allows, Plain, Sound, plain_program, standing_sound}
@@ -84,8 +84,8 @@ module _ (P : Spot → Ty → Spot → Bool → Type 0) (uses : Meanings) (compo
   finds_inners (item ∷ items) allowed context of h nothing =
       let next = with_facts context (proc_item_read item context).facts in
       each-append (Right P uses component procs) (inner_waits uses item) (block_waits uses items)
-      (finds_inner item context of h (unbroken_first (proc_item_read item context).found (block_read items next).found nothing))
-      (finds_inners items allowed.1 next of (keeps_inner P uses component item allowed.0 context h) (unbroken_second (proc_item_read item context).found (block_read items next).found nothing))
+      (finds_inner item context of h (error_free_first (proc_item_read item context).found (block_read items next).found nothing))
+      (finds_inners items allowed.1 next of (keeps_inner P uses component item allowed.0 context h) (error_free_second (proc_item_read item context).found (block_read items next).found nothing))
 
   finds_block : (items : List ProcItem) → Each (Allows P) (block_owned component items) → Finds P uses component procs (block_read items) (block_waits uses items)
   finds_block items allowed = finds_inners items (each-parts (Allows P) (inner_owned component) items allowed)
@@ -112,11 +112,11 @@ module _ (P : Spot → Ty → Spot → Bool → Type 0) (uses : Meanings) (compo
   keeps_items [] facts allowed h = h
   keeps_items (inner ∷ more) facts allowed h = keeps_items more (item_read procs inner facts).facts allowed.1 (keeps_item inner facts allowed.0 h)
 
-  proc_at : (facts : Facts) (proc : Proc) (meant : Option Decl) (found : Option Operation) → Holds facts → operation_at facts meant ≡ found → Unbroken (proc_rules facts proc found) → Serving meant
+  proc_at : (facts : Facts) (proc : Proc) (meant : Option Decl) (found : Option Operation) → Holds facts → operation_at facts meant ≡ found → ErrorFree (proc_rules facts proc found) → Serving meant
   proc_at facts proc meant None h is nothing = absurd nothing
   proc_at facts proc meant (Some operation) h is nothing =
       let rule = head_rule facts.signatures proc.formals (is_some proc.returned) operation.ty in
-      let own = rule_met (is_own facts operation) BadUse proc.span (unbroken_second (broken_unless rule BadType proc.span) (broken_unless (is_own facts operation) BadUse proc.span) nothing) in
+      let own = rule_met (is_own facts operation) BadUse proc.span (error_free_second (broken_unless rule BadType proc.span) (broken_unless (is_own facts operation) BadUse proc.span) nothing) in
       let whose : operation.component ≡ component = same_spot-eq operation.component facts.here.component.spot own ∙ h.0 in
       let m = meant_by facts meant operation is in
       record {
@@ -127,14 +127,14 @@ module _ (P : Spot → Ty → Spot → Bool → Type 0) (uses : Meanings) (compo
         meets = subst (λ c. P m.decl.spot operation.ty c operation.is_local) whose (h.1.1 m.decl.spot operation.ty operation.component operation.is_local m.is);
       }
 
-  finds_item : (inner : Item) (facts : Facts) → AllowsInner inner → Holds facts → Unbroken ((item_read procs inner facts).found)
+  finds_item : (inner : Item) (facts : Facts) → AllowsInner inner → Holds facts → ErrorFree ((item_read procs inner facts).found)
       → Each (Right P uses component procs) (item_waits uses inner) × Each Serving (item_served uses inner)
   finds_item (item.Spec inner) facts allowed h nothing = (tt, tt)
   finds_item (item.Proc proc) facts allowed h nothing =
       let served = operation_named facts proc.name in
       let context = beginning procs (Serves (spot_or (spot_of proc.name.span) served)) (service_bound proc.formals proc.returned (type_of served) facts) in
-      let rules = unbroken_first (proc_rules facts proc served) (block_read proc.block context).found nothing in
-      let inside = unbroken_second (proc_rules facts proc served) (block_read proc.block context).found nothing in (
+      let rules = error_free_first (proc_rules facts proc served) (block_read proc.block context).found nothing in
+      let inside = error_free_second (proc_rules facts proc served) (block_read proc.block context).found nothing in (
         finds_block proc.block allowed context refl (keeps_service P uses component proc.formals proc.returned (type_of served) facts h) inside,
         (subst (λ u. Serving (meant_at u proc.name.span)) h.1.0 (proc_at facts proc (decl_named facts proc.name) served h refl rules), tt),
       )
@@ -142,26 +142,26 @@ module _ (P : Spot → Ty → Spot → Bool → Type 0) (uses : Meanings) (compo
       let signed = (signature_read procedure.signature facts).signed in
       let context = beginning procs (Serves (spot_of procedure.name.span)) (signed_declared signed facts) in (
         finds_block procedure.block allowed context refl (keeps_signed_declared P uses component signed facts h)
-            (unbroken_second (signature_read procedure.signature facts).found (block_read procedure.block context).found nothing),
+            (error_free_second (signature_read procedure.signature facts).found (block_read procedure.block context).found nothing),
         tt,
       )
   finds_item (item.Process process) facts allowed h nothing =
       let known = quantifiers_known facts process.quantifiers in
       let context = beginning procs (Serves (spot_of process.name.span)) (quantifiers_formal process.quantifiers known) in (
         finds_block process.block allowed context refl (keeps_formal_quantifiers P uses component process.quantifiers known (keeps_quantifiers P uses component process.quantifiers facts h))
-            (unbroken_second (quantifiers_found facts process.quantifiers) (block_read process.block context).found nothing),
+            (error_free_second (quantifiers_found facts process.quantifiers) (block_read process.block context).found nothing),
         tt,
       )
   finds_item (item.Final final) facts allowed h nothing = (finds_block final.block allowed (beginning procs Ends facts) refl h nothing, tt)
   finds_item (item.Statement statement) facts allowed h nothing = (finds_statement P uses component procs statement (beginning procs SetsUp facts) refl h nothing, tt)
 
-  pub finds_items : (items : List Item) (facts : Facts) → Each AllowsInner items → Holds facts → Unbroken ((items_read procs items facts).found)
+  pub finds_items : (items : List Item) (facts : Facts) → Each AllowsInner items → Holds facts → ErrorFree ((items_read procs items facts).found)
       → Each (Right P uses component procs) (flat_map (item_waits uses) items) × Each Serving (flat_map (item_served uses) items)
   finds_items [] facts allowed h nothing = (tt, tt)
   finds_items (inner ∷ more) facts allowed h nothing =
       let next = (item_read procs inner facts).facts in
-      let first = finds_item inner facts allowed.0 h (unbroken_first (item_read procs inner facts).found (items_read procs more next).found nothing) in
-      let rest = finds_items more next allowed.1 (keeps_item inner facts allowed.0 h) (unbroken_second (item_read procs inner facts).found (items_read procs more next).found nothing) in (
+      let first = finds_item inner facts allowed.0 h (error_free_first (item_read procs inner facts).found (items_read procs more next).found nothing) in
+      let rest = finds_items more next allowed.1 (keeps_item inner facts allowed.0 h) (error_free_second (item_read procs inner facts).found (items_read procs more next).found nothing) in (
         each-append (Right P uses component procs) (item_waits uses inner) (flat_map (item_waits uses) more) first.0 rest.0,
         each-append Serving (item_served uses inner) (flat_map (item_served uses) more) first.1 rest.1,
       )
@@ -301,8 +301,8 @@ module _ (uses : Meanings) (files : List File) (known : Facts) where
 
     pub keeps_component : Sure (component_read tree before).facts
     keeps_component =
-        let behind = keeps_items (Within start) uses spot procs (body_of tree) start allowed sound in
-        (behind.1.0, λ at ty owner is_local is. (behind.1.1 at ty owner is_local is).0)
+        let after = keeps_items (Within start) uses spot procs (body_of tree) start allowed sound in
+        (after.1.0, λ at ty owner is_local is. (after.1.1 at ty owner is_local is).0)
 
     abbrev own_of : (meant : Option Decl) (decl : Decl) (is_local : Bool) (ty : Ty) → meant ≡ Some decl → Within start decl.spot ty spot is_local → Own files known spot is_local meant
     own_of meant decl is_local ty means within = record { decl = decl; means = means; declared = within.0.0; shared = λ e. (ty, within.0.1 e) }
@@ -326,9 +326,9 @@ module _ (uses : Meanings) (files : List File) (known : Facts) where
     all_served [] servings entered = tt
     all_served (meant ∷ more) servings entered = (served meant servings.0 entered.0, all_served more servings.1 entered.1)
 
-    pub services_own : Unbroken (component_read tree before).found → ServicesOwn uses files known tree
+    pub services_own : ErrorFree (component_read tree before).found → ServicesOwn uses files known tree
     services_own nothing =
-        let found = finds_items (Within start) uses spot procs (body_of tree) start allowed sound (unbroken_second (head_found tree start) (items_read procs (body_of tree) start).found nothing) in
+        let found = finds_items (Within start) uses spot procs (body_of tree) start allowed sound (error_free_second (head_found tree start) (items_read procs (body_of tree) start).found nothing) in
         record {
           procs = procs;
           by_statements = all_of (AreWaited files known spot procs) (component_waits uses tree) (each-weaker (Right (Within start) uses spot procs) (AreWaited files known spot procs) right (component_waits uses tree) found.0);
@@ -341,13 +341,13 @@ module _ (uses : Meanings) (files : List File) (known : Facts) where
   keeps_components [] facts declared h = h
   keeps_components (tree ∷ more) facts declared h = keeps_components more (component_read tree facts).facts declared.1 (keeps_component tree facts declared.0 h)
 
-  finds_components : (components : List Component) (facts : Facts) → Each (λ tree. Each IsDeclared (component_owned tree)) components → Sure facts → Unbroken ((components_read components facts).found)
+  finds_components : (components : List Component) (facts : Facts) → Each (λ tree. Each IsDeclared (component_owned tree)) components → Sure facts → ErrorFree ((components_read components facts).found)
       → Each (ServicesOwn uses files known) components
   finds_components [] facts declared h nothing = tt
   finds_components (tree ∷ more) facts declared h nothing =
       let next = (component_read tree facts).facts in (
-        services_own tree facts declared.0 h (unbroken_first (component_read tree facts).found (components_read more next).found nothing),
-        finds_components more next declared.1 (keeps_component tree facts declared.0 h) (unbroken_second (component_read tree facts).found (components_read more next).found nothing),
+        services_own tree facts declared.0 h (error_free_first (component_read tree facts).found (components_read more next).found nothing),
+        finds_components more next declared.1 (keeps_component tree facts declared.0 h) (error_free_second (component_read tree facts).found (components_read more next).found nothing),
       )
 
   file_parts : (file : File) → Each IsDeclared (file_owned file) → Each (λ tree. Each IsDeclared (component_owned tree)) file.components
@@ -358,15 +358,15 @@ module _ (uses : Meanings) (files : List File) (known : Facts) where
   keeps_files (file ∷ more) facts declared h =
       keeps_files more (components_read file.components facts).facts declared.1 (keeps_components file.components facts (file_parts file declared.0) h)
 
-  pub finds_files : (more : List File) (facts : Facts) → Each (λ file. Each IsDeclared (file_owned file)) more → Sure facts → Unbroken ((files_read more facts).found)
+  pub finds_files : (more : List File) (facts : Facts) → Each (λ file. Each IsDeclared (file_owned file)) more → Sure facts → ErrorFree ((files_read more facts).found)
       → Each (λ file. All (ServicesOwn uses files known) file.components) more
   finds_files [] facts declared h nothing = tt
   finds_files (file ∷ more) facts declared h nothing =
       let next = (components_read file.components facts).facts in (
         all_of (ServicesOwn uses files known) file.components
-            (finds_components file.components facts (file_parts file declared.0) h (unbroken_first (components_read file.components facts).found (files_read more next).found nothing)),
+            (finds_components file.components facts (file_parts file declared.0) h (error_free_first (components_read file.components facts).found (files_read more next).found nothing)),
         finds_files more next declared.1 (keeps_components file.components facts (file_parts file declared.0) h)
-            (unbroken_second (components_read file.components facts).found (files_read more next).found nothing),
+            (error_free_second (components_read file.components facts).found (files_read more next).found nothing),
       )
 
 -- all operations of a program are declared

@@ -70,13 +70,13 @@ module _ (P : Spot → Ty → Spot → Bool → Type 0) (uses : Meanings) (compo
 
   pub keeps_const : (constant : ConstDecl) (facts : Facts) → Holds facts → Holds (const_read constant facts).facts
   keeps_const constant facts h =
-      let behind = written_entered constant.ty facts in
-      sound_with P uses component behind (spot_of constant.name.span) (info.Value (const_of false behind constant)) (keeps_written Holds (sound_signatures P uses component) constant.ty facts h) tt
+      let after = written_entered constant.ty facts in
+      sound_with P uses component after (spot_of constant.name.span) (info.Value (const_of false after constant)) (keeps_written Holds (sound_signatures P uses component) constant.ty facts h) tt
 
   pub keeps_var : (variables : VarDecl) (facts : Facts) → Holds facts → Holds (var_read variables facts).facts
   keeps_var variables facts h =
-      let behind = written_entered variables.ty facts in
-      sound_vars P uses component (vars_type behind variables.ty variables.values) variables.decls behind (keeps_written Holds (sound_signatures P uses component) variables.ty facts h)
+      let after = written_entered variables.ty facts in
+      sound_vars P uses component (vars_type after variables.ty variables.values) variables.decls after (keeps_written Holds (sound_signatures P uses component) variables.ty facts h)
 
   -- ---- names that services and quantifiers declare
 

@@ -19,7 +19,7 @@ use Rattle.sr_tree.specs.declared.declaration.OpItem.{OpItem}
 use Rattle.sr_tree.specs.declared.statement.Quantifier.{Quantifier}
 use Rattle.sr_types.specs.declared.ty.Ty.TheVariants as ty
 use Rattle.sr_check_expr.specs.declared.facts.Facts.{Facts}
-use Rattle.sr_check_expr.specs.Judgements.{broken_unless}
+use Rattle.sr_check_expr.specs.Typings.{broken_unless}
 use Rattle.sr_check_decl.specs.declared.kind.NamedParam.{NamedParam}
 use Rattle.sr_check_decl.specs.declared.kind.Signed.{Signed}
 use Rattle.sr_check_decl.specs.Declarations.{ops_found, sems_found, spec_item_found, spec_items_found}

@@ -3,7 +3,7 @@ use Rattle.std.specs.Prelude.{Bool, true, List, [], ◌∷◌, ◌++◌}
 use Rattle.sr_names.specs.declared.finding.Finding.{Finding}
 use Rattle.sr_names.specs.declared.spot.Spot.{Spot}
 use Rattle.sr_check_expr.specs.declared.facts.Facts.{Facts}
-use Rattle.sr_check.specs.declared.around.Around.{Around}
+use Rattle.sr_check.specs.declared.enclosing.Enclosing.{Enclosing}
 use Rattle.sr_check.specs.declared.serving.Serving.{Serving}
 use Rattle.sr_check.specs.declared.serving.Serving.TheVariants.{Serves}
 use Rattle.sr_check.specs.Procs.{Procs}
@@ -18,10 +18,10 @@ pub record Context : Type 0 where
   pub in_loop : Bool
 
 -- what is around a statement, with what is declared before it
-abbrev pub context_of : Around → Facts → Context
-context_of around facts = record { facts = facts; procs = around.procs.now; serving = around.serving; in_loop = around.in_loop }
+abbrev pub context_of : Enclosing → Facts → Context
+context_of enclosing facts = record { facts = facts; procs = enclosing.procs.now; serving = enclosing.serving; in_loop = enclosing.in_loop }
 
--- what is found in a construct, and what is declared behind it
+-- what is found in a construct, and what is declared after it
 pub record Step : Type 0 where
   pub found : List Finding
   pub facts : Facts

@@ -11,5 +11,5 @@ pub mod Services
 pub mod Servicing
 pub mod Statements
 pub mod Storing
-pub mod Unbroken
+pub mod ErrorFree
 pub mod Uses

@@ -14,10 +14,10 @@ use Rattle.sr_types.specs.Outcomes.{computed}
 use Rattle.sr_types.specs.Storing.{store_rule}
 use Rattle.sr_types.specs.Types.{is_no_type}
 use Rattle.sr_check_expr.specs.declared.facts.Facts.{Facts}
-use Rattle.sr_check_expr.specs.declared.judged.Judged.{Judged}
+use Rattle.sr_check_expr.specs.declared.typed_expr.TypedExpr.{TypedExpr}
 use Rattle.sr_check_expr.specs.Arguments.{as_many, all_found, all_valued}
-use Rattle.sr_check_expr.specs.Judgements.{broken_unless, judged_of}
-use Rattle.sr_check_decl.specs.Variables.{values_judged}
+use Rattle.sr_check_expr.specs.Typings.{broken_unless, typed_exprs_of}
+use Rattle.sr_check_decl.specs.Variables.{typings_of}
 use Rattle.sr_check.specs.declared.operation.Operation.{Operation}
 use Rattle.sr_check.specs.Contexts.{Context}
 use Rattle.sr_check.specs.Services.{operation_named, service_found, params_of}
@@ -26,17 +26,17 @@ use Rattle.sr_check.specs.Services.{operation_named, service_found, params_of}
 abbrev pub received_rule : Typed → Ty → Bool
 received_rule place ty = store_rule place (computed ty Unknown)
 
-abbrev pub received_found : List Param → List Judged → List Finding
+abbrev pub received_found : List Param → List TypedExpr → List Finding
 received_found [] places = []
 received_found (param ∷ params) [] = []
 received_found (param ∷ params) (place ∷ places) =
     broken_unless (received_rule place.typed param.ty) BadType place.span ++ received_found params places
 
 -- there is a place for each formal
-abbrev pub takes_all : Facts → Ty → List Judged → Bool
+abbrev pub takes_all : Facts → Ty → List TypedExpr → Bool
 takes_all facts ty places = is_no_type ty || as_many (params_of facts.signatures ty) places
 
-abbrev pub receive_by : Context → Span → List Judged → Option Operation → List Finding
+abbrev pub receive_by : Context → Span → List TypedExpr → Option Operation → List Finding
 receive_by context span places None = broken BadType span ∷ []
 receive_by context span places (Some operation) =
     broken_unless (takes_all context.facts operation.ty places) BadType span
@@ -44,6 +44,6 @@ receive_by context span places (Some operation) =
 
 abbrev pub receive_found : Context → Span → Name → List Expr → List Finding
 receive_found context span name places =
-    all_found (values_judged context.facts places)
-    ++ (all_valued (judged_of (values_judged context.facts places))
-    ++ receive_by context span (judged_of (values_judged context.facts places)) (operation_named context.facts name))
+    all_found (typings_of context.facts places)
+    ++ (all_valued (typed_exprs_of (typings_of context.facts places))
+    ++ receive_by context span (typed_exprs_of (typings_of context.facts places)) (operation_named context.facts name))

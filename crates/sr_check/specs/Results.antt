@@ -7,15 +7,15 @@ use Rattle.sr_types.specs.declared.signature.Signature.{Signature}
 use Rattle.sr_types.specs.declared.ty.Ty.{Ty}
 use Rattle.sr_types.specs.Types.{fits_type}
 
-abbrev pub result_behind : Mode → Ty → List Ty → List Ty
-result_behind Val ty types = types
-result_behind Var ty types = ty ∷ types
-result_behind Res ty types = ty ∷ types
+abbrev pub result_after : Mode → Ty → List Ty → List Ty
+result_after Val ty types = types
+result_after Var ty types = ty ∷ types
+result_after Res ty types = ty ∷ types
 
 -- what `var` and `res` formals bring back
 abbrev pub formal_results : List Param → List Ty
 formal_results [] = []
-formal_results (formal ∷ formals) = result_behind formal.mode formal.ty (formal_results formals)
+formal_results (formal ∷ formals) = result_after formal.mode formal.ty (formal_results formals)
 
 abbrev pub returned_types : Option Ty → List Ty
 returned_types None = []

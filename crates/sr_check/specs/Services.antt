@@ -19,7 +19,7 @@ use Rattle.sr_check_expr.specs.declared.info.Info.{Info}
 use Rattle.sr_check_expr.specs.declared.info.Info.TheVariants as info
 use Rattle.sr_check_expr.specs.Arguments.{as_many}
 use Rattle.sr_check_expr.specs.Infos.{info_at}
-use Rattle.sr_check_expr.specs.Judgements.{broken_unless}
+use Rattle.sr_check_expr.specs.Typings.{broken_unless}
 use Rattle.sr_check_expr.specs.Naming.{decl_of, decl_info}
 use Rattle.sr_check_decl.specs.Variables.{variable}
 use Rattle.sr_check_decl.specs.Declaring.{declare_name}

@@ -44,7 +44,7 @@ layer_meant uses (Expr-F.Name name) = meant_at uses name.span
 layer_meant uses (Expr-F.Field span owner field) = meant_at uses field.span
 layer_meant uses _ = None
 
--- the declaration that an expression means that is a name, or a name behind that of its component
+-- the declaration that a name means, or a component's name, a point and a name
 abbrev pub expr_meant : Meanings → Expr → Option Decl
 expr_meant uses expr = layer_meant uses (out-Expr expr)
 

@@ -20,8 +20,8 @@ use Rattle.sr_tree.specs.declared.statement.CoArm.{CoArm, fold-CoArm}
 use Rattle.sr_tree.specs.declared.statement.BlockItem.TheOpen.{BlockItem-F, Statement-F, Arm-F, Branch-F, CoArm-F}
 use Rattle.sr_check_expr.specs.declared.facts.Facts.{Facts}
 use Rattle.sr_check_expr.specs.declared.info.Info.TheVariants as info
-use Rattle.sr_check_expr.specs.Exprs.{judge_create, judge_invocation}
-use Rattle.sr_check_expr.specs.Judgements.{broken_unless}
+use Rattle.sr_check_expr.specs.Exprs.{infer_create, infer_invocation}
+use Rattle.sr_check_expr.specs.Typings.{broken_unless}
 use Rattle.sr_check_decl.specs.Constants.{const_found, const_of}
 use Rattle.sr_check_decl.specs.Declaring.{declare_name}
 use Rattle.sr_check_decl.specs.Entering.{written_entered}
@@ -121,7 +121,7 @@ arms_at span arms = map (λ arm. arm.steps span) arms
 
 abbrev pub co_arm_inner : Option Expr → Invocation → Option (List Steps) → Steps
 co_arm_inner target invocation block context =
-    with_more (started_found context.facts target (judge_invocation invocation context.facts)) (maybe_block block (looping context))
+    with_more (started_found context.facts target (infer_invocation invocation context.facts)) (maybe_block block (looping context))
 
 -- the quantifiers of an arm are known in all of it
 abbrev pub co_arm_step : CoArm-F Steps Steps ArmSteps Steps Steps → Steps
@@ -138,7 +138,7 @@ store_step (Statement-F.Exchange span left right) facts = exchange_found facts s
 store_step (Statement-F.Increment span target) facts = counter_found facts span target
 store_step (Statement-F.Decrement span target) facts = counter_found facts span target
 store_step (Statement-F.Destroy span target) facts = destroy_found facts span target
-store_step (Statement-F.Create span create) facts = (judge_create create facts).found
+store_step (Statement-F.Create span create) facts = (infer_create create facts).found
 store_step _ facts = []
 
 -- statements in which no others stand
@@ -147,9 +147,9 @@ plain_step (Statement-F.Exit span) context = broken_unless context.in_loop BadUs
 plain_step (Statement-F.Next span) context = broken_unless context.in_loop BadUse span
 plain_step (Statement-F.Reply span) context = broken_unless (may_reply context.serving) BadUse span
 plain_step (Statement-F.Stop span status) context = status_found context.facts span status
-plain_step (Statement-F.Call span with_call invocation) context = call_found context span (judge_invocation invocation context.facts)
-plain_step (Statement-F.Send span invocation) context = send_found context.facts span (judge_invocation invocation context.facts)
-plain_step (Statement-F.Forward span invocation) context = forward_found context span (judge_invocation invocation context.facts)
+plain_step (Statement-F.Call span with_call invocation) context = call_found context span (infer_invocation invocation context.facts)
+plain_step (Statement-F.Send span invocation) context = send_found context.facts span (infer_invocation invocation context.facts)
+plain_step (Statement-F.Forward span invocation) context = forward_found context span (infer_invocation invocation context.facts)
 plain_step (Statement-F.Receive span operation places) context = receive_found context span operation places
 plain_step statement context = store_step statement context.facts
 

@@ -5,7 +5,7 @@ use Rattle.sr_types.specs.Kinds.{may_be_int, may_be_bool, may_be_written, may_ha
 use Rattle.sr_types.specs.declared.ty.Ty.{out-Ty}
 use Rattle.sr_types.specs.declared.ty.Ty.TheOpen.{Ty-F}
 
--- guards, and what stands behind `st` and `and`, are bool
+-- guards, and what stands after `st` and `and`, are bool
 abbrev pub condition_rule : Typed → Bool
 condition_rule guard = may_be_bool guard.ty
 

@@ -1,10 +1,10 @@
 ghost use Rattle.std.specs.Prelude.{◌≡◌, ◌++◌, [], false, OnOk, IfOk, map};
-ghost use Rattle.sr_names.specs.Notes.{all_noted};
+ghost use Rattle.sr_names.specs.Diagnostics.{all_noted};
 ghost use Rattle.sr_check_decl.specs.Declarations.{spec_items_found};
 ghost use Rattle.sr_check_decl.specs.TypeTrees.{formal_read, formals_at, formals_found};
 ghost use Rattle.sr_check.specs.Components.{item_read, items_read, proc_entered, item_procs, items_procs, component_within, component_read, components_read, files_read};
 
-use crate::around::Procs;
+use crate::enclosing::Procs;
 use crate::operation::Operation;
 use crate::procs::{beginning, final_code, proc, procedure, process};
 use crate::services::operation_named;
@@ -12,7 +12,7 @@ use crate::serving::Serving;
 use crate::statements::statement;
 use sr_check_decl::{all_formals, component_decl, note_spec_item, note_spec_items, stand};
 use sr_check_expr::Facts;
-use sr_names::{Notes, Spot};
+use sr_names::{Diagnostics, Spot};
 use sr_tree::{Component, File, Formal, Item, SpecItem};
 use sr_value::{NoMemory, Span};
 use std::alloc::Global;
@@ -23,20 +23,20 @@ fn item(
     item: &Item,
     procs: &Procs,
     facts: &mut Facts,
-    notes: &mut Notes,
+    diagnostics: &mut Diagnostics,
 ) -> Result<(), NoMemory>
     ensures known { OnOk result (facts.new ≡ (item_read procs.now item.now facts.old).facts) }
-    ensures noted { OnOk result (notes.new ≡ all_noted notes.old (item_read procs.now item.now facts.old).found) }
+    ensures noted { OnOk result (diagnostics.new ≡ all_noted diagnostics.old (item_read procs.now item.now facts.old).found) }
 {
     match item {
-        Item::Spec(inner) => note_spec_item(alloc, facts, notes, false, inner),
-        Item::Proc(inner) => proc(alloc, inner, procs, facts, notes),
-        Item::Procedure(inner) => procedure(alloc, inner, procs, facts, notes),
-        Item::Process(inner) => process(alloc, inner, procs, facts, notes),
-        Item::Final(inner) => final_code(alloc, inner, procs, facts, notes),
+        Item::Spec(inner) => note_spec_item(alloc, facts, diagnostics, false, inner),
+        Item::Proc(inner) => proc(alloc, inner, procs, facts, diagnostics),
+        Item::Procedure(inner) => procedure(alloc, inner, procs, facts, diagnostics),
+        Item::Process(inner) => process(alloc, inner, procs, facts, diagnostics),
+        Item::Final(inner) => final_code(alloc, inner, procs, facts, diagnostics),
         Item::Statement(inner) => {
-            let around = beginning(procs, Serving::SetsUp);
-            statement(alloc, inner, &around, facts, notes)
+            let enclosing = beginning(procs, Serving::SetsUp);
+            statement(alloc, inner, &enclosing, facts, diagnostics)
         }
     }
 }
@@ -46,13 +46,13 @@ fn items(
     items: &[Item],
     procs: &Procs,
     facts: &mut Facts,
-    notes: &mut Notes,
+    diagnostics: &mut Diagnostics,
 ) -> Result<(), NoMemory>
     ensures known { OnOk result (facts.new ≡ (items_read procs.now items.now facts.old).facts) }
-    ensures noted { OnOk result (notes.new ≡ all_noted notes.old (items_read procs.now items.now facts.old).found) }
+    ensures noted { OnOk result (diagnostics.new ≡ all_noted diagnostics.old (items_read procs.now items.now facts.old).found) }
 {
     for each in items {
-        item(alloc, each, procs, facts, notes)?;
+        item(alloc, each, procs, facts, diagnostics)?;
     }
     Ok(())
 }
@@ -103,12 +103,12 @@ fn note_head(
     spec: &[SpecItem],
     formals: &[Formal],
     facts: &Facts,
-    notes: &mut Notes,
+    diagnostics: &mut Diagnostics,
 ) -> Result<(), NoMemory>
-    ensures { OnOk result (notes.new ≡ all_noted notes.old (spec_items_found facts.now spec.now ++ formals_found (formals_at (map formal_read formals.now) facts.now false))) }
+    ensures { OnOk result (diagnostics.new ≡ all_noted diagnostics.old (spec_items_found facts.now spec.now ++ formals_found (formals_at (map formal_read formals.now) facts.now false))) }
 {
-    note_spec_items(alloc, facts, notes, spec)?;
-    all_formals(alloc, formals, facts, notes, false)?;
+    note_spec_items(alloc, facts, diagnostics, spec)?;
+    all_formals(alloc, formals, facts, diagnostics, false)?;
     Ok(())
 }
 
@@ -117,29 +117,35 @@ fn component(
     alloc: Global,
     component: &Component,
     facts: &mut Facts,
-    notes: &mut Notes,
+    diagnostics: &mut Diagnostics,
 ) -> Result<(), NoMemory>
     ensures known { OnOk result (facts.new ≡ (component_read component.now facts.old).facts) }
-    ensures noted { OnOk result (notes.new ≡ all_noted notes.old (component_read component.now facts.old).found) }
+    ensures noted { OnOk result (diagnostics.new ≡ all_noted diagnostics.old (component_read component.now facts.old).found) }
 {
     stand(facts, component_decl(component));
-    note_head(alloc, component.spec(), component.formals(), facts, notes)?;
+    note_head(
+        alloc,
+        component.spec(),
+        component.formals(),
+        facts,
+        diagnostics,
+    )?;
     let mut procs = Procs::new(alloc);
     enter_items(alloc, facts, component.body(), &mut procs)?;
-    items(alloc, component.body(), &procs, facts, notes)
+    items(alloc, component.body(), &procs, facts, diagnostics)
 }
 
 fn components(
     alloc: Global,
     components: &[Component],
     facts: &mut Facts,
-    notes: &mut Notes,
+    diagnostics: &mut Diagnostics,
 ) -> Result<(), NoMemory>
     ensures known { OnOk result (facts.new ≡ (components_read components.now facts.old).facts) }
-    ensures noted { OnOk result (notes.new ≡ all_noted notes.old (components_read components.now facts.old).found) }
+    ensures noted { OnOk result (diagnostics.new ≡ all_noted diagnostics.old (components_read components.now facts.old).found) }
 {
     for each in components {
-        component(alloc, each, facts, notes)?;
+        component(alloc, each, facts, diagnostics)?;
     }
     Ok(())
 }
@@ -149,13 +155,13 @@ pub(crate) fn files(
     alloc: Global,
     files: &[File],
     facts: &mut Facts,
-    notes: &mut Notes,
+    diagnostics: &mut Diagnostics,
 ) -> Result<(), NoMemory>
     ensures known { OnOk result (facts.new ≡ (files_read files.now facts.old).facts) }
-    ensures noted { OnOk result (notes.new ≡ all_noted notes.old (files_read files.now facts.old).found) }
+    ensures noted { OnOk result (diagnostics.new ≡ all_noted diagnostics.old (files_read files.now facts.old).found) }
 {
     for file in files {
-        components(alloc, file.components.as_slice(), facts, notes)?;
+        components(alloc, file.components.as_slice(), facts, diagnostics)?;
     }
     Ok(())
 }

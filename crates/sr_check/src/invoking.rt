@@ -1,24 +1,24 @@
 ghost use Rattle.std.specs.Prelude.{◌≡◌, ◌++◌, [], true, IfOk, OnOk};
 ghost use Rattle.std.specs.Option.{option_copied};
-ghost use Rattle.sr_names.specs.Notes.{all_noted};
+ghost use Rattle.sr_names.specs.Diagnostics.{all_noted};
 ghost use Rattle.sr_check_expr.specs.Arguments.{is_callable, returned_by};
 ghost use Rattle.sr_check_expr.specs.Calls.{parts_found};
-ghost use Rattle.sr_check_expr.specs.Exprs.{judge_invocation};
-ghost use Rattle.sr_check_expr.specs.Judgements.{broken_unless, value_found};
+ghost use Rattle.sr_check_expr.specs.Exprs.{infer_invocation};
+ghost use Rattle.sr_check_expr.specs.Typings.{broken_unless, value_found};
 ghost use Rattle.sr_check.specs.Contexts.{context_of};
 ghost use Rattle.sr_check.specs.Invoking.{is_operation_name, callee_rule, invoked_found, written_found, named_operation, semaphore_found, p_found, v_found, function_called, called_found, call_found, send_found, is_serving, served_type, same_results, forward_found, may_reply, started_found, result_found, place_found};
 
-use crate::around::Around;
+use crate::enclosing::Enclosing;
 use crate::operation::Operation;
 use crate::results::same_results;
 use crate::services::{note_service, operation_by};
 use crate::serving::Serving;
 use crate::uses::may_be_output;
 use sr_check_expr::{
-    Facts, Invoked, Judged, Named, expr, function, invocation, is_callable, is_sendable, known,
+    Facts, Invoked, Named, TypedExpr, expr, function, invocation, is_callable, is_sendable, known,
     note_invocation, note_unless, note_value, note_values, returned_by, takes_as_many,
 };
-use sr_names::{Notes, Predefined, Rule};
+use sr_names::{Diagnostics, Predefined, Rule};
 use sr_tree::{Expr, Invocation};
 use sr_types::{Static, Ty, may_store};
 use sr_value::{NoMemory, Span};
@@ -32,7 +32,7 @@ fn is_operation_name(named: &Named) -> bool
 }
 
 /// Whether a callee is an operation with as many formals as there are arguments.
-fn may_be_invoked(facts: &Facts, callee: &Judged, arguments: &[Judged]) -> bool
+fn may_be_invoked(facts: &Facts, callee: &TypedExpr, arguments: &[TypedExpr]) -> bool
     ensures { result ≡ callee_rule facts.now callee.now arguments.now }
 {
     is_operation_name(&callee.named)
@@ -42,31 +42,31 @@ fn may_be_invoked(facts: &Facts, callee: &Judged, arguments: &[Judged]) -> bool
 /// Notes what is found at an invocation as a statement, in a form that its operation allows or not.
 fn note_invoked(
     facts: &Facts,
-    notes: &mut Notes,
+    diagnostics: &mut Diagnostics,
     span: Span,
     allowed: bool,
-    callee: &Judged,
-    arguments: &[Judged],
+    callee: &TypedExpr,
+    arguments: &[TypedExpr],
 ) -> Result<(), NoMemory>
-    ensures { OnOk result (notes.new ≡ all_noted notes.old (invoked_found facts.now span allowed callee.now arguments.now)) }
+    ensures { OnOk result (diagnostics.new ≡ all_noted diagnostics.old (invoked_found facts.now span allowed callee.now arguments.now)) }
 {
-    note_invocation(facts, notes, span, callee, arguments)?;
+    note_invocation(facts, diagnostics, span, callee, arguments)?;
     note_unless(
-        notes,
+        diagnostics,
         may_be_invoked(facts, callee, arguments),
         Rule::BadType,
         span,
     )?;
-    note_unless(notes, allowed, Rule::BadUse, span)
+    note_unless(diagnostics, allowed, Rule::BadUse, span)
 }
 
 /// Notes the arguments that have no text.
-fn note_written(notes: &mut Notes, arguments: &[Judged]) -> Result<(), NoMemory>
-    ensures { OnOk result (notes.new ≡ all_noted notes.old (written_found arguments.now)) }
+fn note_written(diagnostics: &mut Diagnostics, arguments: &[TypedExpr]) -> Result<(), NoMemory>
+    ensures { OnOk result (diagnostics.new ≡ all_noted diagnostics.old (written_found arguments.now)) }
 {
     for argument in arguments {
         note_unless(
-            notes,
+            diagnostics,
             may_be_output(&argument.typed),
             Rule::BadType,
             argument.span,
@@ -91,23 +91,23 @@ fn named_operation(
 
 fn note_semaphore(
     facts: &Facts,
-    around: &Around<'_>,
-    notes: &mut Notes,
+    enclosing: &Enclosing<'_>,
+    diagnostics: &mut Diagnostics,
     span: Span,
     operation: &Option<Operation>,
 ) -> Result<(), NoMemory>
-    ensures { OnOk result (notes.new ≡ all_noted notes.old (semaphore_found (context_of around.now facts.now) span operation.now)) }
+    ensures { OnOk result (diagnostics.new ≡ all_noted diagnostics.old (semaphore_found (context_of enclosing.now facts.now) span operation.now)) }
 {
     match operation {
-        None => note_unless(notes, false, Rule::BadType, span),
+        None => note_unless(diagnostics, false, Rule::BadType, span),
         Some(operation) => {
             note_unless(
-                notes,
+                diagnostics,
                 takes_as_many(&facts.signatures, &operation.ty, &[]),
                 Rule::BadType,
                 span,
             )?;
-            note_service(facts, around.procs, notes, span, operation)
+            note_service(facts, enclosing.procs, diagnostics, span, operation)
         }
     }
 }
@@ -116,43 +116,43 @@ fn note_semaphore(
 fn note_p(
     alloc: Global,
     facts: &Facts,
-    around: &Around<'_>,
-    notes: &mut Notes,
+    enclosing: &Enclosing<'_>,
+    diagnostics: &mut Diagnostics,
     span: Span,
-    arguments: &[Judged],
+    arguments: &[TypedExpr],
 ) -> Result<(), NoMemory>
-    ensures { OnOk result (notes.new ≡ all_noted notes.old (p_found (context_of around.now facts.now) span arguments.now)) }
+    ensures { OnOk result (diagnostics.new ≡ all_noted diagnostics.old (p_found (context_of enclosing.now facts.now) span arguments.now)) }
 {
     match arguments {
         [semaphore] => {
             let operation = named_operation(alloc, facts, &semaphore.named)?;
-            note_semaphore(facts, around, notes, span, &operation)
+            note_semaphore(facts, enclosing, diagnostics, span, &operation)
         }
-        _ => note_unless(notes, false, Rule::BadType, span),
+        _ => note_unless(diagnostics, false, Rule::BadType, span),
     }
 }
 
 /// Notes what is found at `V(e)`.
 fn note_v(
     facts: &Facts,
-    notes: &mut Notes,
+    diagnostics: &mut Diagnostics,
     span: Span,
-    arguments: &[Judged],
+    arguments: &[TypedExpr],
 ) -> Result<(), NoMemory>
-    ensures { OnOk result (notes.new ≡ all_noted notes.old (v_found facts.now span arguments.now)) }
+    ensures { OnOk result (diagnostics.new ≡ all_noted diagnostics.old (v_found facts.now span arguments.now)) }
 {
     match arguments {
         [callee] => {
             note_invoked(
                 facts,
-                notes,
+                diagnostics,
                 span,
                 is_sendable(&facts.signatures, &callee.typed.ty),
                 callee,
                 &[],
             )
         }
-        _ => note_unless(notes, false, Rule::BadType, span),
+        _ => note_unless(diagnostics, false, Rule::BadType, span),
     }
 }
 
@@ -160,31 +160,31 @@ fn note_v(
 fn note_function(
     alloc: Global,
     facts: &Facts,
-    around: &Around<'_>,
-    notes: &mut Notes,
+    enclosing: &Enclosing<'_>,
+    diagnostics: &mut Diagnostics,
     span: Span,
     name: Predefined,
-    arguments: &[Judged],
+    arguments: &[TypedExpr],
 ) -> Result<(), NoMemory>
-    ensures { OnOk result (notes.new ≡ all_noted notes.old (function_called (context_of around.now facts.now) span name arguments.now)) }
+    ensures { OnOk result (diagnostics.new ≡ all_noted diagnostics.old (function_called (context_of enclosing.now facts.now) span name arguments.now)) }
 {
     match name {
         Predefined::Write | Predefined::Writes => {
-            note_values(notes, arguments)?;
-            note_written(notes, arguments)
+            note_values(diagnostics, arguments)?;
+            note_written(diagnostics, arguments)
         }
         Predefined::Read => {
-            function(alloc, facts, notes, span, name, arguments)?;
+            function(alloc, facts, diagnostics, span, name, arguments)?;
             Ok(())
         }
         Predefined::P => {
-            note_values(notes, arguments)?;
-            note_p(alloc, facts, around, notes, span, arguments)
+            note_values(diagnostics, arguments)?;
+            note_p(alloc, facts, enclosing, diagnostics, span, arguments)
         }
-        Predefined::V => note_v(facts, notes, span, arguments),
+        Predefined::V => note_v(facts, diagnostics, span, arguments),
         _ => {
-            note_values(notes, arguments)?;
-            note_unless(notes, false, Rule::BadType, span)
+            note_values(diagnostics, arguments)?;
+            note_unless(diagnostics, false, Rule::BadType, span)
         }
     }
 }
@@ -193,21 +193,21 @@ fn note_function(
 fn note_called(
     alloc: Global,
     facts: &Facts,
-    around: &Around<'_>,
-    notes: &mut Notes,
+    enclosing: &Enclosing<'_>,
+    diagnostics: &mut Diagnostics,
     span: Span,
     parts: &Invoked,
 ) -> Result<(), NoMemory>
-    ensures { OnOk result (notes.new ≡ all_noted notes.old (called_found (context_of around.now facts.now) span parts.now.callee parts.now.arguments parts.now.callee.named)) }
+    ensures { OnOk result (diagnostics.new ≡ all_noted diagnostics.old (called_found (context_of enclosing.now facts.now) span parts.now.callee parts.now.arguments parts.now.callee.named)) }
 {
     let arguments = parts.arguments.as_slice();
     match &parts.callee.named {
         Named::Predefined(name) => {
-            note_function(alloc, facts, around, notes, span, *name, arguments)
+            note_function(alloc, facts, enclosing, diagnostics, span, *name, arguments)
         }
         _ => {
             let allowed = is_callable(&facts.signatures, &parts.callee.typed.ty);
-            note_invoked(facts, notes, span, allowed, &parts.callee, arguments)
+            note_invoked(facts, diagnostics, span, allowed, &parts.callee, arguments)
         }
     }
 }
@@ -216,32 +216,32 @@ fn note_called(
 pub(crate) fn note_call(
     alloc: Global,
     facts: &Facts,
-    around: &Around<'_>,
-    notes: &mut Notes,
+    enclosing: &Enclosing<'_>,
+    diagnostics: &mut Diagnostics,
     span: Span,
     tree: &Invocation,
 ) -> Result<(), NoMemory>
-    ensures { OnOk result (notes.new ≡ all_noted notes.old (call_found (context_of around.now facts.now) span (judge_invocation tree.now facts.now))) }
+    ensures { OnOk result (diagnostics.new ≡ all_noted diagnostics.old (call_found (context_of enclosing.now facts.now) span (infer_invocation tree.now facts.now))) }
 {
-    let parts = invocation(alloc, tree, facts, notes)?;
-    note_called(alloc, facts, around, notes, span, &parts)
+    let parts = invocation(alloc, tree, facts, diagnostics)?;
+    note_called(alloc, facts, enclosing, diagnostics, span, &parts)
 }
 
 /// Notes what is found at `send f(a)`.
 pub(crate) fn note_send(
     alloc: Global,
     facts: &Facts,
-    notes: &mut Notes,
+    diagnostics: &mut Diagnostics,
     span: Span,
     tree: &Invocation,
 ) -> Result<(), NoMemory>
-    ensures { OnOk result (notes.new ≡ all_noted notes.old (send_found facts.now span (judge_invocation tree.now facts.now))) }
+    ensures { OnOk result (diagnostics.new ≡ all_noted diagnostics.old (send_found facts.now span (infer_invocation tree.now facts.now))) }
 {
-    let parts = invocation(alloc, tree, facts, notes)?;
+    let parts = invocation(alloc, tree, facts, diagnostics)?;
     let allowed = is_sendable(&facts.signatures, &parts.callee.typed.ty);
     note_invoked(
         facts,
-        notes,
+        diagnostics,
         span,
         allowed,
         &parts.callee,
@@ -285,34 +285,41 @@ fn note_forwarded(
     alloc: Global,
     facts: &Facts,
     serving: Serving,
-    notes: &mut Notes,
+    diagnostics: &mut Diagnostics,
     span: Span,
     parts: &Invoked,
 ) -> Result<(), NoMemory>
-    ensures { OnOk result (notes.new ≡ all_noted notes.old (invoked_found facts.now span true parts.now.callee parts.now.arguments
+    ensures { OnOk result (diagnostics.new ≡ all_noted diagnostics.old (invoked_found facts.now span true parts.now.callee parts.now.arguments
         ++ (broken_unless (is_serving serving) Rule.BadUse span
         ++ broken_unless (same_results facts.now (served_type facts.now serving) parts.now.callee.typed.ty) Rule.BadType span))) }
 {
     let callee = &parts.callee;
-    note_invoked(facts, notes, span, true, callee, parts.arguments.as_slice())?;
-    note_unless(notes, is_serving(serving), Rule::BadUse, span)?;
+    note_invoked(
+        facts,
+        diagnostics,
+        span,
+        true,
+        callee,
+        parts.arguments.as_slice(),
+    )?;
+    note_unless(diagnostics, is_serving(serving), Rule::BadUse, span)?;
     let same = gives_same(alloc, facts, serving, &callee.typed.ty)?;
-    note_unless(notes, same, Rule::BadType, span)
+    note_unless(diagnostics, same, Rule::BadType, span)
 }
 
 /// Notes what is found at `forward g(a)`.
 pub(crate) fn note_forward(
     alloc: Global,
     facts: &Facts,
-    around: &Around<'_>,
-    notes: &mut Notes,
+    enclosing: &Enclosing<'_>,
+    diagnostics: &mut Diagnostics,
     span: Span,
     tree: &Invocation,
 ) -> Result<(), NoMemory>
-    ensures { OnOk result (notes.new ≡ all_noted notes.old (forward_found (context_of around.now facts.now) span (judge_invocation tree.now facts.now))) }
+    ensures { OnOk result (diagnostics.new ≡ all_noted diagnostics.old (forward_found (context_of enclosing.now facts.now) span (infer_invocation tree.now facts.now))) }
 {
-    let parts = invocation(alloc, tree, facts, notes)?;
-    note_forwarded(alloc, facts, around.serving, notes, span, &parts)
+    let parts = invocation(alloc, tree, facts, diagnostics)?;
+    note_forwarded(alloc, facts, enclosing.serving, diagnostics, span, &parts)
 }
 
 /// Whether `reply` may stand there.
@@ -324,18 +331,18 @@ pub(crate) fn may_reply(serving: Serving) -> bool
 
 /// Notes where what an arm of `co` gives back isn't stored to its place.
 fn note_result(
-    notes: &mut Notes,
-    target: &Judged,
+    diagnostics: &mut Diagnostics,
+    target: &TypedExpr,
     returned: Option<Ty>,
     span: Span,
 ) -> Result<(), NoMemory>
-    ensures { OnOk result (notes.new ≡ all_noted notes.old (result_found target.now returned span)) }
+    ensures { OnOk result (diagnostics.new ≡ all_noted diagnostics.old (result_found target.now returned span)) }
 {
     match returned {
-        None => note_unless(notes, false, Rule::BadType, span),
+        None => note_unless(diagnostics, false, Rule::BadType, span),
         Some(ty) => {
             let met = may_store(&target.typed, &known(ty, Static::Unknown));
-            note_unless(notes, met, Rule::BadType, target.span)
+            note_unless(diagnostics, met, Rule::BadType, target.span)
         }
     }
 }
@@ -344,34 +351,34 @@ fn note_result(
 fn note_place(
     alloc: Global,
     facts: &Facts,
-    notes: &mut Notes,
-    target: &Judged,
+    diagnostics: &mut Diagnostics,
+    target: &TypedExpr,
     callee: &Ty,
     span: Span,
 ) -> Result<(), NoMemory>
-    ensures { OnOk result (notes.new ≡ all_noted notes.old (value_found target.now ++ result_found target.now (returned_by facts.now.signatures callee.now) span)) }
+    ensures { OnOk result (diagnostics.new ≡ all_noted diagnostics.old (value_found target.now ++ result_found target.now (returned_by facts.now.signatures callee.now) span)) }
 {
-    note_value(notes, target)?;
+    note_value(diagnostics, target)?;
     let returned = returned_by(alloc, &facts.signatures, callee)?;
-    note_result(notes, target, returned, span)
+    note_result(diagnostics, target, returned, span)
 }
 
 /// Notes what is found at the place of an arm of `co`.
 fn note_target(
     alloc: Global,
     facts: &Facts,
-    notes: &mut Notes,
+    diagnostics: &mut Diagnostics,
     target: &Option<Expr>,
     callee: &Ty,
     span: Span,
 ) -> Result<(), NoMemory>
-    ensures { OnOk result (notes.new ≡ all_noted notes.old (place_found facts.now target.now callee.now span)) }
+    ensures { OnOk result (diagnostics.new ≡ all_noted diagnostics.old (place_found facts.now target.now callee.now span)) }
 {
     match target {
         None => Ok(()),
         Some(target) => {
-            let target = expr(alloc, target, facts, notes)?;
-            note_place(alloc, facts, notes, &target, callee, span)
+            let target = expr(alloc, target, facts, diagnostics)?;
+            note_place(alloc, facts, diagnostics, &target, callee, span)
         }
     }
 }
@@ -380,37 +387,37 @@ fn note_target(
 fn note_begun(
     alloc: Global,
     facts: &Facts,
-    notes: &mut Notes,
+    diagnostics: &mut Diagnostics,
     target: &Option<Expr>,
     parts: &Invoked,
     span: Span,
 ) -> Result<(), NoMemory>
-    ensures { OnOk result (notes.new ≡ all_noted notes.old (invoked_found facts.now span (is_callable facts.now.signatures parts.now.callee.typed.ty) parts.now.callee parts.now.arguments
+    ensures { OnOk result (diagnostics.new ≡ all_noted diagnostics.old (invoked_found facts.now span (is_callable facts.now.signatures parts.now.callee.typed.ty) parts.now.callee parts.now.arguments
         ++ place_found facts.now target.now parts.now.callee.typed.ty span)) }
 {
     let callee = &parts.callee;
     let allowed = is_callable(&facts.signatures, &callee.typed.ty);
     note_invoked(
         facts,
-        notes,
+        diagnostics,
         span,
         allowed,
         callee,
         parts.arguments.as_slice(),
     )?;
-    note_target(alloc, facts, notes, target, &callee.typed.ty, span)
+    note_target(alloc, facts, diagnostics, target, &callee.typed.ty, span)
 }
 
 /// Notes what is found at the place and the invocation of an arm of `co`.
 pub(crate) fn note_started(
     alloc: Global,
     facts: &Facts,
-    notes: &mut Notes,
+    diagnostics: &mut Diagnostics,
     target: &Option<Expr>,
     tree: &Invocation,
 ) -> Result<(), NoMemory>
-    ensures { OnOk result (notes.new ≡ all_noted notes.old (started_found facts.now target.now (judge_invocation tree.now facts.now))) }
+    ensures { OnOk result (diagnostics.new ≡ all_noted diagnostics.old (started_found facts.now target.now (infer_invocation tree.now facts.now))) }
 {
-    let parts = invocation(alloc, tree, facts, notes)?;
-    note_begun(alloc, facts, notes, target, &parts, tree.span)
+    let parts = invocation(alloc, tree, facts, diagnostics)?;
+    note_begun(alloc, facts, diagnostics, target, &parts, tree.span)
 }

@@ -21,16 +21,16 @@ ghost use Rattle.sr_check.specs.Services.{service_bound};
 ghost use Rattle.sr_check.specs.Servicing.{AllServiceOwn, IsServed, IsWaited, OneOwner, ServesShared, ServicesOwn, component_procedures};
 ghost use Rattle.sr_check.specs.Statements.{arm_read, block_item_read, statement_read};
 
-/// A law of what is known of a program: each operation that is known is declared in it, before its statements are
-/// looked at and behind them; those of components were known before; what names mean stays as it is.
+/// A law of the facts of a program. Each operation among them is declared in the program, both before its statements
+/// are checked and after. The operations of components are there before. What names mean doesn't change.
 pub fn known_are_declared()
     ensures before { (uses : Meanings) (specs : Specs) (files : List File) → Known files (program_known uses specs files) }
-    ensures behind { (uses : Meanings) (specs : Specs) (files : List File) → Known files (checked uses specs files).facts }
+    ensures after { (uses : Meanings) (specs : Specs) (files : List File) → Known files (checked uses specs files).facts }
     ensures shared { (uses : Meanings) (specs : Specs) (files : List File) → KnowsShared (program_known uses specs files) (checked uses specs files).facts }
     ensures uses { (uses : Meanings) (specs : Specs) (files : List File) → (checked uses specs files).facts.uses ≡ uses }
 {}
 
-/// A law of statements: behind what stands in a block, and within a service and a quantification, each operation that
+/// A law of statements: after what stands in a block, and within a service and a quantification, each operation that
 /// is known is declared where that holds before.
 pub fn declared_stay_known()
     ensures statement { (files : List File) (tree : Statement) (context : Context) → Known files context.facts → Known files (statement_read tree context).facts }

@@ -6,8 +6,8 @@
 //! static value of each expression are what [`sr_check_expr::expr`] gives.
 #![tactic(auto)]
 
-mod around;
 mod components;
+mod enclosing;
 mod invoking;
 mod laws;
 mod operation;

@@ -1,10 +1,10 @@
 ghost use Rattle.std.specs.Prelude.{◌≡◌, false, OnOk, IfOk, is_some};
-ghost use Rattle.sr_names.specs.Notes.{all_noted};
+ghost use Rattle.sr_names.specs.Diagnostics.{all_noted};
 ghost use Rattle.sr_check_decl.specs.TypeTrees.{signature_read};
 ghost use Rattle.sr_check.specs.Contexts.{context_of};
 ghost use Rattle.sr_check.specs.Components.{proc_item_read, block_read, proc_rules, proc_serving, proc_read, returned_declared, signed_declared, procedure_read, quantifiers_formal, process_read, final_read};
 
-use crate::around::{Around, Procs};
+use crate::enclosing::{Enclosing, Procs};
 use crate::operation::Operation;
 use crate::quantifying::quantifiers;
 use crate::services::{bind_operation, is_own, may_head, operation_named, spot_or};
@@ -15,7 +15,7 @@ use sr_check_decl::{
     declare_semaphores, enter_operations, note_operations, note_semaphores, signature, variable,
 };
 use sr_check_expr::{Facts, note_unless};
-use sr_names::{Notes, Rule, Spot};
+use sr_names::{Diagnostics, Rule, Spot};
 use sr_tree::{FinalCode, Proc, ProcItem, Procedure, Process, Quantifier, Signature};
 use sr_types::Ty;
 use sr_value::{Duplicate, NoMemory};
@@ -25,26 +25,26 @@ use std::alloc::Global;
 fn proc_item(
     alloc: Global,
     item: &ProcItem,
-    around: &Around<'_>,
+    enclosing: &Enclosing<'_>,
     facts: &mut Facts,
-    notes: &mut Notes,
+    diagnostics: &mut Diagnostics,
 ) -> Result<(), NoMemory>
-    ensures known { OnOk result (facts.new ≡ (proc_item_read item.now (context_of around.now facts.old)).facts) }
-    ensures noted { OnOk result (notes.new ≡ all_noted notes.old (proc_item_read item.now (context_of around.now facts.old)).found) }
+    ensures known { OnOk result (facts.new ≡ (proc_item_read item.now (context_of enclosing.now facts.old)).facts) }
+    ensures noted { OnOk result (diagnostics.new ≡ all_noted diagnostics.old (proc_item_read item.now (context_of enclosing.now facts.old)).found) }
 {
     match item {
-        ProcItem::Const(tree) => local_const(alloc, facts, notes, tree),
-        ProcItem::Var(tree) => local_var(alloc, facts, notes, tree),
+        ProcItem::Const(tree) => local_const(alloc, facts, diagnostics, tree),
+        ProcItem::Var(tree) => local_var(alloc, facts, diagnostics, tree),
         ProcItem::Op(tree) => {
             enter_operations(alloc, facts, tree.items.as_slice())?;
-            note_operations(alloc, facts, notes, tree.items.as_slice())?;
+            note_operations(alloc, facts, diagnostics, tree.items.as_slice())?;
             declare_operations(alloc, facts, true, tree.items.as_slice())
         }
         ProcItem::Sem(tree) => {
-            note_semaphores(alloc, facts, notes, tree.semaphores.as_slice())?;
+            note_semaphores(alloc, facts, diagnostics, tree.semaphores.as_slice())?;
             declare_semaphores(alloc, facts, true, tree.semaphores.as_slice())
         }
-        ProcItem::Statement(inner) => statement(alloc, inner, around, facts, notes),
+        ProcItem::Statement(inner) => statement(alloc, inner, enclosing, facts, diagnostics),
     }
 }
 
@@ -52,24 +52,24 @@ fn proc_item(
 fn proc_block(
     alloc: Global,
     items: &[ProcItem],
-    around: &Around<'_>,
+    enclosing: &Enclosing<'_>,
     facts: &mut Facts,
-    notes: &mut Notes,
+    diagnostics: &mut Diagnostics,
 ) -> Result<(), NoMemory>
-    ensures known { OnOk result (facts.new ≡ (block_read items.now (context_of around.now facts.old)).facts) }
-    ensures noted { OnOk result (notes.new ≡ all_noted notes.old (block_read items.now (context_of around.now facts.old)).found) }
+    ensures known { OnOk result (facts.new ≡ (block_read items.now (context_of enclosing.now facts.old)).facts) }
+    ensures noted { OnOk result (diagnostics.new ≡ all_noted diagnostics.old (block_read items.now (context_of enclosing.now facts.old)).found) }
 {
     for item in items {
-        proc_item(alloc, item, around, facts, notes)?;
+        proc_item(alloc, item, enclosing, facts, diagnostics)?;
     }
     Ok(())
 }
 
 /// What is around code of its own: no loop.
-pub(crate) fn beginning(procs: &Procs, serving: Serving) -> Around<'_>
+pub(crate) fn beginning(procs: &Procs, serving: Serving) -> Enclosing<'_>
     ensures { result ≡ record { procs = procs.entry; serving = serving; in_loop = false } }
 {
-    Around {
+    Enclosing {
         procs,
         serving,
         in_loop: false,
@@ -79,14 +79,14 @@ pub(crate) fn beginning(procs: &Procs, serving: Serving) -> Around<'_>
 /// Notes what is found at the head of a proc.
 fn note_proc(
     facts: &Facts,
-    notes: &mut Notes,
+    diagnostics: &mut Diagnostics,
     tree: &Proc,
     operation: &Option<Operation>,
 ) -> Result<(), NoMemory>
-    ensures { OnOk result (notes.new ≡ all_noted notes.old (proc_rules facts.now tree.now operation.now)) }
+    ensures { OnOk result (diagnostics.new ≡ all_noted diagnostics.old (proc_rules facts.now tree.now operation.now)) }
 {
     match operation {
-        None => note_unless(notes, false, Rule::BadType, tree.span),
+        None => note_unless(diagnostics, false, Rule::BadType, tree.span),
         Some(operation) => {
             let met = may_head(
                 &facts.signatures,
@@ -94,8 +94,13 @@ fn note_proc(
                 tree.returned.is_some(),
                 &operation.ty,
             );
-            note_unless(notes, met, Rule::BadType, tree.span)?;
-            note_unless(notes, is_own(facts, operation), Rule::BadUse, tree.span)
+            note_unless(diagnostics, met, Rule::BadType, tree.span)?;
+            note_unless(
+                diagnostics,
+                is_own(facts, operation),
+                Rule::BadUse,
+                tree.span,
+            )
         }
     }
 }
@@ -106,18 +111,18 @@ fn proc_serving(
     tree: &Proc,
     procs: &Procs,
     facts: &mut Facts,
-    notes: &mut Notes,
+    diagnostics: &mut Diagnostics,
     operation: &Option<Operation>,
 ) -> Result<(), NoMemory>
     ensures known { OnOk result (facts.new ≡ (proc_serving procs.now tree.now operation.now facts.old).facts) }
-    ensures noted { OnOk result (notes.new ≡ all_noted notes.old (proc_serving procs.now tree.now operation.now facts.old).found) }
+    ensures noted { OnOk result (diagnostics.new ≡ all_noted diagnostics.old (proc_serving procs.now tree.now operation.now facts.old).found) }
 {
-    note_proc(facts, notes, tree, operation)?;
+    note_proc(facts, diagnostics, tree, operation)?;
     let formals = tree.formals.as_slice();
     bind_operation(alloc, facts, formals, &tree.returned, operation)?;
     let served = spot_or(Spot::of(tree.name.span), operation);
-    let around = beginning(procs, Serving::Serves(served));
-    proc_block(alloc, tree.block.as_slice(), &around, facts, notes)
+    let enclosing = beginning(procs, Serving::Serves(served));
+    proc_block(alloc, tree.block.as_slice(), &enclosing, facts, diagnostics)
 }
 
 /// Notes what is found in a proc.
@@ -126,13 +131,13 @@ pub(crate) fn proc(
     tree: &Proc,
     procs: &Procs,
     facts: &mut Facts,
-    notes: &mut Notes,
+    diagnostics: &mut Diagnostics,
 ) -> Result<(), NoMemory>
     ensures known { OnOk result (facts.new ≡ (proc_read procs.now tree.now facts.old).facts) }
-    ensures noted { OnOk result (notes.new ≡ all_noted notes.old (proc_read procs.now tree.now facts.old).found) }
+    ensures noted { OnOk result (diagnostics.new ≡ all_noted diagnostics.old (proc_read procs.now tree.now facts.old).found) }
 {
     let operation = operation_named(alloc, facts, &tree.name)?;
-    proc_serving(alloc, tree, procs, facts, notes, &operation)
+    proc_serving(alloc, tree, procs, facts, diagnostics, &operation)
 }
 
 fn declare_returned(
@@ -160,12 +165,12 @@ fn enter_procedure(
     alloc: Global,
     tree: &Signature,
     facts: &mut Facts,
-    notes: &mut Notes,
+    diagnostics: &mut Diagnostics,
 ) -> Result<(), NoMemory>
     ensures known { OnOk result (facts.new ≡ signed_declared (signature_read tree.now facts.old).signed facts.old) }
-    ensures noted { OnOk result (notes.new ≡ all_noted notes.old (signature_read tree.now facts.old).found) }
+    ensures noted { OnOk result (diagnostics.new ≡ all_noted diagnostics.old (signature_read tree.now facts.old).found) }
 {
-    let signed = signature(alloc, tree, facts, notes)?;
+    let signed = signature(alloc, tree, facts, diagnostics)?;
     declare_signed(alloc, facts, &signed)
 }
 
@@ -175,14 +180,14 @@ pub(crate) fn procedure(
     tree: &Procedure,
     procs: &Procs,
     facts: &mut Facts,
-    notes: &mut Notes,
+    diagnostics: &mut Diagnostics,
 ) -> Result<(), NoMemory>
     ensures known { OnOk result (facts.new ≡ (procedure_read procs.now tree.now facts.old).facts) }
-    ensures noted { OnOk result (notes.new ≡ all_noted notes.old (procedure_read procs.now tree.now facts.old).found) }
+    ensures noted { OnOk result (diagnostics.new ≡ all_noted diagnostics.old (procedure_read procs.now tree.now facts.old).found) }
 {
-    enter_procedure(alloc, &tree.signature, facts, notes)?;
-    let around = beginning(procs, Serving::Serves(Spot::of(tree.name.span)));
-    proc_block(alloc, tree.block.as_slice(), &around, facts, notes)
+    enter_procedure(alloc, &tree.signature, facts, diagnostics)?;
+    let enclosing = beginning(procs, Serving::Serves(Spot::of(tree.name.span)));
+    proc_block(alloc, tree.block.as_slice(), &enclosing, facts, diagnostics)
 }
 
 /// In the body of a process the names of its quantifiers are formals.
@@ -201,15 +206,15 @@ pub(crate) fn process(
     tree: &Process,
     procs: &Procs,
     facts: &mut Facts,
-    notes: &mut Notes,
+    diagnostics: &mut Diagnostics,
 ) -> Result<(), NoMemory>
     ensures known { OnOk result (facts.new ≡ (process_read procs.now tree.now facts.old).facts) }
-    ensures noted { OnOk result (notes.new ≡ all_noted notes.old (process_read procs.now tree.now facts.old).found) }
+    ensures noted { OnOk result (diagnostics.new ≡ all_noted diagnostics.old (process_read procs.now tree.now facts.old).found) }
 {
-    quantifiers(alloc, facts, notes, tree.quantifiers.as_slice())?;
+    quantifiers(alloc, facts, diagnostics, tree.quantifiers.as_slice())?;
     declare_formals(facts, tree.quantifiers.as_slice())?;
-    let around = beginning(procs, Serving::Serves(Spot::of(tree.name.span)));
-    proc_block(alloc, tree.block.as_slice(), &around, facts, notes)
+    let enclosing = beginning(procs, Serving::Serves(Spot::of(tree.name.span)));
+    proc_block(alloc, tree.block.as_slice(), &enclosing, facts, diagnostics)
 }
 
 /// Notes what is found in final code.
@@ -218,11 +223,11 @@ pub(crate) fn final_code(
     tree: &FinalCode,
     procs: &Procs,
     facts: &mut Facts,
-    notes: &mut Notes,
+    diagnostics: &mut Diagnostics,
 ) -> Result<(), NoMemory>
     ensures known { OnOk result (facts.new ≡ (final_read procs.now tree.now facts.old).facts) }
-    ensures noted { OnOk result (notes.new ≡ all_noted notes.old (final_read procs.now tree.now facts.old).found) }
+    ensures noted { OnOk result (diagnostics.new ≡ all_noted diagnostics.old (final_read procs.now tree.now facts.old).found) }
 {
-    let around = beginning(procs, Serving::Ends);
-    proc_block(alloc, tree.block.as_slice(), &around, facts, notes)
+    let enclosing = beginning(procs, Serving::Ends);
+    proc_block(alloc, tree.block.as_slice(), &enclosing, facts, diagnostics)
 }

@@ -1,13 +1,13 @@
 ghost use Rattle.std.specs.Prelude.{◌≡◌, OnOk};
-ghost use Rattle.sr_names.specs.Notes.{all_noted};
+ghost use Rattle.sr_names.specs.Diagnostics.{all_noted};
 ghost use Rattle.sr_check.specs.Contexts.{context_of};
 ghost use Rattle.sr_check.specs.Receiving.{received_rule, received_found, takes_all, receive_by, receive_found};
 
-use crate::around::Around;
+use crate::enclosing::Enclosing;
 use crate::operation::Operation;
 use crate::services::{note_service, operation_named, params_of};
-use sr_check_expr::{Facts, Judged, all, as_many, note_unless, note_values};
-use sr_names::{Notes, Rule};
+use sr_check_expr::{Facts, TypedExpr, all, as_many, note_unless, note_values};
+use sr_names::{Diagnostics, Rule};
 use sr_tree::{Expr, Name};
 use sr_types::{Param, Ty, Typed, fits};
 use sr_value::{NoMemory, Span};
@@ -21,8 +21,12 @@ fn may_receive(place: &Typed, ty: &Ty) -> bool
 }
 
 /// Notes the places that don't take their formals.
-fn note_received(notes: &mut Notes, params: &[Param], places: &[Judged]) -> Result<(), NoMemory>
-    ensures { OnOk result (notes.new ≡ all_noted notes.old (received_found params.now places.now)) }
+fn note_received(
+    diagnostics: &mut Diagnostics,
+    params: &[Param],
+    places: &[TypedExpr],
+) -> Result<(), NoMemory>
+    ensures { OnOk result (diagnostics.new ≡ all_noted diagnostics.old (received_found params.now places.now)) }
 {
     let mut rest = places;
     for param in params {
@@ -30,7 +34,7 @@ fn note_received(notes: &mut Notes, params: &[Param], places: &[Judged]) -> Resu
             [] => return Ok(()),
             [first, others @ ..] => {
                 let met = may_receive(&first.typed, &param.ty);
-                note_unless(notes, met, Rule::BadType, first.span)?;
+                note_unless(diagnostics, met, Rule::BadType, first.span)?;
                 rest = others;
             }
         }
@@ -39,7 +43,7 @@ fn note_received(notes: &mut Notes, params: &[Param], places: &[Judged]) -> Resu
 }
 
 /// Whether there is a place for each formal.
-fn takes_all(facts: &Facts, ty: &Ty, places: &[Judged]) -> bool
+fn takes_all(facts: &Facts, ty: &Ty, places: &[TypedExpr]) -> bool
     ensures { result ≡ takes_all facts.now ty.now places.now }
 {
     ty.is_untyped() || as_many(params_of(&facts.signatures, ty), places)
@@ -47,22 +51,22 @@ fn takes_all(facts: &Facts, ty: &Ty, places: &[Judged]) -> bool
 
 fn note_operation(
     facts: &Facts,
-    around: &Around<'_>,
-    notes: &mut Notes,
+    enclosing: &Enclosing<'_>,
+    diagnostics: &mut Diagnostics,
     span: Span,
-    places: &[Judged],
+    places: &[TypedExpr],
     operation: &Option<Operation>,
 ) -> Result<(), NoMemory>
-    ensures { OnOk result (notes.new ≡ all_noted notes.old (receive_by (context_of around.now facts.now) span places.now operation.now)) }
+    ensures { OnOk result (diagnostics.new ≡ all_noted diagnostics.old (receive_by (context_of enclosing.now facts.now) span places.now operation.now)) }
 {
     match operation {
-        None => note_unless(notes, false, Rule::BadType, span),
+        None => note_unless(diagnostics, false, Rule::BadType, span),
         Some(operation) => {
             let met = takes_all(facts, &operation.ty, places);
-            note_unless(notes, met, Rule::BadType, span)?;
+            note_unless(diagnostics, met, Rule::BadType, span)?;
             let params = params_of(&facts.signatures, &operation.ty);
-            note_received(notes, params, places)?;
-            note_service(facts, around.procs, notes, span, operation)
+            note_received(diagnostics, params, places)?;
+            note_service(facts, enclosing.procs, diagnostics, span, operation)
         }
     }
 }
@@ -71,16 +75,23 @@ fn note_operation(
 pub(crate) fn note_receive(
     alloc: Global,
     facts: &Facts,
-    around: &Around<'_>,
-    notes: &mut Notes,
+    enclosing: &Enclosing<'_>,
+    diagnostics: &mut Diagnostics,
     span: Span,
     name: &Name,
     places: &[Expr],
 ) -> Result<(), NoMemory>
-    ensures { OnOk result (notes.new ≡ all_noted notes.old (receive_found (context_of around.now facts.now) span name.now places.now)) }
+    ensures { OnOk result (diagnostics.new ≡ all_noted diagnostics.old (receive_found (context_of enclosing.now facts.now) span name.now places.now)) }
 {
-    let places = all(alloc, places, facts, notes)?;
-    note_values(notes, places.as_slice())?;
+    let places = all(alloc, places, facts, diagnostics)?;
+    note_values(diagnostics, places.as_slice())?;
     let operation = operation_named(alloc, facts, name)?;
-    note_operation(facts, around, notes, span, places.as_slice(), &operation)
+    note_operation(
+        facts,
+        enclosing,
+        diagnostics,
+        span,
+        places.as_slice(),
+        &operation,
+    )
 }

@@ -1,13 +1,13 @@
 ghost use Rattle.std.specs.Prelude.{◌≡◌, ◌++◌, IfOk, OnOk, is_some};
 ghost use Rattle.std.specs.Option.{option_copied};
-ghost use Rattle.sr_names.specs.Notes.{all_noted};
+ghost use Rattle.sr_names.specs.Diagnostics.{all_noted};
 ghost use Rattle.sr_check.specs.Services.{operation_by, operation_at, decl_named, operation_named, is_local_info, is_shared_info, is_local_name, is_shared_name, params_of, both_or_none, head_rule, is_own, later_of, proc_found, service_found, head_found, names_bound, returned_bound, service_bound, type_of, spot_or, returns_of, type_or_none};
 
-use crate::around::Procs;
+use crate::enclosing::Procs;
 use crate::operation::Operation;
 use sr_check_decl::{declare_name, variable};
 use sr_check_expr::{Facts, Info, as_many, decl_info, decl_of, note_unless};
-use sr_names::{Decl, Finding, Notes, Rule, Spot, Wrong};
+use sr_names::{Decl, Diagnostic, Diagnostics, Finding, Rule, Spot};
 use sr_tree::Name;
 use sr_types::{Param, Signatures, Ty};
 use sr_value::{Duplicate, NoMemory, Row, Span};
@@ -142,12 +142,12 @@ fn later_of(a: Span, b: Span) -> Span
 }
 
 /// Notes that an operation is serviced by a proc and at a span.
-fn note_proc(notes: &mut Notes, span: Span, proc: Option<Span>) -> Result<(), NoMemory>
-    ensures { OnOk result (notes.new ≡ all_noted notes.old (proc_found span proc)) }
+fn note_proc(diagnostics: &mut Diagnostics, span: Span, proc: Option<Span>) -> Result<(), NoMemory>
+    ensures { OnOk result (diagnostics.new ≡ all_noted diagnostics.old (proc_found span proc)) }
 {
     match proc {
         None => Ok(()),
-        Some(proc) => notes.note(Finding::Broken(Wrong {
+        Some(proc) => diagnostics.note(Finding::Broken(Diagnostic {
             rule: Rule::BadUse,
             span: later_of(proc, span),
         })),
@@ -158,34 +158,34 @@ fn note_proc(notes: &mut Notes, span: Span, proc: Option<Span>) -> Result<(), No
 pub(crate) fn note_service(
     facts: &Facts,
     procs: &Procs,
-    notes: &mut Notes,
+    diagnostics: &mut Diagnostics,
     span: Span,
     operation: &Operation,
 ) -> Result<(), NoMemory>
-    ensures { OnOk result (notes.new ≡ all_noted notes.old (service_found facts.now procs.now span operation.now)) }
+    ensures { OnOk result (diagnostics.new ≡ all_noted diagnostics.old (service_found facts.now procs.now span operation.now)) }
 {
-    note_unless(notes, is_own(facts, operation), Rule::BadUse, span)?;
-    note_proc(notes, span, procs.get(operation.spot))
+    note_unless(diagnostics, is_own(facts, operation), Rule::BadUse, span)?;
+    note_proc(diagnostics, span, procs.get(operation.spot))
 }
 
 /// Notes what is found at the head of a service at a span.
 pub(crate) fn note_head<T>(
     facts: &Facts,
     procs: &Procs,
-    notes: &mut Notes,
+    diagnostics: &mut Diagnostics,
     span: Span,
     formals: &[T],
     returns: bool,
     operation: &Option<Operation>,
 ) -> Result<(), NoMemory>
-    ensures { OnOk result (notes.new ≡ all_noted notes.old (head_found facts.now procs.now span formals.now returns operation.now)) }
+    ensures { OnOk result (diagnostics.new ≡ all_noted diagnostics.old (head_found facts.now procs.now span formals.now returns operation.now)) }
 {
     match operation {
-        None => note_unless(notes, false, Rule::BadType, span),
+        None => note_unless(diagnostics, false, Rule::BadType, span),
         Some(operation) => {
             let met = may_head(&facts.signatures, formals, returns, &operation.ty);
-            note_unless(notes, met, Rule::BadType, span)?;
-            note_service(facts, procs, notes, span, operation)
+            note_unless(diagnostics, met, Rule::BadType, span)?;
+            note_service(facts, procs, diagnostics, span, operation)
         }
     }
 }
@@ -231,7 +231,7 @@ fn copied_params(alloc: Global, signatures: &Signatures, ty: &Ty) -> Result<Row<
     }
 }
 
-/// The type of what an operation of this type returns.
+/// The type that an operation of this type returns.
 fn returned_type(alloc: Global, signatures: &Signatures, ty: &Ty) -> Result<Ty, NoMemory>
     ensures { IfOk result (λ returned. returned ≡ type_or_none (returns_of signatures.now ty.now)) }
 {

@@ -1,6 +1,6 @@
 ghost use Rattle.std.specs.Prelude.{◌≡◌, true, false, OnOk, map, is_some};
 ghost use Rattle.std.specs.List.{list_any};
-ghost use Rattle.sr_names.specs.Notes.{all_noted};
+ghost use Rattle.sr_names.specs.Diagnostics.{all_noted};
 ghost use Rattle.sr_names.specs.Spots.{spot_of};
 ghost use Rattle.sr_check.specs.Contexts.{context_of, in_order, looping, with_facts};
 ghost use Rattle.sr_check.specs.Uses.{choice_rule};
@@ -8,7 +8,7 @@ ghost use Rattle.sr_check.specs.Quantifying.{maybe_with};
 ghost use Rattle.sr_check.specs.Services.{operation_named, is_local_name, is_shared_name};
 ghost use Rattle.sr_check.specs.Statements.{const_read, var_read, guards_found, condition_found, arm_context, arm_inner, is_mixture, mixture_found, arms_at, store_found, plain_found, statement_read, block_item_read, arm_read, branch_read, co_arm_read, guarding};
 
-use crate::around::Around;
+use crate::enclosing::Enclosing;
 use crate::invoking::{may_reply, note_call, note_forward, note_send, note_started};
 use crate::quantifying::{note_condition, quantifiers};
 use crate::receiving::note_receive;
@@ -20,7 +20,7 @@ use crate::storing::{note_assign, note_counter, note_destroy, note_exchange, not
 use crate::uses::may_choose;
 use sr_check_decl::{constant, declare_locals, declare_name, enter_written, note_variables};
 use sr_check_expr::{Facts, Here, Info, create, expr, note_unless, note_value};
-use sr_names::{Notes, Rule, Spot};
+use sr_names::{Diagnostics, Rule, Spot};
 use sr_tree::{Arm, ArmCondition, BlockItem, Branch, CoArm, ConstDecl, Expr, Statement, VarDecl};
 use sr_value::{NoMemory, Span};
 use std::alloc::Global;
@@ -29,14 +29,14 @@ use std::alloc::Global;
 pub(crate) fn local_const(
     alloc: Global,
     facts: &mut Facts,
-    notes: &mut Notes,
+    diagnostics: &mut Diagnostics,
     tree: &ConstDecl,
 ) -> Result<(), NoMemory>
     ensures known { OnOk result (facts.new ≡ (const_read tree.now facts.old).facts) }
-    ensures noted { OnOk result (notes.new ≡ all_noted notes.old (const_read tree.now facts.old).found) }
+    ensures noted { OnOk result (diagnostics.new ≡ all_noted diagnostics.old (const_read tree.now facts.old).found) }
 {
     enter_written(alloc, facts, &tree.ty)?;
-    let typed = constant(alloc, facts, notes, false, tree)?;
+    let typed = constant(alloc, facts, diagnostics, false, tree)?;
     declare_name(facts, &tree.name, Info::Value(typed))
 }
 
@@ -44,90 +44,95 @@ pub(crate) fn local_const(
 pub(crate) fn local_var(
     alloc: Global,
     facts: &mut Facts,
-    notes: &mut Notes,
+    diagnostics: &mut Diagnostics,
     tree: &VarDecl,
 ) -> Result<(), NoMemory>
     ensures known { OnOk result (facts.new ≡ (var_read tree.now facts.old).facts) }
-    ensures noted { OnOk result (notes.new ≡ all_noted notes.old (var_read tree.now facts.old).found) }
+    ensures noted { OnOk result (diagnostics.new ≡ all_noted diagnostics.old (var_read tree.now facts.old).found) }
 {
     enter_written(alloc, facts, &tree.ty)?;
-    note_variables(alloc, facts, notes, tree)?;
+    note_variables(alloc, facts, diagnostics, tree)?;
     declare_locals(alloc, facts, tree)
 }
 
 /// Within a loop or a `co`.
-fn looping<'a>(around: &Around<'a>) -> Around<'a>
-    ensures { result ≡ record around.now { in_loop = true } }
+fn looping<'a>(enclosing: &Enclosing<'a>) -> Enclosing<'a>
+    ensures { result ≡ record enclosing.now { in_loop = true } }
 {
-    Around {
-        procs: around.procs,
-        serving: around.serving,
+    Enclosing {
+        procs: enclosing.procs,
+        serving: enclosing.serving,
         in_loop: true,
     }
 }
 
 /// Within a service.
-fn serving_for<'a>(around: &Around<'a>, operation: Spot) -> Around<'a>
-    ensures { result ≡ record around.now { serving = Serving.Serves operation } }
+fn serving_for<'a>(enclosing: &Enclosing<'a>, operation: Spot) -> Enclosing<'a>
+    ensures { result ≡ record enclosing.now { serving = Serving.Serves operation } }
 {
-    Around {
-        procs: around.procs,
+    Enclosing {
+        procs: enclosing.procs,
         serving: Serving::Serves(operation),
-        in_loop: around.in_loop,
+        in_loop: enclosing.in_loop,
     }
 }
 
 fn note_arm_condition(
     alloc: Global,
     facts: &Facts,
-    notes: &mut Notes,
+    diagnostics: &mut Diagnostics,
     tree: &Option<ArmCondition>,
 ) -> Result<(), NoMemory>
-    ensures { OnOk result (notes.new ≡ all_noted notes.old (condition_found facts.now tree.now)) }
+    ensures { OnOk result (diagnostics.new ≡ all_noted diagnostics.old (condition_found facts.now tree.now)) }
 {
     match tree {
         None => Ok(()),
-        Some(written) => note_condition(alloc, facts, notes, &written.condition),
+        Some(written) => note_condition(alloc, facts, diagnostics, &written.condition),
     }
 }
 
-/// Notes what is found in what stands behind `by`.
+/// Notes what is found in what stands after `by`.
 fn note_order(
     alloc: Global,
     facts: &Facts,
-    notes: &mut Notes,
+    diagnostics: &mut Diagnostics,
     tree: &Option<Expr>,
 ) -> Result<(), NoMemory>
-    ensures { OnOk result (notes.new ≡ all_noted notes.old (maybe_with choice_rule facts.now tree.now)) }
+    ensures { OnOk result (diagnostics.new ≡ all_noted diagnostics.old (maybe_with choice_rule facts.now tree.now)) }
 {
     match tree {
         None => Ok(()),
         Some(written) => {
-            let order = expr(alloc, written, facts, notes)?;
-            note_value(notes, &order)?;
-            note_unless(notes, may_choose(&order.typed), Rule::BadType, order.span)
+            let order = expr(alloc, written, facts, diagnostics)?;
+            note_value(diagnostics, &order)?;
+            note_unless(
+                diagnostics,
+                may_choose(&order.typed),
+                Rule::BadType,
+                order.span,
+            )
         }
     }
 }
 
-/// Notes what is found in what an arm says behind `and` or `st`, and `by`.
+/// Notes what is found in what an arm says after `and` or `st`, and `by`.
 fn note_guards(
     alloc: Global,
     facts: &mut Facts,
-    notes: &mut Notes,
+    diagnostics: &mut Diagnostics,
     condition: &Option<ArmCondition>,
     order: &Option<Expr>,
 ) -> Result<(), NoMemory>
     ensures known { OnOk result (facts.new ≡ facts.old) }
-    ensures noted { OnOk result (notes.new ≡ all_noted notes.old (guards_found facts.old condition.now order.now)) }
+    ensures noted { OnOk result (diagnostics.new ≡ all_noted diagnostics.old (guards_found facts.old condition.now order.now)) }
 {
     let here = facts.here;
     facts.here = Here {
         component: here.component,
         in_guard: true,
     };
-    note_arm_condition(alloc, facts, notes, condition)?;
-    note_order(alloc, facts, notes, order)?;
+    note_arm_condition(alloc, facts, diagnostics, condition)?;
+    note_order(alloc, facts, diagnostics, order)?;
     facts.here = here;
     Ok(())
 }
@@ -157,11 +162,16 @@ fn some_shared(facts: &Facts, arms: &[Arm]) -> bool
 }
 
 /// Notes an `in` over operations of the component and of the proc.
-fn note_mixture(facts: &Facts, notes: &mut Notes, span: Span, arms: &[Arm]) -> Result<(), NoMemory>
-    ensures { OnOk result (notes.new ≡ all_noted notes.old (mixture_found facts.now span (map arm_read arms.now))) }
+fn note_mixture(
+    facts: &Facts,
+    diagnostics: &mut Diagnostics,
+    span: Span,
+    arms: &[Arm],
+) -> Result<(), NoMemory>
+    ensures { OnOk result (diagnostics.new ≡ all_noted diagnostics.old (mixture_found facts.now span (map arm_read arms.now))) }
 {
     let met = !(some_local(facts, arms) && some_shared(facts, arms));
-    note_unless(notes, met, Rule::BadUse, span)
+    note_unless(diagnostics, met, Rule::BadUse, span)
 }
 
 /// Notes what is found in a statement that stores, ends an instance or makes one, and nothing in any other.
@@ -169,26 +179,32 @@ fn store_statement(
     alloc: Global,
     tree: &Statement,
     facts: &Facts,
-    notes: &mut Notes,
+    diagnostics: &mut Diagnostics,
 ) -> Result<(), NoMemory>
-    ensures { OnOk result (notes.new ≡ all_noted notes.old (store_found tree.now facts.now)) }
+    ensures { OnOk result (diagnostics.new ≡ all_noted diagnostics.old (store_found tree.now facts.now)) }
 {
     match tree {
         Statement::Assign { span, place, value } => {
-            note_assign(alloc, facts, notes, *span, place, value)
+            note_assign(alloc, facts, diagnostics, *span, place, value)
         }
         Statement::Exchange { span, left, right } => {
-            note_exchange(alloc, facts, notes, *span, left, right)
+            note_exchange(alloc, facts, diagnostics, *span, left, right)
         }
         Statement::Increment { span, place } | Statement::Decrement { span, place } => {
-            note_counter(alloc, facts, notes, *span, place)
+            note_counter(alloc, facts, diagnostics, *span, place)
         }
-        Statement::Destroy { span, target } => note_destroy(alloc, facts, notes, *span, target),
+        Statement::Destroy { span, target } => note_destroy(
+            alloc,
+            facts,
+            diagnostics,
+            *span,
+            target,
+        ),
         Statement::Create {
             create: created,
             ..
         } => {
-            create(alloc, created, facts, notes)?;
+            create(alloc, created, facts, diagnostics)?;
             Ok(())
         }
         _ => Ok(()),
@@ -199,28 +215,39 @@ fn store_statement(
 fn plain_statement(
     alloc: Global,
     tree: &Statement,
-    around: &Around<'_>,
+    enclosing: &Enclosing<'_>,
     facts: &Facts,
-    notes: &mut Notes,
+    diagnostics: &mut Diagnostics,
 ) -> Result<(), NoMemory>
-    ensures { OnOk result (notes.new ≡ all_noted notes.old (plain_found tree.now (context_of around.now facts.now))) }
+    ensures { OnOk result (diagnostics.new ≡ all_noted diagnostics.old (plain_found tree.now (context_of enclosing.now facts.now))) }
 {
     match tree {
         Statement::Exit { span } | Statement::Next { span } => {
-            note_unless(notes, around.in_loop, Rule::BadUse, *span)
+            note_unless(diagnostics, enclosing.in_loop, Rule::BadUse, *span)
         }
         Statement::Reply { span } => {
-            note_unless(notes, may_reply(around.serving), Rule::BadUse, *span)
+            note_unless(
+                diagnostics,
+                may_reply(enclosing.serving),
+                Rule::BadUse,
+                *span,
+            )
         }
-        Statement::Stop { span, status } => note_stop(alloc, facts, notes, *span, status),
+        Statement::Stop { span, status } => note_stop(alloc, facts, diagnostics, *span, status),
         Statement::Call {
             span,
             invocation,
             ..
-        } => note_call(alloc, facts, around, notes, *span, invocation),
-        Statement::Send { span, invocation } => note_send(alloc, facts, notes, *span, invocation),
+        } => note_call(alloc, facts, enclosing, diagnostics, *span, invocation),
+        Statement::Send { span, invocation } => note_send(
+            alloc,
+            facts,
+            diagnostics,
+            *span,
+            invocation,
+        ),
         Statement::Forward { span, invocation } => {
-            note_forward(alloc, facts, around, notes, *span, invocation)
+            note_forward(alloc, facts, enclosing, diagnostics, *span, invocation)
         }
         Statement::Receive {
             span,
@@ -229,13 +256,13 @@ fn plain_statement(
         } => note_receive(
             alloc,
             facts,
-            around,
-            notes,
+            enclosing,
+            diagnostics,
             *span,
             operation,
             places.as_slice(),
         ),
-        _ => store_statement(alloc, tree, facts, notes),
+        _ => store_statement(alloc, tree, facts, diagnostics),
     }
 }
 
@@ -244,12 +271,12 @@ fn plain_statement(
 pub(crate) fn statement(
     alloc: Global,
     tree: &Statement,
-    around: &Around<'_>,
+    enclosing: &Enclosing<'_>,
     facts: &mut Facts,
-    notes: &mut Notes,
+    diagnostics: &mut Diagnostics,
 ) -> Result<(), NoMemory>
-    ensures known { OnOk result (facts.new ≡ (statement_read tree.now (context_of around.now facts.old)).facts) }
-    ensures noted { OnOk result (notes.new ≡ all_noted notes.old (statement_read tree.now (context_of around.now facts.old)).found) }
+    ensures known { OnOk result (facts.new ≡ (statement_read tree.now (context_of enclosing.now facts.old)).facts) }
+    ensures noted { OnOk result (diagnostics.new ≡ all_noted diagnostics.old (statement_read tree.now (context_of enclosing.now facts.old)).found) }
 {
     match tree {
         Statement::If {
@@ -257,9 +284,9 @@ pub(crate) fn statement(
             otherwise,
             ..
         } => {
-            branches(alloc, all.as_slice(), around, facts, notes)?;
+            branches(alloc, all.as_slice(), enclosing, facts, diagnostics)?;
             match otherwise {
-                Some(items) => block(alloc, items.as_slice(), around, facts, notes),
+                Some(items) => block(alloc, items.as_slice(), enclosing, facts, diagnostics),
                 None => Ok(()),
             }
         }
@@ -268,10 +295,10 @@ pub(crate) fn statement(
             otherwise,
             ..
         } => {
-            let within = looping(around);
-            branches(alloc, all.as_slice(), &within, facts, notes)?;
+            let within = looping(enclosing);
+            branches(alloc, all.as_slice(), &within, facts, diagnostics)?;
             match otherwise {
-                Some(items) => block(alloc, items.as_slice(), &within, facts, notes),
+                Some(items) => block(alloc, items.as_slice(), &within, facts, diagnostics),
                 None => Ok(()),
             }
         }
@@ -280,23 +307,35 @@ pub(crate) fn statement(
             block: items,
             ..
         } => {
-            quantifiers(alloc, facts, notes, all.as_slice())?;
-            block(alloc, items.as_slice(), &looping(around), facts, notes)
+            quantifiers(alloc, facts, diagnostics, all.as_slice())?;
+            block(
+                alloc,
+                items.as_slice(),
+                &looping(enclosing),
+                facts,
+                diagnostics,
+            )
         }
         Statement::In {
             span,
             arms: all,
             otherwise,
         } => {
-            note_mixture(facts, notes, *span, all.as_slice())?;
-            arms(alloc, all.as_slice(), *span, around, facts, notes)?;
+            note_mixture(facts, diagnostics, *span, all.as_slice())?;
+            arms(alloc, all.as_slice(), *span, enclosing, facts, diagnostics)?;
             match otherwise {
-                Some(items) => block(alloc, items.as_slice(), around, facts, notes),
+                Some(items) => block(alloc, items.as_slice(), enclosing, facts, diagnostics),
                 None => Ok(()),
             }
         }
-        Statement::Co { arms: all, .. } => co_arms(alloc, all.as_slice(), around, facts, notes),
-        _ => plain_statement(alloc, tree, around, facts, notes),
+        Statement::Co { arms: all, .. } => co_arms(
+            alloc,
+            all.as_slice(),
+            enclosing,
+            facts,
+            diagnostics,
+        ),
+        _ => plain_statement(alloc, tree, enclosing, facts, diagnostics),
     }
 }
 
@@ -305,15 +344,15 @@ pub(crate) fn statement(
 fn block(
     alloc: Global,
     items: &[BlockItem],
-    around: &Around<'_>,
+    enclosing: &Enclosing<'_>,
     facts: &mut Facts,
-    notes: &mut Notes,
+    diagnostics: &mut Diagnostics,
 ) -> Result<(), NoMemory>
-    ensures known { OnOk result (facts.new ≡ (in_order (map block_item_read items.now) (context_of around.now facts.old)).facts) }
-    ensures noted { OnOk result (notes.new ≡ all_noted notes.old (in_order (map block_item_read items.now) (context_of around.now facts.old)).found) }
+    ensures known { OnOk result (facts.new ≡ (in_order (map block_item_read items.now) (context_of enclosing.now facts.old)).facts) }
+    ensures noted { OnOk result (diagnostics.new ≡ all_noted diagnostics.old (in_order (map block_item_read items.now) (context_of enclosing.now facts.old)).found) }
 {
     for item in items {
-        block_item(alloc, item, around, facts, notes)?;
+        block_item(alloc, item, enclosing, facts, diagnostics)?;
     }
     Ok(())
 }
@@ -322,17 +361,17 @@ fn block(
 fn block_item(
     alloc: Global,
     item: &BlockItem,
-    around: &Around<'_>,
+    enclosing: &Enclosing<'_>,
     facts: &mut Facts,
-    notes: &mut Notes,
+    diagnostics: &mut Diagnostics,
 ) -> Result<(), NoMemory>
-    ensures known { OnOk result (facts.new ≡ (block_item_read item.now (context_of around.now facts.old)).facts) }
-    ensures noted { OnOk result (notes.new ≡ all_noted notes.old (block_item_read item.now (context_of around.now facts.old)).found) }
+    ensures known { OnOk result (facts.new ≡ (block_item_read item.now (context_of enclosing.now facts.old)).facts) }
+    ensures noted { OnOk result (diagnostics.new ≡ all_noted diagnostics.old (block_item_read item.now (context_of enclosing.now facts.old)).found) }
 {
     match item {
-        BlockItem::Const(tree) => local_const(alloc, facts, notes, tree),
-        BlockItem::Var(tree) => local_var(alloc, facts, notes, tree),
-        BlockItem::Statement(inner) => statement(alloc, inner, around, facts, notes),
+        BlockItem::Const(tree) => local_const(alloc, facts, diagnostics, tree),
+        BlockItem::Var(tree) => local_var(alloc, facts, diagnostics, tree),
+        BlockItem::Statement(inner) => statement(alloc, inner, enclosing, facts, diagnostics),
     }
 }
 
@@ -340,15 +379,15 @@ fn block_item(
 fn branches(
     alloc: Global,
     trees: &[Branch],
-    around: &Around<'_>,
+    enclosing: &Enclosing<'_>,
     facts: &mut Facts,
-    notes: &mut Notes,
+    diagnostics: &mut Diagnostics,
 ) -> Result<(), NoMemory>
-    ensures known { OnOk result (facts.new ≡ (in_order (map branch_read trees.now) (context_of around.now facts.old)).facts) }
-    ensures noted { OnOk result (notes.new ≡ all_noted notes.old (in_order (map branch_read trees.now) (context_of around.now facts.old)).found) }
+    ensures known { OnOk result (facts.new ≡ (in_order (map branch_read trees.now) (context_of enclosing.now facts.old)).facts) }
+    ensures noted { OnOk result (diagnostics.new ≡ all_noted diagnostics.old (in_order (map branch_read trees.now) (context_of enclosing.now facts.old)).found) }
 {
     for tree in trees {
-        branch(alloc, tree, around, facts, notes)?;
+        branch(alloc, tree, enclosing, facts, diagnostics)?;
     }
     Ok(())
 }
@@ -357,15 +396,15 @@ fn branches(
 fn branch(
     alloc: Global,
     tree: &Branch,
-    around: &Around<'_>,
+    enclosing: &Enclosing<'_>,
     facts: &mut Facts,
-    notes: &mut Notes,
+    diagnostics: &mut Diagnostics,
 ) -> Result<(), NoMemory>
-    ensures known { OnOk result (facts.new ≡ (branch_read tree.now (context_of around.now facts.old)).facts) }
-    ensures noted { OnOk result (notes.new ≡ all_noted notes.old (branch_read tree.now (context_of around.now facts.old)).found) }
+    ensures known { OnOk result (facts.new ≡ (branch_read tree.now (context_of enclosing.now facts.old)).facts) }
+    ensures noted { OnOk result (diagnostics.new ≡ all_noted diagnostics.old (branch_read tree.now (context_of enclosing.now facts.old)).found) }
 {
-    note_condition(alloc, facts, notes, &tree.guard)?;
-    block(alloc, tree.block.as_slice(), around, facts, notes)
+    note_condition(alloc, facts, diagnostics, &tree.guard)?;
+    block(alloc, tree.block.as_slice(), enclosing, facts, diagnostics)
 }
 
 #[cycle(statements)]
@@ -373,15 +412,15 @@ fn arms(
     alloc: Global,
     trees: &[Arm],
     span: Span,
-    around: &Around<'_>,
+    enclosing: &Enclosing<'_>,
     facts: &mut Facts,
-    notes: &mut Notes,
+    diagnostics: &mut Diagnostics,
 ) -> Result<(), NoMemory>
-    ensures known { OnOk result (facts.new ≡ (in_order (arms_at span (map arm_read trees.now)) (context_of around.now facts.old)).facts) }
-    ensures noted { OnOk result (notes.new ≡ all_noted notes.old (in_order (arms_at span (map arm_read trees.now)) (context_of around.now facts.old)).found) }
+    ensures known { OnOk result (facts.new ≡ (in_order (arms_at span (map arm_read trees.now)) (context_of enclosing.now facts.old)).facts) }
+    ensures noted { OnOk result (diagnostics.new ≡ all_noted diagnostics.old (in_order (arms_at span (map arm_read trees.now)) (context_of enclosing.now facts.old)).found) }
 {
     for tree in trees {
-        arm(alloc, tree, span, around, facts, notes)?;
+        arm(alloc, tree, span, enclosing, facts, diagnostics)?;
     }
     Ok(())
 }
@@ -392,43 +431,46 @@ fn arm(
     alloc: Global,
     tree: &Arm,
     span: Span,
-    around: &Around<'_>,
+    enclosing: &Enclosing<'_>,
     facts: &mut Facts,
-    notes: &mut Notes,
+    diagnostics: &mut Diagnostics,
 ) -> Result<(), NoMemory>
-    ensures known { OnOk result (facts.new ≡ ((arm_read tree.now).steps span (context_of around.now facts.old)).facts) }
-    ensures noted { OnOk result (notes.new ≡ all_noted notes.old ((arm_read tree.now).steps span (context_of around.now facts.old)).found) }
+    ensures known { OnOk result (facts.new ≡ ((arm_read tree.now).steps span (context_of enclosing.now facts.old)).facts) }
+    ensures noted { OnOk result (diagnostics.new ≡ all_noted diagnostics.old ((arm_read tree.now).steps span (context_of enclosing.now facts.old)).found) }
 {
     let formals = tree.formals.as_slice();
     let operation = operation_named(alloc, facts, &tree.operation)?;
     note_head(
         facts,
-        around.procs,
-        notes,
+        enclosing.procs,
+        diagnostics,
         span,
         formals,
         tree.returned.is_some(),
         &operation,
     )?;
     bind_operation(alloc, facts, formals, &tree.returned, &operation)?;
-    note_guards(alloc, facts, notes, &tree.condition, &tree.order)?;
-    let within = serving_for(around, spot_or(Spot::of(tree.operation.span), &operation));
-    block(alloc, tree.block.as_slice(), &within, facts, notes)
+    note_guards(alloc, facts, diagnostics, &tree.condition, &tree.order)?;
+    let within = serving_for(
+        enclosing,
+        spot_or(Spot::of(tree.operation.span), &operation),
+    );
+    block(alloc, tree.block.as_slice(), &within, facts, diagnostics)
 }
 
 #[cycle(statements)]
 fn co_arms(
     alloc: Global,
     trees: &[CoArm],
-    around: &Around<'_>,
+    enclosing: &Enclosing<'_>,
     facts: &mut Facts,
-    notes: &mut Notes,
+    diagnostics: &mut Diagnostics,
 ) -> Result<(), NoMemory>
-    ensures known { OnOk result (facts.new ≡ (in_order (map co_arm_read trees.now) (context_of around.now facts.old)).facts) }
-    ensures noted { OnOk result (notes.new ≡ all_noted notes.old (in_order (map co_arm_read trees.now) (context_of around.now facts.old)).found) }
+    ensures known { OnOk result (facts.new ≡ (in_order (map co_arm_read trees.now) (context_of enclosing.now facts.old)).facts) }
+    ensures noted { OnOk result (diagnostics.new ≡ all_noted diagnostics.old (in_order (map co_arm_read trees.now) (context_of enclosing.now facts.old)).found) }
 {
     for tree in trees {
-        co_arm(alloc, tree, around, facts, notes)?;
+        co_arm(alloc, tree, enclosing, facts, diagnostics)?;
     }
     Ok(())
 }
@@ -437,17 +479,23 @@ fn co_arms(
 fn co_arm(
     alloc: Global,
     tree: &CoArm,
-    around: &Around<'_>,
+    enclosing: &Enclosing<'_>,
     facts: &mut Facts,
-    notes: &mut Notes,
+    diagnostics: &mut Diagnostics,
 ) -> Result<(), NoMemory>
-    ensures known { OnOk result (facts.new ≡ (co_arm_read tree.now (context_of around.now facts.old)).facts) }
-    ensures noted { OnOk result (notes.new ≡ all_noted notes.old (co_arm_read tree.now (context_of around.now facts.old)).found) }
+    ensures known { OnOk result (facts.new ≡ (co_arm_read tree.now (context_of enclosing.now facts.old)).facts) }
+    ensures noted { OnOk result (diagnostics.new ≡ all_noted diagnostics.old (co_arm_read tree.now (context_of enclosing.now facts.old)).found) }
 {
-    quantifiers(alloc, facts, notes, tree.quantifiers.as_slice())?;
-    note_started(alloc, facts, notes, &tree.target, &tree.invocation)?;
+    quantifiers(alloc, facts, diagnostics, tree.quantifiers.as_slice())?;
+    note_started(alloc, facts, diagnostics, &tree.target, &tree.invocation)?;
     match &tree.block {
-        Some(items) => block(alloc, items.as_slice(), &looping(around), facts, notes),
+        Some(items) => block(
+            alloc,
+            items.as_slice(),
+            &looping(enclosing),
+            facts,
+            diagnostics,
+        ),
         None => Ok(()),
     }
 }

@@ -3,7 +3,7 @@ ghost use Rattle.sr_check.specs.Uses.{condition_rule, number_rule, choice_rule, 
 
 use sr_types::{Ty, Typed, may_be_bool, may_be_int, may_be_written, may_have_neighbours};
 
-/// Whether an expression may be a guard, or stand behind `st` or `and`: a `bool`.
+/// Whether an expression may be a guard, or stand after `st` or `and`: a `bool`.
 pub(crate) fn may_be_condition(guard: &Typed) -> bool
     ensures { result ≡ condition_rule guard.now }
 {
@@ -17,7 +17,7 @@ pub(crate) fn may_be_number(step: &Typed) -> bool
     may_be_int(&step.ty)
 }
 
-/// Whether an expression may stand behind `by`: an `int`, a `char` or a literal of an enumeration.
+/// Whether an expression may stand after `by`: an `int`, a `char` or a literal of an enumeration.
 pub(crate) fn may_choose(choice: &Typed) -> bool
     ensures { result ≡ choice_rule choice.now }
 {

@@ -1,4 +1,4 @@
--- What is declared before and behind a wave.
+-- What is declared before and after a wave.
 use Rattle.std.proofs.Common.{◌≡◌, ◌⊎◌, inl, inr, ℕ, ◌<◌, ◌≤◌, suc, zero, Bool, true, false, not, ◌&&◌, true≢false, List, [], ◌∷◌, ◌++◌, length, take, Option, Some, None, is_some, option_map, map, leb, refl, sym, ◌∙◌, ap}
 use Rattle.std.specs.List.{filter, list_any, list_all, slice_get, slice_set}
 use Rattle.std.proofs.lemmas.Bool.{leb-true, leb-false}
@@ -27,7 +27,7 @@ pub uses_stay : (ws : List Waiting) (facts : Facts) → (all_settled ws facts).u
 uses_stay [] facts = refl
 uses_stay (w ∷ ws) facts = uses_stay ws (settled facts w)
 
--- behind a declaration one more is declared
+-- after a declaration one more is declared
 data Declared (facts new : Facts) (spot other : Spot) : Type 0 where
   here : other ≡ spot → is_known new other ≡ true → Declared facts new spot other
   elsewhere : is_known new other ≡ is_known facts other → Declared facts new spot other
@@ -166,7 +166,7 @@ unknown_before vs facts spot e = by (true_or_false (is_known facts spot))
     by (inl k) = absurd (true≢false (sym (known_stays vs facts spot k) ∙ e))
     by (inr k) = k
 
--- what can have its type behind a wave, and couldn't before, names one of the wave
+-- what can have its type after a wave, and couldn't before, names one of the wave
 later_names : (vs : List Waiting) (facts : Facts) (w : Waiting) → can_settle facts w ≡ false → can_settle (all_settled vs facts) w ≡ true
     → (spot : Spot) × (list_any (same_spot spot) (needs_in facts.uses w) ≡ true) × (list_any (λ v. same_spot spot v.spot) vs ≡ true)
 later_names vs facts w before can =

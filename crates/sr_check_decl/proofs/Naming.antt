@@ -7,7 +7,7 @@ use Rattle.sr_names.specs.declared.spot.Spot.{Spot}
 use Rattle.sr_names.specs.Spots.{same_spot}
 use Rattle.sr_names.proofs.Marking.{entry-same, entry-other, same_spot-cases}
 use Rattle.sr_names.proofs.LinkLemmas.{same_spot-eq, same_spot-refl}
-use Rattle.sr_check_decl.specs.Needers.{needers_of, with_needer, with_needs, with_all_needs, needers_behind, has_place}
+use Rattle.sr_check_decl.specs.Needers.{needers_of, with_needer, with_needs, with_all_needs, needers_after, has_place}
 use Rattle.sr_check_decl.specs.Waiting.{Waiting}
 use Rattle.sr_check_decl.proofs.Tests.{either, or_left, true_or_false, none_some, any-left, any-right}
 
@@ -86,14 +86,14 @@ pub names-are-noted : (rows : List (List Spot)) (i : ℕ) (spots : List Spot) (s
 names-are-noted rows i spots spot is h =
     let none_more : i ≡ 0 + i = omega arith in ap (λ n. has_place (needers_of (with_all_needs [] 0 rows) spot) n) none_more ∙ all_needs-added [] 0 rows i spots spot is h
 
--- and among those behind a wave in which that is settled
-pub behind-has : (needers : List (Spot × List ℕ)) (ws : List Waiting) (spot : Spot) (i : ℕ) → list_any (λ w. same_spot spot w.spot) ws ≡ true → has_place (needers_of needers spot) i ≡ true
-    → has_place (needers_behind needers ws) i ≡ true
-behind-has needers [] spot i settles h = absurd (true≢false (sym settles))
-behind-has needers (w ∷ ws) spot i settles h = by (either (same_spot spot w.spot) _ settles) (λ k. behind-has needers ws spot i k h)
+-- and among those after a wave in which that is settled
+pub after-has : (needers : List (Spot × List ℕ)) (ws : List Waiting) (spot : Spot) (i : ℕ) → list_any (λ w. same_spot spot w.spot) ws ≡ true → has_place (needers_of needers spot) i ≡ true
+    → has_place (needers_after needers ws) i ≡ true
+after-has needers [] spot i settles h = absurd (true≢false (sym settles))
+after-has needers (w ∷ ws) spot i settles h = by (either (same_spot spot w.spot) _ settles) (λ k. after-has needers ws spot i k h)
   where
     by : (same_spot spot w.spot ≡ true) ⊎ (list_any (λ v. same_spot spot v.spot) ws ≡ true)
-        → (list_any (λ v. same_spot spot v.spot) ws ≡ true → has_place (needers_behind needers ws) i ≡ true)
-        → has_place (needers_of needers w.spot ++ needers_behind needers ws) i ≡ true
-    by (inl e) more = any-left (λ p. eqb i p) (needers_of needers w.spot) (needers_behind needers ws) (ap (λ x. has_place (needers_of needers x) i) (sym (same_spot-eq spot w.spot e)) ∙ h)
-    by (inr k) more = any-right (λ p. eqb i p) (needers_of needers w.spot) (needers_behind needers ws) (more k)
+        → (list_any (λ v. same_spot spot v.spot) ws ≡ true → has_place (needers_after needers ws) i ≡ true)
+        → has_place (needers_of needers w.spot ++ needers_after needers ws) i ≡ true
+    by (inl e) more = any-left (λ p. eqb i p) (needers_of needers w.spot) (needers_after needers ws) (ap (λ x. has_place (needers_of needers x) i) (sym (same_spot-eq spot w.spot e)) ∙ h)
+    by (inr k) more = any-right (λ p. eqb i p) (needers_of needers w.spot) (needers_after needers ws) (more k)

@@ -46,16 +46,16 @@ none_picked facts low [] = refl
 none_picked facts low (place ∷ places) = none_picked facts low places
 
 -- of the places above the first the first tells nothing
-picked_behind : (facts : Facts) (low : ℕ) (w : Waiting) (waiting : List Waiting) (top : ℕ) (places : List ℕ) → suc low ≤ top → Above top places
+picked_after : (facts : Facts) (low : ℕ) (w : Waiting) (waiting : List Waiting) (top : ℕ) (places : List ℕ) → suc low ≤ top → Above top places
     → picked_from facts low (w ∷ waiting) places ≡ picked_from facts (suc low) waiting places
 unfolding picked_from
-picked_behind facts low w waiting top [] fits above = refl
-picked_behind facts low w waiting top (place ∷ places) fits above =
+picked_after facts low w waiting top [] fits above = refl
+picked_after facts low w waiting top (place ∷ places) fits above =
     let low_place : suc low ≤ place = omega (arith, above.0) in
     let one_more : place - low ≡ suc (place - suc low) = omega arith in
     let higher : suc low ≤ suc place = omega arith in
     ap (λ n. cons_option (settling facts (slice_get (w ∷ waiting) n)) (picked_from facts low (w ∷ waiting) places)) one_more
-    ∙ ap (λ rest. cons_option (settling facts (slice_get waiting (place - suc low))) rest) (picked_behind facts low w waiting (suc place) places higher above.1)
+    ∙ ap (λ rest. cons_option (settling facts (slice_get waiting (place - suc low))) rest) (picked_after facts low w waiting (suc place) places higher above.1)
 
 Covers : Facts → ℕ → List Waiting → List ℕ → Type 0
 Covers facts low waiting places = (i : ℕ) (w : Waiting) → slice_get waiting i ≡ Some w → can_settle facts w ≡ true → has_place places (low + i) ≡ true
@@ -78,7 +78,7 @@ picks_all facts low (w ∷ waiting) (place ∷ places) above covers =
         let same : low + suc i ≡ suc low + i = omega arith in
         ap (λ n. has_place (place ∷ places) n) (sym same) ∙ covers (suc i) v is can
 
-    -- behind the place itself
+    -- after the place itself
     others : low ≡ place → Covers facts (suc low) waiting places
     others same i v is can = of (either _ _ (later i v is can))
       where
@@ -108,7 +108,7 @@ picks_all facts low (w ∷ waiting) (place ∷ places) above covers =
         let none_more : place - low ≡ 0 = omega (arith, same) in
         let aboves : Above (suc low) places = subst (λ n. Above (suc n) places) (sym same) above.1 in
         let rest : picked_from facts low (w ∷ waiting) places ≡ filter (can_settle facts) waiting =
-        picked_behind facts low w waiting (suc low) places (omega arith) aboves ∙ more places aboves (others same) in
+        picked_after facts low w waiting (suc low) places (omega arith) aboves ∙ more places aboves (others same) in
         ap (λ n. cons_option (settling facts (slice_get (w ∷ waiting) n)) (picked_from facts low (w ∷ waiting) places)) none_more
         ∙ one (can_settle facts w) (picked_from facts low (w ∷ waiting) places) rest
     by (inr e) more =
@@ -116,7 +116,7 @@ picks_all facts low (w ∷ waiting) (place ∷ places) above covers =
         let higher : suc low ≤ place = omega (arith, above.0, apart) in
         let aboves : Above (suc low) (place ∷ places) = (higher, above.1) in
         let none : has_place (place ∷ places) low ≡ false = none_below (suc low) low (place ∷ places) (omega arith) aboves in
-        picked_behind facts low w waiting (suc low) (place ∷ places) (omega arith) aboves
+        picked_after facts low w waiting (suc low) (place ∷ places) (omega arith) aboves
         ∙ more (place ∷ places) aboves later
         ∙ sym (ap (λ b. cond b (w ∷ filter (can_settle facts) waiting) (filter (can_settle facts) waiting)) (skipped none))
 

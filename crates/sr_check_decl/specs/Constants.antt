@@ -13,11 +13,11 @@ use Rattle.sr_types.specs.declared.typed.Typed.{Typed}
 use Rattle.sr_types.specs.Outcomes.{computed}
 use Rattle.sr_types.specs.Types.{fits_type, is_no_type, is_of_nulls}
 use Rattle.sr_check_expr.specs.declared.facts.Facts.{Facts}
-use Rattle.sr_check_expr.specs.declared.judged.Judged.{Judged}
-use Rattle.sr_check_expr.specs.Exprs.{judge_expr}
-use Rattle.sr_check_expr.specs.Judgements.{valued, broken_unless}
+use Rattle.sr_check_expr.specs.declared.typed_expr.TypedExpr.{TypedExpr}
+use Rattle.sr_check_expr.specs.Exprs.{infer_expr}
+use Rattle.sr_check_expr.specs.Typings.{valued, broken_unless}
 use Rattle.sr_check_decl.specs.declared.kind.Kind.{Kind}
-use Rattle.sr_check_decl.specs.TypeTrees.{free_bounds, type_kinded}
+use Rattle.sr_check_decl.specs.TypeTrees.{free_bounds, type_kinding}
 
 abbrev pub is_static : Static → Bool
 is_static (Known value) = true
@@ -29,11 +29,11 @@ is_fault _ = false
 
 -- the type that is written, where one is
 abbrev pub written_kind : Facts → Option TypeTree → Option Kind
-written_kind facts ty = option_map (λ tree. (type_kinded tree facts free_bounds).kind) ty
+written_kind facts ty = option_map (λ tree. (type_kinding tree facts free_bounds).kind) ty
 
 abbrev pub written_found : Facts → Option TypeTree → List Finding
 written_found facts None = []
-written_found facts (Some tree) = (type_kinded tree facts free_bounds).found
+written_found facts (Some tree) = (type_kinding tree facts free_bounds).found
 
 -- the value of a constant has its type, if it has one, and isn't of nothing but `null` and `noop` otherwise
 abbrev pub has_type_of : Option Kind → Typed → Bool
@@ -62,13 +62,13 @@ abbrev pub const_typed : Bool → Option Kind → Typed → Typed
 const_typed in_spec kind value = computed (const_type kind value.ty) (known_if (const_rule in_spec kind value) value.value)
 
 abbrev pub const_of : Bool → Facts → ConstDecl → Typed
-const_of in_spec facts constant = const_typed in_spec (written_kind facts constant.ty) (judge_expr constant.value facts).judged.typed
+const_of in_spec facts constant = const_typed in_spec (written_kind facts constant.ty) (infer_expr constant.value facts).typed_expr.typed
 
-abbrev pub const_value_found : Bool → Option Kind → Judged → List Finding
+abbrev pub const_value_found : Bool → Option Kind → TypedExpr → List Finding
 const_value_found in_spec kind value = broken_unless (const_rule in_spec kind value.typed) BadType value.span
 
 abbrev pub const_found : Bool → Facts → ConstDecl → List Finding
 const_found in_spec facts constant =
     written_found facts constant.ty
-    ++ (valued (judge_expr constant.value facts)
-    ++ const_value_found in_spec (written_kind facts constant.ty) (judge_expr constant.value facts).judged)
+    ++ (valued (infer_expr constant.value facts)
+    ++ const_value_found in_spec (written_kind facts constant.ty) (infer_expr constant.value facts).typed_expr)

@@ -9,18 +9,18 @@ use Rattle.sr_tree.specs.declared.declaration.OpItem.TheVariants.{Signed, Typed 
 use Rattle.sr_tree.specs.declared.declaration.Semaphore.{Semaphore}
 use Rattle.sr_tree.specs.declared.expr.Expr.{Expr}
 use Rattle.sr_check_expr.specs.declared.facts.Facts.{Facts}
-use Rattle.sr_check_expr.specs.Exprs.{judge_expr}
-use Rattle.sr_check_expr.specs.Judgements.{Judgement, valued, broken_unless}
+use Rattle.sr_check_expr.specs.Exprs.{infer_expr}
+use Rattle.sr_check_expr.specs.Typings.{Typing, valued, broken_unless}
 use Rattle.sr_check_expr.specs.Naming.{decl_info}
 use Rattle.sr_check_decl.specs.Bounds.{int_rule}
 use Rattle.sr_check_decl.specs.Constants.{const_found}
 use Rattle.sr_check_decl.specs.Declaring.{optype_of}
-use Rattle.sr_check_decl.specs.TypeTrees.{fixed_bounds, type_kinded, signature_read, named_decl}
+use Rattle.sr_check_decl.specs.TypeTrees.{fixed_bounds, type_kinding, signature_read, named_decl}
 use Rattle.sr_check_decl.specs.Variables.{var_found}
 
 -- ---- operations
 
--- behind `:` stands the name of the type of an operation
+-- after `:` stands the name of the type of an operation
 abbrev pub op_found : Facts → OpItem → List Finding
 op_found facts (Signed span name signature) = (signature_read signature facts).found
 op_found facts (OfType span name optype) = broken_unless (is_some (optype_of (decl_info facts.infos (named_decl facts optype)))) BadType span
@@ -30,12 +30,12 @@ ops_found facts [] = []
 ops_found facts (op ∷ ops) = op_found facts op ++ ops_found facts ops
 
 -- a semaphore begins with an int
-abbrev pub count_found : Judgement → List Finding
-count_found count = valued count ++ broken_unless (int_rule count.judged.typed) BadType count.judged.span
+abbrev pub count_found : Typing → List Finding
+count_found count = valued count ++ broken_unless (int_rule count.typed_expr.typed) BadType count.typed_expr.span
 
 abbrev pub initial_found : Facts → Option Expr → List Finding
 initial_found facts None = []
-initial_found facts (Some value) = count_found (judge_expr value facts)
+initial_found facts (Some value) = count_found (infer_expr value facts)
 
 abbrev pub sems_found : Facts → List Semaphore → List Finding
 sems_found facts [] = []
@@ -46,7 +46,7 @@ sems_found facts (semaphore ∷ more) = initial_found facts semaphore.value ++ s
 abbrev pub spec_item_found : Bool → Facts → SpecItem → List Finding
 spec_item_found in_spec facts (spec.Import imports) = []
 spec_item_found in_spec facts (spec.Const constant) = const_found in_spec facts constant
-spec_item_found in_spec facts (spec.«Type» named) = (type_kinded named.ty facts fixed_bounds).found
+spec_item_found in_spec facts (spec.«Type» named) = (type_kinding named.ty facts fixed_bounds).found
 spec_item_found in_spec facts (spec.OpType named) = (signature_read named.signature facts).found
 spec_item_found in_spec facts (spec.Op operations) = ops_found facts operations.items
 spec_item_found in_spec facts (spec.Var variables) = var_found facts variables

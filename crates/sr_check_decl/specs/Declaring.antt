@@ -53,7 +53,7 @@ use Rattle.sr_check_decl.specs.Constants.{const_of, is_static}
 use Rattle.sr_check_decl.specs.Entering.{entered, signed_entered, type_entered, written_entered, formals_entered, signature_entered, ops_entered}
 use Rattle.sr_check_decl.specs.Parts.{component_decl}
 use Rattle.sr_tree.specs.Parts.{name_of, spec_of, formals_of, body_of}
-use Rattle.sr_check_decl.specs.TypeTrees.{free_bounds, fixed_bounds, type_kinded, formal_read, signature_read, signature_type, operation_type, formals_at, all_params, named_decl}
+use Rattle.sr_check_decl.specs.TypeTrees.{free_bounds, fixed_bounds, type_kinding, formal_read, signature_read, signature_type, operation_type, formals_at, all_params, named_decl}
 use Rattle.sr_check_decl.specs.Variables.{declare, variable, vars_declared, untyped_var_rule}
 
 abbrev pub declare_name : Facts → Name → Info → Facts
@@ -81,7 +81,7 @@ untyped_vars_declared false decls facts = vars_declared ty.Untyped decls facts
 
 abbrev pub var_declared_by : Option TypeTree → VarDecl → Facts → Facts
 var_declared_by None variables facts = untyped_vars_declared (untyped_var_rule variables.decls variables.values) variables.decls facts
-var_declared_by (Some tree) variables facts = vars_declared (type_kinded tree facts free_bounds).kind.ty variables.decls facts
+var_declared_by (Some tree) variables facts = vars_declared (type_kinding tree facts free_bounds).kind.ty variables.decls facts
 
 abbrev pub var_declared : VarDecl → Facts → Facts
 var_declared variables facts = var_declared_by variables.ty variables (written_entered variables.ty facts)
@@ -117,7 +117,7 @@ at_facts tally facts = record tally { facts = facts }
 abbrev pub layer_declared : {C D : Type 0} → TypeDecl → Tally → TypeTree-F TypeTree Formal C D → Tally
 layer_declared named tally (TypeTree-F.Enum span literals) = enumeration_declared named.name literals tally
 layer_declared named tally (TypeTree-F.Rec span fields) = at_facts tally (declare_name tally.facts named.name (info.Record (fields_of tally.facts fields)))
-layer_declared named tally _ = at_facts tally (declare_name tally.facts named.name (info.«Type» (type_kinded named.ty tally.facts fixed_bounds).kind.ty))
+layer_declared named tally _ = at_facts tally (declare_name tally.facts named.name (info.«Type» (type_kinding named.ty tally.facts fixed_bounds).kind.ty))
 
 abbrev pub type_declared_in : TypeDecl → Tally → Tally
 type_declared_in named tally = layer_declared named tally (out-TypeTree named.ty)
@@ -247,13 +247,13 @@ head_declared_in component facts = with_formals (name_of component) (component_f
 abbrev pub head_declared : Component → Facts → Facts
 head_declared component facts = head_declared_in component (formals_entered (formals_of component) facts)
 
-abbrev pub behind_spec : Component → Tally → Tally
-behind_spec component tally = items_declared (body_of component) (at_facts tally (head_declared component tally.facts))
+abbrev pub after_spec : Component → Tally → Tally
+after_spec component tally = items_declared (body_of component) (at_facts tally (head_declared component tally.facts))
 
 -- a component declares the names of its spec, its formals, and the names of its body
 abbrev pub component_declared : Component → Tally → Tally
 component_declared component tally =
-    behind_spec component (spec_items_declared (spec_of component) (at_facts tally (standing tally.facts (component_decl component))))
+    after_spec component (spec_items_declared (spec_of component) (at_facts tally (standing tally.facts (component_decl component))))
 
 abbrev pub components_declared : List Component → Tally → Tally
 components_declared [] tally = tally

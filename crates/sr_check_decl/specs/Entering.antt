@@ -1,5 +1,5 @@
 -- The signatures that are written in a declaration: before the declaration is read they are put into the table of the
--- program, each behind those that stand inside it.
+-- program, each after those that stand inside it.
 use Rattle.std.specs.Prelude.{List, [], ◌∷◌, ◌++◌, Option, Some, None, if◌then◌else◌, map}
 use Rattle.sr_tree.specs.declared.declaration.OpItem.{OpItem}
 use Rattle.sr_tree.specs.declared.declaration.OpItem.TheVariants.{Signed as OfSignature, Typed as OfType}
@@ -20,7 +20,7 @@ use Rattle.sr_types.specs.Signatures.{with_signature}
 use Rattle.sr_check_expr.specs.declared.facts.Facts.{Facts}
 use Rattle.sr_check_decl.specs.declared.kind.NamedParam.{NamedParam}
 use Rattle.sr_check_decl.specs.declared.kind.Signed.{Signed}
-use Rattle.sr_check_decl.specs.TypeTrees.{mode_of, forms_of, formals_of, param_of, array_type, whole_signature, is_refused, signature_type, capability_kinded, named_kinded}
+use Rattle.sr_check_decl.specs.TypeTrees.{mode_of, forms_of, formals_of, param_of, array_type, whole_signature, is_refused, signature_type, capability_kinding, named_kinding}
 
 -- ---- one signature
 
@@ -54,51 +54,51 @@ read_in facts read = record { facts = facts; read = read }
 
 -- ---- formals and what is returned
 
-abbrev pub params_behind : Mode → List DeclTree → Entered Ty → Entered (List NamedParam)
-params_behind mode decls type = read_in type.facts (formals_of mode type.read decls)
+abbrev pub params_after : Mode → List DeclTree → Entered Ty → Entered (List NamedParam)
+params_after mode decls type = read_in type.facts (formals_of mode type.read decls)
 
 abbrev pub formal_step : Formal-F EntersType EntersFormals EntersReturned EntersSignature → EntersFormals
-formal_step formal facts = params_behind (mode_of formal.mode) formal.decls (formal.ty facts)
+formal_step formal facts = params_after (mode_of formal.mode) formal.decls (formal.ty facts)
 
-abbrev pub behind_params : List NamedParam → Entered (List NamedParam) → Entered (List NamedParam)
-behind_params params more = read_in more.facts (params ++ more.read)
+abbrev pub after_params : List NamedParam → Entered (List NamedParam) → Entered (List NamedParam)
+after_params params more = read_in more.facts (params ++ more.read)
 
 abbrev pub in_turn : List EntersFormals → EntersFormals
 in_turn [] facts = read_in facts []
-in_turn (formal ∷ formals) facts = behind_params (formal facts).read (in_turn formals (formal facts).facts)
+in_turn (formal ∷ formals) facts = after_params (formal facts).read (in_turn formals (formal facts).facts)
 
-abbrev pub param_behind : DeclTree → Entered Ty → Entered NamedParam
-param_behind decl type = read_in type.facts (param_of Res type.read decl)
+abbrev pub param_after : DeclTree → Entered Ty → Entered NamedParam
+param_after decl type = read_in type.facts (param_of Res type.read decl)
 
 abbrev pub returned_step : Returned-F EntersType EntersFormals EntersReturned EntersSignature → EntersReturned
-returned_step returned facts = param_behind returned.decl (returned.ty facts)
+returned_step returned facts = param_after returned.decl (returned.ty facts)
 
-abbrev pub some_behind : Entered NamedParam → Entered (Option NamedParam)
-some_behind returned = read_in returned.facts (Some returned.read)
+abbrev pub some_after : Entered NamedParam → Entered (Option NamedParam)
+some_after returned = read_in returned.facts (Some returned.read)
 
 abbrev pub maybe_returned : Option EntersReturned → Facts → Entered (Option NamedParam)
 maybe_returned None facts = read_in facts None
-maybe_returned (Some returned) facts = some_behind (returned facts)
+maybe_returned (Some returned) facts = some_after (returned facts)
 
 -- ---- signatures and types
 
-abbrev pub signed_behind : Signed → Facts → Entered Signed
-signed_behind signed facts = read_in (signed_entered signed facts) signed
+abbrev pub signed_after : Signed → Facts → Entered Signed
+signed_after signed facts = read_in (signed_entered signed facts) signed
 
-abbrev pub behind_returned : Forms → List NamedParam → Entered (Option NamedParam) → Entered Signed
-behind_returned forms params returned = signed_behind (record { params = params; returned = returned.read; forms = forms }) returned.facts
+abbrev pub after_returned : Forms → List NamedParam → Entered (Option NamedParam) → Entered Signed
+after_returned forms params returned = signed_after (record { params = params; returned = returned.read; forms = forms }) returned.facts
 
-abbrev pub behind_formals : Forms → Option EntersReturned → Entered (List NamedParam) → Entered Signed
-behind_formals forms returned params = behind_returned forms params.read (maybe_returned returned params.facts)
+abbrev pub after_formals : Forms → Option EntersReturned → Entered (List NamedParam) → Entered Signed
+after_formals forms returned params = after_returned forms params.read (maybe_returned returned params.facts)
 
 abbrev pub signature_step : Signature-F EntersType EntersFormals EntersReturned EntersSignature → EntersSignature
-signature_step signature facts = behind_formals (forms_of signature.kinds) signature.returned (in_turn signature.formals facts)
+signature_step signature facts = after_formals (forms_of signature.kinds) signature.returned (in_turn signature.formals facts)
 
-abbrev pub operation_behind : Entered Signed → Entered Ty
-operation_behind signed = read_in signed.facts (signature_type signed.facts signed.read)
+abbrev pub operation_after : Entered Signed → Entered Ty
+operation_after signed = read_in signed.facts (signature_type signed.facts signed.read)
 
-abbrev pub array_behind : DimsTree → Entered Ty → Entered Ty
-array_behind dims item = read_in item.facts (array_type dims item.read)
+abbrev pub array_after : DimsTree → Entered Ty → Entered Ty
+array_after dims item = read_in item.facts (array_type dims item.read)
 
 abbrev pub type_step : TypeTree-F EntersType EntersFormals EntersReturned EntersSignature → EntersType
 type_step (TypeTree-F.Int span) facts = read_in facts ty.Int
@@ -107,11 +107,11 @@ type_step (TypeTree-F.Char span) facts = read_in facts ty.Char
 type_step (TypeTree-F.Str span length) facts = read_in facts ty.Str
 type_step (TypeTree-F.Enum span literals) facts = read_in facts ty.Untyped
 type_step (TypeTree-F.Rec span fields) facts = read_in (in_turn fields facts).facts ty.Untyped
-type_step (TypeTree-F.CapOf span name) facts = read_in facts (capability_kinded facts span name).kind.ty
+type_step (TypeTree-F.CapOf span name) facts = read_in facts (capability_kinding facts span name).kind.ty
 type_step (TypeTree-F.CapMachine span) facts = read_in facts ty.Vm
-type_step (TypeTree-F.CapOperation span signature) facts = operation_behind (signature facts)
-type_step (TypeTree-F.Array span dims item) facts = array_behind dims (item facts)
-type_step (TypeTree-F.Named span name) facts = read_in facts (named_kinded facts span name).kind.ty
+type_step (TypeTree-F.CapOperation span signature) facts = operation_after (signature facts)
+type_step (TypeTree-F.Array span dims item) facts = array_after dims (item facts)
+type_step (TypeTree-F.Named span name) facts = read_in facts (named_kinding facts span name).kind.ty
 
 abbrev pub type_read_in : TypeTree → EntersType
 type_read_in = fold-TypeTree EntersType EntersFormals EntersReturned EntersSignature type_step formal_step returned_step signature_step

@@ -1,4 +1,4 @@
--- Constants and variables without a type get that of their value.
+-- Constants and variables without a type get the type of their value.
 use Rattle.std.specs.Prelude.{ℕ, suc, zero, Bool, true, false, not, ◌&&◌, List, [], ◌∷◌, None, is_some, length}
 use Rattle.std.specs.List.{filter}
 use Rattle.sr_names.specs.Noted.{Meanings}
@@ -9,7 +9,7 @@ use Rattle.sr_types.specs.Outcomes.{refused_typed}
 use Rattle.sr_check_expr.specs.declared.facts.Facts.{Facts}
 use Rattle.sr_check_expr.specs.declared.info.Info.{Info}
 use Rattle.sr_check_expr.specs.declared.info.Info.TheVariants as info
-use Rattle.sr_check_expr.specs.Exprs.{judge_expr}
+use Rattle.sr_check_expr.specs.Exprs.{infer_expr}
 use Rattle.sr_check_expr.specs.Infos.{info_at}
 use Rattle.sr_check_decl.specs.Constants.{const_typed, type_of_value}
 use Rattle.sr_check_decl.specs.Declaring.{standing, program_declared}
@@ -26,7 +26,7 @@ info_by false in_spec value = variable (type_of_value value.ty)
 
 -- a constant is what its value is, and a variable has the type of its value
 abbrev pub waiting_info : Facts → Waiting → Info
-waiting_info facts waiting = info_by waiting.is_constant waiting.in_spec (judge_expr waiting.value facts).judged.typed
+waiting_info facts waiting = info_by waiting.is_constant waiting.in_spec (infer_expr waiting.value facts).typed_expr.typed
 
 -- its value is looked at where it stands
 abbrev pub settled : Facts → Waiting → Facts

@@ -1,5 +1,5 @@
 pub mod Bounds
-pub mod Circles
+pub mod Cycles
 pub mod Constants
 pub mod Declarations
 pub mod Declaring

@@ -1,4 +1,4 @@
--- Which declarations name a declaration: their places in a list, by the spot of what they name.
+-- Which declarations name a declaration: their places in a list, by the spot of the declaration that they name.
 use Rattle.std.specs.Prelude.{ℕ, ◌+◌, Bool, List, [], ◌∷◌, ◌++◌, unwrap_or, ◌==◌}
 use Rattle.std.specs.List.{list_any}
 use Rattle.std.specs.Map.{lookup}
@@ -24,9 +24,9 @@ with_all_needs needers place [] = needers
 with_all_needs needers place (spots ∷ rows) = with_all_needs (with_needs needers place spots) (place + 1) rows
 
 -- those that name one of these
-abbrev pub needers_behind : List (Spot × List ℕ) → List Waiting → List ℕ
-needers_behind needers [] = []
-needers_behind needers (waiting ∷ more) = needers_of needers waiting.spot ++ needers_behind needers more
+abbrev pub needers_after : List (Spot × List ℕ) → List Waiting → List ℕ
+needers_after needers [] = []
+needers_after needers (waiting ∷ more) = needers_of needers waiting.spot ++ needers_after needers more
 
 -- whether a place is one of these
 abbrev pub has_place : List ℕ → ℕ → Bool

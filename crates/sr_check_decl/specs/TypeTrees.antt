@@ -37,31 +37,31 @@ use Rattle.sr_types.specs.Types.{is_no_type}
 use Rattle.sr_check_expr.specs.declared.facts.Facts.{Facts}
 use Rattle.sr_check_expr.specs.declared.info.Info.{Info}
 use Rattle.sr_check_expr.specs.declared.info.Info.TheVariants as info
-use Rattle.sr_check_decl.specs.declared.kind.Bounding.{Bounding}
+use Rattle.sr_check_decl.specs.declared.kind.BoundPolicy.{BoundPolicy}
 use Rattle.sr_check_decl.specs.declared.kind.Kind.{Kind}
 use Rattle.sr_check_decl.specs.declared.kind.NamedParam.{NamedParam}
 use Rattle.sr_check_decl.specs.declared.kind.Signed.{Signed}
 use Rattle.sr_check_decl.specs.Bounds.{int_rule, static_int, fixed_length_rule, fixed_int_rule, ends_in_range, item_type_rule}
-use Rattle.sr_check_expr.specs.Exprs.{judge_expr}
+use Rattle.sr_check_expr.specs.Exprs.{infer_expr}
 use Rattle.sr_check_expr.specs.Infos.{type_spot}
-use Rattle.sr_check_expr.specs.Judgements.{Judgement, valued, broken_unless}
+use Rattle.sr_check_expr.specs.Typings.{Typing, valued, broken_unless}
 use Rattle.sr_check_expr.specs.Naming.{decl_of, decl_info, deciding}
 use Rattle.sr_check_expr.specs.PredefinedCalls.{is_resource}
 
 -- bounds in type declarations, signatures, fields and formals are static; those of the type of a `var` needn't be
-abbrev pub free_bounds : Bounding
+abbrev pub free_bounds : BoundPolicy
 free_bounds = record { fixed = false; takes_star = false }
 
-abbrev pub fixed_bounds : Bounding
+abbrev pub fixed_bounds : BoundPolicy
 fixed_bounds = record { fixed = true; takes_star = false }
 
 -- a type, with what is found in it
-pub record Kinded : Type 0 where
+pub record Kinding : Type 0 where
   pub found : List Finding
   pub kind : Kind
 
-abbrev pub kinded_at : Span → List Finding → Ty → Kinded
-kinded_at span found ty = record { found = found; kind = record { span = span; ty = ty } }
+abbrev pub kinding_at : Span → List Finding → Ty → Kinding
+kinding_at span found ty = record { found = found; kind = record { span = span; ty = ty } }
 
 -- ---- bounds and lengths
 
@@ -75,62 +75,62 @@ abbrev pub length_rule : Bool → Typed → Bool
 length_rule true length = fixed_length_rule length
 length_rule false length = int_rule length
 
-abbrev pub bound_found : Bool → Judgement → List Finding
-bound_found fixed bound = valued bound ++ broken_unless (bound_rule fixed bound.judged.typed) BadType bound.judged.span
+abbrev pub bound_found : Bool → Typing → List Finding
+bound_found fixed bound = valued bound ++ broken_unless (bound_rule fixed bound.typed_expr.typed) BadType bound.typed_expr.span
 
-abbrev pub length_found : Bool → Judgement → List Finding
-length_found fixed length = valued length ++ broken_unless (length_rule fixed length.judged.typed) BadType length.judged.span
+abbrev pub length_found : Bool → Typing → List Finding
+length_found fixed length = valued length ++ broken_unless (length_rule fixed length.typed_expr.typed) BadType length.typed_expr.span
 
 -- where bounds have to be static, the higher isn't below the lower by more than 1
 abbrev pub ends_rule : Bool → Option ℤ → Option ℤ → Bool
 ends_rule fixed low high = not fixed || ends_in_range low high
 
-abbrev pub star_found : Bounding → Span → List Finding
-star_found bounding span = broken_unless bounding.takes_star BadType span
+abbrev pub star_found : BoundPolicy → Span → List Finding
+star_found bound_policy span = broken_unless bound_policy.takes_star BadType span
 
 -- `[n]` is `[1:n]`
-abbrev pub range_found : Bounding → Facts → RangeTree → List Finding
-range_found bounding facts (Length span length) =
-    bound_found bounding.fixed (judge_expr length facts)
-    ++ broken_unless (ends_rule bounding.fixed (Some (pos 1)) (static_int (judge_expr length facts).judged.typed.value)) BadType span
-range_found bounding facts (Bounds span low high) =
-    bound_found bounding.fixed (judge_expr low facts)
-    ++ (bound_found bounding.fixed (judge_expr high facts)
-    ++ broken_unless (ends_rule bounding.fixed (static_int (judge_expr low facts).judged.typed.value) (static_int (judge_expr high facts).judged.typed.value)) BadType span)
-range_found bounding facts (From span low) = bound_found bounding.fixed (judge_expr low facts) ++ star_found bounding span
-range_found bounding facts (Any span) = star_found bounding span
+abbrev pub range_found : BoundPolicy → Facts → RangeTree → List Finding
+range_found bound_policy facts (Length span length) =
+    bound_found bound_policy.fixed (infer_expr length facts)
+    ++ broken_unless (ends_rule bound_policy.fixed (Some (pos 1)) (static_int (infer_expr length facts).typed_expr.typed.value)) BadType span
+range_found bound_policy facts (Bounds span low high) =
+    bound_found bound_policy.fixed (infer_expr low facts)
+    ++ (bound_found bound_policy.fixed (infer_expr high facts)
+    ++ broken_unless (ends_rule bound_policy.fixed (static_int (infer_expr low facts).typed_expr.typed.value) (static_int (infer_expr high facts).typed_expr.typed.value)) BadType span)
+range_found bound_policy facts (From span low) = bound_found bound_policy.fixed (infer_expr low facts) ++ star_found bound_policy span
+range_found bound_policy facts (Any span) = star_found bound_policy span
 
-abbrev pub second_range_found : Bounding → Facts → Option RangeTree → List Finding
-second_range_found bounding facts None = []
-second_range_found bounding facts (Some range) = range_found bounding facts range
+abbrev pub second_range_found : BoundPolicy → Facts → Option RangeTree → List Finding
+second_range_found bound_policy facts None = []
+second_range_found bound_policy facts (Some range) = range_found bound_policy facts range
 
-abbrev pub dims_found : Bounding → Facts → DimsTree → List Finding
-dims_found bounding facts dims = range_found bounding facts dims.first ++ second_range_found bounding facts dims.second
+abbrev pub dims_found : BoundPolicy → Facts → DimsTree → List Finding
+dims_found bound_policy facts dims = range_found bound_policy facts dims.first ++ second_range_found bound_policy facts dims.second
 
 abbrev pub array_by : Option RangeTree → Ty → Ty
 array_by None item = ty.Vector item
 array_by (Some range) item = ty.Matrix item
 
--- an array of what isn't refused and is no array
+-- an array whose items have a type that isn't refused and is no array
 abbrev pub array_type : DimsTree → Ty → Ty
 array_type dims item = if is_no_type item || not (item_type_rule item) then ty.Untyped else array_by dims.second item
 
 -- the item type of an array is no array
-abbrev pub array_found : Bounding → Facts → DimsTree → Kind → List Finding
-array_found bounding facts dims item = dims_found bounding facts dims ++ broken_unless (item_type_rule item.ty) BadType item.span
+abbrev pub array_found : BoundPolicy → Facts → DimsTree → Kind → List Finding
+array_found bound_policy facts dims item = dims_found bound_policy facts dims ++ broken_unless (item_type_rule item.ty) BadType item.span
 
 -- a name that is declared may have dims of its own
-abbrev pub decl_found : Bounding → Facts → Kind → Option DimsTree → List Finding
-decl_found bounding facts item None = []
-decl_found bounding facts item (Some dims) = array_found bounding facts dims item
+abbrev pub decl_found : BoundPolicy → Facts → Kind → Option DimsTree → List Finding
+decl_found bound_policy facts item None = []
+decl_found bound_policy facts item (Some dims) = array_found bound_policy facts dims item
 
 abbrev pub decl_type : Option DimsTree → Ty → Ty
 decl_type None ty = ty
 decl_type (Some dims) ty = array_type dims ty
 
-abbrev pub decls_found : Bounding → Facts → Kind → List DeclTree → List Finding
-decls_found bounding facts item [] = []
-decls_found bounding facts item (decl ∷ decls) = decl_found bounding facts item decl.dims ++ decls_found bounding facts item decls
+abbrev pub decls_found : BoundPolicy → Facts → Kind → List DeclTree → List Finding
+decls_found bound_policy facts item [] = []
+decls_found bound_policy facts item (decl ∷ decls) = decl_found bound_policy facts item decl.dims ++ decls_found bound_policy facts item decls
 
 -- ---- names of types
 
@@ -160,15 +160,15 @@ abbrev pub named_decl : Facts → QualifiedName → Option Decl
 named_decl facts qualified = decl_of (meaning_at facts.uses (spot_of (deciding qualified).span))
 
 -- another sort of name is refused
-abbrev pub kinded : Span → Option Ty → Kinded
-kinded span None = kinded_at span (broken_unless false BadType span) ty.Untyped
-kinded span (Some named) = kinded_at span [] named
+abbrev pub kinding : Span → Option Ty → Kinding
+kinding span None = kinding_at span (broken_unless false BadType span) ty.Untyped
+kinding span (Some named) = kinding_at span [] named
 
-abbrev pub named_kinded : Facts → Span → QualifiedName → Kinded
-named_kinded facts span qualified = kinded span (type_by (named_decl facts qualified) (decl_info facts.infos (named_decl facts qualified)))
+abbrev pub named_kinding : Facts → Span → QualifiedName → Kinding
+named_kinding facts span qualified = kinding span (type_by (named_decl facts qualified) (decl_info facts.infos (named_decl facts qualified)))
 
-abbrev pub capability_kinded : Facts → Span → QualifiedName → Kinded
-capability_kinded facts span qualified = kinded span (capability_by (named_decl facts qualified) (decl_info facts.infos (named_decl facts qualified)))
+abbrev pub capability_kinding : Facts → Span → QualifiedName → Kinding
+capability_kinding facts span qualified = kinding span (capability_by (named_decl facts qualified) (decl_info facts.infos (named_decl facts qualified)))
 
 -- ---- formals
 
@@ -197,7 +197,7 @@ takes_in Var = true
 takes_in Res = false
 
 -- `*` stands only in formals that aren't `res` and aren't fields
-abbrev pub formal_bounds : Bool → Mode → Bounding
+abbrev pub formal_bounds : Bool → Mode → BoundPolicy
 formal_bounds is_field mode = record { fixed = true; takes_star = not is_field && takes_in mode }
 
 abbrev pub param_of : Mode → Ty → DeclTree → NamedParam
@@ -270,7 +270,7 @@ signature_type facts signed = if is_refused signed then ty.Untyped else operatio
 -- ---- all
 
 abbrev pub Kinds : Type 0
-Kinds = Facts → Bounding → Kinded
+Kinds = Facts → BoundPolicy → Kinding
 
 abbrev pub ReadsFormals : Type 0
 ReadsFormals = Facts → Bool → FormalsFound
@@ -281,10 +281,10 @@ ReadsReturned = Facts → ReturnsFound
 abbrev pub ReadsSignature : Type 0
 ReadsSignature = Facts → SignedFound
 
-abbrev pub formals_from : Facts → Bounding → Mode → List DeclTree → Kinded → FormalsFound
-formals_from facts bounding mode decls kinded = record {
-  found = kinded.found ++ decls_found bounding facts kinded.kind decls;
-  params = formals_of mode kinded.kind.ty decls;
+abbrev pub formals_from : Facts → BoundPolicy → Mode → List DeclTree → Kinding → FormalsFound
+formals_from facts bound_policy mode decls kinding = record {
+  found = kinding.found ++ decls_found bound_policy facts kinding.kind decls;
+  params = formals_of mode kinding.kind.ty decls;
 }
 
 abbrev pub formal_step : Formal-F Kinds ReadsFormals ReadsReturned ReadsSignature → ReadsFormals
@@ -292,10 +292,10 @@ formal_step formal facts is_field =
     formals_from facts (formal_bounds is_field (mode_of formal.mode)) (mode_of formal.mode) formal.decls
     (formal.ty facts (formal_bounds is_field (mode_of formal.mode)))
 
-abbrev pub returns_from : Facts → DeclTree → Kinded → ReturnsFound
-returns_from facts decl kinded = record {
-  found = kinded.found ++ decl_found fixed_bounds facts kinded.kind decl.dims;
-  param = param_of Res kinded.kind.ty decl;
+abbrev pub returns_from : Facts → DeclTree → Kinding → ReturnsFound
+returns_from facts decl kinding = record {
+  found = kinding.found ++ decl_found fixed_bounds facts kinding.kind decl.dims;
+  param = param_of Res kinding.kind.ty decl;
 }
 
 abbrev pub returned_step : Returned-F Kinds ReadsFormals ReadsReturned ReadsSignature → ReadsReturned
@@ -317,33 +317,33 @@ signature_step signature facts = record {
   };
 }
 
-abbrev pub string_found : Bounding → Facts → Span → Option Expr → List Finding
-string_found bounding facts span None = star_found bounding span
-string_found bounding facts span (Some length) = length_found bounding.fixed (judge_expr length facts)
+abbrev pub string_found : BoundPolicy → Facts → Span → Option Expr → List Finding
+string_found bound_policy facts span None = star_found bound_policy span
+string_found bound_policy facts span (Some length) = length_found bound_policy.fixed (infer_expr length facts)
 
-abbrev pub array_kinded : Facts → Bounding → Span → DimsTree → Kinded → Kinded
-array_kinded facts bounding span dims item =
-    kinded_at span (item.found ++ array_found bounding facts dims item.kind) (array_type dims item.kind.ty)
+abbrev pub array_kinding : Facts → BoundPolicy → Span → DimsTree → Kinding → Kinding
+array_kinding facts bound_policy span dims item =
+    kinding_at span (item.found ++ array_found bound_policy facts dims item.kind) (array_type dims item.kind.ty)
 
-abbrev pub operation_kinded : Facts → Span → SignedFound → Kinded
-operation_kinded facts span read = kinded_at span read.found (signature_type facts read.signed)
+abbrev pub operation_kinding : Facts → Span → SignedFound → Kinding
+operation_kinding facts span read = kinding_at span read.found (signature_type facts read.signed)
 
 -- enumerations and record types stand in type declarations alone, which say what they are
 abbrev pub type_step : TypeTree-F Kinds ReadsFormals ReadsReturned ReadsSignature → Kinds
-type_step (TypeTree-F.Int span) facts bounding = kinded_at span [] ty.Int
-type_step (TypeTree-F.Bool span) facts bounding = kinded_at span [] ty.Bool
-type_step (TypeTree-F.Char span) facts bounding = kinded_at span [] ty.Char
-type_step (TypeTree-F.Str span length) facts bounding = kinded_at span (string_found bounding facts span length) ty.Str
-type_step (TypeTree-F.Enum span literals) facts bounding = kinded_at span [] ty.Untyped
-type_step (TypeTree-F.Rec span fields) facts bounding = kinded_at span (formals_found (formals_at fields facts true)) ty.Untyped
-type_step (TypeTree-F.CapOf span name) facts bounding = capability_kinded facts span name
-type_step (TypeTree-F.CapMachine span) facts bounding = kinded_at span [] ty.Vm
-type_step (TypeTree-F.CapOperation span signature) facts bounding = operation_kinded facts span (signature facts)
-type_step (TypeTree-F.Array span dims item) facts bounding = array_kinded facts bounding span dims (item facts bounding)
-type_step (TypeTree-F.Named span name) facts bounding = named_kinded facts span name
+type_step (TypeTree-F.Int span) facts bound_policy = kinding_at span [] ty.Int
+type_step (TypeTree-F.Bool span) facts bound_policy = kinding_at span [] ty.Bool
+type_step (TypeTree-F.Char span) facts bound_policy = kinding_at span [] ty.Char
+type_step (TypeTree-F.Str span length) facts bound_policy = kinding_at span (string_found bound_policy facts span length) ty.Str
+type_step (TypeTree-F.Enum span literals) facts bound_policy = kinding_at span [] ty.Untyped
+type_step (TypeTree-F.Rec span fields) facts bound_policy = kinding_at span (formals_found (formals_at fields facts true)) ty.Untyped
+type_step (TypeTree-F.CapOf span name) facts bound_policy = capability_kinding facts span name
+type_step (TypeTree-F.CapMachine span) facts bound_policy = kinding_at span [] ty.Vm
+type_step (TypeTree-F.CapOperation span signature) facts bound_policy = operation_kinding facts span (signature facts)
+type_step (TypeTree-F.Array span dims item) facts bound_policy = array_kinding facts bound_policy span dims (item facts bound_policy)
+type_step (TypeTree-F.Named span name) facts bound_policy = named_kinding facts span name
 
-abbrev pub type_kinded : TypeTree → Kinds
-type_kinded = fold-TypeTree Kinds ReadsFormals ReadsReturned ReadsSignature type_step formal_step returned_step signature_step
+abbrev pub type_kinding : TypeTree → Kinds
+type_kinding = fold-TypeTree Kinds ReadsFormals ReadsReturned ReadsSignature type_step formal_step returned_step signature_step
 
 abbrev pub formal_read : Formal → ReadsFormals
 formal_read = fold-Formal Kinds ReadsFormals ReadsReturned ReadsSignature type_step formal_step returned_step signature_step

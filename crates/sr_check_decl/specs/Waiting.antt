@@ -1,4 +1,4 @@
--- Which constants and variables have no type of their own, and have that of their value.
+-- Which constants and variables have no type of their own. They have the type of their value.
 use Rattle.std.specs.Prelude.{Bool, true, false, List, [], ◌∷◌, ◌++◌, Option, Some, None}
 use Rattle.sr_value.specs.declared.place.Span.{Span}
 use Rattle.sr_names.specs.declared.meaning.Decl.{Decl}

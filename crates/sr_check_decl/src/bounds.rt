@@ -3,7 +3,7 @@ ghost use Rattle.sr_check_decl.specs.Bounds.{int_rule, static_int, fixed_length_
 
 use sr_types::{Static, Ty, Typed, may_be_int};
 
-/// The number that is known before the run, where the expression is an `int` of which it is known.
+/// The number, where the expression is an `int` that is known before the run.
 pub fn known_int(value: &Static) -> Option<i32>
     ensures { result ≡ static_int value.now }
 {
@@ -63,7 +63,7 @@ pub(crate) fn are_in_range(lo: Option<i32>, hi: Option<i32>) -> bool
     }
 }
 
-/// Whether a type may be that of an array's items: it is no array type.
+/// Whether an array's items may have this type: it is no array type.
 pub fn may_be_item(ty: &Ty) -> bool
     ensures { result ≡ item_type_rule ty.now }
 {

@@ -1,13 +1,13 @@
 ghost use Rattle.std.specs.Prelude.{◌≡◌, ◌++◌, IfOk, OnOk};
-ghost use Rattle.sr_names.specs.Notes.{all_noted};
-ghost use Rattle.sr_check_expr.specs.Exprs.{judge_expr};
-ghost use Rattle.sr_check_expr.specs.Judgements.{valued, value_found};
+ghost use Rattle.sr_names.specs.Diagnostics.{all_noted};
+ghost use Rattle.sr_check_expr.specs.Exprs.{infer_expr};
+ghost use Rattle.sr_check_expr.specs.Typings.{valued, value_found};
 ghost use Rattle.sr_check_decl.specs.Constants.{is_static, is_fault, written_kind, written_found, has_type_of, const_rule, known_if, type_of_value, const_type, const_typed, const_of, const_value_found, const_found};
 
 use crate::kind::Kind;
 use crate::written::{FREE, type_kind};
-use sr_check_expr::{Facts, Judged, expr, note_unless, note_value};
-use sr_names::{Notes, Rule};
+use sr_check_expr::{Facts, TypedExpr, expr, note_unless, note_value};
+use sr_names::{Diagnostics, Rule};
 use sr_tree::{ConstDecl, Expr, TypeTree};
 use sr_types::{Static, Ty, Typed, fits};
 use sr_value::NoMemory;
@@ -30,15 +30,15 @@ fn is_fault(value: &Static) -> bool
 pub(crate) fn written_kind(
     alloc: Global,
     facts: &Facts,
-    notes: &mut Notes,
+    diagnostics: &mut Diagnostics,
     tree: &Option<TypeTree>,
 ) -> Result<Option<Kind>, NoMemory>
     ensures value { IfOk result (λ kind. kind ≡ written_kind facts.now tree.now) }
-    ensures noted { OnOk result (notes.new ≡ all_noted notes.old (written_found facts.now tree.now)) }
+    ensures noted { OnOk result (diagnostics.new ≡ all_noted diagnostics.old (written_found facts.now tree.now)) }
 {
     match tree {
         None => Ok(None),
-        Some(written) => Ok(Some(type_kind(alloc, written, facts, notes, FREE)?)),
+        Some(written) => Ok(Some(type_kind(alloc, written, facts, diagnostics, FREE)?)),
     }
 }
 
@@ -98,59 +98,59 @@ pub(crate) fn const_typed(in_spec: bool, kind: Option<Kind>, value: Typed) -> Ty
 
 /// Notes where a constant may not have this value.
 fn note_const(
-    notes: &mut Notes,
+    diagnostics: &mut Diagnostics,
     in_spec: bool,
     kind: &Option<Kind>,
-    value: &Judged,
+    value: &TypedExpr,
 ) -> Result<(), NoMemory>
-    ensures { OnOk result (notes.new ≡ all_noted notes.old (const_value_found in_spec kind.now value.now)) }
+    ensures { OnOk result (diagnostics.new ≡ all_noted diagnostics.old (const_value_found in_spec kind.now value.now)) }
 {
     let met = may_be_const(in_spec, kind, &value.typed);
-    note_unless(notes, met, Rule::BadType, value.span)
+    note_unless(diagnostics, met, Rule::BadType, value.span)
 }
 
 /// Notes where an expression is no value, or one that a constant may not have.
 fn note_const_value(
-    notes: &mut Notes,
+    diagnostics: &mut Diagnostics,
     in_spec: bool,
     kind: &Option<Kind>,
-    value: &Judged,
+    value: &TypedExpr,
 ) -> Result<(), NoMemory>
-    ensures { OnOk result (notes.new ≡ all_noted notes.old (value_found value.now ++ const_value_found in_spec kind.now value.now)) }
+    ensures { OnOk result (diagnostics.new ≡ all_noted diagnostics.old (value_found value.now ++ const_value_found in_spec kind.now value.now)) }
 {
-    note_value(notes, value)?;
-    note_const(notes, in_spec, kind, value)
+    note_value(diagnostics, value)?;
+    note_const(diagnostics, in_spec, kind, value)
 }
 
 /// Notes what is found in the value of a constant, and answers what that is.
 fn const_value(
     alloc: Global,
     facts: &Facts,
-    notes: &mut Notes,
+    diagnostics: &mut Diagnostics,
     in_spec: bool,
     kind: &Option<Kind>,
     tree: &Expr,
 ) -> Result<Typed, NoMemory>
-    ensures value { IfOk result (λ typed. typed ≡ (judge_expr tree.now facts.now).judged.typed) }
-    ensures noted { let value = judge_expr tree.now facts.now in OnOk result (notes.new ≡ all_noted notes.old (valued value ++ const_value_found in_spec kind.now value.judged)) }
+    ensures value { IfOk result (λ typed. typed ≡ (infer_expr tree.now facts.now).typed_expr.typed) }
+    ensures noted { let value = infer_expr tree.now facts.now in OnOk result (diagnostics.new ≡ all_noted diagnostics.old (valued value ++ const_value_found in_spec kind.now value.typed_expr)) }
 {
-    let judged = expr(alloc, tree, facts, notes)?;
-    note_const_value(notes, in_spec, kind, &judged)?;
-    Ok(judged.typed)
+    let typed_expr = expr(alloc, tree, facts, diagnostics)?;
+    note_const_value(diagnostics, in_spec, kind, &typed_expr)?;
+    Ok(typed_expr.typed)
 }
 
 /// Notes what is found in the declaration of a constant, and answers what the constant is.
 pub fn constant(
     alloc: Global,
     facts: &Facts,
-    notes: &mut Notes,
+    diagnostics: &mut Diagnostics,
     in_spec: bool,
     tree: &ConstDecl,
 ) -> Result<Typed, NoMemory>
     ensures value { IfOk result (λ typed. typed ≡ const_of in_spec facts.now tree.now) }
-    ensures noted { OnOk result (notes.new ≡ all_noted notes.old (const_found in_spec facts.now tree.now)) }
+    ensures noted { OnOk result (diagnostics.new ≡ all_noted diagnostics.old (const_found in_spec facts.now tree.now)) }
 {
-    let kind = written_kind(alloc, facts, notes, &tree.ty)?;
-    let value = const_value(alloc, facts, notes, in_spec, &kind, &tree.value)?;
+    let kind = written_kind(alloc, facts, diagnostics, &tree.ty)?;
+    let value = const_value(alloc, facts, diagnostics, in_spec, &kind, &tree.value)?;
     Ok(const_typed(in_spec, kind, value))
 }

@@ -1,7 +1,7 @@
 ghost use Rattle.std.specs.Prelude.{◌≡◌, [], None, IfOk, OnOk, map};
-ghost use Rattle.sr_check_decl.specs.TypeTrees.{type_kinded, fixed_bounds};
+ghost use Rattle.sr_check_decl.specs.TypeTrees.{type_kinding, fixed_bounds};
 ghost use Rattle.sr_check_decl.specs.Entering.{formals_entered, signed_entered};
-ghost use Rattle.sr_check_decl.specs.Declaring.{declared_if, const_declared, untyped_vars_declared, var_declared, literal_info, literals_declared, enumeration_declared, field_info, fields_of, type_declared, spec_item_declared, item_declared, spec_items_declared, items_declared, params_declared, making, component_typed, component_formals, with_formals, behind_spec, component_declared, components_declared, files_declared, components_named, files_named, no_facts, program_declared, declare_name, at_facts, nowhere};
+ghost use Rattle.sr_check_decl.specs.Declaring.{declared_if, const_declared, untyped_vars_declared, var_declared, literal_info, literals_declared, enumeration_declared, field_info, fields_of, type_declared, spec_item_declared, item_declared, spec_items_declared, items_declared, params_declared, making, component_typed, component_formals, with_formals, after_spec, component_declared, components_declared, files_declared, components_named, files_named, no_facts, program_declared, declare_name, at_facts, nowhere};
 
 use crate::constants::{constant, is_static};
 use crate::entering::{enter_formals, enter_operations, enter_signed, enter_type, enter_written};
@@ -15,7 +15,7 @@ use crate::tally::{Tally, count_of, declare, declare_name, next, stand, variable
 use crate::variables::{declare_variables, may_be_untyped};
 use crate::written::{FIXED, FREE, all_formals, type_kind};
 use sr_check_expr::{Facts, FieldInfo, Here, Info, Infos, type_spot};
-use sr_names::{Decl, Members, Notes, Sort, Spot, Uses};
+use sr_names::{Decl, Diagnostics, Members, Sort, Spot, Uses};
 use sr_tree::{
     Component, ConstDecl, File, Formal, Item, Name, SpecItem, TypeDecl, TypeTree, VarDecl,
 };
@@ -42,7 +42,7 @@ fn declare_constant(
     ensures { OnOk result (facts.new ≡ const_declared in_spec tree.now facts.old) }
 {
     enter_written(alloc, facts, &tree.ty)?;
-    let typed = constant(alloc, facts, &mut Notes::new(alloc), in_spec, tree)?;
+    let typed = constant(alloc, facts, &mut Diagnostics::new(alloc), in_spec, tree)?;
     let met = tree.ty.is_some() || is_static(&typed.value);
     declare_if(facts, met, &tree.name, typed)
 }
@@ -61,7 +61,7 @@ fn declare_var(alloc: Global, facts: &mut Facts, tree: &VarDecl) -> Result<(), N
             declare_variables(alloc, facts, &Ty::Untyped, decls)
         }
         Some(written) => {
-            let kind = type_kind(alloc, written, facts, &mut Notes::new(alloc), FREE)?;
+            let kind = type_kind(alloc, written, facts, &mut Diagnostics::new(alloc), FREE)?;
             declare_variables(alloc, facts, &kind.ty, decls)
         }
     }
@@ -133,7 +133,7 @@ fn field_infos(alloc: Global, params: &[NamedParam]) -> Result<Row<FieldInfo>, N
 fn fields_of(alloc: Global, facts: &Facts, trees: &[Formal]) -> Result<Row<FieldInfo>, NoMemory>
     ensures { IfOk result (λ fields. fields ≡ fields_of facts.now trees.now) }
 {
-    let params = all_formals(alloc, trees, facts, &mut Notes::new(alloc), true)?;
+    let params = all_formals(alloc, trees, facts, &mut Diagnostics::new(alloc), true)?;
     field_infos(alloc, params.as_slice())
 }
 
@@ -150,9 +150,9 @@ fn declare_record(
 }
 
 fn declare_named_type(alloc: Global, facts: &mut Facts, tree: &TypeDecl) -> Result<(), NoMemory>
-    ensures { OnOk result (facts.new ≡ declare_name facts.old tree.now.name (Info.«Type» (type_kinded tree.now.ty facts.old fixed_bounds).kind.ty)) }
+    ensures { OnOk result (facts.new ≡ declare_name facts.old tree.now.name (Info.«Type» (type_kinding tree.now.ty facts.old fixed_bounds).kind.ty)) }
 {
-    let kind = type_kind(alloc, &tree.ty, facts, &mut Notes::new(alloc), FIXED)?;
+    let kind = type_kind(alloc, &tree.ty, facts, &mut Diagnostics::new(alloc), FIXED)?;
     declare_name(facts, &tree.name, Info::Type(kind.ty))
 }
 
@@ -252,7 +252,7 @@ fn making(params: Row<NamedParam>) -> Signed
     }
 }
 
-/// Declares a component by the signature of what makes its instances.
+/// Declares a component by the signature that makes its instances.
 fn declare_component_type(
     alloc: Global,
     facts: &mut Facts,
@@ -265,7 +265,7 @@ fn declare_component_type(
     declare_name(facts, name, Info::Component(ty))
 }
 
-/// Declares a component by what makes its instances, and the formals of that.
+/// Declares a component by the operation that makes its instances, and declares its formals.
 fn declare_made(
     alloc: Global,
     facts: &mut Facts,
@@ -297,7 +297,7 @@ fn component_formals(
 ) -> Result<Row<NamedParam>, NoMemory>
     ensures { IfOk result (λ params. params ≡ component_formals facts.now trees.now) }
 {
-    all_formals(alloc, trees, facts, &mut Notes::new(alloc), false)
+    all_formals(alloc, trees, facts, &mut Diagnostics::new(alloc), false)
 }
 
 /// Declares a component by its formals, and these.

@@ -1,6 +1,6 @@
 ghost use Rattle.std.specs.Prelude.{◌≡◌, ◌++◌, IfOk, OnOk, map};
 ghost use Rattle.std.specs.Option.{option_map};
-ghost use Rattle.sr_check_decl.specs.TypeTrees.{operation_type, capability_kinded, named_kinded};
+ghost use Rattle.sr_check_decl.specs.TypeTrees.{operation_type, capability_kinding, named_kinding};
 ghost use Rattle.sr_check_decl.specs.Entering.{entered, signed_entered, type_read_in, formal_read_in, returned_read_in, signature_read_in, formals_read_in, maybe_returned, written_entered, op_entered, ops_entered};
 
 use crate::kind::{NamedParam, Signed};
@@ -9,7 +9,7 @@ use crate::signatures::{
 };
 use crate::types::{array, capability_kind, named_kind};
 use sr_check_expr::Facts;
-use sr_names::Notes;
+use sr_names::Diagnostics;
 use sr_tree::{Formal, OpItem, QualifiedName, Returned, Signature, TypeTree};
 use sr_types::{Mode, Ty};
 use sr_value::{NoMemory, Row, Span};
@@ -46,17 +46,17 @@ fn capability(
     span: Span,
     name: &QualifiedName,
 ) -> Result<Ty, NoMemory>
-    ensures { IfOk result (λ ty. ty ≡ (capability_kinded facts.now span name.now).kind.ty) }
+    ensures { IfOk result (λ ty. ty ≡ (capability_kinding facts.now span name.now).kind.ty) }
 {
-    let kind = capability_kind(alloc, facts, &mut Notes::new(alloc), span, name)?;
+    let kind = capability_kind(alloc, facts, &mut Diagnostics::new(alloc), span, name)?;
     Ok(kind.ty)
 }
 
 /// The type that a name means.
 fn named(alloc: Global, facts: &Facts, span: Span, name: &QualifiedName) -> Result<Ty, NoMemory>
-    ensures { IfOk result (λ ty. ty ≡ (named_kinded facts.now span name.now).kind.ty) }
+    ensures { IfOk result (λ ty. ty ≡ (named_kinding facts.now span name.now).kind.ty) }
 {
-    let kind = named_kind(alloc, facts, &mut Notes::new(alloc), span, name)?;
+    let kind = named_kind(alloc, facts, &mut Diagnostics::new(alloc), span, name)?;
     Ok(kind.ty)
 }
 
@@ -138,7 +138,7 @@ fn enter_returned(
     }
 }
 
-/// Puts a signature into the table behind those that stand inside it, and answers it.
+/// Puts a signature into the table after those that stand inside it, and answers it.
 #[cycle(entered_types)]
 pub(crate) fn enter_signature(
     alloc: Global,

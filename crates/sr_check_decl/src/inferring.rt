@@ -5,19 +5,19 @@ ghost use Rattle.sr_check_decl.specs.Inferring.{is_settled, info_by, settled, al
 ghost use Rattle.sr_check_decl.specs.Needers.{with_all_needs};
 ghost use Rattle.sr_check_decl.specs.Needs.{needs_in, FirstAreKnown};
 ghost use Rattle.sr_check_decl.specs.Picked.{settling, picked};
-ghost use Rattle.sr_names.specs.Notes.{all_noted};
-ghost use Rattle.sr_check_decl.specs.Circles.{circles_found, leads_left};
+ghost use Rattle.sr_names.specs.Diagnostics.{all_noted};
+ghost use Rattle.sr_check_decl.specs.Cycles.{type_cycles_found, leads_left};
 ghost use Rattle.sr_check_decl.specs.Waiting.{files_waiting};
 
-use crate::circles::note_left;
 use crate::constants::{const_typed, type_of_value};
+use crate::cycles::note_left;
 use crate::declaring::program_declared;
-use crate::needers::{Needers, in_order, needers_behind, needers_of_all, places_below};
+use crate::needers::{Needers, in_order, needers_after, needers_of_all, places_below};
 use crate::needs::{Needs, needs_of_all};
 use crate::tally::{declare, stand, variable};
 use crate::waiting::{Waits, files_waiting};
 use sr_check_expr::{Facts, Info, expr};
-use sr_names::{Members, Notes, Uses};
+use sr_names::{Diagnostics, Members, Uses};
 use sr_tree::File;
 use sr_types::{Typed, refused};
 use sr_value::{NoMemory, Row};
@@ -47,9 +47,9 @@ fn settle(alloc: Global, facts: &mut Facts, waiting: &Waits<'_>) -> Result<(), N
 {
     let around = facts.here;
     stand(facts, waiting.component);
-    let judged = expr(alloc, waiting.value, facts, &mut Notes::new(alloc))?;
+    let typed_expr = expr(alloc, waiting.value, facts, &mut Diagnostics::new(alloc))?;
     facts.here = around;
-    let info = info_by(waiting.is_constant, waiting.in_spec, judged.typed);
+    let info = info_by(waiting.is_constant, waiting.in_spec, typed_expr.typed);
     declare(facts, waiting.spot, info)
 }
 
@@ -135,7 +135,7 @@ fn infer_waves(
             break;
         }
         settle_all(alloc, facts, wave.as_slice())?;
-        places = in_order(needers_behind(alloc, needers, wave.as_slice())?);
+        places = in_order(needers_after(alloc, needers, wave.as_slice())?);
     }
     Ok(())
 }
@@ -186,13 +186,13 @@ fn declare_all(
     alloc: Global,
     facts: &mut Facts,
     all: &Row<Waits<'_>>,
-    notes: &mut Notes,
+    diagnostics: &mut Diagnostics,
 ) -> Result<(), NoMemory>
     ensures value { OnOk result (facts.new ≡ given_up (map seen all.now) (inferred (map seen all.now) facts.old)) }
-    ensures noted { OnOk result (notes.new ≡ all_noted notes.old (circles_found (leads_left (inferred (map seen all.now) facts.old) (map seen all.now)))) }
+    ensures noted { OnOk result (diagnostics.new ≡ all_noted diagnostics.old (type_cycles_found (leads_left (inferred (map seen all.now) facts.old) (map seen all.now)))) }
 {
     infer(alloc, facts, all)?;
-    note_left(alloc, facts, all.as_slice(), notes)?;
+    note_left(alloc, facts, all.as_slice(), diagnostics)?;
     give_up(facts, all.as_slice())
 }
 
@@ -200,13 +200,13 @@ fn declare_waiting(
     alloc: Global,
     facts: &mut Facts,
     files: &[File],
-    notes: &mut Notes,
+    diagnostics: &mut Diagnostics,
 ) -> Result<(), NoMemory>
     ensures value { OnOk result (facts.new ≡ given_up (files_waiting files.now) (inferred (files_waiting files.now) facts.old)) }
-    ensures noted { OnOk result (notes.new ≡ all_noted notes.old (circles_found (leads_left (inferred (files_waiting files.now) facts.old) (files_waiting files.now)))) }
+    ensures noted { OnOk result (diagnostics.new ≡ all_noted diagnostics.old (type_cycles_found (leads_left (inferred (files_waiting files.now) facts.old) (files_waiting files.now)))) }
 {
     let all = files_waiting(alloc, files)?;
-    declare_all(alloc, facts, &all, notes)
+    declare_all(alloc, facts, &all, diagnostics)
 }
 
 /// Notes the declarations whose types lead to themselves, and answers all that is declared outside of procs and
@@ -216,12 +216,12 @@ pub fn program(
     uses: Uses,
     specs: Members,
     files: &[File],
-    notes: &mut Notes,
+    diagnostics: &mut Diagnostics,
 ) -> Result<Facts, NoMemory>
     ensures value { IfOk result (λ facts. facts ≡ program_known uses specs files.now) }
-    ensures noted { OnOk result (notes.new ≡ all_noted notes.old (circles_found (leads_left (program_inferred uses specs files.now) (files_waiting files.now)))) }
+    ensures noted { OnOk result (diagnostics.new ≡ all_noted diagnostics.old (type_cycles_found (leads_left (program_inferred uses specs files.now) (files_waiting files.now)))) }
 {
     let mut facts = program_declared(alloc, uses, specs, files)?;
-    declare_waiting(alloc, &mut facts, files, notes)?;
+    declare_waiting(alloc, &mut facts, files, diagnostics)?;
     Ok(facts)
 }

@@ -2,9 +2,9 @@ use sr_names::Spot;
 use sr_types::{Forms, Mode, Ty};
 use sr_value::{Row, Span, Text};
 
-/// Where a type stands.
+/// What the bounds and lengths in a type may be.
 #[derive(Clone, Copy)]
-pub struct Bounding {
+pub struct BoundPolicy {
     /// Whether its bounds and lengths have to be static.
     pub fixed: bool,
     /// Whether `*` may stand for one.

@@ -3,8 +3,8 @@
 #![tactic(auto)]
 
 mod bounds;
-mod circles;
 mod constants;
+mod cycles;
 mod declarations;
 mod declaring;
 mod entering;
@@ -28,7 +28,7 @@ pub use declarations::{note_operations, note_semaphores, note_spec_item, note_sp
 pub use declaring::declare_params;
 pub use entering::{enter_operations, enter_written};
 pub use inferring::program;
-pub use kind::{Bounding, Kind, NamedParam, Signed};
+pub use kind::{BoundPolicy, Kind, NamedParam, Signed};
 pub use operations::{declare_operations, declare_semaphores};
 pub use parts::component_decl;
 pub use tally::{declare, declare_name, stand, variable};

@@ -6,7 +6,7 @@ use sr_tree::{Create, Expr, Invocation, Part};
 use sr_value::{Boxed, NoMemory, Row, Span};
 use std::alloc::Global;
 
-/// Puts the names that are used in an expression behind those that are there.
+/// Appends the names that are used in an expression to those that are there.
 #[cycle(names)]
 pub(crate) fn push_names(tree: &Expr, names: &mut Row<Span>) -> Result<(), NoMemory>
     ensures { OnOk result (names.new ≡ names.old ++ names_in tree.now) }

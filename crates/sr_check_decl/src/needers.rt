@@ -1,7 +1,7 @@
 ghost use Rattle.std.specs.Prelude.{◌≡◌, ◌++◌, ◌<◌, [], ℕ, IfOk, OnOk, length, map, slice_index};
 ghost use Rattle.std.specs.List.Sorted.{IsStrictlySortedBy};
 ghost use Rattle.std.specs.Ordering.{nat_cmp};
-ghost use Rattle.sr_check_decl.specs.Needers.{needers_of, with_needer, with_needs, with_all_needs, needers_behind, has_place};
+ghost use Rattle.sr_check_decl.specs.Needers.{needers_of, with_needer, with_needs, with_all_needs, needers_after, has_place};
 ghost use Rattle.sr_check_decl.specs.Waits.{seen};
 
 use crate::waiting::Waits;
@@ -93,12 +93,12 @@ fn push_places(found: &mut Row<usize>, places: &[usize]) -> Result<(), NoMemory>
 }
 
 /// The places of the declarations that name one of these.
-pub(crate) fn needers_behind(
+pub(crate) fn needers_after(
     alloc: Global,
     needers: &Needers,
     wave: &[Waits<'_>],
 ) -> Result<Row<usize>, NoMemory>
-    ensures { IfOk result (λ places. places ≡ needers_behind needers.now (map seen wave.now)) }
+    ensures { IfOk result (λ places. places ≡ needers_after needers.now (map seen wave.now)) }
 {
     let mut found = Row::new(alloc);
     for waiting in wave {

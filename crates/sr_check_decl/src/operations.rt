@@ -1,6 +1,6 @@
 ghost use Rattle.std.specs.Prelude.{◌≡◌, [], None, IfOk, OnOk};
 ghost use Rattle.std.specs.Option.{option_copied};
-ghost use Rattle.sr_names.specs.Notes.{all_noted};
+ghost use Rattle.sr_names.specs.Diagnostics.{all_noted};
 ghost use Rattle.sr_check_decl.specs.Declarations.{op_found};
 ghost use Rattle.sr_check_decl.specs.TypeTrees.{signature_read};
 ghost use Rattle.sr_check_decl.specs.Declaring.{declare_name, operation, optype_of, or_untyped, op_type, op_item_name, ops_declared, operation_declared, semaphore_signature, semaphore_declared, sems_declared, process_params, process_signature, process_declared, procedure_declared, optype_declared, written_type};
@@ -12,7 +12,7 @@ use crate::tally::declare_name;
 use crate::types::named_decl;
 use crate::written::signature;
 use sr_check_expr::{Facts, Info, decl_info, note_unless};
-use sr_names::{Notes, Rule};
+use sr_names::{Diagnostics, Rule};
 use sr_tree::{Name, OpItem, OpTypeDecl, Process, Quantifier, Semaphore, Signature};
 use sr_types::{Forms, Mode, Param, Ty};
 use sr_value::{Duplicate, NoMemory, Row, Span};
@@ -52,13 +52,13 @@ fn or_untyped(alloc: Global, ty: Option<&Ty>) -> Result<Ty, NoMemory>
 pub(crate) fn signed_type(
     alloc: Global,
     facts: &Facts,
-    notes: &mut Notes,
+    diagnostics: &mut Diagnostics,
     tree: &Signature,
 ) -> Result<Ty, NoMemory>
     ensures value { IfOk result (λ ty. ty ≡ written_type tree.now facts.now) }
-    ensures noted { OnOk result (notes.new ≡ all_noted notes.old (signature_read tree.now facts.now).found) }
+    ensures noted { OnOk result (diagnostics.new ≡ all_noted diagnostics.old (signature_read tree.now facts.now).found) }
 {
-    let signed = signature(alloc, tree, facts, notes)?;
+    let signed = signature(alloc, tree, facts, diagnostics)?;
     signature_type(alloc, facts, &signed)
 }
 
@@ -66,20 +66,20 @@ pub(crate) fn signed_type(
 pub(crate) fn op_type(
     alloc: Global,
     facts: &Facts,
-    notes: &mut Notes,
+    diagnostics: &mut Diagnostics,
     item: &OpItem,
 ) -> Result<Ty, NoMemory>
     ensures value { IfOk result (λ ty. ty ≡ op_type facts.now item.now) }
-    ensures noted { OnOk result (notes.new ≡ all_noted notes.old (op_found facts.now item.now)) }
+    ensures noted { OnOk result (diagnostics.new ≡ all_noted diagnostics.old (op_found facts.now item.now)) }
 {
     match item {
         OpItem::Signed {
             signature: written,
             ..
-        } => signed_type(alloc, facts, notes, written),
+        } => signed_type(alloc, facts, diagnostics, written),
         OpItem::Typed { span, optype, .. } => {
             let named = optype_of(decl_info(&facts.infos, named_decl(facts, optype)));
-            note_unless(notes, named.is_some(), Rule::BadType, *span)?;
+            note_unless(diagnostics, named.is_some(), Rule::BadType, *span)?;
             or_untyped(alloc, named)
         }
     }
@@ -102,7 +102,7 @@ fn declare_operation(
 ) -> Result<(), NoMemory>
     ensures { OnOk result (facts.new ≡ declare_name facts.old (op_item_name item.now) (operation facts.old is_local (op_type facts.old item.now))) }
 {
-    let ty = op_type(alloc, facts, &mut Notes::new(alloc), item)?;
+    let ty = op_type(alloc, facts, &mut Diagnostics::new(alloc), item)?;
     let info = operation(facts, is_local, ty);
     declare_name(facts, op_item_name(item), info)
 }
@@ -224,7 +224,7 @@ pub(crate) fn declare_procedure(
     ensures { OnOk result (facts.new ≡ procedure_declared name.now tree.now facts.old) }
 {
     enter_signature(alloc, facts, tree)?;
-    let ty = signed_type(alloc, facts, &mut Notes::new(alloc), tree)?;
+    let ty = signed_type(alloc, facts, &mut Diagnostics::new(alloc), tree)?;
     let info = operation(facts, false, ty);
     declare_name(facts, name, info)
 }
@@ -238,6 +238,6 @@ pub(crate) fn declare_optype(
     ensures { OnOk result (facts.new ≡ optype_declared tree.now facts.old) }
 {
     enter_signature(alloc, facts, &tree.signature)?;
-    let ty = signed_type(alloc, facts, &mut Notes::new(alloc), &tree.signature)?;
+    let ty = signed_type(alloc, facts, &mut Diagnostics::new(alloc), &tree.signature)?;
     declare_name(facts, &tree.name, Info::OpType(ty))
 }

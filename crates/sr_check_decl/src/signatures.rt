@@ -3,7 +3,7 @@ ghost use Rattle.std.specs.List.{list_any};
 ghost use Rattle.std.specs.Option.{option_map};
 ghost use Rattle.sr_check_decl.specs.TypeTrees.{mode_of, formal_bounds, param_of, formals_of, is_call, forms_by, forms_of, is_refused_return, are_refused, params_of, whole_signature, numbered_type, operation_type, is_refused, signature_type};
 
-use crate::kind::{Bounding, NamedParam, Signed};
+use crate::kind::{BoundPolicy, NamedParam, Signed};
 use crate::types::decl_type;
 use sr_check_expr::Facts;
 use sr_names::Spot;
@@ -24,10 +24,10 @@ pub(crate) fn mode_of(written: Option<PassMode>) -> Mode
 }
 
 /// Where the type of a formal or a field stands: `*` is for formals alone, and not for `res` ones.
-pub(crate) fn formal_bounds(is_field: bool, mode: Mode) -> Bounding
+pub(crate) fn formal_bounds(is_field: bool, mode: Mode) -> BoundPolicy
     ensures { result ≡ formal_bounds is_field mode }
 {
-    Bounding {
+    BoundPolicy {
         fixed: true,
         takes_star: !is_field && !matches!(mode, Mode::Res),
     }

@@ -1,18 +1,18 @@
 ghost use Rattle.std.specs.Prelude.{◌≡◌, IfOk, OnOk, option_copied};
-ghost use Rattle.sr_names.specs.Notes.{all_noted};
-ghost use Rattle.sr_check_decl.specs.TypeTrees.{array_type, array_found, decl_found, decl_type, decls_found, declared_type, type_by, capability_of, capability_by, named_decl, kinded, named_kinded, capability_kinded};
+ghost use Rattle.sr_names.specs.Diagnostics.{all_noted};
+ghost use Rattle.sr_check_decl.specs.TypeTrees.{array_type, array_found, decl_found, decl_type, decls_found, declared_type, type_by, capability_of, capability_by, named_decl, kinding, named_kinding, capability_kinding};
 
 use crate::bounds::may_be_item;
-use crate::kind::{Bounding, Kind};
+use crate::kind::{BoundPolicy, Kind};
 use crate::ranges::dims;
 use sr_check_expr::{Facts, Info, deciding, decl_info, decl_of, note_unless, type_spot};
-use sr_names::{Decl, Notes, Rule, Sort, Spot};
+use sr_names::{Decl, Diagnostics, Rule, Sort, Spot};
 use sr_tree::{Decl as DeclTree, DimsTree, QualifiedName};
 use sr_types::Ty;
 use sr_value::{Boxed, Duplicate, NoMemory, Span};
 use std::alloc::Global;
 
-/// An array of what isn't refused and is no array.
+/// An array whose items have a type that isn't refused and is no array.
 pub(crate) fn array(alloc: Global, tree: &DimsTree, item: Ty) -> Result<Ty, NoMemory>
     ensures { IfOk result (λ ty. ty ≡ array_type tree.now item) }
 {
@@ -30,30 +30,30 @@ pub(crate) fn array(alloc: Global, tree: &DimsTree, item: Ty) -> Result<Ty, NoMe
 pub(crate) fn note_array(
     alloc: Global,
     facts: &Facts,
-    notes: &mut Notes,
-    bounding: Bounding,
+    diagnostics: &mut Diagnostics,
+    bound_policy: BoundPolicy,
     tree: &DimsTree,
     item: &Kind,
 ) -> Result<(), NoMemory>
-    ensures { OnOk result (notes.new ≡ all_noted notes.old (array_found bounding facts.now tree.now item.now)) }
+    ensures { OnOk result (diagnostics.new ≡ all_noted diagnostics.old (array_found bound_policy facts.now tree.now item.now)) }
 {
-    dims(alloc, facts, notes, bounding, tree)?;
-    note_unless(notes, may_be_item(&item.ty), Rule::BadType, item.span)
+    dims(alloc, facts, diagnostics, bound_policy, tree)?;
+    note_unless(diagnostics, may_be_item(&item.ty), Rule::BadType, item.span)
 }
 
 /// Notes what is found at the dims of a name that is declared.
 pub(crate) fn note_decl(
     alloc: Global,
     facts: &Facts,
-    notes: &mut Notes,
-    bounding: Bounding,
+    diagnostics: &mut Diagnostics,
+    bound_policy: BoundPolicy,
     item: &Kind,
     tree: &Option<DimsTree>,
 ) -> Result<(), NoMemory>
-    ensures { OnOk result (notes.new ≡ all_noted notes.old (decl_found bounding facts.now item.now tree.now)) }
+    ensures { OnOk result (diagnostics.new ≡ all_noted diagnostics.old (decl_found bound_policy facts.now item.now tree.now)) }
 {
     match tree {
-        Some(written) => note_array(alloc, facts, notes, bounding, written, item),
+        Some(written) => note_array(alloc, facts, diagnostics, bound_policy, written, item),
         None => Ok(()),
     }
 }
@@ -73,15 +73,15 @@ pub fn decl_type(alloc: Global, tree: &Option<DimsTree>, ty: &Ty) -> Result<Ty, 
 pub(crate) fn note_decls(
     alloc: Global,
     facts: &Facts,
-    notes: &mut Notes,
-    bounding: Bounding,
+    diagnostics: &mut Diagnostics,
+    bound_policy: BoundPolicy,
     item: &Kind,
     decls: &[DeclTree],
 ) -> Result<(), NoMemory>
-    ensures { OnOk result (notes.new ≡ all_noted notes.old (decls_found bounding facts.now item.now decls.now)) }
+    ensures { OnOk result (diagnostics.new ≡ all_noted diagnostics.old (decls_found bound_policy facts.now item.now decls.now)) }
 {
     for decl in decls {
-        note_decl(alloc, facts, notes, bounding, item, &decl.dims)?;
+        note_decl(alloc, facts, diagnostics, bound_policy, item, &decl.dims)?;
     }
     Ok(())
 }
@@ -148,14 +148,18 @@ pub(crate) fn named_decl(facts: &Facts, qualified: &QualifiedName) -> Option<Dec
 }
 
 /// Notes where a name is of another sort.
-fn kind_named(notes: &mut Notes, span: Span, named: Option<Ty>) -> Result<Kind, NoMemory>
-    ensures value { IfOk result (λ kind. kind ≡ (kinded span named).kind) }
-    ensures noted { OnOk result (notes.new ≡ all_noted notes.old (kinded span named).found) }
+fn kind_named(
+    diagnostics: &mut Diagnostics,
+    span: Span,
+    named: Option<Ty>,
+) -> Result<Kind, NoMemory>
+    ensures value { IfOk result (λ kind. kind ≡ (kinding span named).kind) }
+    ensures noted { OnOk result (diagnostics.new ≡ all_noted diagnostics.old (kinding span named).found) }
 {
     match named {
         Some(ty) => Ok(Kind { span, ty }),
         None => {
-            note_unless(notes, false, Rule::BadType, span)?;
+            note_unless(diagnostics, false, Rule::BadType, span)?;
             Ok(Kind {
                 span,
                 ty: Ty::Untyped,
@@ -167,29 +171,29 @@ fn kind_named(notes: &mut Notes, span: Span, named: Option<Ty>) -> Result<Kind, 
 pub(crate) fn named_kind(
     alloc: Global,
     facts: &Facts,
-    notes: &mut Notes,
+    diagnostics: &mut Diagnostics,
     span: Span,
     qualified: &QualifiedName,
 ) -> Result<Kind, NoMemory>
-    ensures value { IfOk result (λ kind. kind ≡ (named_kinded facts.now span qualified.now).kind) }
-    ensures noted { OnOk result (notes.new ≡ all_noted notes.old (named_kinded facts.now span qualified.now).found) }
+    ensures value { IfOk result (λ kind. kind ≡ (named_kinding facts.now span qualified.now).kind) }
+    ensures noted { OnOk result (diagnostics.new ≡ all_noted diagnostics.old (named_kinding facts.now span qualified.now).found) }
 {
     let decl = named_decl(facts, qualified);
     let named = type_by(alloc, decl, decl_info(&facts.infos, decl))?;
-    kind_named(notes, span, named)
+    kind_named(diagnostics, span, named)
 }
 
 pub(crate) fn capability_kind(
     alloc: Global,
     facts: &Facts,
-    notes: &mut Notes,
+    diagnostics: &mut Diagnostics,
     span: Span,
     qualified: &QualifiedName,
 ) -> Result<Kind, NoMemory>
-    ensures value { IfOk result (λ kind. kind ≡ (capability_kinded facts.now span qualified.now).kind) }
-    ensures noted { OnOk result (notes.new ≡ all_noted notes.old (capability_kinded facts.now span qualified.now).found) }
+    ensures value { IfOk result (λ kind. kind ≡ (capability_kinding facts.now span qualified.now).kind) }
+    ensures noted { OnOk result (diagnostics.new ≡ all_noted diagnostics.old (capability_kinding facts.now span qualified.now).found) }
 {
     let decl = named_decl(facts, qualified);
     let named = capability_by(alloc, decl, decl_info(&facts.infos, decl))?;
-    kind_named(notes, span, named)
+    kind_named(diagnostics, span, named)
 }

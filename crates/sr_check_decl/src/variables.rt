@@ -1,15 +1,15 @@
 ghost use Rattle.std.specs.Prelude.{◌≡◌, IfOk, OnOk};
-ghost use Rattle.sr_names.specs.Notes.{all_noted};
-ghost use Rattle.sr_check_expr.specs.Judgements.{judged_of};
-ghost use Rattle.sr_check_decl.specs.Variables.{vars_declared, initial_value_found, values_found, typed_vars_found, has_no_dims, untyped_var_rule, nulls_found, no_kind, untyped_vars_found, var_rules_found, var_found, type_by_values, vars_type, local_var, values_judged};
+ghost use Rattle.sr_names.specs.Diagnostics.{all_noted};
+ghost use Rattle.sr_check_expr.specs.Typings.{typed_exprs_of};
+ghost use Rattle.sr_check_decl.specs.Variables.{vars_declared, initial_value_found, values_found, typed_vars_found, has_no_dims, untyped_var_rule, nulls_found, no_kind, untyped_vars_found, var_rules_found, var_found, type_by_values, vars_type, local_var, typings_of};
 
 use crate::constants::type_of_value;
 use crate::kind::Kind;
 use crate::tally::{declare_name, variable};
 use crate::types::{decl_type, note_decls};
 use crate::written::{FREE, type_kind};
-use sr_check_expr::{Facts, Judged, all, as_many, note_unless, note_values};
-use sr_names::{Notes, Rule};
+use sr_check_expr::{Facts, TypedExpr, all, as_many, note_unless, note_values};
+use sr_names::{Diagnostics, Rule};
 use sr_tree::{Decl, DimsTree, Expr, TypeTree, VarDecl};
 use sr_types::{Ty, fits};
 use sr_value::{Duplicate, NoMemory, Span};
@@ -37,19 +37,19 @@ pub fn declare_variables(
 /// Notes the initial values that aren't of the types of their variables.
 fn note_initial(
     alloc: Global,
-    notes: &mut Notes,
+    diagnostics: &mut Diagnostics,
     ty: &Ty,
     decls: &[Decl],
-    values: &[Judged],
+    values: &[TypedExpr],
 ) -> Result<(), NoMemory>
-    ensures { OnOk result (notes.new ≡ all_noted notes.old (values_found ty.now decls.now values.now)) }
+    ensures { OnOk result (diagnostics.new ≡ all_noted diagnostics.old (values_found ty.now decls.now values.now)) }
 {
     let mut rest = values;
     for decl in decls {
         match rest {
             [] => return Ok(()),
             [first, others @ ..] => {
-                note_initial_value(alloc, notes, ty, decl, first)?;
+                note_initial_value(alloc, diagnostics, ty, decl, first)?;
                 rest = others;
             }
         }
@@ -59,16 +59,16 @@ fn note_initial(
 
 fn note_initial_value(
     alloc: Global,
-    notes: &mut Notes,
+    diagnostics: &mut Diagnostics,
     ty: &Ty,
     decl: &Decl,
-    value: &Judged,
+    value: &TypedExpr,
 ) -> Result<(), NoMemory>
-    ensures { OnOk result (notes.new ≡ all_noted notes.old (initial_value_found ty.now decl.now value.now)) }
+    ensures { OnOk result (diagnostics.new ≡ all_noted diagnostics.old (initial_value_found ty.now decl.now value.now)) }
 {
     let declared = decl_type(alloc, &decl.dims, ty)?;
     note_unless(
-        notes,
+        diagnostics,
         fits(&value.typed.ty, &declared),
         Rule::BadType,
         value.span,
@@ -79,18 +79,18 @@ fn note_initial_value(
 fn note_typed(
     alloc: Global,
     facts: &Facts,
-    notes: &mut Notes,
+    diagnostics: &mut Diagnostics,
     span: Span,
     decls: &[Decl],
-    values: &[Judged],
+    values: &[TypedExpr],
     kind: &Kind,
 ) -> Result<(), NoMemory>
-    ensures { OnOk result (notes.new ≡ all_noted notes.old (typed_vars_found facts.now span decls.now values.now kind.now)) }
+    ensures { OnOk result (diagnostics.new ≡ all_noted diagnostics.old (typed_vars_found facts.now span decls.now values.now kind.now)) }
 {
-    note_decls(alloc, facts, notes, FREE, kind, decls)?;
+    note_decls(alloc, facts, diagnostics, FREE, kind, decls)?;
     let met = values.is_empty() || as_many(decls, values);
-    note_unless(notes, met, Rule::BadType, span)?;
-    note_initial(alloc, notes, &kind.ty, decls, values)
+    note_unless(diagnostics, met, Rule::BadType, span)?;
+    note_initial(alloc, diagnostics, &kind.ty, decls, values)
 }
 
 fn has_no_dims(dims: &Option<DimsTree>) -> bool
@@ -110,12 +110,12 @@ pub(crate) fn may_be_untyped<T>(decls: &[Decl], values: &[T]) -> bool
 }
 
 /// Notes the values that are of nothing but `null` and `noop`.
-fn note_nulls(notes: &mut Notes, values: &[Judged]) -> Result<(), NoMemory>
-    ensures { OnOk result (notes.new ≡ all_noted notes.old (nulls_found values.now)) }
+fn note_nulls(diagnostics: &mut Diagnostics, values: &[TypedExpr]) -> Result<(), NoMemory>
+    ensures { OnOk result (diagnostics.new ≡ all_noted diagnostics.old (nulls_found values.now)) }
 {
     for value in values {
         let met = !value.typed.ty.is_of_nulls();
-        note_unless(notes, met, Rule::BadType, value.span)?;
+        note_unless(diagnostics, met, Rule::BadType, value.span)?;
     }
     Ok(())
 }
@@ -133,35 +133,40 @@ fn no_kind(span: Span) -> Kind
 fn note_untyped(
     alloc: Global,
     facts: &Facts,
-    notes: &mut Notes,
+    diagnostics: &mut Diagnostics,
     span: Span,
     decls: &[Decl],
-    values: &[Judged],
+    values: &[TypedExpr],
 ) -> Result<(), NoMemory>
-    ensures { OnOk result (notes.new ≡ all_noted notes.old (untyped_vars_found facts.now span decls.now values.now)) }
+    ensures { OnOk result (diagnostics.new ≡ all_noted diagnostics.old (untyped_vars_found facts.now span decls.now values.now)) }
 {
     let kind = no_kind(span);
-    note_decls(alloc, facts, notes, FREE, &kind, decls)?;
-    note_unless(notes, may_be_untyped(decls, values), Rule::BadType, span)?;
-    note_nulls(notes, values)
+    note_decls(alloc, facts, diagnostics, FREE, &kind, decls)?;
+    note_unless(
+        diagnostics,
+        may_be_untyped(decls, values),
+        Rule::BadType,
+        span,
+    )?;
+    note_nulls(diagnostics, values)
 }
 
 /// Notes what is found at variables, apart from their values.
 fn note_rules(
     alloc: Global,
     facts: &Facts,
-    notes: &mut Notes,
+    diagnostics: &mut Diagnostics,
     tree: &VarDecl,
-    values: &[Judged],
+    values: &[TypedExpr],
 ) -> Result<(), NoMemory>
-    ensures { OnOk result (notes.new ≡ all_noted notes.old (var_rules_found facts.now tree.now.span tree.now.ty tree.now.decls values.now)) }
+    ensures { OnOk result (diagnostics.new ≡ all_noted diagnostics.old (var_rules_found facts.now tree.now.span tree.now.ty tree.now.decls values.now)) }
 {
     let decls = tree.decls.as_slice();
     match &tree.ty {
-        None => note_untyped(alloc, facts, notes, tree.span, decls, values),
+        None => note_untyped(alloc, facts, diagnostics, tree.span, decls, values),
         Some(written) => {
-            let kind = type_kind(alloc, written, facts, notes, FREE)?;
-            note_typed(alloc, facts, notes, tree.span, decls, values, &kind)
+            let kind = type_kind(alloc, written, facts, diagnostics, FREE)?;
+            note_typed(alloc, facts, diagnostics, tree.span, decls, values, &kind)
         }
     }
 }
@@ -170,18 +175,18 @@ fn note_rules(
 pub fn note_variables(
     alloc: Global,
     facts: &Facts,
-    notes: &mut Notes,
+    diagnostics: &mut Diagnostics,
     tree: &VarDecl,
 ) -> Result<(), NoMemory>
-    ensures { OnOk result (notes.new ≡ all_noted notes.old (var_found facts.now tree.now)) }
+    ensures { OnOk result (diagnostics.new ≡ all_noted diagnostics.old (var_found facts.now tree.now)) }
 {
-    let values = all(alloc, tree.values.as_slice(), facts, notes)?;
-    note_values(notes, values.as_slice())?;
-    note_rules(alloc, facts, notes, tree, values.as_slice())
+    let values = all(alloc, tree.values.as_slice(), facts, diagnostics)?;
+    note_values(diagnostics, values.as_slice())?;
+    note_rules(alloc, facts, diagnostics, tree, values.as_slice())
 }
 
 /// The type of variables by their values.
-fn type_by_values(alloc: Global, values: &[Judged]) -> Result<Ty, NoMemory>
+fn type_by_values(alloc: Global, values: &[TypedExpr]) -> Result<Ty, NoMemory>
     ensures { IfOk result (λ ty. ty ≡ type_by_values values.now) }
 {
     match values {
@@ -191,18 +196,18 @@ fn type_by_values(alloc: Global, values: &[Judged]) -> Result<Ty, NoMemory>
 }
 
 fn type_of_values(alloc: Global, facts: &Facts, trees: &[Expr]) -> Result<Ty, NoMemory>
-    ensures { IfOk result (λ ty. ty ≡ type_by_values (judged_of (values_judged facts.now trees.now))) }
+    ensures { IfOk result (λ ty. ty ≡ type_by_values (typed_exprs_of (typings_of facts.now trees.now))) }
 {
-    let values = all(alloc, trees, facts, &mut Notes::new(alloc))?;
+    let values = all(alloc, trees, facts, &mut Diagnostics::new(alloc))?;
     type_by_values(alloc, values.as_slice())
 }
 
-/// The type of variables of a block: what is written, or that of their value.
+/// The type of variables of a block: the type that is written, or the type of their value.
 fn vars_type(alloc: Global, facts: &Facts, tree: &VarDecl) -> Result<Kind, NoMemory>
     ensures { IfOk result (λ kind. kind.ty ≡ vars_type facts.now tree.now.ty tree.now.values) }
 {
     match &tree.ty {
-        Some(written) => type_kind(alloc, written, facts, &mut Notes::new(alloc), FREE),
+        Some(written) => type_kind(alloc, written, facts, &mut Diagnostics::new(alloc), FREE),
         None => {
             let ty = type_of_values(alloc, facts, tree.values.as_slice())?;
             Ok(Kind {

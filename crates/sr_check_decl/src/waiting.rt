@@ -9,7 +9,7 @@ use sr_tree::{Component, ConstDecl, Expr, File, Item, SpecItem, VarDecl};
 use sr_value::{NoMemory, Row, Span};
 use std::alloc::Global;
 
-/// A declaration without a type, which waits for that of its value.
+/// A declaration without a type. It waits for the type of its value.
 #[derive(Clone, Copy)]
 pub(crate) struct Waits<'a> {
     pub span: Span,

@@ -16,8 +16,8 @@ use Rattle.sr_types.specs.Signatures.{signature_of}
 use Rattle.sr_types.specs.Storing.{argument_rule}
 use Rattle.sr_types.specs.Types.{fits_type, is_no_type}
 use Rattle.sr_check_expr.specs.declared.info.FieldInfo.{FieldInfo}
-use Rattle.sr_check_expr.specs.declared.judged.Judged.{Judged}
-use Rattle.sr_check_expr.specs.Judgements.{Judgement, broken_unless, value_found}
+use Rattle.sr_check_expr.specs.declared.typed_expr.TypedExpr.{TypedExpr}
+use Rattle.sr_check_expr.specs.Typings.{Typing, broken_unless, value_found}
 
 -- there are as many of the one as of the other
 abbrev pub as_many : {A B : Type 0} → List A → List B → Bool
@@ -27,24 +27,24 @@ as_many (thing ∷ things) [] = false
 as_many (thing ∷ things) (other ∷ others) = as_many things others
 
 -- what is found in arguments themselves
-abbrev pub all_found : List Judgement → List Finding
+abbrev pub all_found : List Typing → List Finding
 all_found [] = []
 all_found (argument ∷ arguments) = argument.found ++ all_found arguments
 
 -- arguments are values
-abbrev pub all_valued : List Judged → List Finding
+abbrev pub all_valued : List TypedExpr → List Finding
 all_valued [] = []
 all_valued (argument ∷ arguments) = value_found argument ++ all_valued arguments
 
 -- formals take their arguments
-abbrev pub arguments_found : List Param → List Judged → List Finding
+abbrev pub arguments_found : List Param → List TypedExpr → List Finding
 arguments_found [] arguments = []
 arguments_found (formal ∷ formals) [] = []
 arguments_found (formal ∷ formals) (argument ∷ arguments) =
     broken_unless (argument_rule formal.mode formal.ty argument.typed) BadType argument.span ++ arguments_found formals arguments
 
 -- so do fields
-abbrev pub fields_found : List FieldInfo → List Judged → List Finding
+abbrev pub fields_found : List FieldInfo → List TypedExpr → List Finding
 fields_found [] arguments = []
 fields_found (field ∷ fields) [] = []
 fields_found (field ∷ fields) (argument ∷ arguments) =
@@ -52,12 +52,12 @@ fields_found (field ∷ fields) (argument ∷ arguments) =
 
 -- ---- by the signature of a callee, where its type is of operations
 
-abbrev pub formals_found : Option Signature → List Judged → List Finding
+abbrev pub formals_found : Option Signature → List TypedExpr → List Finding
 formals_found None arguments = []
 formals_found (Some signature) arguments = arguments_found signature.params arguments
 
 -- what is found in the arguments of an invocation
-abbrev pub invoked_found : List Signature → Ty → List Judged → List Finding
+abbrev pub invoked_found : List Signature → Ty → List TypedExpr → List Finding
 invoked_found signatures callee arguments = formals_found (signature_of signatures callee) arguments
 
 -- where there is no signature, what has no type takes what it is given
@@ -66,7 +66,7 @@ takes_by None untyped arguments = untyped
 takes_by (Some signature) untyped arguments = as_many signature.params arguments
 
 -- what is invoked is an operation with as many formals
-abbrev pub takes_as_many : List Signature → Ty → List Judged → Bool
+abbrev pub takes_as_many : List Signature → Ty → List TypedExpr → Bool
 takes_as_many signatures callee arguments = takes_by (signature_of signatures callee) (is_no_type callee) arguments
 
 abbrev pub returned_if : Bool → Option Ty
@@ -107,5 +107,5 @@ returned_outcome met None = Broken
 returned_outcome met (Some ty) = met_if met (computed ty Unknown)
 
 -- an invocation in an expression is of an operation that returns
-abbrev pub invoked_outcome : List Signature → Ty → List Judged → Outcome
+abbrev pub invoked_outcome : List Signature → Ty → List TypedExpr → Outcome
 invoked_outcome signatures callee arguments = returned_outcome (takes_as_many signatures callee arguments) (returned_by signatures callee)

@@ -17,11 +17,11 @@ use Rattle.sr_types.specs.Outcomes.{computed, met_if}
 use Rattle.sr_check_expr.specs.declared.facts.Facts.{Facts}
 use Rattle.sr_check_expr.specs.declared.info.Info.{Info}
 use Rattle.sr_check_expr.specs.declared.info.Info.TheVariants as info
-use Rattle.sr_check_expr.specs.declared.judged.Judged.{Judged}
+use Rattle.sr_check_expr.specs.declared.typed_expr.TypedExpr.{TypedExpr}
 use Rattle.sr_check_expr.specs.Arguments.{all_found, all_valued, invoked_found, takes_as_many}
 use Rattle.sr_check_expr.specs.Entries.{Entries}
 use Rattle.sr_check_expr.specs.Infos.{info_at, type_spot}
-use Rattle.sr_check_expr.specs.Judgements.{Judgement, broken_unless, value_found, settled, value_at, judged_of, with_found}
+use Rattle.sr_check_expr.specs.Typings.{Typing, broken_unless, value_found, settled, value_at, typed_exprs_of, with_found}
 use Rattle.sr_check_expr.specs.Naming.{decl_of, deciding}
 use Rattle.sr_check_expr.specs.PredefinedCalls.{guard_found, is_resource}
 use Rattle.sr_check_expr.specs.Uses.{machine_rule}
@@ -43,34 +43,34 @@ abbrev pub instance_type : Option Decl → Ty
 instance_type None = ty.Untyped
 instance_type (Some decl) = ty.Resource (type_spot decl.spot)
 
-abbrev pub machine_found : Option Judgement → List Finding
+abbrev pub machine_found : Option Typing → List Finding
 machine_found None = []
 machine_found (Some machine) = machine.found
 
-abbrev pub machine_of : Option Judgement → Option Judged
-machine_of machine = option_map (λ machine. machine.judged) machine
+abbrev pub machine_of : Option Typing → Option TypedExpr
+machine_of machine = option_map (λ machine. machine.typed_expr) machine
 
--- what stands behind `on` is a machine
-abbrev pub machine_valued : Option Judged → List Finding
+-- what stands after `on` is a machine
+abbrev pub machine_valued : Option TypedExpr → List Finding
 machine_valued None = []
 machine_valued (Some machine) = value_found machine ++ broken_unless (machine_rule machine.typed) BadType machine.span
 
 -- there is an argument for each formal
-abbrev pub made_of : Facts → List Judged → Ty → Option Ty → Outcome
+abbrev pub made_of : Facts → List TypedExpr → Ty → Option Ty → Outcome
 made_of facts arguments instance None = Broken
 made_of facts arguments instance (Some formals) = met_if (takes_as_many facts.signatures formals arguments) (computed instance Unknown)
 
-abbrev pub formals_found : Facts → List Judged → Option Ty → List Finding
+abbrev pub formals_found : Facts → List TypedExpr → Option Ty → List Finding
 formals_found facts arguments None = []
 formals_found facts arguments (Some formals) = invoked_found facts.signatures formals arguments
 
-abbrev pub made_found : Facts → Span → Option Ty → List Judged → Option Judged → List Finding
+abbrev pub made_found : Facts → Span → Option Ty → List TypedExpr → Option TypedExpr → List Finding
 made_found facts span formals arguments machine =
     all_valued arguments ++ (machine_valued machine ++ (formals_found facts arguments formals ++ guard_found facts.here span))
 
 -- what is made, by its arguments and its machine
-abbrev pub instance_judged : Facts → Span → Option Decl → List Judged → Option Judged → Judgement
-instance_judged facts span resource arguments machine =
+abbrev pub instance_typing : Facts → Span → Option Decl → List TypedExpr → Option TypedExpr → Typing
+instance_typing facts span resource arguments machine =
     settled span
     (made_found facts span (resource_type facts.infos resource) arguments machine)
     (made_of facts arguments (instance_type resource) (resource_type facts.infos resource))
@@ -80,11 +80,11 @@ abbrev pub resource_named : Facts → QualifiedName → Option Decl
 resource_named facts qualified = decl_of (meaning_at facts.uses (spot_of (deciding qualified).span))
 
 -- `create R(arguments) on machine`
-abbrev pub create_judged : Facts → Span → QualifiedName → List Judgement → Option Judgement → Judgement
-create_judged facts span qualified arguments machine =
+abbrev pub create_typing : Facts → Span → QualifiedName → List Typing → Option Typing → Typing
+create_typing facts span qualified arguments machine =
     with_found (all_found arguments ++ machine_found machine)
-    (instance_judged facts span (resource_named facts qualified) (judged_of arguments) (machine_of machine))
+    (instance_typing facts span (resource_named facts qualified) (typed_exprs_of arguments) (machine_of machine))
 
 -- `create vm()`
-abbrev pub machine_judged : Facts → Span → Judgement
-machine_judged facts span = record { found = guard_found facts.here span; judged = value_at span (computed ty.Vm Unknown) }
+abbrev pub machine_typing : Facts → Span → Typing
+machine_typing facts span = record { found = guard_found facts.here span; typed_expr = value_at span (computed ty.Vm Unknown) }

@@ -36,30 +36,30 @@ use Rattle.sr_check_expr.specs.declared.facts.Facts.{Facts}
 use Rattle.sr_check_expr.specs.declared.facts.Here.{Here}
 use Rattle.sr_check_expr.specs.declared.info.Info.{Info}
 use Rattle.sr_check_expr.specs.declared.info.Info.TheVariants as info
-use Rattle.sr_check_expr.specs.declared.judged.Judged.{Judged}
-use Rattle.sr_check_expr.specs.declared.judged.Named.{Named}
-use Rattle.sr_check_expr.specs.declared.judged.Named.TheVariants as named
-use Rattle.sr_check_expr.specs.Calls.{Called, call_judged}
-use Rattle.sr_check_expr.specs.Creating.{create_judged, machine_judged}
-use Rattle.sr_check_expr.specs.Judgements.{Judgement, plain, value_found, broken_unless, settled, name_at, with_found}
+use Rattle.sr_check_expr.specs.declared.typed_expr.TypedExpr.{TypedExpr}
+use Rattle.sr_check_expr.specs.declared.typed_expr.Named.{Named}
+use Rattle.sr_check_expr.specs.declared.typed_expr.Named.TheVariants as named
+use Rattle.sr_check_expr.specs.Calls.{Called, call_typing}
+use Rattle.sr_check_expr.specs.Creating.{create_typing, machine_typing}
+use Rattle.sr_check_expr.specs.Typings.{Typing, plain, value_found, broken_unless, settled, name_at, with_found}
 use Rattle.sr_check_expr.specs.LiteralTypes.{literal_typed, literal_named, basic_type}
-use Rattle.sr_check_expr.specs.Naming.{name_judged, decl_of, decl_info, field_outcome}
+use Rattle.sr_check_expr.specs.Naming.{name_typing, decl_of, decl_info, field_outcome}
 
-abbrev pub Judge : Type 0
-Judge = Facts → Judgement
+abbrev pub Inferrer : Type 0
+Inferrer = Facts → Typing
 
-abbrev pub judge_all : List Judge → Facts → List Judgement
-judge_all judges facts = map (λ judge. judge facts) judges
+abbrev pub infer_all : List Inferrer → Facts → List Typing
+infer_all inferrers facts = map (λ infer. infer facts) inferrers
 
 -- a part of a bracketed list
-abbrev pub JudgePart : Type 0
-JudgePart = Facts → Option Judgement × Judgement
+abbrev pub PartInferrer : Type 0
+PartInferrer = Facts → Option Typing × Typing
 
-abbrev pub judge_parts : List JudgePart → Facts → List (Option Judgement × Judgement)
-judge_parts judges facts = map (λ judge. judge facts) judges
+abbrev pub infer_parts : List PartInferrer → Facts → List (Option Typing × Typing)
+infer_parts inferrers facts = map (λ infer. infer facts) inferrers
 
-abbrev pub JudgeCalled : Type 0
-JudgeCalled = Facts → Called
+abbrev pub CalledInferrer : Type 0
+CalledInferrer = Facts → Called
 
 -- ---- operators
 
@@ -91,11 +91,11 @@ conversion_outcome conversion.Int value = int_rule value
 conversion_outcome conversion.Char value = char_rule value
 conversion_outcome conversion.Str value = string_rule value
 
-abbrev pub between : Span → Operator → Judged → Judged → Judgement
+abbrev pub between : Span → Operator → TypedExpr → TypedExpr → Typing
 between span operator left right = settled span (value_found left ++ value_found right) (binary_rule operator left.typed right.typed)
 
 -- a construct around a value
-abbrev pub around : Span → Judged → Outcome → Judgement
+abbrev pub around : Span → TypedExpr → Outcome → Typing
 around span inner outcome = settled span (value_found inner) outcome
 
 -- ---- groups and bracketed lists
@@ -105,52 +105,52 @@ abbrev pub grouped : Typed → Typed
 grouped typed = record typed { is_place = false }
 
 -- a part that may be left out
-abbrev pub second_found : Option Judgement → List Finding
+abbrev pub second_found : Option Typing → List Finding
 second_found None = []
 second_found (Some second) = second.found
 
-abbrev pub second_judged : Option Judgement → Option Judged
-second_judged second = option_map (λ second. second.judged) second
+abbrev pub second_typed : Option Typing → Option TypedExpr
+second_typed second = option_map (λ second. second.typed_expr) second
 
-abbrev pub second_valued : Option Judged → List Finding
+abbrev pub second_valued : Option TypedExpr → List Finding
 second_valued None = []
 second_valued (Some second) = value_found second
 
-abbrev pub part_valued : Option Judged → Judged → List Finding
+abbrev pub part_valued : Option TypedExpr → TypedExpr → List Finding
 part_valued count value = second_valued count ++ value_found value
 
-abbrev pub part_found : Option Judgement × Judgement → List Finding
-part_found part = (second_found part.0 ++ part.1.found) ++ part_valued (second_judged part.0) part.1.judged
+abbrev pub part_found : Option Typing × Typing → List Finding
+part_found part = (second_found part.0 ++ part.1.found) ++ part_valued (second_typed part.0) part.1.typed_expr
 
-abbrev pub parts_found : List (Option Judgement × Judgement) → List Finding
+abbrev pub parts_found : List (Option Typing × Typing) → List Finding
 parts_found [] = []
 parts_found (part ∷ parts) = part_found part ++ parts_found parts
 
-abbrev pub judged_repeated : Option Judged → Judged → Repeated
-judged_repeated count value = record { count = option_map (λ count. count.typed) count; value = value.typed }
+abbrev pub inferred_repeated : Option TypedExpr → TypedExpr → Repeated
+inferred_repeated count value = record { count = option_map (λ count. count.typed) count; value = value.typed }
 
-abbrev pub repeated : Option Judgement × Judgement → Repeated
-repeated part = judged_repeated (second_judged part.0) part.1.judged
+abbrev pub repeated : Option Typing × Typing → Repeated
+repeated part = inferred_repeated (second_typed part.0) part.1.typed_expr
 
 -- ---- parts of values
 
-abbrev pub index_outcome : Typed → Typed → Option Judged → Outcome
+abbrev pub index_outcome : Typed → Typed → Option TypedExpr → Outcome
 index_outcome whole first None = index_one_rule whole first
 index_outcome whole first (Some second) = index_two_rule whole first second.typed
 
-abbrev pub indexed : Span → Judged → Judged → Option Judged → Judgement
+abbrev pub indexed : Span → TypedExpr → TypedExpr → Option TypedExpr → Typing
 indexed span array first second =
     settled span
     (value_found array ++ (value_found first ++ second_valued second))
     (index_outcome array.typed first.typed second)
 
-abbrev pub value_field : Facts → Span → Judged → List ℕ → Judgement
+abbrev pub value_field : Facts → Span → TypedExpr → List ℕ → Typing
 value_field facts span owner name = settled span (value_found owner) (field_outcome facts owner.typed name)
 
--- behind a component stands a name of its spec, behind a value a part of it
-abbrev pub field_judged : Facts → Span → Judged → Name → Named → Judgement
-field_judged facts span owner field (named.Component decl) = name_judged facts span field.span
-field_judged facts span owner field _ = value_field facts span owner field.text
+-- after a component stands a name of its spec, after a value a part of it
+abbrev pub field_typing : Facts → Span → TypedExpr → Name → Named → Typing
+field_typing facts span owner field (named.Component decl) = name_typing facts span field.span
+field_typing facts span owner field _ = value_field facts span owner field.text
 
 -- ---- `?operation`
 
@@ -167,59 +167,59 @@ abbrev pub pending_found : Here → Span → Option Spot → List Finding
 pending_found here span None = []
 pending_found here span (Some component) = broken_unless (same_spot component here.component.spot) BadUse span
 
-abbrev pub pending_counted : Here → Span → Option Spot → Judgement
+abbrev pub pending_counted : Here → Span → Option Spot → Typing
 pending_counted here span component = settled span (pending_found here span component) (pending_outcome component)
 
-abbrev pub pending_judged : Facts → Span → Span → Judgement
-pending_judged facts span used =
+abbrev pub pending_typing : Facts → Span → Span → Typing
+pending_typing facts span used =
     pending_counted facts.here span (operation_component (decl_info facts.infos (decl_of (meaning_at facts.uses (spot_of used)))))
 
 -- ---- all
 
-abbrev pub create_step : Create-F Judge Judge JudgeCalled JudgePart → Judge
+abbrev pub create_step : Create-F Inferrer Inferrer CalledInferrer PartInferrer → Inferrer
 create_step (Create-F.Resource span resource arguments machine) facts =
-    create_judged facts span resource (judge_all arguments facts) (option_map (λ judge. judge facts) machine)
-create_step (Create-F.Machine span) facts = machine_judged facts span
+    create_typing facts span resource (infer_all arguments facts) (option_map (λ infer. infer facts) machine)
+create_step (Create-F.Machine span) facts = machine_typing facts span
 
-abbrev pub invocation_step : Invocation-F Judge Judge JudgeCalled JudgePart → JudgeCalled
+abbrev pub invocation_step : Invocation-F Inferrer Inferrer CalledInferrer PartInferrer → CalledInferrer
 invocation_step invocation facts = record {
   span = invocation.span;
   callee = invocation.callee facts;
-  arguments = judge_all invocation.arguments facts;
+  arguments = infer_all invocation.arguments facts;
 }
 
-abbrev pub part_step : Part-F Judge Judge JudgeCalled JudgePart → JudgePart
-part_step part facts = (option_map (λ judge. judge facts) part.count, part.value facts)
+abbrev pub part_step : Part-F Inferrer Inferrer CalledInferrer PartInferrer → PartInferrer
+part_step part facts = (option_map (λ infer. infer facts) part.count, part.value facts)
 
-abbrev pub expr_step : Expr-F Judge Judge JudgeCalled JudgePart → Judge
+abbrev pub expr_step : Expr-F Inferrer Inferrer CalledInferrer PartInferrer → Inferrer
 expr_step (Expr-F.Literal span literal) facts = plain (record { span = span; typed = literal_typed literal; named = literal_named literal })
-expr_step (Expr-F.Name name) facts = name_judged facts name.span name.span
+expr_step (Expr-F.Name name) facts = name_typing facts name.span name.span
 expr_step (Expr-F.BasicType span basic) facts = plain (name_at span (named.«Type» (basic_type basic)))
-expr_step (Expr-F.Conversion span conversion value) facts = with_found (value facts).found (around span (value facts).judged (conversion_outcome conversion (value facts).judged.typed))
-expr_step (Expr-F.Group span inner) facts = with_found (inner facts).found (around span (inner facts).judged (Met (grouped (inner facts).judged.typed)))
+expr_step (Expr-F.Conversion span conversion value) facts = with_found (value facts).found (around span (value facts).typed_expr (conversion_outcome conversion (value facts).typed_expr.typed))
+expr_step (Expr-F.Group span inner) facts = with_found (inner facts).found (around span (inner facts).typed_expr (Met (grouped (inner facts).typed_expr.typed)))
 expr_step (Expr-F.Parts span parts) facts =
-    settled span (parts_found (judge_parts parts facts)) (bracketed_rule (map repeated (judge_parts parts facts)))
-expr_step (Expr-F.Field span owner field) facts = with_found (owner facts).found (field_judged facts span (owner facts).judged field (owner facts).judged.named)
+    settled span (parts_found (infer_parts parts facts)) (bracketed_rule (map repeated (infer_parts parts facts)))
+expr_step (Expr-F.Field span owner field) facts = with_found (owner facts).found (field_typing facts span (owner facts).typed_expr field (owner facts).typed_expr.named)
 expr_step (Expr-F.Index span array first second) facts =
     with_found
-    ((array facts).found ++ ((first facts).found ++ second_found (option_map (λ judge. judge facts) second)))
-    (indexed span (array facts).judged (first facts).judged (second_judged (option_map (λ judge. judge facts) second)))
-expr_step (Expr-F.Call invocation) facts = call_judged facts (invocation facts)
+    ((array facts).found ++ ((first facts).found ++ second_found (option_map (λ infer. infer facts) second)))
+    (indexed span (array facts).typed_expr (first facts).typed_expr (second_typed (option_map (λ infer. infer facts) second)))
+expr_step (Expr-F.Call invocation) facts = call_typing facts (invocation facts)
 expr_step (Expr-F.Create create) facts = create facts
 expr_step (Expr-F.Unary span operator operand) facts =
-    with_found (operand facts).found (around span (operand facts).judged (unary_rule (prefix_of operator) (operand facts).judged.typed))
-expr_step (Expr-F.Pending span operation) facts = pending_judged facts span operation.span
+    with_found (operand facts).found (around span (operand facts).typed_expr (unary_rule (prefix_of operator) (operand facts).typed_expr.typed))
+expr_step (Expr-F.Pending span operation) facts = pending_typing facts span operation.span
 expr_step (Expr-F.Binary span left operator right) facts =
-    with_found ((left facts).found ++ (right facts).found) (between span (operator_of operator) (left facts).judged (right facts).judged)
+    with_found ((left facts).found ++ (right facts).found) (between span (operator_of operator) (left facts).typed_expr (right facts).typed_expr)
 
-abbrev pub judge_expr : Expr → Judge
-judge_expr = fold-Expr Judge Judge JudgeCalled JudgePart create_step expr_step invocation_step part_step
+abbrev pub infer_expr : Expr → Inferrer
+infer_expr = fold-Expr Inferrer Inferrer CalledInferrer PartInferrer create_step expr_step invocation_step part_step
 
-abbrev pub judge_create : Create → Judge
-judge_create = fold-Create Judge Judge JudgeCalled JudgePart create_step expr_step invocation_step part_step
+abbrev pub infer_create : Create → Inferrer
+infer_create = fold-Create Inferrer Inferrer CalledInferrer PartInferrer create_step expr_step invocation_step part_step
 
-abbrev pub judge_invocation : Invocation → JudgeCalled
-judge_invocation = fold-Invocation Judge Judge JudgeCalled JudgePart create_step expr_step invocation_step part_step
+abbrev pub infer_invocation : Invocation → CalledInferrer
+infer_invocation = fold-Invocation Inferrer Inferrer CalledInferrer PartInferrer create_step expr_step invocation_step part_step
 
-abbrev pub judge_part : Part → JudgePart
-judge_part = fold-Part Judge Judge JudgeCalled JudgePart create_step expr_step invocation_step part_step
+abbrev pub infer_part : Part → PartInferrer
+infer_part = fold-Part Inferrer Inferrer CalledInferrer PartInferrer create_step expr_step invocation_step part_step

@@ -4,7 +4,7 @@ pub mod Creating
 pub mod Entries
 pub mod Exprs
 pub mod Infos
-pub mod Judgements
+pub mod Typings
 pub mod LiteralTypes
 pub mod Naming
 pub mod PredefinedCalls

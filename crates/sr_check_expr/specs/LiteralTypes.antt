@@ -13,8 +13,8 @@ use Rattle.sr_types.specs.declared.ty.Ty.TheVariants as ty
 use Rattle.sr_types.specs.Outcomes.{computed}
 use Rattle.sr_value.specs.declared.capability.Cap.TheVariants as cap
 use Rattle.sr_value.specs.declared.value.Value.TheVariants as value
-use Rattle.sr_check_expr.specs.declared.judged.Named.{Named}
-use Rattle.sr_check_expr.specs.declared.judged.Named.TheVariants as named
+use Rattle.sr_check_expr.specs.declared.typed_expr.Named.{Named}
+use Rattle.sr_check_expr.specs.declared.typed_expr.Named.TheVariants as named
 
 abbrev pub number_static : Option ℕ → Static
 number_static (Some number) = if nat_le number 2147483647 then Known (value.Int (pos number)) else Unknown

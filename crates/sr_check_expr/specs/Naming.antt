@@ -28,43 +28,43 @@ use Rattle.sr_check_expr.specs.declared.facts.Facts.{Facts}
 use Rattle.sr_check_expr.specs.declared.info.FieldInfo.{FieldInfo}
 use Rattle.sr_check_expr.specs.declared.info.Info.{Info}
 use Rattle.sr_check_expr.specs.declared.info.Info.TheVariants as info
-use Rattle.sr_check_expr.specs.declared.judged.Judged.{Judged}
-use Rattle.sr_check_expr.specs.declared.judged.Named.TheVariants as named
+use Rattle.sr_check_expr.specs.declared.typed_expr.TypedExpr.{TypedExpr}
+use Rattle.sr_check_expr.specs.declared.typed_expr.Named.TheVariants as named
 use Rattle.sr_check_expr.specs.Entries.{Entries}
 use Rattle.sr_check_expr.specs.Infos.{info_at, type_spot, name_spot}
-use Rattle.sr_check_expr.specs.Judgements.{Judgement, value_at, name_at, plain, refused_at}
+use Rattle.sr_check_expr.specs.Typings.{Typing, value_at, name_at, plain, refused_at}
 
 -- `EOF` is a value; the other predefined names are functions
-abbrev pub predefined_at : Span → Predefined → Judged
+abbrev pub predefined_at : Span → Predefined → TypedExpr
 predefined_at span Eof = value_at span (computed ty.Int Unknown)
 predefined_at span name = name_at span (named.Predefined name)
 
 -- a bare operation name is its capability
-abbrev pub operation_at : Span → Spot → Ty → Judged
+abbrev pub operation_at : Span → Spot → Ty → TypedExpr
 operation_at span spot ty = record { span = span; typed = computed ty Unknown; named = named.Operation spot }
 
-abbrev pub info_judged : Span → Decl → Info → Judged
-info_judged span decl (info.Value typed) = value_at span typed
-info_judged span decl (info.«Type» ty) = name_at span (named.«Type» ty)
-info_judged span decl (info.Enumeration number literals) = name_at span (named.«Type» (ty.Enum (type_spot decl.spot)))
-info_judged span decl (info.Record fields) = name_at span (named.«Type» (ty.Rec (type_spot decl.spot)))
-info_judged span decl (info.OpType ty) = name_at span named.OpType
-info_judged span decl (info.Operation ty component is_local) = operation_at span decl.spot ty
-info_judged span decl (info.Component ty) = name_at span (named.Component decl)
+abbrev pub info_typing : Span → Decl → Info → TypedExpr
+info_typing span decl (info.Value typed) = value_at span typed
+info_typing span decl (info.«Type» ty) = name_at span (named.«Type» ty)
+info_typing span decl (info.Enumeration number literals) = name_at span (named.«Type» (ty.Enum (type_spot decl.spot)))
+info_typing span decl (info.Record fields) = name_at span (named.«Type» (ty.Rec (type_spot decl.spot)))
+info_typing span decl (info.OpType ty) = name_at span named.OpType
+info_typing span decl (info.Operation ty component is_local) = operation_at span decl.spot ty
+info_typing span decl (info.Component ty) = name_at span (named.Component decl)
 
-abbrev pub declared_judged : Span → Decl → Option Info → Judgement
-declared_judged span decl None = refused_at span
-declared_judged span decl (Some info) = plain (info_judged span decl info)
+abbrev pub declared_typing : Span → Decl → Option Info → Typing
+declared_typing span decl None = refused_at span
+declared_typing span decl (Some info) = plain (info_typing span decl info)
 
 -- what an expression is that is a name with this meaning
-abbrev pub meaning_judged : Entries → Span → Option Meaning → Judgement
-meaning_judged infos span None = refused_at span
-meaning_judged infos span (Some (MeansPredefined name)) = plain (predefined_at span name)
-meaning_judged infos span (Some (Declared decl)) = declared_judged span decl (info_at infos decl.spot)
+abbrev pub meaning_typing : Entries → Span → Option Meaning → Typing
+meaning_typing infos span None = refused_at span
+meaning_typing infos span (Some (MeansPredefined name)) = plain (predefined_at span name)
+meaning_typing infos span (Some (Declared decl)) = declared_typing span decl (info_at infos decl.spot)
 
 -- a name that stands at a span, in an expression that begins at another
-abbrev pub name_judged : Facts → Span → Span → Judgement
-name_judged facts span used = meaning_judged facts.infos span (meaning_at facts.uses (spot_of used))
+abbrev pub name_typing : Facts → Span → Span → Typing
+name_typing facts span used = meaning_typing facts.infos span (meaning_at facts.uses (spot_of used))
 
 -- the declaration that a meaning is
 abbrev pub decl_of : Option Meaning → Option Decl

@@ -25,17 +25,17 @@ use Rattle.sr_check_expr.specs.declared.facts.Facts.{Facts}
 use Rattle.sr_check_expr.specs.declared.facts.Here.{Here}
 use Rattle.sr_check_expr.specs.declared.info.Info.{Info}
 use Rattle.sr_check_expr.specs.declared.info.Info.TheVariants.{Enumeration}
-use Rattle.sr_check_expr.specs.declared.judged.Judged.{Judged}
-use Rattle.sr_check_expr.specs.declared.judged.Named.{Named}
-use Rattle.sr_check_expr.specs.declared.judged.Named.TheVariants as named
+use Rattle.sr_check_expr.specs.declared.typed_expr.TypedExpr.{TypedExpr}
+use Rattle.sr_check_expr.specs.declared.typed_expr.Named.{Named}
+use Rattle.sr_check_expr.specs.declared.typed_expr.Named.TheVariants as named
 use Rattle.sr_check_expr.specs.Arguments.{all_valued}
 use Rattle.sr_check_expr.specs.Entries.{Entries}
 use Rattle.sr_check_expr.specs.Infos.{info_at, type_spot, name_spot}
-use Rattle.sr_check_expr.specs.Judgements.{Judgement, broken_unless, settled}
+use Rattle.sr_check_expr.specs.Typings.{Typing, broken_unless, settled}
 use Rattle.sr_check_expr.specs.Uses.{read_rule}
 
 -- the only argument, where there is one
-abbrev pub only : List Judged → Option Judged
+abbrev pub only : List TypedExpr → Option TypedExpr
 only [] = None
 only (argument ∷ []) = Some argument
 only (argument ∷ other ∷ arguments) = None
@@ -77,12 +77,12 @@ abbrev pub dimension_of : Named → Option Dimension
 dimension_of (named.Number number) = dimension_numbered number
 dimension_of _ = None
 
-abbrev pub dimension_outcome : Judged → Option Dimension → Outcome
+abbrev pub dimension_outcome : TypedExpr → Option Dimension → Outcome
 dimension_outcome array None = Broken
 dimension_outcome array (Some dimension) = bound_rule array.typed dimension
 
 -- without a number the first dimension is meant
-abbrev pub bound_outcome : List Judged → Outcome
+abbrev pub bound_outcome : List TypedExpr → Outcome
 bound_outcome [] = Broken
 bound_outcome (array ∷ []) = bound_rule array.typed First
 bound_outcome (array ∷ number ∷ []) = dimension_outcome array (dimension_of number.named)
@@ -93,14 +93,14 @@ bound_outcome (array ∷ number ∷ third ∷ arguments) = Broken
 abbrev pub instance_type : Decl → Ty
 instance_type component = ty.Resource (type_spot component.spot)
 
-abbrev pub two_numbers_outcome : List Judged → Outcome
+abbrev pub two_numbers_outcome : List TypedExpr → Outcome
 two_numbers_outcome [] = Broken
 two_numbers_outcome (a ∷ []) = Broken
 two_numbers_outcome (a ∷ b ∷ []) = numbers_rule a.typed b.typed
 two_numbers_outcome (a ∷ b ∷ c ∷ arguments) = Broken
 
 -- a call with one argument
-abbrev pub one_outcome : Entries → Predefined → Judged → Outcome
+abbrev pub one_outcome : Entries → Predefined → TypedExpr → Outcome
 one_outcome infos Abs argument = number_rule argument.typed
 one_outcome infos Low argument = low_outcome infos argument.named
 one_outcome infos High argument = high_outcome infos argument.named
@@ -109,7 +109,7 @@ one_outcome infos Pred argument = neighbour_rule argument.typed
 one_outcome infos Succ argument = neighbour_rule argument.typed
 one_outcome infos _ argument = Broken
 
-abbrev pub by_one : Entries → Predefined → Option Judged → Outcome
+abbrev pub by_one : Entries → Predefined → Option TypedExpr → Outcome
 by_one infos name None = Broken
 by_one infos name (Some argument) = one_outcome infos name argument
 
@@ -119,12 +119,12 @@ none_outcome component MyResource = Met (computed (instance_type component) Unkn
 none_outcome component MyVm = Met (computed ty.Vm Unknown)
 none_outcome component _ = Broken
 
-abbrev pub by_none : Decl → Predefined → List Judged → Outcome
+abbrev pub by_none : Decl → Predefined → List TypedExpr → Outcome
 by_none component name [] = none_outcome component name
 by_none component name (argument ∷ arguments) = Broken
 
 -- what a call is; a function that gives no value is none of expressions, and so is `EOF`
-abbrev pub function_outcome : Facts → Predefined → List Judged → Outcome
+abbrev pub function_outcome : Facts → Predefined → List TypedExpr → Outcome
 function_outcome facts Read arguments = Met (computed ty.Int Unknown)
 function_outcome facts Min arguments = two_numbers_outcome arguments
 function_outcome facts Max arguments = two_numbers_outcome arguments
@@ -139,22 +139,22 @@ is_resource Resource = true
 is_resource _ = false
 
 -- `read` is of places
-abbrev pub places_found : List Judged → List Finding
+abbrev pub places_found : List TypedExpr → List Finding
 places_found [] = []
 places_found (argument ∷ arguments) = broken_unless (read_rule argument.typed) BadType argument.span ++ places_found arguments
 
--- an invocation, `read` or `create` may not stand behind `and`, `st` or `by` of an arm
+-- an invocation, `read` or `create` may not stand after `and`, `st` or `by` of an arm
 abbrev pub guard_found : Here → Span → List Finding
 guard_found here span = broken_unless (not here.in_guard) Guard span
 
 -- what else is found at a call: `low` and `high` are of types and all others of values, and `myresource()` is no
 -- call in a global
-abbrev pub function_found : Facts → Span → Predefined → List Judged → List Finding
+abbrev pub function_found : Facts → Span → Predefined → List TypedExpr → List Finding
 function_found facts span Low arguments = []
 function_found facts span High arguments = []
 function_found facts span Read arguments = all_valued arguments ++ (places_found arguments ++ guard_found facts.here span)
 function_found facts span MyResource arguments = all_valued arguments ++ broken_unless (is_resource facts.here.component.sort) BadUse span
 function_found facts span _ arguments = all_valued arguments
 
-abbrev pub function_judged : Facts → Span → Predefined → List Judged → Judgement
-function_judged facts span name arguments = settled span (function_found facts span name arguments) (function_outcome facts name arguments)
+abbrev pub function_typing : Facts → Span → Predefined → List TypedExpr → Typing
+function_typing facts span name arguments = settled span (function_found facts span name arguments) (function_outcome facts name arguments)

@@ -1,13 +1,13 @@
 ghost use Rattle.std.specs.Prelude.{◌≡◌, IfOk, OnOk, option_copied};
-ghost use Rattle.sr_names.specs.Notes.{all_noted};
+ghost use Rattle.sr_names.specs.Diagnostics.{all_noted};
 ghost use Rattle.sr_types.specs.Outcomes.{computed};
 ghost use Rattle.sr_check_expr.specs.Arguments.{as_many, all_valued, arguments_found, fields_found, invoked_found, takes_as_many, returned_by, returned_if, may_call, may_send, is_callable, is_sendable, returned_outcome, invoked_outcome};
 
 use crate::info::FieldInfo;
-use crate::judged::Judged;
 use crate::literals::known;
 use crate::marks::{note_unless, note_value};
-use sr_names::{Notes, Rule};
+use crate::typed_expr::TypedExpr;
+use sr_names::{Diagnostics, Rule};
 use sr_types::{Forms, Outcome, Param, Signatures, Static, Ty, fits, takes_argument};
 use sr_value::{Duplicate, NoMemory, Row};
 use std::alloc::Global;
@@ -15,27 +15,27 @@ use std::alloc::Global;
 /// The parts of an invocation, as far as they are known.
 #[derive(Drop)]
 pub struct Invoked {
-    pub callee: Judged,
-    pub arguments: Row<Judged>,
+    pub callee: TypedExpr,
+    pub arguments: Row<TypedExpr>,
 }
 
 /// Notes the arguments that are no values.
-pub fn note_values(notes: &mut Notes, arguments: &[Judged]) -> Result<(), NoMemory>
-    ensures { OnOk result (notes.new ≡ all_noted notes.old (all_valued arguments.now)) }
+pub fn note_values(diagnostics: &mut Diagnostics, arguments: &[TypedExpr]) -> Result<(), NoMemory>
+    ensures { OnOk result (diagnostics.new ≡ all_noted diagnostics.old (all_valued arguments.now)) }
 {
     for argument in arguments {
-        note_value(notes, argument)?;
+        note_value(diagnostics, argument)?;
     }
     Ok(())
 }
 
 /// Notes the arguments that their formals don't take.
 fn note_arguments(
-    notes: &mut Notes,
+    diagnostics: &mut Diagnostics,
     formals: &[Param],
-    arguments: &[Judged],
+    arguments: &[TypedExpr],
 ) -> Result<(), NoMemory>
-    ensures { OnOk result (notes.new ≡ all_noted notes.old (arguments_found formals.now arguments.now)) }
+    ensures { OnOk result (diagnostics.new ≡ all_noted diagnostics.old (arguments_found formals.now arguments.now)) }
 {
     let mut rest = arguments;
     for formal in formals {
@@ -43,7 +43,7 @@ fn note_arguments(
             [] => return Ok(()),
             [first, others @ ..] => {
                 let met = takes_argument(formal.mode, &formal.ty, &first.typed);
-                note_unless(notes, met, Rule::BadType, first.span)?;
+                note_unless(diagnostics, met, Rule::BadType, first.span)?;
                 rest = others;
             }
         }
@@ -53,11 +53,11 @@ fn note_arguments(
 
 /// Notes the arguments that their fields don't take.
 pub(crate) fn note_fields(
-    notes: &mut Notes,
+    diagnostics: &mut Diagnostics,
     fields: &[FieldInfo],
-    arguments: &[Judged],
+    arguments: &[TypedExpr],
 ) -> Result<(), NoMemory>
-    ensures { OnOk result (notes.new ≡ all_noted notes.old (fields_found fields.now arguments.now)) }
+    ensures { OnOk result (diagnostics.new ≡ all_noted diagnostics.old (fields_found fields.now arguments.now)) }
 {
     let mut rest = arguments;
     for field in fields {
@@ -65,7 +65,7 @@ pub(crate) fn note_fields(
             [] => return Ok(()),
             [first, others @ ..] => {
                 note_unless(
-                    notes,
+                    diagnostics,
                     fits(&first.typed.ty, &field.ty),
                     Rule::BadType,
                     first.span,
@@ -80,14 +80,14 @@ pub(crate) fn note_fields(
 /// Notes the arguments that don't fit a callee of this type.
 pub(crate) fn note_invoked(
     signatures: &Signatures,
-    notes: &mut Notes,
+    diagnostics: &mut Diagnostics,
     callee: &Ty,
-    arguments: &[Judged],
+    arguments: &[TypedExpr],
 ) -> Result<(), NoMemory>
-    ensures { OnOk result (notes.new ≡ all_noted notes.old (invoked_found signatures.now callee.now arguments.now)) }
+    ensures { OnOk result (diagnostics.new ≡ all_noted diagnostics.old (invoked_found signatures.now callee.now arguments.now)) }
 {
     match signatures.of(callee) {
-        Some(signature) => note_arguments(notes, signature.params.as_slice(), arguments),
+        Some(signature) => note_arguments(diagnostics, signature.params.as_slice(), arguments),
         None => Ok(()),
     }
 }
@@ -100,7 +100,7 @@ pub fn as_many<A, B>(these: &[A], others: &[B]) -> bool
 }
 
 /// Whether a callee of this type is an operation with as many formals as there are arguments.
-pub fn takes_as_many(signatures: &Signatures, callee: &Ty, arguments: &[Judged]) -> bool
+pub fn takes_as_many(signatures: &Signatures, callee: &Ty, arguments: &[TypedExpr]) -> bool
     ensures { result ≡ takes_as_many signatures.now callee.now arguments.now }
 {
     match signatures.of(callee) {
@@ -132,7 +132,7 @@ fn copied_type(alloc: Global, ty: &Option<Ty>) -> Result<Option<Ty>, NoMemory>
     }
 }
 
-/// What an invocation of what is no operation gives back.
+/// The result of an invocation whose callee is no operation.
 fn returned_if(untyped: bool) -> Option<Ty>
     ensures { result ≡ returned_if untyped }
 {
@@ -179,7 +179,7 @@ pub(crate) fn given_back(
     alloc: Global,
     signatures: &Signatures,
     callee: &Ty,
-    arguments: &[Judged],
+    arguments: &[TypedExpr],
 ) -> Result<Outcome, NoMemory>
     ensures { IfOk result (λ outcome. outcome ≡ invoked_outcome signatures.now callee.now arguments.now) }
 {

@@ -1,18 +1,18 @@
 ghost use Rattle.std.specs.Prelude.{◌≡◌, IfOk, OnOk, Some, option_copied};
-ghost use Rattle.sr_names.specs.Notes.{all_noted};
-ghost use Rattle.sr_check_expr.specs.Creating.{component_type, resource_type, resource_named, instance_type, machine_valued, made_of, formals_found, made_found, instance_judged, machine_judged};
+ghost use Rattle.sr_names.specs.Diagnostics.{all_noted};
+ghost use Rattle.sr_check_expr.specs.Creating.{component_type, resource_type, resource_named, instance_type, machine_valued, made_of, formals_found, made_found, instance_typing, machine_typing};
 
 use crate::arguments::{note_invoked, note_values, takes_as_many};
 use crate::facts::Facts;
 use crate::functions::note_guard;
 use crate::info::Info;
 use crate::infos::{Infos, type_spot};
-use crate::judged::Judged;
 use crate::literals::known;
 use crate::marks::{note_unless, note_value, settle, value_at};
 use crate::naming::{deciding, decl_of};
+use crate::typed_expr::TypedExpr;
 use crate::uses::may_be_machine;
-use sr_names::{Decl, Notes, Rule, Sort, Spot};
+use sr_names::{Decl, Diagnostics, Rule, Sort, Spot};
 use sr_tree::QualifiedName;
 use sr_types::{Outcome, Static, Ty, own_machine};
 use sr_value::{Boxed, NoMemory, Span};
@@ -57,40 +57,43 @@ fn instance_type(resource: Option<Decl>) -> Ty
 }
 
 /// Notes that an expression that stands after `on` is no machine.
-fn note_machine_at(notes: &mut Notes, machine: &Judged) -> Result<(), NoMemory>
-    ensures { OnOk result (notes.new ≡ all_noted notes.old (machine_valued (Some machine.now))) }
+fn note_machine_at(diagnostics: &mut Diagnostics, machine: &TypedExpr) -> Result<(), NoMemory>
+    ensures { OnOk result (diagnostics.new ≡ all_noted diagnostics.old (machine_valued (Some machine.now))) }
 {
-    note_value(notes, machine)?;
+    note_value(diagnostics, machine)?;
     let met = may_be_machine(&machine.typed);
-    note_unless(notes, met, Rule::BadType, machine.span)
+    note_unless(diagnostics, met, Rule::BadType, machine.span)
 }
 
 /// Notes that what stands after `on` is no machine.
-fn note_machine(notes: &mut Notes, machine: &Option<Boxed<Judged>>) -> Result<(), NoMemory>
-    ensures { OnOk result (notes.new ≡ all_noted notes.old (machine_valued machine.now)) }
+fn note_machine(
+    diagnostics: &mut Diagnostics,
+    machine: &Option<Boxed<TypedExpr>>,
+) -> Result<(), NoMemory>
+    ensures { OnOk result (diagnostics.new ≡ all_noted diagnostics.old (machine_valued machine.now)) }
 {
     match machine {
-        Some(machine) => note_machine_at(notes, machine.get()),
+        Some(machine) => note_machine_at(diagnostics, machine.get()),
         None => Ok(()),
     }
 }
 
 fn note_formals(
     facts: &Facts,
-    notes: &mut Notes,
-    arguments: &[Judged],
+    diagnostics: &mut Diagnostics,
+    arguments: &[TypedExpr],
     formals: Option<&Ty>,
 ) -> Result<(), NoMemory>
-    ensures { OnOk result (notes.new ≡ all_noted notes.old (formals_found facts.now arguments.now (option_copied formals.entry))) }
+    ensures { OnOk result (diagnostics.new ≡ all_noted diagnostics.old (formals_found facts.now arguments.now (option_copied formals.entry))) }
 {
     match formals {
-        Some(formals) => note_invoked(&facts.signatures, notes, formals, arguments),
+        Some(formals) => note_invoked(&facts.signatures, diagnostics, formals, arguments),
         None => Ok(()),
     }
 }
 
 /// What is made, where the arguments are as many as the formals.
-fn made_of(facts: &Facts, arguments: &[Judged], instance: Ty, formals: Option<&Ty>) -> Outcome
+fn made_of(facts: &Facts, arguments: &[TypedExpr], instance: Ty, formals: Option<&Ty>) -> Outcome
     ensures { result ≡ made_of facts.now arguments.now instance (option_copied formals.entry) }
 {
     match formals {
@@ -108,29 +111,33 @@ fn made_of(facts: &Facts, arguments: &[Judged], instance: Ty, formals: Option<&T
 /// Notes what is found at the making of an instance, apart from its parts, and answers what it is.
 pub(crate) fn instance(
     facts: &Facts,
-    notes: &mut Notes,
+    diagnostics: &mut Diagnostics,
     span: Span,
     resource: Option<Decl>,
-    arguments: &[Judged],
-    machine: &Option<Boxed<Judged>>,
-) -> Result<Judged, NoMemory>
-    ensures value { IfOk result (λ judged. judged ≡ (instance_judged facts.now span resource arguments.now machine.now).judged) }
-    ensures noted { OnOk result (notes.new ≡ all_noted notes.old (instance_judged facts.now span resource arguments.now machine.now).found) }
+    arguments: &[TypedExpr],
+    machine: &Option<Boxed<TypedExpr>>,
+) -> Result<TypedExpr, NoMemory>
+    ensures value { IfOk result (λ typed_expr. typed_expr ≡ (instance_typing facts.now span resource arguments.now machine.now).typed_expr) }
+    ensures noted { OnOk result (diagnostics.new ≡ all_noted diagnostics.old (instance_typing facts.now span resource arguments.now machine.now).found) }
 {
     let formals = resource_type(&facts.infos, resource);
-    note_values(notes, arguments)?;
-    note_machine(notes, machine)?;
-    note_formals(facts, notes, arguments, formals)?;
-    note_guard(notes, facts.here, span)?;
+    note_values(diagnostics, arguments)?;
+    note_machine(diagnostics, machine)?;
+    note_formals(facts, diagnostics, arguments, formals)?;
+    note_guard(diagnostics, facts.here, span)?;
     let outcome = made_of(facts, arguments, instance_type(resource), formals);
-    settle(notes, span, outcome)
+    settle(diagnostics, span, outcome)
 }
 
 /// Notes what is found at the making of a machine, and answers what it is.
-pub(crate) fn new_machine(facts: &Facts, notes: &mut Notes, span: Span) -> Result<Judged, NoMemory>
-    ensures value { IfOk result (λ judged. judged ≡ (machine_judged facts.now span).judged) }
-    ensures noted { OnOk result (notes.new ≡ all_noted notes.old (machine_judged facts.now span).found) }
+pub(crate) fn new_machine(
+    facts: &Facts,
+    diagnostics: &mut Diagnostics,
+    span: Span,
+) -> Result<TypedExpr, NoMemory>
+    ensures value { IfOk result (λ typed_expr. typed_expr ≡ (machine_typing facts.now span).typed_expr) }
+    ensures noted { OnOk result (diagnostics.new ≡ all_noted diagnostics.old (machine_typing facts.now span).found) }
 {
-    note_guard(notes, facts.here, span)?;
+    note_guard(diagnostics, facts.here, span)?;
     Ok(value_at(span, own_machine()))
 }

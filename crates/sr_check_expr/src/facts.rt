@@ -7,7 +7,7 @@ use sr_types::Signatures;
 pub struct Here {
     /// The component.
     pub component: Decl,
-    /// Whether it stands in what an arm says behind `and`, `st` or `by`.
+    /// Whether it stands in what an arm says after `and`, `st` or `by`.
     pub in_guard: bool,
 }
 

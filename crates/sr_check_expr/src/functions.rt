@@ -1,15 +1,15 @@
 ghost use Rattle.std.specs.Prelude.{◌≡◌, IfOk, OnOk, option_copied};
-ghost use Rattle.sr_names.specs.Notes.{all_noted};
-ghost use Rattle.sr_check_expr.specs.PredefinedCalls.{ends_shape, info_shape, low_outcome, high_outcome, dimension_numbered, dimension_of, only, bound_outcome, dimension_outcome, two_numbers_outcome, one_outcome, none_outcome, function_outcome, places_found, guard_found, function_found, function_judged};
+ghost use Rattle.sr_names.specs.Diagnostics.{all_noted};
+ghost use Rattle.sr_check_expr.specs.PredefinedCalls.{ends_shape, info_shape, low_outcome, high_outcome, dimension_numbered, dimension_of, only, bound_outcome, dimension_outcome, two_numbers_outcome, one_outcome, none_outcome, function_outcome, places_found, guard_found, function_found, function_typing};
 
 use crate::arguments::note_values;
 use crate::facts::{Facts, Here};
 use crate::info::Info;
 use crate::infos::{Infos, name_spot, type_spot};
-use crate::judged::{Judged, Named};
 use crate::marks::{note_unless, settle};
+use crate::typed_expr::{Named, TypedExpr};
 use crate::uses::may_be_input;
-use sr_names::{Decl, Notes, Predefined, Rule, Sort};
+use sr_names::{Decl, Diagnostics, Predefined, Rule, Sort};
 use sr_types::{
     Outcome, Ty, absolute, array_bound, end_of_file, high, least_or_greatest, low, neighbour,
     own_instance, own_machine, refused, string_length,
@@ -96,7 +96,7 @@ fn dimension_of(named: &Named) -> Option<Dimension>
 }
 
 /// The only argument, where there is one.
-fn only(arguments: &[Judged]) -> Option<&Judged>
+fn only(arguments: &[TypedExpr]) -> Option<&TypedExpr>
     ensures { option_copied result ≡ only arguments.now }
 {
     match arguments {
@@ -107,7 +107,7 @@ fn only(arguments: &[Judged]) -> Option<&Judged>
 }
 
 /// `lb` and `ub`: without a number the first dimension is meant.
-fn bound_of(arguments: &[Judged]) -> Outcome
+fn bound_of(arguments: &[TypedExpr]) -> Outcome
     ensures { result ≡ bound_outcome arguments.now }
 {
     match arguments {
@@ -118,7 +118,7 @@ fn bound_of(arguments: &[Judged]) -> Outcome
     }
 }
 
-fn dimension_bound(array: &Judged, dimension: Option<Dimension>) -> Outcome
+fn dimension_bound(array: &TypedExpr, dimension: Option<Dimension>) -> Outcome
     ensures { result ≡ dimension_outcome array.now dimension }
 {
     match dimension {
@@ -128,7 +128,7 @@ fn dimension_bound(array: &Judged, dimension: Option<Dimension>) -> Outcome
 }
 
 /// `min` and `max`.
-fn greater_or_less(arguments: &[Judged]) -> Outcome
+fn greater_or_less(arguments: &[TypedExpr]) -> Outcome
     ensures { result ≡ two_numbers_outcome arguments.now }
 {
     match arguments {
@@ -143,7 +143,7 @@ fn of_one(
     alloc: Global,
     infos: &Infos,
     name: Predefined,
-    argument: &Judged,
+    argument: &TypedExpr,
 ) -> Result<Outcome, NoMemory>
     ensures { IfOk result (λ outcome. outcome ≡ one_outcome infos.now name argument.now) }
 {
@@ -173,7 +173,7 @@ fn function_outcome(
     alloc: Global,
     facts: &Facts,
     name: Predefined,
-    arguments: &[Judged],
+    arguments: &[TypedExpr],
 ) -> Result<Outcome, NoMemory>
     ensures { IfOk result (λ outcome. outcome ≡ function_outcome facts.now name arguments.now) }
 {
@@ -196,12 +196,12 @@ fn function_outcome(
 }
 
 /// Notes the arguments that `read` can't read to.
-fn note_places(notes: &mut Notes, arguments: &[Judged]) -> Result<(), NoMemory>
-    ensures { OnOk result (notes.new ≡ all_noted notes.old (places_found arguments.now)) }
+fn note_places(diagnostics: &mut Diagnostics, arguments: &[TypedExpr]) -> Result<(), NoMemory>
+    ensures { OnOk result (diagnostics.new ≡ all_noted diagnostics.old (places_found arguments.now)) }
 {
     for argument in arguments {
         note_unless(
-            notes,
+            diagnostics,
             may_be_input(&argument.typed),
             Rule::BadType,
             argument.span,
@@ -210,36 +210,36 @@ fn note_places(notes: &mut Notes, arguments: &[Judged]) -> Result<(), NoMemory>
     Ok(())
 }
 
-/// Notes an invocation, `read` or `create` that stands in what an arm says behind `and`, `st` or `by`.
-pub fn note_guard(notes: &mut Notes, here: Here, span: Span) -> Result<(), NoMemory>
-    ensures { OnOk result (notes.new ≡ all_noted notes.old (guard_found here span)) }
+/// Notes an invocation, `read` or `create` that stands in what an arm says after `and`, `st` or `by`.
+pub fn note_guard(diagnostics: &mut Diagnostics, here: Here, span: Span) -> Result<(), NoMemory>
+    ensures { OnOk result (diagnostics.new ≡ all_noted diagnostics.old (guard_found here span)) }
 {
-    note_unless(notes, !here.in_guard, Rule::Guard, span)
+    note_unless(diagnostics, !here.in_guard, Rule::Guard, span)
 }
 
 /// Notes what else is found at a call of a predefined function.
 fn note_function(
     facts: &Facts,
-    notes: &mut Notes,
+    diagnostics: &mut Diagnostics,
     span: Span,
     name: Predefined,
-    arguments: &[Judged],
+    arguments: &[TypedExpr],
 ) -> Result<(), NoMemory>
-    ensures { OnOk result (notes.new ≡ all_noted notes.old (function_found facts.now span name arguments.now)) }
+    ensures { OnOk result (diagnostics.new ≡ all_noted diagnostics.old (function_found facts.now span name arguments.now)) }
 {
     match name {
         Predefined::Low | Predefined::High => Ok(()),
         Predefined::Read => {
-            note_values(notes, arguments)?;
-            note_places(notes, arguments)?;
-            note_guard(notes, facts.here, span)
+            note_values(diagnostics, arguments)?;
+            note_places(diagnostics, arguments)?;
+            note_guard(diagnostics, facts.here, span)
         }
         Predefined::MyResource => {
-            note_values(notes, arguments)?;
+            note_values(diagnostics, arguments)?;
             let is_resource = matches!(facts.here.component.sort, Sort::Resource);
-            note_unless(notes, is_resource, Rule::BadUse, span)
+            note_unless(diagnostics, is_resource, Rule::BadUse, span)
         }
-        _ => note_values(notes, arguments),
+        _ => note_values(diagnostics, arguments),
     }
 }
 
@@ -247,17 +247,17 @@ fn note_function(
 pub fn function(
     alloc: Global,
     facts: &Facts,
-    notes: &mut Notes,
+    diagnostics: &mut Diagnostics,
     span: Span,
     name: Predefined,
-    arguments: &[Judged],
-) -> Result<Judged, NoMemory>
-    ensures value { IfOk result (λ judged. judged ≡ (function_judged facts.now span name arguments.now).judged) }
-    ensures noted { OnOk result (notes.new ≡ all_noted notes.old (function_judged facts.now span name arguments.now).found) }
+    arguments: &[TypedExpr],
+) -> Result<TypedExpr, NoMemory>
+    ensures value { IfOk result (λ typed_expr. typed_expr ≡ (function_typing facts.now span name arguments.now).typed_expr) }
+    ensures noted { OnOk result (diagnostics.new ≡ all_noted diagnostics.old (function_typing facts.now span name arguments.now).found) }
 {
-    note_function(facts, notes, span, name, arguments)?;
+    note_function(facts, diagnostics, span, name, arguments)?;
     settle(
-        notes,
+        diagnostics,
         span,
         function_outcome(alloc, facts, name, arguments)?,
     )

@@ -1,7 +1,7 @@
 //! The rules of expressions over finished trees: what is found in an expression, and what it is.
 //!
-//! A construct gets what is found in its parts and what they are, and adds what its own rules find. A part that was
-//! refused has no type, and breaks no rule of what stands around it.
+//! Each construct gets the findings and the types of its parts, and adds the findings of its own rules. A part that was
+//! refused has no type, so the constructs around it report no further error.
 #![tactic(auto)]
 
 mod arguments;
@@ -12,11 +12,11 @@ mod facts;
 mod functions;
 mod info;
 mod infos;
-mod judged;
 mod literals;
 mod marks;
 mod naming;
 mod operators;
+mod typed_expr;
 mod uses;
 mod wholes;
 
@@ -29,8 +29,8 @@ pub use facts::{Facts, Here};
 pub use functions::{function, note_guard};
 pub use info::{FieldInfo, Info};
 pub use infos::{Infos, name_spot, type_spot};
-pub use judged::{Judged, Named};
 pub use literals::{basic, known};
 pub use marks::{name_at, note_unless, note_value, refuse, settle, value_at};
 pub use naming::{deciding, decl_info, decl_of, name};
+pub use typed_expr::{Named, TypedExpr};
 pub use uses::{may_be_input, may_be_machine};

@@ -2,7 +2,7 @@ ghost use Rattle.std.specs.Prelude.{◌≡◌, IfOk};
 ghost use Rattle.sr_check_expr.specs.LiteralTypes.{number_static, char_static, literal_typed, literal_named, number_named, basic_type};
 ghost use Rattle.sr_types.specs.Outcomes.{computed};
 
-use crate::judged::{Judged, Named};
+use crate::typed_expr::{Named, TypedExpr};
 use sr_literal::{number_of, string_of};
 use sr_tree::{BasicType, Literal};
 use sr_types::{Static, Ty, Typed};
@@ -10,10 +10,10 @@ use sr_value::{Cap, NoMemory, Span, Value};
 use std::alloc::Global;
 
 /// What an expression is that is a literal.
-pub(crate) fn literal(alloc: Global, span: Span, literal: &Literal) -> Result<Judged, NoMemory>
-    ensures { IfOk result (λ judged. judged ≡ record { span = span; typed = literal_typed literal.now; named = literal_named literal.now }) }
+pub(crate) fn literal(alloc: Global, span: Span, literal: &Literal) -> Result<TypedExpr, NoMemory>
+    ensures { IfOk result (λ typed_expr. typed_expr ≡ record { span = span; typed = literal_typed literal.now; named = literal_named literal.now }) }
 {
-    Ok(Judged {
+    Ok(TypedExpr {
         span,
         typed: literal_value(alloc, literal)?,
         named: literal_name(literal),

@@ -1,27 +1,32 @@
 ghost use Rattle.std.specs.Prelude.{◌≡◌, IfOk, OnOk};
-ghost use Rattle.sr_names.specs.Notes.{all_noted};
-ghost use Rattle.sr_check_expr.specs.Judgements.{broken_unless, value_at, name_at, is_value_name, value_found, settled_typed, is_met, refused_at};
+ghost use Rattle.sr_names.specs.Diagnostics.{all_noted};
+ghost use Rattle.sr_check_expr.specs.Typings.{broken_unless, value_at, name_at, is_value_name, value_found, settled_typed, is_met, refused_at};
 
-use crate::judged::{Judged, Named};
-use sr_names::{Finding, Notes, Rule, Wrong};
+use crate::typed_expr::{Named, TypedExpr};
+use sr_names::{Diagnostic, Diagnostics, Finding, Rule};
 use sr_types::{Outcome, Typed, refused};
 use sr_value::{NoMemory, Span};
 
 /// Notes that a rule is broken at a span, unless it is met.
-pub fn note_unless(notes: &mut Notes, met: bool, rule: Rule, span: Span) -> Result<(), NoMemory>
-    ensures { OnOk result (notes.new ≡ all_noted notes.old (broken_unless met rule span)) }
+pub fn note_unless(
+    diagnostics: &mut Diagnostics,
+    met: bool,
+    rule: Rule,
+    span: Span,
+) -> Result<(), NoMemory>
+    ensures { OnOk result (diagnostics.new ≡ all_noted diagnostics.old (broken_unless met rule span)) }
 {
     if met {
         return Ok(());
     }
-    notes.note(Finding::Broken(Wrong { rule, span }))
+    diagnostics.note(Finding::Broken(Diagnostic { rule, span }))
 }
 
 /// An expression that is nothing but a value.
-pub fn value_at(span: Span, typed: Typed) -> Judged
+pub fn value_at(span: Span, typed: Typed) -> TypedExpr
     ensures { result ≡ value_at span typed }
 {
-    Judged {
+    TypedExpr {
         span,
         typed,
         named: Named::Nothing,
@@ -29,10 +34,10 @@ pub fn value_at(span: Span, typed: Typed) -> Judged
 }
 
 /// An expression that has no value, but names something.
-pub fn name_at(span: Span, named: Named) -> Judged
+pub fn name_at(span: Span, named: Named) -> TypedExpr
     ensures { result ≡ name_at span named }
 {
-    Judged {
+    TypedExpr {
         span,
         typed: refused(),
         named,
@@ -40,10 +45,15 @@ pub fn name_at(span: Span, named: Named) -> Judged
 }
 
 /// Notes where an expression that stands for a value is the wrong sort of name.
-pub fn note_value(notes: &mut Notes, judged: &Judged) -> Result<(), NoMemory>
-    ensures { OnOk result (notes.new ≡ all_noted notes.old (value_found judged.now)) }
+pub fn note_value(diagnostics: &mut Diagnostics, typed_expr: &TypedExpr) -> Result<(), NoMemory>
+    ensures { OnOk result (diagnostics.new ≡ all_noted diagnostics.old (value_found typed_expr.now)) }
 {
-    note_unless(notes, judged.named.is_value(), Rule::BadType, judged.span)
+    note_unless(
+        diagnostics,
+        typed_expr.named.is_value(),
+        Rule::BadType,
+        typed_expr.span,
+    )
 }
 
 impl Named {
@@ -59,21 +69,25 @@ impl Named {
 }
 
 /// What a construct is by the outcome of its rule, and notes where that is broken.
-pub fn settle(notes: &mut Notes, span: Span, outcome: Outcome) -> Result<Judged, NoMemory>
-    ensures value { IfOk result (λ judged. judged ≡ value_at span (settled_typed outcome)) }
-    ensures noted { OnOk result (notes.new ≡ all_noted notes.old (broken_unless (is_met outcome) Rule.BadType span)) }
+pub fn settle(
+    diagnostics: &mut Diagnostics,
+    span: Span,
+    outcome: Outcome,
+) -> Result<TypedExpr, NoMemory>
+    ensures value { IfOk result (λ typed_expr. typed_expr ≡ value_at span (settled_typed outcome)) }
+    ensures noted { OnOk result (diagnostics.new ≡ all_noted diagnostics.old (broken_unless (is_met outcome) Rule.BadType span)) }
 {
     match outcome {
         Outcome::Met(whole) => Ok(value_at(span, whole)),
-        Outcome::Broken => refuse(notes, span),
+        Outcome::Broken => refuse(diagnostics, span),
     }
 }
 
 /// Notes that an expression is refused, and is what it is then.
-pub fn refuse(notes: &mut Notes, span: Span) -> Result<Judged, NoMemory>
-    ensures value { IfOk result (λ judged. judged ≡ (refused_at span).judged) }
-    ensures noted { OnOk result (notes.new ≡ all_noted notes.old (refused_at span).found) }
+pub fn refuse(diagnostics: &mut Diagnostics, span: Span) -> Result<TypedExpr, NoMemory>
+    ensures value { IfOk result (λ typed_expr. typed_expr ≡ (refused_at span).typed_expr) }
+    ensures noted { OnOk result (diagnostics.new ≡ all_noted diagnostics.old (refused_at span).found) }
 {
-    note_unless(notes, false, Rule::BadType, span)?;
+    note_unless(diagnostics, false, Rule::BadType, span)?;
     Ok(value_at(span, refused()))
 }

@@ -1,21 +1,21 @@
 ghost use Rattle.std.specs.Prelude.{◌≡◌, IfOk, OnOk, option_copied};
-ghost use Rattle.sr_names.specs.Notes.{all_noted};
-ghost use Rattle.sr_check_expr.specs.Naming.{predefined_at, operation_at, info_judged, meaning_judged, name_judged, decl_of, decl_info, deciding, record_fields, field_named, spec_operation, field_part, capability_part, field_outcome};
+ghost use Rattle.sr_names.specs.Diagnostics.{all_noted};
+ghost use Rattle.sr_check_expr.specs.Naming.{predefined_at, operation_at, info_typing, meaning_typing, name_typing, decl_of, decl_info, deciding, record_fields, field_named, spec_operation, field_part, capability_part, field_outcome};
 
 use crate::facts::Facts;
 use crate::info::{FieldInfo, Info};
 use crate::infos::{Infos, name_spot, type_spot};
-use crate::judged::{Judged, Named};
 use crate::literals::known;
 use crate::marks::{name_at, refuse, value_at};
-use sr_names::{Decl, Meaning, Notes, Predefined, Spot};
+use crate::typed_expr::{Named, TypedExpr};
+use sr_names::{Decl, Diagnostics, Meaning, Predefined, Spot};
 use sr_tree::{Name, QualifiedName};
 use sr_types::{Outcome, Static, Ty, Typed, end_of_file, field, refused};
 use sr_value::{Duplicate, NoMemory, Span};
 use std::alloc::Global;
 
 /// What an expression is that is the name of something predefined.
-fn predefined_at(span: Span, name: Predefined) -> Judged
+fn predefined_at(span: Span, name: Predefined) -> TypedExpr
     ensures { result ≡ predefined_at span name }
 {
     match name {
@@ -25,10 +25,10 @@ fn predefined_at(span: Span, name: Predefined) -> Judged
 }
 
 /// What an expression is that is the name of an operation: its capability.
-fn operation_at(span: Span, spot: Spot, ty: Ty) -> Judged
+fn operation_at(span: Span, spot: Spot, ty: Ty) -> TypedExpr
     ensures { result ≡ operation_at span spot ty }
 {
-    Judged {
+    TypedExpr {
         span,
         typed: known(ty, Static::Unknown),
         named: Named::Operation(spot),
@@ -36,8 +36,8 @@ fn operation_at(span: Span, spot: Spot, ty: Ty) -> Judged
 }
 
 /// What an expression is that is a declared name.
-fn info_at(alloc: Global, span: Span, decl: Decl, info: &Info) -> Result<Judged, NoMemory>
-    ensures { IfOk result (λ judged. judged ≡ info_judged span decl info.now) }
+fn info_at(alloc: Global, span: Span, decl: Decl, info: &Info) -> Result<TypedExpr, NoMemory>
+    ensures { IfOk result (λ typed_expr. typed_expr ≡ info_typing span decl info.now) }
 {
     Ok(match info {
         Info::Value(typed) => value_at(span, typed.copy(alloc)?),
@@ -54,18 +54,18 @@ fn info_at(alloc: Global, span: Span, decl: Decl, info: &Info) -> Result<Judged,
 fn meaning_at(
     alloc: Global,
     infos: &Infos,
-    notes: &mut Notes,
+    diagnostics: &mut Diagnostics,
     span: Span,
     meaning: Option<Meaning>,
-) -> Result<Judged, NoMemory>
-    ensures value { IfOk result (λ judged. judged ≡ (meaning_judged infos.now span meaning).judged) }
-    ensures noted { OnOk result (notes.new ≡ all_noted notes.old (meaning_judged infos.now span meaning).found) }
+) -> Result<TypedExpr, NoMemory>
+    ensures value { IfOk result (λ typed_expr. typed_expr ≡ (meaning_typing infos.now span meaning).typed_expr) }
+    ensures noted { OnOk result (diagnostics.new ≡ all_noted diagnostics.old (meaning_typing infos.now span meaning).found) }
 {
     match meaning {
-        None => refuse(notes, span),
+        None => refuse(diagnostics, span),
         Some(Meaning::Predefined(name)) => Ok(predefined_at(span, name)),
         Some(Meaning::Declared(decl)) => match infos.get(decl.spot) {
-            None => refuse(notes, span),
+            None => refuse(diagnostics, span),
             Some(info) => info_at(alloc, span, decl, info),
         },
     }
@@ -75,15 +75,15 @@ fn meaning_at(
 pub fn name(
     alloc: Global,
     facts: &Facts,
-    notes: &mut Notes,
+    diagnostics: &mut Diagnostics,
     span: Span,
     used: Span,
-) -> Result<Judged, NoMemory>
-    ensures value { IfOk result (λ judged. judged ≡ (name_judged facts.now span used).judged) }
-    ensures noted { OnOk result (notes.new ≡ all_noted notes.old (name_judged facts.now span used).found) }
+) -> Result<TypedExpr, NoMemory>
+    ensures value { IfOk result (λ typed_expr. typed_expr ≡ (name_typing facts.now span used).typed_expr) }
+    ensures noted { OnOk result (diagnostics.new ≡ all_noted diagnostics.old (name_typing facts.now span used).found) }
 {
     let meaning = facts.uses.get(Spot::of(used));
-    meaning_at(alloc, &facts.infos, notes, span, meaning)
+    meaning_at(alloc, &facts.infos, diagnostics, span, meaning)
 }
 
 /// The declaration that a meaning is.

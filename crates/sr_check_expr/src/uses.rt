@@ -14,7 +14,7 @@ pub fn may_be_input(argument: &Typed) -> bool
         )
 }
 
-/// Whether an expression may stand behind `on`: a `cap vm`, `null` or `noop`.
+/// Whether an expression may stand after `on`: a `cap vm`, `null` or `noop`.
 pub fn may_be_machine(machine: &Typed) -> bool
     ensures { result ≡ machine_rule machine.now }
 {

@@ -1,4 +1,4 @@
--- The operations of a group behind its first, and lists with one entry more.
+-- The operations of a group after its first, and lists with one entry more.
 use Rattle.std.proofs.Common.{◌≡◌, ℕ, ◌+◌, ◌-◌, ◌<◌, ◌≤◌, ◌⊎◌, inl, inr, List, [], ◌∷◌, ◌++◌, fold, take, drop, length, get_or, arith, sym, ap, subst, ◌∙◌}
 use Rattle.std.proofs.Math.ListN.{get_or-append}
 use Rattle.std.proofs.Math.Nat.{eq-or-lt_of_le}

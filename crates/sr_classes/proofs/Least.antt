@@ -135,7 +135,7 @@ complete groups a c (through {b = b} one other) = complete groups a b one ∙ co
 pub one-class : (groups : List (List ℕ)) (a b : ℕ) → all_joined groups a ≡ all_joined groups b → SameClass groups a b
 one-class groups a b is = through (turned (sound groups a)) (subst (λ n. SameClass groups n b) (sym is) (sound groups b))
 
--- ---- the class of an operation isn't behind it
+-- ---- the class of an operation isn't after it
 
 below-joined : (of : ℕ → ℕ) (a b : ℕ) → ((op : ℕ) → of op ≤ op) → (op : ℕ) → joined of a b op ≤ op
 below-joined of a b below op = go (joined-cases of a b op)
@@ -159,8 +159,8 @@ below-all : (groups : List (List ℕ)) (of : ℕ → ℕ) → ((op : ℕ) → of
 below-all [] of below = below
 below-all (group ∷ groups) of below = below-all groups (group_joined of group) (below-group group of below)
 
-pub not-behind : (groups : List (List ℕ)) (op : ℕ) → all_joined groups op ≤ op
-not-behind groups = below-all groups (λ op. op) (λ op. omega arith)
+pub not-after : (groups : List (List ℕ)) (op : ℕ) → all_joined groups op ≤ op
+not-after groups = below-all groups (λ op. op) (λ op. omega arith)
 
 -- ---- any other such equivalence holds for them too
 
@@ -181,5 +181,5 @@ are-classes groups count classes counted told = record {
     (λ one. told a a_within ∙ complete groups a b one ∙ sym (told b b_within)),
   );
   one_of_them = λ a within. subst (λ n. SameClass groups n a) (sym (told a within)) (sound groups a);
-  first = λ a b a_within b_within one. subst (λ n. n ≤ b) (sym (told a a_within ∙ complete groups a b one)) (not-behind groups b);
+  first = λ a b a_within b_within one. subst (λ n. n ≤ b) (sym (told a a_within ∙ complete groups a b one)) (not-after groups b);
 }

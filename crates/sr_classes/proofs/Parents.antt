@@ -13,7 +13,7 @@ at-set p P at v within new old op inside = go (eqb_tells op at)
     go (inl same) = subst (λ x. P x (get_or (set p at v) x 0)) (sym same.1) (subst (P at) (sym (get_or-set_same p at v 0 within)) new)
     go (inr other) = subst (P op) (sym (get_or-set_other p at op v 0 other.1)) (old op (subst (λ n. op < n) (length-set p at v) inside) other.1)
 
--- a parent that isn't behind its operation keeps a forest
+-- a parent that isn't after its operation keeps a forest
 pub forest-set : (p : List ℕ) (at v : ℕ) → IsForest p → at < length p → v ≤ at → IsForest (set p at v)
 forest-set p at v forest within less = at-set p (λ op parent. parent ≤ op) at v within less (λ op inside other. forest op inside)
 

@@ -14,7 +14,7 @@ group_joined of (first ∷ others) = fold (λ so_far other. joined so_far first 
 abbrev pub all_joined : List (List ℕ) → (ℕ → ℕ)
 all_joined groups = fold group_joined (λ op. op) groups
 
--- each operation has a parent that isn't behind it
+-- each operation has a parent that isn't after it
 abbrev pub IsForest : List ℕ → Type 0
 IsForest parents = (op : ℕ) → op < length parents → slice_index_or parents op 0 ≤ op
 

@@ -8,9 +8,9 @@ use sr_core::{Arm, Classes, Core, Site};
 use sr_value::{NoMemory, Row};
 use std::alloc::Global;
 
-/// The class of each operation. Any two operations that one `in` has arms for are in one class, and so are two that
-/// are each in the class of a third; every other operation is in a class of its own. The number of a class is that of
-/// its first operation. An arm that names no operation, as none does in a well-formed core, joins nothing.
+/// The class of each operation. Two operations are in one class where one `in` has arms for both, or where each is in
+/// the class of a third. Every other operation is in a class of its own. A class has the number of its first operation.
+/// An arm that names no operation joins nothing; a well-formed core has none.
 pub fn partition(alloc: Global, core: &Core) -> Result<Classes, NoMemory>
     ensures { IfOk result (λ classes. AreClasses (groups_of core.now) (length core.now.operations) classes.of) }
 {
@@ -35,7 +35,7 @@ fn alone(alloc: Global, count: u32) -> Result<Row<u32>, NoMemory>
     Ok(parents)
 }
 
-/// The operations that an `in` has arms for, of so many.
+/// The operations below this number that an `in` has arms for.
 fn named_by(alloc: Global, arms: &[Arm], count: usize) -> Result<Row<u32>, NoMemory>
     ensures value { IfOk result (λ group. group ≡ named_by count arms.now) }
     ensures named { IfOk result (λ group. All (λ op. op < count) group) }

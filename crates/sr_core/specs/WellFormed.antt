@@ -124,32 +124,32 @@ leaf_waits MakeMachine = true
 leaf_waits Moment = true
 leaf_waits leaf = false
 
-abbrev pub node_quiet : Expr-F Bool Bool Bool Bool Bool Bool → Bool
-node_quiet (Expr-F.Leaf leaf) = not (leaf_waits leaf)
-node_quiet (Expr-F.Load place) = place
-node_quiet (Expr-F.Unary op operand) = operand
-node_quiet (Expr-F.Binary op left right) = left && right
-node_quiet (Expr-F.And left right) = left && right
-node_quiet (Expr-F.Or left right) = left && right
-node_quiet (Expr-F.Apply function args) = list_all (λ arg. arg) args
-node_quiet (Expr-F.Array parts) = list_all (λ part. part) parts
-node_quiet (Expr-F.Of whole step) = whole && step
-node_quiet (Expr-F.Member of op) = of
-node_quiet (Expr-F.Call target args returns) = false
-node_quiet (Expr-F.Create resource args machine) = false
-node_quiet (Expr-F.Read readings) = false
+abbrev pub node_effect_free : Expr-F Bool Bool Bool Bool Bool Bool → Bool
+node_effect_free (Expr-F.Leaf leaf) = not (leaf_waits leaf)
+node_effect_free (Expr-F.Load place) = place
+node_effect_free (Expr-F.Unary op operand) = operand
+node_effect_free (Expr-F.Binary op left right) = left && right
+node_effect_free (Expr-F.And left right) = left && right
+node_effect_free (Expr-F.Or left right) = left && right
+node_effect_free (Expr-F.Apply function args) = list_all (λ arg. arg) args
+node_effect_free (Expr-F.Array parts) = list_all (λ part. part) parts
+node_effect_free (Expr-F.Of whole step) = whole && step
+node_effect_free (Expr-F.Member of op) = of
+node_effect_free (Expr-F.Call target args returns) = false
+node_effect_free (Expr-F.Create resource args machine) = false
+node_effect_free (Expr-F.Read readings) = false
 
-abbrev pub step_quiet : Step-F Bool Bool Bool Bool Bool Bool → Bool
-step_quiet (Step-F.At index) = index
-step_quiet (Step-F.At2 row column) = row && column
-step_quiet (Step-F.Field field) = true
+abbrev pub step_effect_free : Step-F Bool Bool Bool Bool Bool Bool → Bool
+step_effect_free (Step-F.At index) = index
+step_effect_free (Step-F.At2 row column) = row && column
+step_effect_free (Step-F.Field field) = true
 
-abbrev pub part_quiet : Part-F Bool Bool Bool Bool Bool Bool → Bool
-part_quiet (Part-F.One value) = value
-part_quiet (Part-F.Repeated count value) = count && value
+abbrev pub part_effect_free : Part-F Bool Bool Bool Bool Bool Bool → Bool
+part_effect_free (Part-F.One value) = value
+part_effect_free (Part-F.Repeated count value) = count && value
 
-abbrev pub is_quiet : Expr → Bool
-is_quiet = fold-Expr Bool Bool Bool Bool Bool Bool (λ argument. false) node_quiet part_quiet step_quiet (λ place. list_all (λ step. step) place.path) (λ reading. false)
+abbrev pub is_effect_free : Expr → Bool
+is_effect_free = fold-Expr Bool Bool Bool Bool Bool Bool (λ argument. false) node_effect_free part_effect_free step_effect_free (λ place. list_all (λ step. step) place.path) (λ reading. false)
 
 -- ---- statements: each number names something
 
@@ -212,47 +212,47 @@ block_ok block = all_pass (map (fold-Statement Test Test Test statement_ok co_ar
 -- ---- statements: nothing stands where it has nothing to leave or to answer
 
 -- What is around a piece of code: a loop or a `co` to leave, something that a reply answers, something that a forward hands on.
-pub record Around : Type 0 where
+pub record Enclosing : Type 0 where
   pub in_loop : Bool
   pub may_reply : Bool
   pub may_forward : Bool
 
 abbrev pub Rule : Type 0
-Rule = Around → Bool
+Rule = Enclosing → Bool
 
 abbrev pub all_allowed : List Rule → Rule
-all_allowed rules around = list_all (λ rule. rule around) rules
+all_allowed rules enclosing = list_all (λ rule. rule enclosing) rules
 
-abbrev pub within_loop : Around → Around
-within_loop around = record around { in_loop = true }
+abbrev pub within_loop : Enclosing → Enclosing
+within_loop enclosing = record enclosing { in_loop = true }
 
-abbrev pub within_arm : Around → Around
-within_arm around = record around { may_reply = true; may_forward = true }
+abbrev pub within_arm : Enclosing → Enclosing
+within_arm enclosing = record enclosing { may_reply = true; may_forward = true }
 
 abbrev pub action_allowed : Action → Rule
-action_allowed Exit around = around.in_loop
-action_allowed Next around = around.in_loop
-action_allowed Reply around = around.may_reply
-action_allowed (Forward target args) around = around.may_forward
-action_allowed action around = true
+action_allowed Exit enclosing = enclosing.in_loop
+action_allowed Next enclosing = enclosing.in_loop
+action_allowed Reply enclosing = enclosing.may_reply
+action_allowed (Forward target args) enclosing = enclosing.may_forward
+action_allowed action enclosing = true
 
 abbrev pub statement_allowed : Statement-F Rule Rule Rule → Rule
-statement_allowed (Statement-F.Declare place declaration) around = true
-statement_allowed (Statement-F.Act place action) around = action_allowed action around
-statement_allowed (Statement-F.If place guards otherwise) around = all_allowed guards around && all_allowed otherwise around
-statement_allowed (Statement-F.Do place guards otherwise) around =
-    all_allowed guards (within_loop around) && if_some (λ block. all_allowed block (within_loop around)) otherwise
-statement_allowed (Statement-F.Fa place quantifiers body) around = all_allowed body (within_loop around)
-statement_allowed (Statement-F.In place site arms otherwise) around =
-    list_all (λ block. all_allowed block (within_arm around)) arms && all_allowed otherwise around
-statement_allowed (Statement-F.Co place arms) around = all_allowed arms around
-statement_allowed (Statement-F.Sends place target count) around = true
+statement_allowed (Statement-F.Declare place declaration) enclosing = true
+statement_allowed (Statement-F.Act place action) enclosing = action_allowed action enclosing
+statement_allowed (Statement-F.If place guards otherwise) enclosing = all_allowed guards enclosing && all_allowed otherwise enclosing
+statement_allowed (Statement-F.Do place guards otherwise) enclosing =
+    all_allowed guards (within_loop enclosing) && if_some (λ block. all_allowed block (within_loop enclosing)) otherwise
+statement_allowed (Statement-F.Fa place quantifiers body) enclosing = all_allowed body (within_loop enclosing)
+statement_allowed (Statement-F.In place site arms otherwise) enclosing =
+    list_all (λ block. all_allowed block (within_arm enclosing)) arms && all_allowed otherwise enclosing
+statement_allowed (Statement-F.Co place arms) enclosing = all_allowed arms enclosing
+statement_allowed (Statement-F.Sends place target count) enclosing = true
 
 abbrev pub guarded_allowed : Guarded-F Rule Rule Rule → Rule
-guarded_allowed guarded around = all_allowed guarded.body around
+guarded_allowed guarded enclosing = all_allowed guarded.body enclosing
 
 abbrev pub co_arm_allowed : CoArm-F Rule Rule Rule → Rule
-co_arm_allowed arm around = all_allowed arm.body (within_loop around)
+co_arm_allowed arm enclosing = all_allowed arm.body (within_loop enclosing)
 
 abbrev pub block_allowed : List Statement → Rule
 block_allowed block = all_allowed (map (fold-Statement Rule Rule Rule statement_allowed co_arm_allowed guarded_allowed) block)
@@ -325,12 +325,12 @@ with_operation core op test = if_there (slice_get core.operations op) where
   if_there None = false
   if_there (Some operation) = test operation
 
--- an arm services an operation that has no proc, names its formals, and has quiet guards
+-- an arm services an operation that has no proc, names its formals, and has side-effect-free guards
 abbrev pub arm_ok : Core → Operation → Arm → Bool
 arm_ok core first arm =
     with_operation core arm.op (λ operation. (not (is_there operation.proc) && one_owner first operation)
     && (names_formals arm.formals operation.parameters && same_there arm.returned operation.returns))
-    && (if_some is_quiet arm.guard && if_some is_quiet arm.by)
+    && (if_some is_effect_free arm.guard && if_some is_effect_free arm.by)
 
 -- all operations of an `in` have one owner
 abbrev pub arms_ok : Core → List Arm → Bool
@@ -365,7 +365,7 @@ with_component core number test = if_there (slice_get core.components number) wh
 abbrev pub member : ℕ → List ℕ → Bool
 member n ns = list_any (λ m. m == n) ns
 
--- each needed global is a global, comes once, and stands behind those that it imports
+-- each needed global is a global, comes once, and stands after those that it imports
 abbrev pub in_making_order : Core → List ℕ → List ℕ → Bool
 in_making_order core earlier [] = true
 in_making_order core earlier (global ∷ globals) =

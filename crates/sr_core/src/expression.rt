@@ -1,4 +1,4 @@
-use crate::owner::{Root, Whose};
+use crate::owner::{OperationOwner, Root};
 use sr_value::{Boxed, Operator, Row, Shape, Value};
 
 /// An expression without operands.
@@ -7,7 +7,7 @@ pub enum Leaf {
     /// A literal or a static constant.
     Constant(Value),
     /// The capability of an operation.
-    Operation { whose: Whose, op: u32 },
+    Operation { whose: OperationOwner, op: u32 },
     /// `myresource()`.
     MyResource,
     /// `myvm()`.
@@ -55,7 +55,7 @@ pub enum Readable {
     Str,
 }
 
-/// An expression. Its place in the program is that of the statement, declaration or arm that it stands in.
+/// An expression. Its place in the program is the place of the statement, declaration or arm around it.
 #[cycle(expression)]
 #[derive(Debug, Drop)]
 pub enum Expr {

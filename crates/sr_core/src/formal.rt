@@ -23,7 +23,7 @@ pub enum FormalShape {
         lo: i32,
         item: Shape,
     },
-    /// Two dimensions, of which one at least has `*`, which is `None`.
+    /// Two dimensions. At least one has `*`, which is `None`.
     Open2 {
         lo: i32,
         hi: Option<i32>,

@@ -17,7 +17,7 @@ mod statement;
 pub use component::{Body, Component, Core, Kind, Operation, Parameter, Proc};
 pub use expression::{Argument, Expr, Function, Leaf, Part, PlaceExpr, Readable, Reading, Step};
 pub use formal::{Formal, FormalShape, Mode, Returned};
-pub use owner::{Classes, Home, Me, Root, Whose};
+pub use owner::{Classes, Home, Me, OperationOwner, Root};
 pub use piece::Piece;
 pub use site::{Arm, Named, Site};
 pub use statement::{

@@ -25,7 +25,7 @@ pub enum Home {
 
 /// Whose operation is meant.
 #[derive(Clone, Copy, Debug, PartialEq, Eq)]
-pub enum Whose {
+pub enum OperationOwner {
     /// One of the instance whose code it is.
     Mine,
     /// One of an imported global, by its place in the component's list of imported globals.

@@ -17,7 +17,7 @@ pub enum DimsExpr {
     Two(Range, Range),
 }
 
-/// The type that a declaration writes behind the dimensions.
+/// The type that a declaration writes after the dimensions.
 #[derive(Debug, Drop)]
 pub enum ItemShape {
     Fixed(Shape),

@@ -1,4 +1,4 @@
--- Components of one file and of more behind them, and the first final code of some and of more behind them.
+-- Components of one file and of more after them, and the first final code of some and of more after them.
 use Rattle.std.proofs.Common.{◌≡◌, ℕ, ◌+◌, List, [], ◌∷◌, ◌++◌, Option, Some, None, refl, sym, ap, ◌∙◌, length, map}
 use Rattle.std.proofs.lemmas.List.{map-append}
 use Rattle.std.specs.List.{enumerate_from}

@@ -16,7 +16,7 @@ use Rattle.sr_tables.specs.declared.tables.Tables.{Tables}
 use Rattle.sr_tables.specs.Parts.{component_spot, components_in}
 use Rattle.sr_tables.specs.Tables.{each_once, things_in}
 use Rattle.sr_desugar.specs.declared.scene.Scene.{Scene}
-use Rattle.sr_desugar.specs.Core.{Whole, core_of, core_with, scene_of, whole_of, wholes_from, wholes_of}
+use Rattle.sr_desugar.specs.Core.{LoweredComponent, core_of, core_with, scene_of, whole_of, wholes_from, wholes_of}
 use Rattle.sr_desugar.specs.Numbered.{codes_numbered, procs_numbered}
 use Rattle.sr_desugar.proofs.BodyNumbers.{final_numbers, initial_numbers, procs_numbers}
 use Rattle.sr_desugar.proofs.Each.{made_passes, turned_passes}
@@ -49,7 +49,7 @@ module _ (facts : Facts) (tables : Tables) (imports : List (List ℕ)) (core : C
 
 module _ (facts : Facts) (components : List ComponentTree) (tables : Tables) (imports : List (List ℕ))
     (all : length tables.components ≤ length components) where
-  abbrev wholes : List Whole
+  abbrev wholes : List LoweredComponent
   wholes = wholes_from facts tables imports 0 components
 
   abbrev written : Core
@@ -58,7 +58,7 @@ module _ (facts : Facts) (components : List ComponentTree) (tables : Tables) (im
   -- there is one component for each tree
   count : length tables.components ≤ length written.components
   count =
-      let mapped = length-map wholes (λ (whole : Whole). whole.component) in
+      let mapped = length-map wholes (λ (whole : LoweredComponent). whole.component) in
       let made = length-map (enumerate_from 0 components) (whole_of facts tables imports) in
       let numbered = length-enumerate_from 0 components in
       omega (arith, all, mapped, made, numbered)
@@ -69,9 +69,9 @@ module _ (facts : Facts) (components : List ComponentTree) (tables : Tables) (im
   pub all_codes : IsTrue (codes_numbered written)
   all_codes =
       turned_passes (λ component. list_all (numbers_ok written component) (codes_of component))
-      (λ (whole : Whole). list_all (numbers_ok written whole.component) (codes_of whole.component)) (λ whole. whole.component) (λ whole ok. ok)
+      (λ (whole : LoweredComponent). list_all (numbers_ok written whole.component) (codes_of whole.component)) (λ whole. whole.component) (λ whole ok. ok)
       wholes
-      (made_passes (λ (whole : Whole). list_all (numbers_ok written whole.component) (codes_of whole.component)) (whole_of facts tables imports)
+      (made_passes (λ (whole : LoweredComponent). list_all (numbers_ok written whole.component) (codes_of whole.component)) (whole_of facts tables imports)
       (codes_numbers facts tables imports written operations count) (enumerate_from 0 components))
 
   pub all_procs_in : IsTrue (list_all (procs_numbered written) wholes)

@@ -27,7 +27,7 @@ use Rattle.sr_outline.specs.Meanings.{is_constant}
 use Rattle.sr_outline.specs.Numbers.{const_names, var_names}
 use Rattle.sr_tables.specs.Parts.{line_of, spot_named}
 use Rattle.sr_desugar.specs.declared.scene.Scene.{Scene}
-use Rattle.sr_desugar.specs.Declarations.{behind, const_core, declare, dims_core, first_of, int_expr, item_core, layer_item, layer_place, maybe_dims, range_core, shape_expr, typed, typed_vars, untyped, untyped_vars, var_core, var_number}
+use Rattle.sr_desugar.specs.Declarations.{after_first, const_core, declare, dims_core, first_of, int_expr, item_core, layer_item, layer_place, maybe_dims, range_core, shape_expr, typed, typed_vars, untyped, untyped_vars, var_core, var_number}
 use Rattle.sr_desugar.specs.Expressions.{core_value}
 use Rattle.sr_desugar.specs.Places.{own_number}
 use Rattle.sr_desugar.proofs.ExprNumbers.{core_value_ok}
@@ -124,7 +124,7 @@ module _ (scene : Scene) (at : Where) (fits : Fits scene at) where
   typed_vars_good scope place ty (decl ∷ decls) values room =
       and_from _ _
       (declare_good scope place (spot_named decl.name) (typed scene decl ty (first_of values)) (room (omega arith)) (typed_good decl ty (first_of values)))
-      (typed_vars_good scope place ty decls (behind values) (λ some. room (omega arith)))
+      (typed_vars_good scope place ty decls (after_first values) (λ some. room (omega arith)))
 
   untyped_vars_good : (scope : Scope) (place : Place) (decls : List Decl) (values : List Expr)
       → (0 < length decls → RoomFor scene scope) → IsTrue (list_all (λ one. one_ok one at) (untyped_vars scene scope place decls values))

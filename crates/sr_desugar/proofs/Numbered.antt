@@ -32,7 +32,7 @@ Numbered table sites [] (site ∷ made) = ⊥
 Numbered table sites (spot ∷ spots) [] = ⊥
 Numbered table sites (spot ∷ spots) (site ∷ made) = At table sites spot site × Numbered table sites spots made
 
--- one list behind another
+-- one list after another
 as_many_appended : (spots : List Spot) (made : List Site) (more : List Spot) (rest : List Site) → AsMany spots made → AsMany more rest → AsMany (spots ++ more) (made ++ rest)
 as_many_appended [] [] more rest first second = second
 as_many_appended [] (site ∷ made) more rest first second = absurd first
@@ -65,7 +65,7 @@ pub waits_by : {table : List Spot} {Fits Also : List Site → Type 0} {spots : L
     → ((sites : List Site) → Fits sites → Also sites) → Waits table Fits spots made → Waits table Also spots made
 waits_by change waits = record { as_many = waits.as_many; fits = λ sites numbered. change sites (waits.fits sites numbered) }
 
--- one behind another
+-- one after another
 pub waits_both : {table : List Spot} {Fits Also : List Site → Type 0} {spots : List Spot} {made : List Site} {more : List Spot} {rest : List Site}
     → Waits table Fits spots made → Waits table Also more rest → Waits table (λ sites. Fits sites × Also sites) (spots ++ more) (made ++ rest)
 waits_both {table} {Fits} {Also} {spots} {made} {more} {rest} first second = record {
@@ -89,7 +89,7 @@ placed_later count place number is = by (nat_lt place count) refl is
     by true below same = ap (λ test. cond test (Some (suc place)) None) (lt-ltb (suc place) (suc count) (omega (arith, ltb-true place count below))) ∙ ap (option_map suc) same
     by false below same = absurd (true≢false (sym (ap is_some same)))
 
--- what is found behind a spot that doesn't pass
+-- what is found after a spot that doesn't pass
 skipped : (test : Spot → Bool) (spot : Spot) (table : List Spot) (number : ℕ) → test spot ≡ false → position test table ≡ Some number → position test (spot ∷ table) ≡ Some (suc number)
 skipped test spot table number apart is =
     let place = position_or_len test table in
@@ -103,14 +103,14 @@ first_found test spot table is =
     ∙ ap (λ test. cond test (Some 0) None) (lt-ltb 0 (suc (length table)) (omega arith))
 
 -- a spot before others, and its site before theirs
-behind : (first : Spot) (site : Site) (table : List Spot) (sites : List Site) (spots : List Spot) (made : List Site)
+after : (first : Spot) (site : Site) (table : List Spot) (sites : List Site) (spots : List Spot) (made : List Site)
     → AllByRecursion (λ spot. same_spot first spot ≡ false) spots → Numbered table sites spots made → Numbered (first ∷ table) (site ∷ sites) spots made
-behind first site table sites [] [] apart numbered = tt
-behind first site table sites [] (one ∷ made) apart numbered = absurd numbered
-behind first site table sites (spot ∷ spots) [] apart numbered = absurd numbered
-behind first site table sites (spot ∷ spots) (one ∷ made) apart numbered = (
+after first site table sites [] [] apart numbered = tt
+after first site table sites [] (one ∷ made) apart numbered = absurd numbered
+after first site table sites (spot ∷ spots) [] apart numbered = absurd numbered
+after first site table sites (spot ∷ spots) (one ∷ made) apart numbered = (
   (suc numbered.0.0, skipped (same_spot spot) first table numbered.0.0 (spots_equal.symm spot first ∙ apart.0) numbered.0.1, numbered.0.2),
-  behind first site table sites spots made apart.1 numbered.1,
+  after first site table sites spots made apart.1 numbered.1,
 )
 
 -- in the list of all spots each has its own place
@@ -120,7 +120,7 @@ all_numbered [] (site ∷ made) many distinct = absurd many
 all_numbered (spot ∷ spots) [] many distinct = absurd many
 all_numbered (spot ∷ spots) (site ∷ made) many distinct = (
   (0, first_found (same_spot spot) spot spots (spots_equal.refl spot), refl),
-  behind spot site spots made spots made (IsDistinct-head same_spot spot spots distinct) (all_numbered spots made many (IsDistinct-tail same_spot spot spots distinct)),
+  after spot site spots made spots made (IsDistinct-head same_spot spot spots distinct) (all_numbered spots made many (IsDistinct-tail same_spot spot spots distinct)),
 )
 
 -- where all spots differ, what is made fits all sites that it makes

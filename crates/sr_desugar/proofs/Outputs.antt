@@ -1,4 +1,4 @@
--- Outputs and components that are put behind others in turn are all put behind them.
+-- Outputs and components that are put after others in turn are all put after them.
 use Rattle.std.proofs.Common.{◌≡◌, ℕ, suc, ◌+◌, ◌<◌, List, [], ◌∷◌, ◌++◌, Option, flat_map, map, length, drop, get_or, arith, append-nil, append_assoc, sym, ap, ◌∙◌}
 use Rattle.std.proofs.Math.Seq.{drop-cons}
 use Rattle.std.proofs.lemmas.Grind.{flat_map-append}
@@ -15,7 +15,7 @@ use Rattle.sr_tree.specs.declared.component.File.{File}
 use Rattle.sr_desugar.specs.declared.bodies.Codes.{Codes}
 use Rattle.sr_desugar.specs.declared.bodies.Gathered.{Gathered}
 use Rattle.sr_desugar.specs.Bodies.{Output, all_finals, first_final, with_codes, with_outputs}
-use Rattle.sr_desugar.specs.Core.{Whole, all_components, wholes_from, with_wholes}
+use Rattle.sr_desugar.specs.Core.{LoweredComponent, all_components, wholes_from, with_wholes}
 use Rattle.sr_desugar.proofs.Appends.{first_kept, first_more, wholes_append}
 
 first_of_rest : {X : Type 0} (xs : List X) (i : ℕ) (x : X) → i < length xs → x ≡ get_or xs i x → x ∷ drop (i + 1) xs ≡ drop i xs
@@ -23,7 +23,7 @@ first_of_rest xs i x within is =
     let next : i + 1 ≡ suc i = omega arith in
     ap (λ (n : ℕ). x ∷ drop n xs) next ∙ ap (λ first. first ∷ drop (suc i) xs) is ∙ sym (drop-cons xs i x within)
 
--- what a thing more makes is put behind, and then what those behind it make
+-- what a thing more makes is appended, and then what those after it make
 pub mapped_next : {X Y Z : Type 0} (part : Y → Z) (make : X → Y) (there : List Z) (made : Z) (xs : List X) (i : ℕ) (x : X)
     → i < length xs → x ≡ get_or xs i x → made ≡ part (make x)
     → (there ++ made ∷ []) ++ map part (map make (drop (i + 1) xs)) ≡ there ++ map part (map make (drop i xs))
@@ -43,8 +43,8 @@ map_next make there made xs i otherwise within is =
     ∙ ap (λ (n : ℕ). there ++ make (get_or xs i otherwise) ∷ map make (drop n xs)) next
     ∙ ap (λ rest. there ++ map make rest) (sym (drop-cons xs i otherwise within))
 
-behind_more : {A B : Type 0} (part : A → List B) (there : List B) (xs ys : List A) → (there ++ flat_map part xs) ++ flat_map part ys ≡ there ++ flat_map part (xs ++ ys)
-behind_more part there xs ys = append_assoc there (flat_map part xs) (flat_map part ys) ∙ ap (λ rest. there ++ rest) (sym (flat_map-append part xs ys))
+after_more : {A B : Type 0} (part : A → List B) (there : List B) (xs ys : List A) → (there ++ flat_map part xs) ++ flat_map part ys ≡ there ++ flat_map part (xs ++ ys)
+after_more part there xs ys = append_assoc there (flat_map part xs) (flat_map part ys) ∙ ap (λ rest. there ++ rest) (sym (flat_map-append part xs ys))
 
 -- ---- outputs
 
@@ -52,10 +52,10 @@ finals_more : (last : Option Body) (xs ys : List Output)
     → first_final (option_to_list (first_final (option_to_list last ++ all_finals xs)) ++ all_finals ys) ≡ first_final (option_to_list last ++ all_finals (xs ++ ys))
 finals_more last xs ys =
     first_more (option_to_list last ++ all_finals xs) (all_finals ys)
-    ∙ ap (λ (finals : List Body). first_final finals) (behind_more (λ output. output.finals) (option_to_list last) xs ys)
+    ∙ ap (λ (finals : List Body). first_final finals) (after_more (λ output. output.finals) (option_to_list last) xs ys)
 
 pub codes_more : (codes : Codes) (xs ys : List Output) → with_codes (with_codes codes xs) ys ≡ with_codes codes (xs ++ ys)
-codes_more codes xs ys = λ i. record { initial = behind_more (λ output. output.code) codes.initial xs ys i; last = finals_more codes.last xs ys i }
+codes_more codes xs ys = λ i. record { initial = after_more (λ output. output.code) codes.initial xs ys i; last = finals_more codes.last xs ys i }
 
 pub codes_none : (codes : Codes) → with_codes codes [] ≡ codes
 codes_none codes = λ i. record {
@@ -64,12 +64,12 @@ codes_none codes = λ i. record {
 }
 
 pub outputs_more : (gathered : Gathered) (xs ys : List Output) → with_outputs (with_outputs gathered xs) ys ≡ with_outputs gathered (xs ++ ys)
-outputs_more gathered xs ys = λ i. record { procs = behind_more (λ output. output.procs) gathered.procs xs ys i; sites = behind_more (λ output. output.sites) gathered.sites xs ys i }
+outputs_more gathered xs ys = λ i. record { procs = after_more (λ output. output.procs) gathered.procs xs ys i; sites = after_more (λ output. output.sites) gathered.sites xs ys i }
 
 pub outputs_none : (gathered : Gathered) → with_outputs gathered [] ≡ gathered
 outputs_none gathered = λ i. record { procs = append-nil gathered.procs i; sites = append-nil gathered.sites i }
 
--- an item more, and then those behind it
+-- an item more, and then those after it
 pub codes_item : {X : Type 0} (output : X → Output) (codes : Codes) (items : List X) (i : ℕ) (item : X)
     → i < length items → item ≡ get_or items i item
     → with_codes (with_codes codes (output item ∷ [])) (map output (drop (i + 1) items)) ≡ with_codes codes (map output (drop i items))
@@ -86,18 +86,18 @@ outputs_item output gathered items i item within is =
 
 -- ---- components
 
-pub wholes_more : (gathered : Gathered) (xs ys : List Whole) → with_wholes (with_wholes gathered xs) ys ≡ with_wholes gathered (xs ++ ys)
-wholes_more gathered xs ys = λ i. record { procs = behind_more (λ whole. whole.procs) gathered.procs xs ys i; sites = behind_more (λ whole. whole.sites) gathered.sites xs ys i }
+pub wholes_more : (gathered : Gathered) (xs ys : List LoweredComponent) → with_wholes (with_wholes gathered xs) ys ≡ with_wholes gathered (xs ++ ys)
+wholes_more gathered xs ys = λ i. record { procs = after_more (λ whole. whole.procs) gathered.procs xs ys i; sites = after_more (λ whole. whole.sites) gathered.sites xs ys i }
 
 pub wholes_none : (gathered : Gathered) → with_wholes gathered [] ≡ gathered
 wholes_none gathered = λ i. record { procs = append-nil gathered.procs i; sites = append-nil gathered.sites i }
 
-pub components_more : (components : List Component) (xs ys : List Whole) → (components ++ all_components xs) ++ all_components ys ≡ components ++ all_components (xs ++ ys)
+pub components_more : (components : List Component) (xs ys : List LoweredComponent) → (components ++ all_components xs) ++ all_components ys ≡ components ++ all_components (xs ++ ys)
 components_more components xs ys =
     append_assoc components (all_components xs) (all_components ys) ∙ ap (λ rest. components ++ rest) (sym (map-append (λ whole. whole.component) xs ys))
 
--- a component more, and then those behind it
-pub components_item : {X : Type 0} (whole : ℕ × X → Whole) (components : List Component) (n : ℕ) (items : List X) (i : ℕ) (item : X)
+-- a component more, and then those after it
+pub components_item : {X : Type 0} (whole : ℕ × X → LoweredComponent) (components : List Component) (n : ℕ) (items : List X) (i : ℕ) (item : X)
     → i < length items → item ≡ get_or items i item
     → (components ++ (whole (n, item)).component ∷ []) ++ all_components (map whole (enumerate_from (n + 1) (drop (i + 1) items)))
     ≡ components ++ all_components (map whole (enumerate_from n (drop i items)))
@@ -105,7 +105,7 @@ components_item whole components n items i item within is =
     components_more components (whole (n, item) ∷ []) (map whole (enumerate_from (n + 1) (drop (i + 1) items)))
     ∙ ap (λ rest. components ++ all_components (map whole (enumerate_from n rest))) (first_of_rest items i item within is)
 
-pub gathered_item : {X : Type 0} (whole : ℕ × X → Whole) (gathered : Gathered) (n : ℕ) (items : List X) (i : ℕ) (item : X)
+pub gathered_item : {X : Type 0} (whole : ℕ × X → LoweredComponent) (gathered : Gathered) (n : ℕ) (items : List X) (i : ℕ) (item : X)
     → i < length items → item ≡ get_or items i item
     → with_wholes (with_wholes gathered (whole (n, item) ∷ [])) (map whole (enumerate_from (n + 1) (drop (i + 1) items)))
     ≡ with_wholes gathered (map whole (enumerate_from n (drop i items)))
@@ -113,10 +113,10 @@ gathered_item whole gathered n items i item within is =
     wholes_more gathered (whole (n, item) ∷ []) (map whole (enumerate_from (n + 1) (drop (i + 1) items)))
     ∙ ap (λ rest. with_wholes gathered (map whole (enumerate_from n rest))) (first_of_rest items i item within is)
 
--- ---- a turn over files: what the components of one file add, and then those of the files behind it
+-- ---- a turn over files: what the components of one file add, and then those of the files after it
 
 module _ (facts : Facts) (tables : Tables) (imports : List (List ℕ)) where
-  abbrev numbered : ℕ → List ComponentTree → List Whole
+  abbrev numbered : ℕ → List ComponentTree → List LoweredComponent
   numbered first components = wholes_from facts tables imports first components
 
   wholes_file : (n m : ℕ) (files : List File) (i : ℕ) (file : File)

@@ -15,8 +15,8 @@ use Rattle.sr_names.specs.Spots.{same_spot}
 use Rattle.sr_value.specs.declared.value.Value.TheVariants.{Bool as truth_value}
 use Rattle.sr_tables.specs.declared.tables.SharedVariable.{SharedVariable}
 use Rattle.sr_tables.specs.Tables.{found_at, things_in}
-use Rattle.sr_desugar.specs.declared.scene.Cored.{Cored}
-use Rattle.sr_desugar.specs.declared.scene.Cored.TheVariants as cored
+use Rattle.sr_desugar.specs.declared.scene.Lowered.{Lowered}
+use Rattle.sr_desugar.specs.declared.scene.Lowered.TheVariants as lowered
 use Rattle.sr_desugar.specs.declared.scene.Scene.{Scene}
 use Rattle.sr_desugar.specs.Places.{home_of, import_place, imported_home, naming, nothing, nowhere, operation_at, operation_expr, operation_number, own_place, own_root, part_of, place_at, place_of, root_of, value_of, whose_by}
 use Rattle.sr_desugar.proofs.ExprRules.{further_rule, leaf_rule, load_rule, of_rule, place_rule, step_ok}
@@ -29,9 +29,9 @@ pub record Fits (scene : Scene) (at : Where) : Type 0 where
   pub operations : length (things_in scene.tables.operations) ≤ length at.core.operations
   pub components : length scene.tables.components ≤ length at.core.components
 
-abbrev pub cored_ok : Cored → Test
-cored_ok (cored.Place place) = place_ok place
-cored_ok (cored.Value value) = expr_ok value
+abbrev pub lowered_ok : Lowered → Test
+lowered_ok (lowered.Place place) = place_ok place
+lowered_ok (lowered.Value value) = expr_ok value
 
 -- ---- what stands where a program is refused
 
@@ -44,17 +44,17 @@ module _ (at : Where) where
 
   -- ---- expressions that are places
 
-  pub value_of_ok : (one : Cored) → IsTrue (cored_ok one at) → IsTrue (expr_ok (value_of one) at)
-  value_of_ok (cored.Place place) ok = load_rule at place ok
-  value_of_ok (cored.Value value) ok = ok
+  pub value_of_ok : (one : Lowered) → IsTrue (lowered_ok one at) → IsTrue (expr_ok (value_of one) at)
+  value_of_ok (lowered.Place place) ok = load_rule at place ok
+  value_of_ok (lowered.Value value) ok = ok
 
-  pub place_of_ok : (one : Cored) → IsTrue (cored_ok one at) → IsTrue (place_ok (place_of one) at)
-  place_of_ok (cored.Place place) ok = ok
-  place_of_ok (cored.Value value) ok = place_at_ok nowhere refl
+  pub place_of_ok : (one : Lowered) → IsTrue (lowered_ok one at) → IsTrue (place_ok (place_of one) at)
+  place_of_ok (lowered.Place place) ok = ok
+  place_of_ok (lowered.Value value) ok = place_at_ok nowhere refl
 
-  pub part_of_ok : (one : Cored) (step : Step) → IsTrue (cored_ok one at) → IsTrue (step_ok step at) → IsTrue (cored_ok (part_of one step) at)
-  part_of_ok (cored.Place place) step ok ok_step = further_rule at place step ok ok_step
-  part_of_ok (cored.Value value) step ok ok_step = of_rule at value step ok ok_step
+  pub part_of_ok : (one : Lowered) (step : Step) → IsTrue (lowered_ok one at) → IsTrue (step_ok step at) → IsTrue (lowered_ok (part_of one step) at)
+  part_of_ok (lowered.Place place) step ok ok_step = further_rule at place step ok ok_step
+  part_of_ok (lowered.Value value) step ok ok_step = of_rule at value step ok ok_step
 
 -- ---- variables and operations
 

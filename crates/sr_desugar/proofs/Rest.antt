@@ -1,4 +1,4 @@
--- Names behind the last value have none.
+-- Names after the last value have none.
 use Rattle.std.proofs.Common.{◌≡◌, refl, List, [], ◌∷◌}
 use Rattle.sr_core.specs.declared.statement.Scope.{Scope}
 use Rattle.sr_tree.specs.declared.types.Decl.{Decl}

@@ -12,18 +12,18 @@ use Rattle.sr_tree.specs.declared.statement.Statement.TheVariants as variant
 use Rattle.sr_value.specs.declared.place.Span.{Span}
 use Rattle.sr_outline.specs.Meanings.{function_called, meant_by}
 use Rattle.sr_desugar.specs.declared.scene.Scene.{Scene}
-use Rattle.sr_desugar.specs.Statements.{ArmMade, Block, Made, arm_made, branch_made, call_made, co_arm_made, core_statement, item_made, receive_made, statement_made}
+use Rattle.sr_desugar.specs.Statements.{LoweredArm, Block, WithSites, arm_made, branch_made, call_made, co_arm_made, core_statement, item_made, receive_made, statement_made}
 
 pub call_is : (scene : Scene) (span : Span) (with_call : Bool) (invocation : Invocation)
     → core_statement scene (variant.Call span with_call invocation) ≡ call_made scene span invocation (function_called scene.facts invocation)
 call_is scene span with_call invocation =
     ap (λ tree. core_statement scene tree) (sym (variant.rolls-Call span with_call invocation))
-    ∙ fold-roll-Statement (Made Block) (Made Statement) (Made ArmMade) (Made Guarded) (Made CoArm)
+    ∙ fold-roll-Statement (WithSites Block) (WithSites Statement) (WithSites LoweredArm) (WithSites Guarded) (WithSites CoArm)
     (item_made scene) (statement_made scene) (arm_made scene) (branch_made scene) (co_arm_made scene) (Statement-F.Call span with_call invocation)
 
 pub receive_is : (scene : Scene) (span : Span) (operation : Name) (places : List Expr)
     → core_statement scene (variant.Receive span operation places) ≡ receive_made scene span (meant_by scene.facts operation) places
 receive_is scene span operation places =
     ap (λ tree. core_statement scene tree) (sym (variant.rolls-Receive span operation places))
-    ∙ fold-roll-Statement (Made Block) (Made Statement) (Made ArmMade) (Made Guarded) (Made CoArm)
+    ∙ fold-roll-Statement (WithSites Block) (WithSites Statement) (WithSites LoweredArm) (WithSites Guarded) (WithSites CoArm)
     (item_made scene) (statement_made scene) (arm_made scene) (branch_made scene) (co_arm_made scene) (Statement-F.Receive span operation places)

@@ -28,7 +28,7 @@ use Rattle.sr_tables.specs.Parts.{line_of, spot_named}
 use Rattle.sr_desugar.specs.declared.scene.Scene.{Scene}
 use Rattle.sr_desugar.specs.Expressions.{core_create, core_place, core_sending, core_value}
 use Rattle.sr_desugar.specs.Places.{site_number}
-use Rattle.sr_desugar.specs.Statements.{ArmMade, Block, Made, all_made, arm_made, block_made, blocks_of, branch_made, co_arm_made, co_call, core_arm, core_block_item, core_branch, core_co_arm, core_statement, forward_of, item_made, quantifiers_core, send_of, statement_made}
+use Rattle.sr_desugar.specs.Statements.{LoweredArm, Block, WithSites, all_made, arm_made, block_made, blocks_of, branch_made, co_arm_made, co_call, core_arm, core_block_item, core_branch, core_co_arm, core_statement, forward_of, item_made, quantifiers_core, send_of, statement_made}
 use Rattle.sr_desugar.proofs.DeclNumbers.{own_const_ok, own_vars_ok}
 use Rattle.sr_desugar.proofs.Each.{both_pass}
 use Rattle.sr_desugar.proofs.ExprNumbers.{core_place_ok, core_value_ok, create_ok}
@@ -118,29 +118,29 @@ module _ (scene : Scene) (at : Where) (fits : Fits scene at) where
       co_arm_names (map-CoArm BlockItem StatementTree ArmTree Branch CoArmTree names names names names names
       (item_in scene.facts) (names_in scene.facts) (arm_in scene.facts) (branch_in scene.facts) (co_arm_in scene.facts) x)
 
-  abbrev made_of_item : BlockItem-F BlockItem StatementTree ArmTree Branch CoArmTree → Made Block
+  abbrev made_of_item : BlockItem-F BlockItem StatementTree ArmTree Branch CoArmTree → WithSites Block
   made_of_item x =
-      item_made scene (map-BlockItem BlockItem StatementTree ArmTree Branch CoArmTree (Made Block) (Made Statement) (Made ArmMade) (Made Guarded) (Made CoArm)
+      item_made scene (map-BlockItem BlockItem StatementTree ArmTree Branch CoArmTree (WithSites Block) (WithSites Statement) (WithSites LoweredArm) (WithSites Guarded) (WithSites CoArm)
       (core_block_item scene) (core_statement scene) (core_arm scene) (core_branch scene) (core_co_arm scene) x)
 
-  abbrev made_of_statement : Statement-F BlockItem StatementTree ArmTree Branch CoArmTree → Made Statement
+  abbrev made_of_statement : Statement-F BlockItem StatementTree ArmTree Branch CoArmTree → WithSites Statement
   made_of_statement x =
-      statement_made scene (map-Statement BlockItem StatementTree ArmTree Branch CoArmTree (Made Block) (Made Statement) (Made ArmMade) (Made Guarded) (Made CoArm)
+      statement_made scene (map-Statement BlockItem StatementTree ArmTree Branch CoArmTree (WithSites Block) (WithSites Statement) (WithSites LoweredArm) (WithSites Guarded) (WithSites CoArm)
       (core_block_item scene) (core_statement scene) (core_arm scene) (core_branch scene) (core_co_arm scene) x)
 
-  abbrev made_of_arm : Arm-F BlockItem StatementTree ArmTree Branch CoArmTree → Made ArmMade
+  abbrev made_of_arm : Arm-F BlockItem StatementTree ArmTree Branch CoArmTree → WithSites LoweredArm
   made_of_arm x =
-      arm_made scene (map-Arm BlockItem StatementTree ArmTree Branch CoArmTree (Made Block) (Made Statement) (Made ArmMade) (Made Guarded) (Made CoArm)
+      arm_made scene (map-Arm BlockItem StatementTree ArmTree Branch CoArmTree (WithSites Block) (WithSites Statement) (WithSites LoweredArm) (WithSites Guarded) (WithSites CoArm)
       (core_block_item scene) (core_statement scene) (core_arm scene) (core_branch scene) (core_co_arm scene) x)
 
-  abbrev made_of_branch : Branch-F BlockItem StatementTree ArmTree Branch CoArmTree → Made Guarded
+  abbrev made_of_branch : Branch-F BlockItem StatementTree ArmTree Branch CoArmTree → WithSites Guarded
   made_of_branch x =
-      branch_made scene (map-Branch BlockItem StatementTree ArmTree Branch CoArmTree (Made Block) (Made Statement) (Made ArmMade) (Made Guarded) (Made CoArm)
+      branch_made scene (map-Branch BlockItem StatementTree ArmTree Branch CoArmTree (WithSites Block) (WithSites Statement) (WithSites LoweredArm) (WithSites Guarded) (WithSites CoArm)
       (core_block_item scene) (core_statement scene) (core_arm scene) (core_branch scene) (core_co_arm scene) x)
 
-  abbrev made_of_co_arm : CoArm-F BlockItem StatementTree ArmTree Branch CoArmTree → Made CoArm
+  abbrev made_of_co_arm : CoArm-F BlockItem StatementTree ArmTree Branch CoArmTree → WithSites CoArm
   made_of_co_arm x =
-      co_arm_made scene (map-CoArm BlockItem StatementTree ArmTree Branch CoArmTree (Made Block) (Made Statement) (Made ArmMade) (Made Guarded) (Made CoArm)
+      co_arm_made scene (map-CoArm BlockItem StatementTree ArmTree Branch CoArmTree (WithSites Block) (WithSites Statement) (WithSites LoweredArm) (WithSites Guarded) (WithSites CoArm)
       (core_block_item scene) (core_statement scene) (core_arm scene) (core_branch scene) (core_co_arm scene) x)
 
   -- ---- lists of parts
@@ -265,8 +265,8 @@ module _ (scene : Scene) (at : Where) (fits : Fits scene at) where
 
   item_step : (x : BlockItem-F BlockItem StatementTree ArmTree Branch CoArmTree) (y : BlockItem-F I S A B C) → first_item y ≡ x → ItemGood (roll-BlockItem x)
   item_step x y is room =
-      subst (λ (m : Made Block). AllOne m.made)
-      (sym (fold-roll-BlockItem (Made Block) (Made Statement) (Made ArmMade) (Made Guarded) (Made CoArm)
+      subst (λ (m : WithSites Block). AllOne m.made)
+      (sym (fold-roll-BlockItem (WithSites Block) (WithSites Statement) (WithSites LoweredArm) (WithSites Guarded) (WithSites CoArm)
       (item_made scene) (statement_made scene) (arm_made scene) (branch_made scene) (co_arm_made scene) x))
       (subst (λ z. Room scene (names_of_item z) → AllOne (made_of_item z).made) is (item_good y)
       (subst (Room scene)
@@ -275,8 +275,8 @@ module _ (scene : Scene) (at : Where) (fits : Fits scene at) where
 
   statement_step : (x : Statement-F BlockItem StatementTree ArmTree Branch CoArmTree) (y : Statement-F I S A B C) → first_statement y ≡ x → StatementGood (roll-Statement x)
   statement_step x y is room =
-      subst (λ (m : Made Statement). IsTrue (one_ok m.made at))
-      (sym (fold-roll-Statement (Made Block) (Made Statement) (Made ArmMade) (Made Guarded) (Made CoArm)
+      subst (λ (m : WithSites Statement). IsTrue (one_ok m.made at))
+      (sym (fold-roll-Statement (WithSites Block) (WithSites Statement) (WithSites LoweredArm) (WithSites Guarded) (WithSites CoArm)
       (item_made scene) (statement_made scene) (arm_made scene) (branch_made scene) (co_arm_made scene) x))
       (subst (λ z. Room scene (names_of_statement z) → IsTrue (one_ok (made_of_statement z).made at)) is (statement_good y)
       (subst (Room scene)
@@ -285,8 +285,8 @@ module _ (scene : Scene) (at : Where) (fits : Fits scene at) where
 
   arm_step : (x : Arm-F BlockItem StatementTree ArmTree Branch CoArmTree) (y : Arm-F I S A B C) → first_arm y ≡ x → ArmGood (roll-Arm x)
   arm_step x y is room =
-      subst (λ (m : Made ArmMade). IsTrue (block_ok m.made.block at))
-      (sym (fold-roll-Arm (Made Block) (Made Statement) (Made ArmMade) (Made Guarded) (Made CoArm)
+      subst (λ (m : WithSites LoweredArm). IsTrue (block_ok m.made.block at))
+      (sym (fold-roll-Arm (WithSites Block) (WithSites Statement) (WithSites LoweredArm) (WithSites Guarded) (WithSites CoArm)
       (item_made scene) (statement_made scene) (arm_made scene) (branch_made scene) (co_arm_made scene) x))
       (subst (λ z. Room scene (names_of_arm z) → IsTrue (block_ok (made_of_arm z).made.block at)) is (arm_good y)
       (subst (Room scene)
@@ -295,8 +295,8 @@ module _ (scene : Scene) (at : Where) (fits : Fits scene at) where
 
   branch_step : (x : Branch-F BlockItem StatementTree ArmTree Branch CoArmTree) (y : Branch-F I S A B C) → first_branch y ≡ x → BranchGood (roll-Branch x)
   branch_step x y is room =
-      subst (λ (m : Made Guarded). IsTrue (branch_ok m.made at))
-      (sym (fold-roll-Branch (Made Block) (Made Statement) (Made ArmMade) (Made Guarded) (Made CoArm)
+      subst (λ (m : WithSites Guarded). IsTrue (branch_ok m.made at))
+      (sym (fold-roll-Branch (WithSites Block) (WithSites Statement) (WithSites LoweredArm) (WithSites Guarded) (WithSites CoArm)
       (item_made scene) (statement_made scene) (arm_made scene) (branch_made scene) (co_arm_made scene) x))
       (subst (λ z. Room scene (names_of_branch z) → IsTrue (branch_ok (made_of_branch z).made at)) is (branch_good y)
       (subst (Room scene)
@@ -305,8 +305,8 @@ module _ (scene : Scene) (at : Where) (fits : Fits scene at) where
 
   co_arm_step : (x : CoArm-F BlockItem StatementTree ArmTree Branch CoArmTree) (y : CoArm-F I S A B C) → first_co_arm y ≡ x → CoArmGood (roll-CoArm x)
   co_arm_step x y is room =
-      subst (λ (m : Made CoArm). IsTrue (arm_ok m.made at))
-      (sym (fold-roll-CoArm (Made Block) (Made Statement) (Made ArmMade) (Made Guarded) (Made CoArm)
+      subst (λ (m : WithSites CoArm). IsTrue (arm_ok m.made at))
+      (sym (fold-roll-CoArm (WithSites Block) (WithSites Statement) (WithSites LoweredArm) (WithSites Guarded) (WithSites CoArm)
       (item_made scene) (statement_made scene) (arm_made scene) (branch_made scene) (co_arm_made scene) x))
       (subst (λ z. Room scene (names_of_co_arm z) → IsTrue (arm_ok (made_of_co_arm z).made at)) is (co_arm_good y)
       (subst (Room scene)

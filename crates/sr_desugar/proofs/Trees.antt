@@ -14,26 +14,26 @@ use Rattle.sr_tree.specs.declared.name.Name.{Name}
 use Rattle.sr_tree.specs.declared.name.QualifiedName.{QualifiedName}
 use Rattle.sr_names.specs.declared.spot.Spot.{Spot}
 use Rattle.sr_value.specs.declared.place.Span.{Span}
-use Rattle.sr_outline.specs.Meanings.{judged, meant_by}
+use Rattle.sr_outline.specs.Meanings.{typed_expr, meant_by}
 use Rattle.sr_tables.specs.Parts.{deciding}
 use Rattle.sr_desugar.proofs.Values.{values_of_told}
-use Rattle.sr_desugar.specs.declared.scene.Cored.TheVariants as cored
+use Rattle.sr_desugar.specs.declared.scene.Lowered.TheVariants as lowered
 use Rattle.sr_tree.specs.declared.expr.Invocation.{Invocation, out-Invocation, roll-Invocation}
 use Rattle.sr_tree.specs.declared.expr.Part.{Part as PartTree, roll-Part}
 use Rattle.sr_tree.specs.declared.expr.Create.{roll-Create}
 use Rattle.sr_desugar.specs.declared.scene.Scene.{Scene}
 use Rattle.sr_desugar.specs.Places.{value_of}
-use Rattle.sr_desugar.specs.Expressions.{Told, Sending, told, call_of, core_create, core_expr, core_part, core_sending, core_value, with_core, create_told, expr_told, field_core, instance_core, invocation_told, machine_core, part_told, pending_core}
+use Rattle.sr_desugar.specs.Expressions.{LoweredTree, LoweredInvocation, told, call_of, core_create, core_expr, core_part, core_sending, core_value, with_core, create_lowered, expr_lowered, field_core, instance_core, invocation_lowered, machine_core, part_lowered, pending_core}
 
 module _ (scene : Scene) where
   abbrev pub of_create : Create → Create × Expr
-  of_create = fold-Create (Create × Expr) Told Sending (PartTree × Part) (create_told scene) (expr_told scene) invocation_told part_told
+  of_create = fold-Create (Create × Expr) LoweredTree LoweredInvocation (PartTree × Part) (create_lowered scene) (expr_lowered scene) invocation_lowered part_lowered
 
-  abbrev pub of_invocation : Invocation → Sending
-  of_invocation = fold-Invocation (Create × Expr) Told Sending (PartTree × Part) (create_told scene) (expr_told scene) invocation_told part_told
+  abbrev pub of_invocation : Invocation → LoweredInvocation
+  of_invocation = fold-Invocation (Create × Expr) LoweredTree LoweredInvocation (PartTree × Part) (create_lowered scene) (expr_lowered scene) invocation_lowered part_lowered
 
   abbrev pub of_part : PartTree → PartTree × Part
-  of_part = fold-Part (Create × Expr) Told Sending (PartTree × Part) (create_told scene) (expr_told scene) invocation_told part_told
+  of_part = fold-Part (Create × Expr) LoweredTree LoweredInvocation (PartTree × Part) (create_lowered scene) (expr_lowered scene) invocation_lowered part_lowered
 
   abbrev CreateStays : Create → Type 0
   CreateStays tree = (of_create tree).0 ≡ tree
@@ -81,23 +81,23 @@ module _ (scene : Scene) where
 
   abbrev again_create : Create-F Create Tree Invocation PartTree → Create-F Create Tree Invocation PartTree
   again_create create =
-      map-Create (Create × Expr) Told Sending (PartTree × Part) Create Tree Invocation PartTree (λ c. c.0) (λ e. e.0) (λ s. s.tree) (λ p. p.0)
-      (map-Create Create Tree Invocation PartTree (Create × Expr) Told Sending (PartTree × Part) of_create (told scene) of_invocation of_part create)
+      map-Create (Create × Expr) LoweredTree LoweredInvocation (PartTree × Part) Create Tree Invocation PartTree (λ c. c.0) (λ e. e.0) (λ s. s.tree) (λ p. p.0)
+      (map-Create Create Tree Invocation PartTree (Create × Expr) LoweredTree LoweredInvocation (PartTree × Part) of_create (told scene) of_invocation of_part create)
 
   abbrev again_expr : Expr-F Create Tree Invocation PartTree → Expr-F Create Tree Invocation PartTree
   again_expr expr =
-      map-Expr (Create × Expr) Told Sending (PartTree × Part) Create Tree Invocation PartTree (λ c. c.0) (λ e. e.0) (λ s. s.tree) (λ p. p.0)
-      (map-Expr Create Tree Invocation PartTree (Create × Expr) Told Sending (PartTree × Part) of_create (told scene) of_invocation of_part expr)
+      map-Expr (Create × Expr) LoweredTree LoweredInvocation (PartTree × Part) Create Tree Invocation PartTree (λ c. c.0) (λ e. e.0) (λ s. s.tree) (λ p. p.0)
+      (map-Expr Create Tree Invocation PartTree (Create × Expr) LoweredTree LoweredInvocation (PartTree × Part) of_create (told scene) of_invocation of_part expr)
 
   abbrev again_invocation : Invocation-F Create Tree Invocation PartTree → Invocation-F Create Tree Invocation PartTree
   again_invocation invocation =
-      map-Invocation (Create × Expr) Told Sending (PartTree × Part) Create Tree Invocation PartTree (λ c. c.0) (λ e. e.0) (λ s. s.tree) (λ p. p.0)
-      (map-Invocation Create Tree Invocation PartTree (Create × Expr) Told Sending (PartTree × Part) of_create (told scene) of_invocation of_part invocation)
+      map-Invocation (Create × Expr) LoweredTree LoweredInvocation (PartTree × Part) Create Tree Invocation PartTree (λ c. c.0) (λ e. e.0) (λ s. s.tree) (λ p. p.0)
+      (map-Invocation Create Tree Invocation PartTree (Create × Expr) LoweredTree LoweredInvocation (PartTree × Part) of_create (told scene) of_invocation of_part invocation)
 
   abbrev again_part : Part-F Create Tree Invocation PartTree → Part-F Create Tree Invocation PartTree
   again_part part =
-      map-Part (Create × Expr) Told Sending (PartTree × Part) Create Tree Invocation PartTree (λ c. c.0) (λ e. e.0) (λ s. s.tree) (λ p. p.0)
-      (map-Part Create Tree Invocation PartTree (Create × Expr) Told Sending (PartTree × Part) of_create (told scene) of_invocation of_part part)
+      map-Part (Create × Expr) LoweredTree LoweredInvocation (PartTree × Part) Create Tree Invocation PartTree (λ c. c.0) (λ e. e.0) (λ s. s.tree) (λ p. p.0)
+      (map-Part Create Tree Invocation PartTree (Create × Expr) LoweredTree LoweredInvocation (PartTree × Part) of_create (told scene) of_invocation of_part part)
 
   create-again : (y : Create-F C T I P) → again_create (first_create y) ≡ first_create y
   create-again (Create-F.Resource span resource arguments None) = λ i. Create-F.Resource span resource (all-stay arguments i) None
@@ -132,22 +132,22 @@ module _ (scene : Scene) where
 
   create-stays : (x : Create-F Create Tree Invocation PartTree) (y : Create-F C T I P) → first_create y ≡ x → CreateStays (roll-Create x)
   create-stays x y is =
-      ap (λ told. told.0) (fold-roll-Create (Create × Expr) Told Sending (PartTree × Part) (create_told scene) (expr_told scene) invocation_told part_told x)
+      ap (λ told. told.0) (fold-roll-Create (Create × Expr) LoweredTree LoweredInvocation (PartTree × Part) (create_lowered scene) (expr_lowered scene) invocation_lowered part_lowered x)
       ∙ ap roll-Create (subst (λ z. again_create z ≡ z) is (create-again y))
 
   expr-stays : (x : Expr-F Create Tree Invocation PartTree) (y : Expr-F C T I P) → first_expr y ≡ x → Stays (roll-Expr x)
   expr-stays x y is =
-      ap (λ told. told.0) (fold-roll-Expr (Create × Expr) Told Sending (PartTree × Part) (create_told scene) (expr_told scene) invocation_told part_told x)
+      ap (λ told. told.0) (fold-roll-Expr (Create × Expr) LoweredTree LoweredInvocation (PartTree × Part) (create_lowered scene) (expr_lowered scene) invocation_lowered part_lowered x)
       ∙ ap roll-Expr (subst (λ z. again_expr z ≡ z) is (expr-again y))
 
   invocation-stays : (x : Invocation-F Create Tree Invocation PartTree) (y : Invocation-F C T I P) → first_invocation y ≡ x → InvocationStays (roll-Invocation x)
   invocation-stays x y is =
-      ap (λ told. told.tree) (fold-roll-Invocation (Create × Expr) Told Sending (PartTree × Part) (create_told scene) (expr_told scene) invocation_told part_told x)
+      ap (λ told. told.tree) (fold-roll-Invocation (Create × Expr) LoweredTree LoweredInvocation (PartTree × Part) (create_lowered scene) (expr_lowered scene) invocation_lowered part_lowered x)
       ∙ ap roll-Invocation (subst (λ z. again_invocation z ≡ z) is (invocation-again y))
 
   part-stays : (x : Part-F Create Tree Invocation PartTree) (y : Part-F C T I P) → first_part y ≡ x → PartStays (roll-Part x)
   part-stays x y is =
-      ap (λ told. told.0) (fold-roll-Part (Create × Expr) Told Sending (PartTree × Part) (create_told scene) (expr_told scene) invocation_told part_told x)
+      ap (λ told. told.0) (fold-roll-Part (Create × Expr) LoweredTree LoweredInvocation (PartTree × Part) (create_lowered scene) (expr_lowered scene) invocation_lowered part_lowered x)
       ∙ ap roll-Part (subst (λ z. again_part z ≡ z) is (part-again y))
 
   stays : (tree : Tree) → Stays tree
@@ -167,7 +167,7 @@ all_told scene (tree ∷ trees) = λ i. told_is scene tree i ∷ all_told scene 
 -- and so for an invocation
 pub sending_is : (scene : Scene) (tree : Invocation) → of_invocation scene tree ≡ core_sending scene tree
 sending_is scene tree =
-    let opened = fold_out-Invocation (Create × Expr) Told Sending (PartTree × Part) (create_told scene) (expr_told scene) invocation_told part_told tree in
+    let opened = fold_out-Invocation (Create × Expr) LoweredTree LoweredInvocation (PartTree × Part) (create_lowered scene) (expr_lowered scene) invocation_lowered part_lowered tree in
     let same = sym (ap (λ sending. sending.tree) opened) ∙ called-stays scene tree in
     opened ∙ (λ i. record { tree = same i; callee = told_is scene (out-Invocation tree).callee i; arguments = all_told scene (out-Invocation tree).arguments i })
 
@@ -177,9 +177,9 @@ pub trees_told : (scene : Scene) (trees : List Tree) → map (λ told. told.0) (
 trees_told scene [] = refl
 trees_told scene (tree ∷ trees) = ap (λ rest. tree ∷ rest) (trees_told scene trees)
 
-pub cored_told : (scene : Scene) (trees : List Tree) → map (λ told. told.1) (map (with_core scene) trees) ≡ map (core_expr scene) trees
-cored_told scene [] = refl
-cored_told scene (tree ∷ trees) = ap (λ rest. core_expr scene tree ∷ rest) (cored_told scene trees)
+pub lowered_of_tree : (scene : Scene) (trees : List Tree) → map (λ told. told.1) (map (with_core scene) trees) ≡ map (core_expr scene) trees
+lowered_of_tree scene [] = refl
+lowered_of_tree scene (tree ∷ trees) = ap (λ rest. core_expr scene tree ∷ rest) (lowered_of_tree scene trees)
 
 pub parts_told : (scene : Scene) (parts : List PartTree) → map (λ told. told.1) (map (of_part scene) parts) ≡ map (core_part scene) parts
 parts_told scene [] = refl
@@ -187,34 +187,34 @@ parts_told scene (part ∷ parts) = ap (λ rest. core_part scene part ∷ rest) 
 
 -- ---- what looks at the trees of its parts
 
-pub call_is : (scene : Scene) (called : Invocation) → core_expr scene (variant.Call called) ≡ cored.Value (call_of scene (core_sending scene called))
+pub call_is : (scene : Scene) (called : Invocation) → core_expr scene (variant.Call called) ≡ lowered.Value (call_of scene (core_sending scene called))
 call_is scene called =
     ap (λ tree. core_expr scene tree) (sym (variant.rolls-Call called))
-    ∙ ap (λ told. told.1) (fold-roll-Expr (Create × Expr) Told Sending (PartTree × Part) (create_told scene) (expr_told scene) invocation_told part_told (Expr-F.Call called))
-    ∙ ap (λ sending. cored.Value (call_of scene sending)) (sending_is scene called)
+    ∙ ap (λ told. told.1) (fold-roll-Expr (Create × Expr) LoweredTree LoweredInvocation (PartTree × Part) (create_lowered scene) (expr_lowered scene) invocation_lowered part_lowered (Expr-F.Call called))
+    ∙ ap (λ sending. lowered.Value (call_of scene sending)) (sending_is scene called)
 
 pub field_is : (scene : Scene) (span : Span) (owner : Tree) (field : Name)
-    → core_expr scene (variant.Field span owner field) ≡ field_core scene (with_core scene owner) field (judged scene.facts owner).named
+    → core_expr scene (variant.Field span owner field) ≡ field_core scene (with_core scene owner) field (typed_expr scene.facts owner).named
 field_is scene span owner field =
     ap (λ tree. core_expr scene tree) (sym (variant.rolls-Field span owner field))
-    ∙ ap (λ told. told.1) (fold-roll-Expr (Create × Expr) Told Sending (PartTree × Part) (create_told scene) (expr_told scene) invocation_told part_told (Expr-F.Field span owner field))
-    ∙ ap (λ told. field_core scene told field (judged scene.facts told.0).named) (told_is scene owner)
+    ∙ ap (λ told. told.1) (fold-roll-Expr (Create × Expr) LoweredTree LoweredInvocation (PartTree × Part) (create_lowered scene) (expr_lowered scene) invocation_lowered part_lowered (Expr-F.Field span owner field))
+    ∙ ap (λ told. field_core scene told field (typed_expr scene.facts told.0).named) (told_is scene owner)
 
 -- ---- what code makes of the parts of a tree
 
 pub parts_made : (scene : Scene) (span : Span) (parts : List PartTree) (tree : Tree) (made : List Part)
-    → tree ≡ variant.Parts span parts → made ≡ map (core_part scene) parts → cored.Value (core.Array made) ≡ core_expr scene tree
+    → tree ≡ variant.Parts span parts → made ≡ map (core_part scene) parts → lowered.Value (core.Array made) ≡ core_expr scene tree
 parts_made scene span parts tree made is by =
-    ap (λ (all : List Part). cored.Value (core.Array all)) (by ∙ sym (parts_told scene parts))
-    ∙ sym (ap (λ told. told.1) (fold-roll-Expr (Create × Expr) Told Sending (PartTree × Part) (create_told scene) (expr_told scene) invocation_told part_told (Expr-F.Parts span parts)))
+    ap (λ (all : List Part). lowered.Value (core.Array all)) (by ∙ sym (parts_told scene parts))
+    ∙ sym (ap (λ told. told.1) (fold-roll-Expr (Create × Expr) LoweredTree LoweredInvocation (PartTree × Part) (create_lowered scene) (expr_lowered scene) invocation_lowered part_lowered (Expr-F.Parts span parts)))
     ∙ ap (core_expr scene) (variant.rolls-Parts span parts ∙ sym is)
 
 pub pending_made : (scene : Scene) (span : Span) (operation : Name) (tree : Tree) (made : Expr)
     → tree ≡ variant.Pending span operation → made ≡ pending_core scene (meant_by scene.facts operation)
-    → cored.Value made ≡ core_expr scene tree
+    → lowered.Value made ≡ core_expr scene tree
 pending_made scene span operation tree made is by =
-    ap (λ (one : Expr). cored.Value one) by
-    ∙ sym (ap (λ told. told.1) (fold-roll-Expr (Create × Expr) Told Sending (PartTree × Part) (create_told scene) (expr_told scene) invocation_told part_told (Expr-F.Pending span operation)))
+    ap (λ (one : Expr). lowered.Value one) by
+    ∙ sym (ap (λ told. told.1) (fold-roll-Expr (Create × Expr) LoweredTree LoweredInvocation (PartTree × Part) (create_lowered scene) (expr_lowered scene) invocation_lowered part_lowered (Expr-F.Pending span operation)))
     ∙ ap (core_expr scene) (variant.rolls-Pending span operation ∙ sym is)
 
 create_is : (scene : Scene) (span : Span) (resource : QualifiedName) (arguments : List Tree) (machine : Option Tree)
@@ -222,10 +222,10 @@ create_is : (scene : Scene) (span : Span) (resource : QualifiedName) (arguments 
     ≡ instance_core scene (meant_by scene.facts (deciding resource)) (map value_of (map (λ told. told.1) (map (told scene) arguments))) (machine_core (option_map (told scene) machine))
 create_is scene span resource arguments None =
     ap (core_create scene) (sym (creation.rolls-Resource span resource arguments None))
-    ∙ ap (λ told. told.1) (fold-roll-Create (Create × Expr) Told Sending (PartTree × Part) (create_told scene) (expr_told scene) invocation_told part_told (Create-F.Resource span resource arguments None))
+    ∙ ap (λ told. told.1) (fold-roll-Create (Create × Expr) LoweredTree LoweredInvocation (PartTree × Part) (create_lowered scene) (expr_lowered scene) invocation_lowered part_lowered (Create-F.Resource span resource arguments None))
 create_is scene span resource arguments (Some machine) =
     ap (core_create scene) (sym (creation.rolls-Resource span resource arguments (Some machine)))
-    ∙ ap (λ told. told.1) (fold-roll-Create (Create × Expr) Told Sending (PartTree × Part) (create_told scene) (expr_told scene) invocation_told part_told (Create-F.Resource span resource arguments (Some machine)))
+    ∙ ap (λ told. told.1) (fold-roll-Create (Create × Expr) LoweredTree LoweredInvocation (PartTree × Part) (create_lowered scene) (expr_lowered scene) invocation_lowered part_lowered (Create-F.Resource span resource arguments (Some machine)))
 
 pub create_made : (scene : Scene) (span : Span) (resource : QualifiedName) (arguments : List Tree) (machine : Option Tree) (tree : Create) (spot : Spot) (args : List Expr) (on : Expr)
     → tree ≡ creation.Resource span resource arguments machine

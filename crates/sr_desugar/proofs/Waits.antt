@@ -45,9 +45,9 @@ use Rattle.sr_tree.specs.declared.types.TypeTree.{TypeTree}
 use Rattle.sr_value.specs.declared.place.Place.{Place}
 use Rattle.sr_value.specs.declared.place.Span.{Span}
 use Rattle.sr_desugar.specs.declared.scene.Scene.{Scene}
-use Rattle.sr_desugar.specs.Declarations.{behind, const_core, declare, first_of, typed, typed_vars, untyped, untyped_vars, var_core}
+use Rattle.sr_desugar.specs.Declarations.{after_first, const_core, declare, first_of, typed, typed_vars, untyped, untyped_vars, var_core}
 use Rattle.sr_desugar.specs.Places.{site_number}
-use Rattle.sr_desugar.specs.Statements.{ArmMade, Block, Made, all_made, all_sites, alone, arm_made, arms_of, block_made, blocks_of, branch_made, call_action, call_made, co_arm_made, core_arm, core_block_item, core_branch, core_co_arm, core_statement, item_made, quantifiers_core, receive_arm, receive_assign, receive_made, statement_made}
+use Rattle.sr_desugar.specs.Statements.{LoweredArm, Block, WithSites, all_made, all_sites, alone, arm_made, arms_of, block_made, blocks_of, branch_made, call_action, call_made, co_arm_made, core_arm, core_block_item, core_branch, core_co_arm, core_statement, item_made, quantifiers_core, receive_arm, receive_assign, receive_made, statement_made}
 use Rattle.sr_desugar.proofs.Numbered.{At, Waits, none_waits, waits_both, waits_by}
 
 -- ---- lists of tests
@@ -127,7 +127,7 @@ in_waits {table} spot site arms is waits = record {
 }
 
 -- an arm has one block
-one_block_each : {A : Type 0} (test : Block → A) (arms : List (Made ArmMade)) → length (arms_of arms) ≡ length (map test (blocks_of arms))
+one_block_each : {A : Type 0} (test : Block → A) (arms : List (WithSites LoweredArm)) → length (arms_of arms) ≡ length (map test (blocks_of arms))
 one_block_each test [] = refl
 one_block_each test (arm ∷ arms) = ap suc (one_block_each test arms)
 
@@ -142,7 +142,7 @@ typed_fit sites scene scope place ty [] values = refl
 typed_fit sites scene scope place ty (decl ∷ decls) values =
     both (waits sites (declare scene scope place (spot_named decl.name) (typed scene decl ty (first_of values)))) _
     (declared_fits sites scope place scene _ _)
-    (typed_fit sites scene scope place ty decls (behind values))
+    (typed_fit sites scene scope place ty decls (after_first values))
 
 untyped_fit : (sites : List Site) (scene : Scene) (scope : Scope) (place : Place) (decls : List Decl) (values : List Expr)
     → IsTrue (block_waits sites (untyped_vars scene scope place decls values))
@@ -190,7 +190,7 @@ call_waits : (scene : Scene) (span : Span) (invocation : Invocation) (function :
 call_waits scene span invocation function wait is =
     subst (λ test. Waits scene.tables.sites (λ sites. IsTrue (waits sites (made test).made)) (if wait then spot_of span ∷ [] else []) (made test).sites) (sym is) (by wait)
   where
-    made : Bool → Made CoreStatement
+    made : Bool → WithSites CoreStatement
     made test = if test then receive_made scene span (wait_operation scene.facts span invocation) [] else alone (core.Act (line_of span) (call_action scene invocation function))
 
     by : (wait : Bool) → Waits scene.tables.sites (λ sites. IsTrue (waits sites (made wait).made)) (if wait then spot_of span ∷ [] else []) (made wait).sites
@@ -235,16 +235,16 @@ module _ (facts : Facts) (scene : Scene) (agree : (invocation : Invocation) → 
   C = (tree : CoArm) × CoArmGood tree
 
   -- lists of parts in the core
-  abbrev items_core : List I → Made Block
+  abbrev items_core : List I → WithSites Block
   items_core items = block_made (map (core_block_item scene) (map (λ e. e.0) items))
 
-  abbrev branches_core : List B → List (Made Guarded)
+  abbrev branches_core : List B → List (WithSites Guarded)
   branches_core branches = map (core_branch scene) (map (λ e. e.0) branches)
 
-  abbrev arms_core : List A → List (Made ArmMade)
+  abbrev arms_core : List A → List (WithSites LoweredArm)
   arms_core arms = map (core_arm scene) (map (λ e. e.0) arms)
 
-  abbrev co_arms_core : List C → List (Made CoreCoArm)
+  abbrev co_arms_core : List C → List (WithSites CoreCoArm)
   co_arms_core arms = map (core_co_arm scene) (map (λ e. e.0) arms)
 
   items_good : (items : List I)
@@ -274,9 +274,9 @@ module _ (facts : Facts) (scene : Scene) (agree : (invocation : Invocation) → 
       map-Statement BlockItem Statement Arm Branch CoArm (List Spot) (List Spot) (List Spot) (List Spot) (List Spot)
       (block_item_in_sites facts) (sites_in facts) (arm_sites facts) (branch_sites facts) (co_arm_sites facts)
 
-  abbrev made_statement : Statement-F BlockItem Statement Arm Branch CoArm → Statement-F (Made Block) (Made CoreStatement) (Made ArmMade) (Made Guarded) (Made CoreCoArm)
+  abbrev made_statement : Statement-F BlockItem Statement Arm Branch CoArm → Statement-F (WithSites Block) (WithSites CoreStatement) (WithSites LoweredArm) (WithSites Guarded) (WithSites CoreCoArm)
   made_statement =
-      map-Statement BlockItem Statement Arm Branch CoArm (Made Block) (Made CoreStatement) (Made ArmMade) (Made Guarded) (Made CoreCoArm)
+      map-Statement BlockItem Statement Arm Branch CoArm (WithSites Block) (WithSites CoreStatement) (WithSites LoweredArm) (WithSites Guarded) (WithSites CoreCoArm)
       (core_block_item scene) (core_statement scene) (core_arm scene) (core_branch scene) (core_co_arm scene)
 
   abbrev bare : Statement-F I S A B C → Statement-F BlockItem Statement Arm Branch CoArm
@@ -340,9 +340,9 @@ module _ (facts : Facts) (scene : Scene) (agree : (invocation : Invocation) → 
       map-BlockItem BlockItem Statement Arm Branch CoArm (List Spot) (List Spot) (List Spot) (List Spot) (List Spot)
       (block_item_in_sites facts) (sites_in facts) (arm_sites facts) (branch_sites facts) (co_arm_sites facts)
 
-  abbrev made_item : BlockItem-F BlockItem Statement Arm Branch CoArm → BlockItem-F (Made Block) (Made CoreStatement) (Made ArmMade) (Made Guarded) (Made CoreCoArm)
+  abbrev made_item : BlockItem-F BlockItem Statement Arm Branch CoArm → BlockItem-F (WithSites Block) (WithSites CoreStatement) (WithSites LoweredArm) (WithSites Guarded) (WithSites CoreCoArm)
   made_item =
-      map-BlockItem BlockItem Statement Arm Branch CoArm (Made Block) (Made CoreStatement) (Made ArmMade) (Made Guarded) (Made CoreCoArm)
+      map-BlockItem BlockItem Statement Arm Branch CoArm (WithSites Block) (WithSites CoreStatement) (WithSites LoweredArm) (WithSites Guarded) (WithSites CoreCoArm)
       (core_block_item scene) (core_statement scene) (core_arm scene) (core_branch scene) (core_co_arm scene)
 
   abbrev bare_item : BlockItem-F I S A B C → BlockItem-F BlockItem Statement Arm Branch CoArm
@@ -354,17 +354,17 @@ module _ (facts : Facts) (scene : Scene) (agree : (invocation : Invocation) → 
   item_good (BlockItem-F.Var variables) = none_waits (λ sites. var_fits sites scene Own variables)
   item_good (BlockItem-F.Statement statement) = waits_by (λ sites fits. both (waits sites (core_statement scene statement.0).made) true fits refl) statement.1
 
-  abbrev made_arm : Arm-F BlockItem Statement Arm Branch CoArm → Arm-F (Made Block) (Made CoreStatement) (Made ArmMade) (Made Guarded) (Made CoreCoArm)
+  abbrev made_arm : Arm-F BlockItem Statement Arm Branch CoArm → Arm-F (WithSites Block) (WithSites CoreStatement) (WithSites LoweredArm) (WithSites Guarded) (WithSites CoreCoArm)
   made_arm =
-      map-Arm BlockItem Statement Arm Branch CoArm (Made Block) (Made CoreStatement) (Made ArmMade) (Made Guarded) (Made CoreCoArm)
+      map-Arm BlockItem Statement Arm Branch CoArm (WithSites Block) (WithSites CoreStatement) (WithSites LoweredArm) (WithSites Guarded) (WithSites CoreCoArm)
       (core_block_item scene) (core_statement scene) (core_arm scene) (core_branch scene) (core_co_arm scene)
 
   abbrev bare_arm : Arm-F I S A B C → Arm-F BlockItem Statement Arm Branch CoArm
   bare_arm = map-Arm I S A B C BlockItem Statement Arm Branch CoArm (λ e. e.0) (λ e. e.0) (λ e. e.0) (λ e. e.0) (λ e. e.0)
 
-  abbrev made_branch : Branch-F BlockItem Statement Arm Branch CoArm → Branch-F (Made Block) (Made CoreStatement) (Made ArmMade) (Made Guarded) (Made CoreCoArm)
+  abbrev made_branch : Branch-F BlockItem Statement Arm Branch CoArm → Branch-F (WithSites Block) (WithSites CoreStatement) (WithSites LoweredArm) (WithSites Guarded) (WithSites CoreCoArm)
   made_branch =
-      map-Branch BlockItem Statement Arm Branch CoArm (Made Block) (Made CoreStatement) (Made ArmMade) (Made Guarded) (Made CoreCoArm)
+      map-Branch BlockItem Statement Arm Branch CoArm (WithSites Block) (WithSites CoreStatement) (WithSites LoweredArm) (WithSites Guarded) (WithSites CoreCoArm)
       (core_block_item scene) (core_statement scene) (core_arm scene) (core_branch scene) (core_co_arm scene)
 
   abbrev bare_branch : Branch-F I S A B C → Branch-F BlockItem Statement Arm Branch CoArm
@@ -375,9 +375,9 @@ module _ (facts : Facts) (scene : Scene) (agree : (invocation : Invocation) → 
   branch_good y =
       waits_by (λ sites fits. subst IsTrue (sym (fold-roll-Guarded Bool Bool Bool (statement_waits sites) co_arm_waits guarded_waits _)) fits) (items_good y.block)
 
-  abbrev made_co_arm : CoArm-F BlockItem Statement Arm Branch CoArm → CoArm-F (Made Block) (Made CoreStatement) (Made ArmMade) (Made Guarded) (Made CoreCoArm)
+  abbrev made_co_arm : CoArm-F BlockItem Statement Arm Branch CoArm → CoArm-F (WithSites Block) (WithSites CoreStatement) (WithSites LoweredArm) (WithSites Guarded) (WithSites CoreCoArm)
   made_co_arm =
-      map-CoArm BlockItem Statement Arm Branch CoArm (Made Block) (Made CoreStatement) (Made ArmMade) (Made Guarded) (Made CoreCoArm)
+      map-CoArm BlockItem Statement Arm Branch CoArm (WithSites Block) (WithSites CoreStatement) (WithSites LoweredArm) (WithSites Guarded) (WithSites CoreCoArm)
       (core_block_item scene) (core_statement scene) (core_arm scene) (core_branch scene) (core_co_arm scene)
 
   abbrev bare_co_arm : CoArm-F I S A B C → CoArm-F BlockItem Statement Arm Branch CoArm
@@ -411,7 +411,7 @@ module _ (facts : Facts) (scene : Scene) (agree : (invocation : Invocation) → 
       (subst (λ spots. Waits table (λ sites. IsTrue (block_waits sites (core_block_item scene (roll-BlockItem (bare_item y))).made)) spots (core_block_item scene (roll-BlockItem (bare_item y))).sites)
       (sym (fold-roll-BlockItem (List Spot) (List Spot) (List Spot) (List Spot) (List Spot) block_item_sites (statement_sites facts) (λ arm. lists arm.block) (λ branch. lists branch.block) (λ arm. maybe_lists arm.block) (bare_item y)))
       (subst (λ made. Waits table (λ sites. IsTrue (block_waits sites made.made)) (block_item_sites (spots_item (bare_item y))) made.sites)
-      (sym (fold-roll-BlockItem (Made Block) (Made CoreStatement) (Made ArmMade) (Made Guarded) (Made CoreCoArm) (item_made scene) (statement_made scene) (arm_made scene) (branch_made scene) (co_arm_made scene) (bare_item y)))
+      (sym (fold-roll-BlockItem (WithSites Block) (WithSites CoreStatement) (WithSites LoweredArm) (WithSites Guarded) (WithSites CoreCoArm) (item_made scene) (statement_made scene) (arm_made scene) (branch_made scene) (co_arm_made scene) (bare_item y)))
       (item_good y)))
 
   step_statement : (x : Statement-F BlockItem Statement Arm Branch CoArm) (y : Statement-F I S A B C) → bare y ≡ x → StatementGood (roll-Statement x)
@@ -419,7 +419,7 @@ module _ (facts : Facts) (scene : Scene) (agree : (invocation : Invocation) → 
       (subst (λ spots. Waits table (λ sites. IsTrue (waits sites (core_statement scene (roll-Statement (bare y))).made)) spots (core_statement scene (roll-Statement (bare y))).sites)
       (sym (fold-roll-Statement (List Spot) (List Spot) (List Spot) (List Spot) (List Spot) block_item_sites (statement_sites facts) (λ arm. lists arm.block) (λ branch. lists branch.block) (λ arm. maybe_lists arm.block) (bare y)))
       (subst (λ made. Waits table (λ sites. IsTrue (waits sites made.made)) (statement_sites facts (spots_statement (bare y))) made.sites)
-      (sym (fold-roll-Statement (Made Block) (Made CoreStatement) (Made ArmMade) (Made Guarded) (Made CoreCoArm) (item_made scene) (statement_made scene) (arm_made scene) (branch_made scene) (co_arm_made scene) (bare y)))
+      (sym (fold-roll-Statement (WithSites Block) (WithSites CoreStatement) (WithSites LoweredArm) (WithSites Guarded) (WithSites CoreCoArm) (item_made scene) (statement_made scene) (arm_made scene) (branch_made scene) (co_arm_made scene) (bare y)))
       (statement_good y)))
 
   step_arm : (x : Arm-F BlockItem Statement Arm Branch CoArm) (y : Arm-F I S A B C) → bare_arm y ≡ x → ArmGood (roll-Arm x)
@@ -427,7 +427,7 @@ module _ (facts : Facts) (scene : Scene) (agree : (invocation : Invocation) → 
       (subst (λ spots. Waits table (λ sites. IsTrue (block_waits sites (core_arm scene (roll-Arm (bare_arm y))).made.block)) spots (core_arm scene (roll-Arm (bare_arm y))).sites)
       (sym (fold-roll-Arm (List Spot) (List Spot) (List Spot) (List Spot) (List Spot) block_item_sites (statement_sites facts) (λ arm. lists arm.block) (λ branch. lists branch.block) (λ arm. maybe_lists arm.block) (bare_arm y)))
       (subst (λ made. Waits table (λ sites. IsTrue (block_waits sites made.made.block)) (lists (map (block_item_in_sites facts) (map (λ e. e.0) y.block))) made.sites)
-      (sym (fold-roll-Arm (Made Block) (Made CoreStatement) (Made ArmMade) (Made Guarded) (Made CoreCoArm) (item_made scene) (statement_made scene) (arm_made scene) (branch_made scene) (co_arm_made scene) (bare_arm y)))
+      (sym (fold-roll-Arm (WithSites Block) (WithSites CoreStatement) (WithSites LoweredArm) (WithSites Guarded) (WithSites CoreCoArm) (item_made scene) (statement_made scene) (arm_made scene) (branch_made scene) (co_arm_made scene) (bare_arm y)))
       (items_good y.block)))
 
   step_branch : (x : Branch-F BlockItem Statement Arm Branch CoArm) (y : Branch-F I S A B C) → bare_branch y ≡ x → BranchGood (roll-Branch x)
@@ -435,7 +435,7 @@ module _ (facts : Facts) (scene : Scene) (agree : (invocation : Invocation) → 
       (subst (λ spots. Waits table (λ sites. IsTrue (guarded_fits sites (core_branch scene (roll-Branch (bare_branch y))).made)) spots (core_branch scene (roll-Branch (bare_branch y))).sites)
       (sym (fold-roll-Branch (List Spot) (List Spot) (List Spot) (List Spot) (List Spot) block_item_sites (statement_sites facts) (λ arm. lists arm.block) (λ branch. lists branch.block) (λ arm. maybe_lists arm.block) (bare_branch y)))
       (subst (λ made. Waits table (λ sites. IsTrue (guarded_fits sites made.made)) (lists (map (block_item_in_sites facts) (map (λ e. e.0) y.block))) made.sites)
-      (sym (fold-roll-Branch (Made Block) (Made CoreStatement) (Made ArmMade) (Made Guarded) (Made CoreCoArm) (item_made scene) (statement_made scene) (arm_made scene) (branch_made scene) (co_arm_made scene) (bare_branch y)))
+      (sym (fold-roll-Branch (WithSites Block) (WithSites CoreStatement) (WithSites LoweredArm) (WithSites Guarded) (WithSites CoreCoArm) (item_made scene) (statement_made scene) (arm_made scene) (branch_made scene) (co_arm_made scene) (bare_branch y)))
       (branch_good y)))
 
   step_co_arm : (x : CoArm-F BlockItem Statement Arm Branch CoArm) (y : CoArm-F I S A B C) → bare_co_arm y ≡ x → CoArmGood (roll-CoArm x)
@@ -443,7 +443,7 @@ module _ (facts : Facts) (scene : Scene) (agree : (invocation : Invocation) → 
       (subst (λ spots. Waits table (λ sites. IsTrue (arm_fits sites (core_co_arm scene (roll-CoArm (bare_co_arm y))).made)) spots (core_co_arm scene (roll-CoArm (bare_co_arm y))).sites)
       (sym (fold-roll-CoArm (List Spot) (List Spot) (List Spot) (List Spot) (List Spot) block_item_sites (statement_sites facts) (λ arm. lists arm.block) (λ branch. lists branch.block) (λ arm. maybe_lists arm.block) (bare_co_arm y)))
       (subst (λ made. Waits table (λ sites. IsTrue (arm_fits sites made.made)) (maybe_lists (spots_co_arm (bare_co_arm y)).block) made.sites)
-      (sym (fold-roll-CoArm (Made Block) (Made CoreStatement) (Made ArmMade) (Made Guarded) (Made CoreCoArm) (item_made scene) (statement_made scene) (arm_made scene) (branch_made scene) (co_arm_made scene) (bare_co_arm y)))
+      (sym (fold-roll-CoArm (WithSites Block) (WithSites CoreStatement) (WithSites LoweredArm) (WithSites Guarded) (WithSites CoreCoArm) (item_made scene) (statement_made scene) (arm_made scene) (branch_made scene) (co_arm_made scene) (bare_co_arm y)))
       (co_arm_good y)))
 
   pub statement_fits : (tree : Statement) → StatementGood tree

@@ -35,7 +35,7 @@ use Rattle.sr_outline.specs.Numbers.{component_sites, formal_names, inner_sites,
 use Rattle.sr_outline.specs.Outline.{imports_of, tables_of}
 use Rattle.sr_desugar.specs.declared.scene.Scene.{Scene}
 use Rattle.sr_desugar.specs.Bodies.{Output, all_code, all_finals, all_procs, body_made, first_final, in_body, inner_made, item_output, item_outputs, output_sites, process_sends, spec_item_core}
-use Rattle.sr_desugar.specs.Core.{Whole, all_components, core_of, procs_in, scene_of, sites_in, spec_code, whole_in, whole_of, wholes_from}
+use Rattle.sr_desugar.specs.Core.{LoweredComponent, all_components, core_of, procs_in, scene_of, sites_in, spec_code, whole_in, whole_of, wholes_from}
 use Rattle.sr_desugar.specs.Laws.{WaitApart}
 use Rattle.sr_desugar.specs.Statements.{block_made, semaphore_sends, semaphores_core, value_sends}
 use Rattle.sr_desugar.proofs.CalledSame.{called_same}
@@ -163,7 +163,7 @@ first_fits sites (final ∷ finals) all = by (body_fits sites final) all
     by false fits = fits
 
 -- what components are in the core fits
-pub record WholesFit (wholes : List Whole) (sites : List Site) : Type 0 where
+pub record WholesFit (wholes : List LoweredComponent) (sites : List Site) : Type 0 where
   pub codes_fit : IsTrue (list_all (λ component. list_all (body_fits sites) (codes_of component)) (all_components wholes))
   pub procs_fit : IsTrue (list_all (proc_fits sites) (procs_in wholes))
 

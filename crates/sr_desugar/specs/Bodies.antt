@@ -33,15 +33,15 @@ use Rattle.sr_outline.specs.Meanings.{meant_by}
 use Rattle.sr_outline.specs.Numbers.{formal_names, returned_names, signature_returned, quantifier_names, own_spots}
 use Rattle.sr_tables.specs.Parts.{line_of, spot_named}
 use Rattle.sr_desugar.specs.Places.{own_place, own_formals, own_returned, operation_expr, operation_number}
-use Rattle.sr_desugar.specs.Statements.{Made, Block, alone, block_made, act, quantifiers_core, semaphores_core, core_statement}
+use Rattle.sr_desugar.specs.Statements.{WithSites, Block, alone, block_made, act, quantifiers_core, semaphores_core, core_statement}
 
 -- ---- blocks of procs and final code
 
-abbrev pub statement_item : Made Statement → Made Block
+abbrev pub statement_item : WithSites Statement → WithSites Block
 statement_item statement = record { made = statement.made ∷ []; sites = statement.sites }
 
 -- what a proc declares is the process's own
-abbrev pub inner_made : Scene → ProcItem → Made Block
+abbrev pub inner_made : Scene → ProcItem → WithSites Block
 inner_made scene (inner.Const constant) = alone (const_core scene Own constant)
 inner_made scene (inner.Var variables) = alone (var_core scene Own variables)
 inner_made scene (inner.Op operations) = alone []
@@ -52,7 +52,7 @@ abbrev pub in_body : Scene → List Spot → Scene
 in_body scene own = record scene { own = own }
 
 -- the code of a process, which has these own variables
-abbrev pub body_made : Scene → List ProcItem → Made Body
+abbrev pub body_made : Scene → List ProcItem → WithSites Body
 body_made scene block = record {
   made = record { owns = length scene.own; block = (block_made (map (inner_made scene) block)).made };
   sites = (block_made (map (inner_made scene) block)).sites;
@@ -61,7 +61,7 @@ body_made scene block = record {
 -- ---- procs
 
 -- a proc serves an operation, with names for its formals and for what it returns
-abbrev pub served : Scene → Span → Spot → List Spot → List Spot → List ProcItem → Made Proc
+abbrev pub served : Scene → Span → Spot → List Spot → List Spot → List ProcItem → WithSites Proc
 served scene span operation formals returned block = record {
   made = record {
     place = line_of span;
@@ -73,24 +73,24 @@ served scene span operation formals returned block = record {
   sites = (body_made scene block).sites;
 }
 
-abbrev pub service : Scene → Span → Spot → List Spot → List Spot → List ProcItem → Made Proc
+abbrev pub service : Scene → Span → Spot → List Spot → List Spot → List ProcItem → WithSites Proc
 service scene span operation formals returned block =
     served (in_body scene (own_spots scene.facts formals returned block)) span operation formals returned block
 
-abbrev pub proc_made : Scene → ProcTree → Made Proc
+abbrev pub proc_made : Scene → ProcTree → WithSites Proc
 proc_made scene proc = service scene proc.span (meant_by scene.facts proc.name) (map spot_named proc.formals) (returned_names proc.returned) proc.block
 
 -- the proc of `procedure f` has the names of its signature
-abbrev pub procedure_made : Scene → Procedure → Made Proc
+abbrev pub procedure_made : Scene → Procedure → WithSites Proc
 procedure_made scene procedure =
     service scene procedure.span (spot_named procedure.name)
     (formal_names (out-Signature procedure.signature).formals) (signature_returned procedure.signature) procedure.block
 
 -- in the body of a process the names of its quantifiers are formals
-abbrev pub process_made : Scene → Process → Made Proc
+abbrev pub process_made : Scene → Process → WithSites Proc
 process_made scene process = service scene process.span (spot_named process.name) (quantifier_names process.quantifiers) [] process.block
 
-abbrev pub final_made : Scene → FinalCode → Made Body
+abbrev pub final_made : Scene → FinalCode → WithSites Body
 final_made scene final = body_made (in_body scene (own_spots scene.facts [] [] final.block)) final.block
 
 -- ---- initial code
@@ -123,13 +123,13 @@ pub record Output : Type 0 where
   pub finals : List Body
   pub sites : List Site
 
-abbrev pub of_code : Made Block → Output
+abbrev pub of_code : WithSites Block → Output
 of_code block = record { code = block.made; procs = []; finals = []; sites = block.sites }
 
-abbrev pub of_proc : Block → Made Proc → Output
+abbrev pub of_proc : Block → WithSites Proc → Output
 of_proc code proc = record { code = code; procs = proc.made ∷ []; finals = []; sites = proc.sites }
 
-abbrev pub of_final : Made Body → Output
+abbrev pub of_final : WithSites Body → Output
 of_final final = record { code = []; procs = []; finals = final.made ∷ []; sites = final.sites }
 
 abbrev pub item_output : Scene → Item → Output
@@ -157,7 +157,7 @@ output_sites outputs = flat_map (λ output. output.sites) outputs
 
 -- ---- what is gathered of all components
 
-abbrev pub with_proc : Gathered → Made Proc → Gathered
+abbrev pub with_proc : Gathered → WithSites Proc → Gathered
 with_proc gathered proc = record { procs = gathered.procs ++ proc.made ∷ []; sites = gathered.sites ++ proc.sites }
 
 abbrev pub with_outputs : Gathered → List Output → Gathered
@@ -168,7 +168,7 @@ abbrev pub first_final : List Body → Option Body
 first_final [] = None
 first_final (final ∷ finals) = Some final
 
--- with these items behind what there is
+-- with these items after what there is
 abbrev pub with_codes : Codes → List Output → Codes
 with_codes codes outputs = record {
   initial = codes.initial ++ all_code outputs;

@@ -67,41 +67,41 @@ component_with scene imports component codes = record {
 -- ---- the whole
 
 -- a component in the core, with its procs and its sites
-pub record Whole : Type 0 where
+pub record LoweredComponent : Type 0 where
   pub component : Component
   pub procs : List Proc
   pub sites : List Site
 
-abbrev pub whole_in : Scene → List (List ℕ) → ComponentTree → Whole
+abbrev pub whole_in : Scene → List (List ℕ) → ComponentTree → LoweredComponent
 whole_in scene imports component = record {
   component = component_with scene imports component (component_codes scene component);
   procs = all_procs (item_outputs scene (body_of component));
   sites = output_sites (item_outputs scene (body_of component));
 }
 
-abbrev pub all_components : List Whole → List Component
+abbrev pub all_components : List LoweredComponent → List Component
 all_components wholes = map (λ whole. whole.component) wholes
 
-abbrev pub procs_in : List Whole → List Proc
+abbrev pub procs_in : List LoweredComponent → List Proc
 procs_in wholes = flat_map (λ whole. whole.procs) wholes
 
-abbrev pub sites_in : List Whole → List Site
+abbrev pub sites_in : List LoweredComponent → List Site
 sites_in wholes = flat_map (λ whole. whole.sites) wholes
 
-abbrev pub with_wholes : Gathered → List Whole → Gathered
+abbrev pub with_wholes : Gathered → List LoweredComponent → Gathered
 with_wholes gathered wholes = record { procs = gathered.procs ++ procs_in wholes; sites = gathered.sites ++ sites_in wholes }
 
-abbrev pub whole_of : Facts → Tables → List (List ℕ) → ℕ × ComponentTree → Whole
+abbrev pub whole_of : Facts → Tables → List (List ℕ) → ℕ × ComponentTree → LoweredComponent
 whole_of facts tables imports numbered = whole_in (scene_of facts tables imports numbered.0 numbered.1) imports numbered.1
 
 -- components in order, the first of which has this number
-abbrev pub wholes_from : Facts → Tables → List (List ℕ) → ℕ → List ComponentTree → List Whole
+abbrev pub wholes_from : Facts → Tables → List (List ℕ) → ℕ → List ComponentTree → List LoweredComponent
 wholes_from facts tables imports first components = map (whole_of facts tables imports) (enumerate_from first components)
 
-abbrev pub wholes_of : Facts → List ComponentTree → Tables → List Whole
+abbrev pub wholes_of : Facts → List ComponentTree → Tables → List LoweredComponent
 wholes_of facts components tables = wholes_from facts tables (map (imports_of facts tables.components) components) 0 components
 
-abbrev pub core_with : List ComponentTree → Tables → List Whole → Core
+abbrev pub core_with : List ComponentTree → Tables → List LoweredComponent → Core
 core_with components tables wholes = record {
   components = all_components wholes;
   operations = things_in tables.operations;

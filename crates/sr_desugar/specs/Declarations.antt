@@ -112,15 +112,15 @@ abbrev pub first_of : {A : Type 0} → List A → Option A
 first_of [] = None
 first_of (thing ∷ things) = Some thing
 
-abbrev pub behind : {A : Type 0} → List A → List A
-behind [] = []
-behind (thing ∷ things) = things
+abbrev pub after_first : {A : Type 0} → List A → List A
+after_first [] = []
+after_first (thing ∷ things) = things
 
 -- each name has its value, where there are values
 abbrev pub typed_vars : Scene → Scope → Place → TypeTree → List Decl → List Expr → List Statement
 typed_vars scene scope place ty [] values = []
 typed_vars scene scope place ty (decl ∷ decls) values =
-    declare scene scope place (spot_named decl.name) (typed scene decl ty (first_of values)) ∷ typed_vars scene scope place ty decls (behind values)
+    declare scene scope place (spot_named decl.name) (typed scene decl ty (first_of values)) ∷ typed_vars scene scope place ty decls (after_first values)
 
 abbrev pub untyped_vars : Scene → Scope → Place → List Decl → List Expr → List Statement
 untyped_vars scene scope place [] values = []

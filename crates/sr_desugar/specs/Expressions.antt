@@ -3,8 +3,8 @@ use Rattle.std.specs.Prelude.{ℕ, ◌==◌, negsuc, Bool, true, false, List, []
 use Rattle.std.specs.Option.{option_map, option_and_then}
 use Rattle.std.specs.Str.{bytes_eq}
 use Rattle.sr_check_expr.specs.declared.facts.Facts.{Facts}
-use Rattle.sr_check_expr.specs.declared.judged.Named.{Named}
-use Rattle.sr_check_expr.specs.declared.judged.Named.TheVariants as named
+use Rattle.sr_check_expr.specs.declared.typed_expr.Named.{Named}
+use Rattle.sr_check_expr.specs.declared.typed_expr.Named.TheVariants as named
 use Rattle.sr_check_expr.specs.Exprs.{prefix_of}
 use Rattle.sr_check_expr.specs.Infos.{name_spot}
 use Rattle.sr_check_expr.specs.LiteralTypes.{literal_typed}
@@ -55,10 +55,10 @@ use Rattle.sr_value.specs.declared.value.Value.{Value}
 use Rattle.sr_value.specs.declared.value.Value.TheVariants as value
 use Rattle.sr_value.specs.Predefined.{lowest_value, highest_value}
 use Rattle.sr_desugar.specs.declared.exprs.Sent.{Sent}
-use Rattle.sr_desugar.specs.declared.scene.Cored.{Cored}
-use Rattle.sr_desugar.specs.declared.scene.Cored.TheVariants as cored
+use Rattle.sr_desugar.specs.declared.scene.Lowered.{Lowered}
+use Rattle.sr_desugar.specs.declared.scene.Lowered.TheVariants as lowered
 use Rattle.sr_desugar.specs.declared.scene.Scene.{Scene}
-use Rattle.sr_outline.specs.Meanings.{judged, type_of, known, constant_at, params_of, returned_by, literals_of, meant_by}
+use Rattle.sr_outline.specs.Meanings.{typed_expr, type_of, known, constant_at, params_of, returned_by, literals_of, meant_by}
 use Rattle.sr_outline.specs.Operators.{conversion_function, binary_core}
 use Rattle.sr_tables.specs.Parts.{deciding}
 use Rattle.sr_desugar.specs.Places.{root_of, place_at, naming, operation_at, operation_expr, nothing, value_of, place_of, part_of}
@@ -66,22 +66,22 @@ use Rattle.sr_outline.specs.Shapes.{shape_of_type}
 use Rattle.sr_tables.specs.Tables.{things_in}
 
 -- an expression, and what it is in the core
-abbrev pub Told : Type 0
-Told = Tree × Cored
+abbrev pub LoweredTree : Type 0
+LoweredTree = Tree × Lowered
 
 -- an invocation, and what its parts are in the core
-pub record Sending : Type 0 where
+pub record LoweredInvocation : Type 0 where
   pub tree : Invocation
-  pub callee : Told
-  pub arguments : List Told
+  pub callee : LoweredTree
+  pub arguments : List LoweredTree
 
-abbrev pub trees_of : List Told → List Tree
+abbrev pub trees_of : List LoweredTree → List Tree
 trees_of all = map (λ told. told.0) all
 
-abbrev pub cored_of : List Told → List Cored
-cored_of all = map (λ told. told.1) all
+abbrev pub lowered_of : List LoweredTree → List Lowered
+lowered_of all = map (λ told. told.1) all
 
-abbrev pub values : List Cored → List Expr
+abbrev pub values : List Lowered → List Expr
 values all = map value_of all
 
 -- ---- constants and names
@@ -95,27 +95,27 @@ abbrev pub static_expr : Static → Expr
 static_expr static = constant_or_nothing (known static)
 
 -- a variable, or a constant that isn't static
-abbrev pub variable_core : Scene → Spot → Cored
-variable_core scene spot = cored.Place (place_at (root_of scene spot))
+abbrev pub variable_core : Scene → Spot → Lowered
+variable_core scene spot = lowered.Place (place_at (root_of scene spot))
 
-abbrev pub named_core : Scene → Spot → Option Value → Option Operation → Cored
-named_core scene spot (Some value) operation = cored.Value (core.Leaf (leaf.Constant value))
-named_core scene spot None (Some operation) = cored.Value (operation_expr scene spot)
+abbrev pub named_core : Scene → Spot → Option Value → Option Operation → Lowered
+named_core scene spot (Some value) operation = lowered.Value (core.Leaf (leaf.Constant value))
+named_core scene spot None (Some operation) = lowered.Value (operation_expr scene spot)
 named_core scene spot None None = variable_core scene spot
 
 -- a name is the static constant, operation or variable that it means; `EOF` is -1
-abbrev pub meaning_core : Scene → Option Meaning → Cored
+abbrev pub meaning_core : Scene → Option Meaning → Lowered
 meaning_core scene (Some (Declared decl)) = named_core scene decl.spot (constant_at scene.facts decl.spot) (operation_at scene decl.spot)
-meaning_core scene (Some (MeansPredefined Eof)) = cored.Value (core.Leaf (leaf.Constant (value.Int (negsuc 0))))
-meaning_core scene _ = cored.Value nothing
+meaning_core scene (Some (MeansPredefined Eof)) = lowered.Value (core.Leaf (leaf.Constant (value.Int (negsuc 0))))
+meaning_core scene _ = lowered.Value nothing
 
-abbrev pub name_core : Scene → Span → Cored
+abbrev pub name_core : Scene → Span → Lowered
 name_core scene span = meaning_core scene (meaning_at scene.facts.uses (spot_of span))
 
 -- ---- parts of values
 
 -- one index or two
-abbrev pub index_step : Cored → Option Told → Step
+abbrev pub index_step : Lowered → Option LoweredTree → Step
 index_step first None = step.At (value_of first)
 index_step first (Some second) = step.At2 (value_of first) (value_of second.1)
 
@@ -127,16 +127,16 @@ abbrev pub spec_operation : Facts → types.Spot → List ℕ → Spot
 spec_operation facts resource name = unwrap_or (option_map (λ decl. decl.spot) (member_named facts.specs (name_spot resource) name)) (name_spot resource)
 
 -- an operation through a capability
-abbrev pub member_core : Scene → Cored → Spot → Expr
+abbrev pub member_core : Scene → Lowered → Spot → Expr
 member_core scene owner spot = naming scene spot (λ operation number. core.Member (value_of owner) number)
 
-abbrev pub layer_member : {A : Type 0} → Scene → Cored → List ℕ → Ty-F A → Cored
+abbrev pub layer_member : {A : Type 0} → Scene → Lowered → List ℕ → Ty-F A → Lowered
 layer_member scene owner name (Ty-F.Rec spot) = part_of owner (step.Field (field_number scene.facts spot name))
-layer_member scene owner name (Ty-F.Resource spot) = cored.Value (member_core scene owner (spec_operation scene.facts spot name))
-layer_member scene owner name _ = cored.Value nothing
+layer_member scene owner name (Ty-F.Resource spot) = lowered.Value (member_core scene owner (spec_operation scene.facts spot name))
+layer_member scene owner name _ = lowered.Value nothing
 
--- behind a component stands a name of its spec, behind a value a field or an operation
-abbrev pub field_core : Scene → Told → Name → Named → Cored
+-- after a component stands a name of its spec, after a value a field or an operation
+abbrev pub field_core : Scene → LoweredTree → Name → Named → Lowered
 field_core scene owner field (named.Component decl) = name_core scene field.span
 field_core scene owner field _ = layer_member scene owner.1 field.text (out-Ty (type_of scene.facts owner.0))
 
@@ -152,24 +152,24 @@ is_two _ = false
 
 -- whether the second argument of `lb` or `ub` is the literal 2
 abbrev pub is_second : Facts → List Tree → Bool
-is_second facts (array ∷ number ∷ []) = is_two (judged facts number).named
+is_second facts (array ∷ number ∷ []) = is_two (typed_expr facts number).named
 is_second facts trees = false
 
 -- the number of the dimension is no argument
-abbrev pub without_number : List Tree → List Cored → List Cored
-without_number (array ∷ number ∷ []) cored = take 1 cored
-without_number trees cored = cored
+abbrev pub without_number : List Tree → List Lowered → List Lowered
+without_number (array ∷ number ∷ []) lowered = take 1 lowered
+without_number trees lowered = lowered
 
 -- `lb(a)`, `lb(a, 1)` or `lb(a, 2)`
-abbrev pub bound_core : Facts → Function → Function → List Tree → List Cored → Expr
-bound_core facts one two trees cored = core.Apply (if is_second facts trees then two else one) (values (without_number trees cored))
+abbrev pub bound_core : Facts → Function → Function → List Tree → List Lowered → Expr
+bound_core facts one two trees lowered = core.Apply (if is_second facts trees then two else one) (values (without_number trees lowered))
 
 abbrev pub type_in : Named → List Ty
 type_in (named.«Type» ty) = ty ∷ []
 type_in _ = []
 
 abbrev pub named_types : Facts → List Tree → List Ty
-named_types facts trees = flat_map (λ tree. type_in (judged facts tree).named) trees
+named_types facts trees = flat_map (λ tree. type_in (typed_expr facts tree).named) trees
 
 abbrev pub end_value : Bool → Shape → Result Value Fault
 end_value true shape = highest_value shape
@@ -196,43 +196,43 @@ layer_readable _ = readable.Int
 abbrev pub readable_of : Ty → Readable
 readable_of ty = layer_readable (out-Ty ty)
 
-abbrev pub reading_core : Readable × Cored → Reading
+abbrev pub reading_core : Readable × Lowered → Reading
 reading_core item = roll-Reading (record { kind = item.0; place = place_of item.1 })
 
 -- an item is read by the type of its place
-abbrev pub readings_core : Facts → List Tree → List Cored → List Reading
-readings_core facts trees cored = map reading_core (zip (map (λ tree. readable_of (type_of facts tree)) trees) cored)
+abbrev pub readings_core : Facts → List Tree → List Lowered → List Reading
+readings_core facts trees lowered = map reading_core (zip (map (λ tree. readable_of (type_of facts tree)) trees) lowered)
 
 -- a call of a predefined function, by its arguments and what they are in the core
-abbrev pub function_core : Scene → Predefined → List Tree → List Cored → Expr
-function_core scene Abs trees cored = core.Apply function.Abs (values cored)
-function_core scene Min trees cored = core.Apply function.Min (values cored)
-function_core scene Max trees cored = core.Apply function.Max (values cored)
-function_core scene Low trees cored = ends_core scene false (named_types scene.facts trees)
-function_core scene High trees cored = ends_core scene true (named_types scene.facts trees)
-function_core scene Lb trees cored = bound_core scene.facts function.LowBound function.LowBound2 trees cored
-function_core scene Ub trees cored = bound_core scene.facts function.HighBound function.HighBound2 trees cored
-function_core scene Length trees cored = core.Apply function.Length (values cored)
-function_core scene Pred trees cored = core.Apply function.Pred (values cored)
-function_core scene Succ trees cored = core.Apply (function.Succ (literals_in scene.facts trees)) (values cored)
-function_core scene MyResource trees cored = core.Leaf leaf.MyResource
-function_core scene MyVm trees cored = core.Leaf leaf.MyMachine
-function_core scene Read trees cored = core.Read (readings_core scene.facts trees cored)
-function_core scene _ trees cored = nothing
+abbrev pub function_core : Scene → Predefined → List Tree → List Lowered → Expr
+function_core scene Abs trees lowered = core.Apply function.Abs (values lowered)
+function_core scene Min trees lowered = core.Apply function.Min (values lowered)
+function_core scene Max trees lowered = core.Apply function.Max (values lowered)
+function_core scene Low trees lowered = ends_core scene false (named_types scene.facts trees)
+function_core scene High trees lowered = ends_core scene true (named_types scene.facts trees)
+function_core scene Lb trees lowered = bound_core scene.facts function.LowBound function.LowBound2 trees lowered
+function_core scene Ub trees lowered = bound_core scene.facts function.HighBound function.HighBound2 trees lowered
+function_core scene Length trees lowered = core.Apply function.Length (values lowered)
+function_core scene Pred trees lowered = core.Apply function.Pred (values lowered)
+function_core scene Succ trees lowered = core.Apply (function.Succ (literals_in scene.facts trees)) (values lowered)
+function_core scene MyResource trees lowered = core.Leaf leaf.MyResource
+function_core scene MyVm trees lowered = core.Leaf leaf.MyMachine
+function_core scene Read trees lowered = core.Read (readings_core scene.facts trees lowered)
+function_core scene _ trees lowered = nothing
 
 -- ---- invocations
 
 -- an argument goes as its formal says
-abbrev pub argument_core : Mode → Cored → Argument
+abbrev pub argument_core : Mode → Lowered → Argument
 argument_core Val told = argument.Val (value_of told)
 argument_core Var told = argument.Var (place_of told)
 argument_core Res told = argument.Res (place_of told)
 
-abbrev pub arguments_by : List Param → List Cored → List Argument
+abbrev pub arguments_by : List Param → List Lowered → List Argument
 arguments_by params arguments = map (λ pair. argument_core pair.0.mode pair.1) (zip params arguments)
 
-abbrev pub sent_arguments : Facts → Sending → List Argument
-sent_arguments facts sending = arguments_by (params_of facts (type_of facts sending.callee.0)) (cored_of sending.arguments)
+abbrev pub sent_arguments : Facts → LoweredInvocation → List Argument
+sent_arguments facts sending = arguments_by (params_of facts (type_of facts sending.callee.0)) (lowered_of sending.arguments)
 
 -- what an operation returns, by its number
 abbrev pub returns_numbered : Scene → ℕ → Option Shape
@@ -252,29 +252,29 @@ layer_returns scene ty (core-F.Member of op) = returns_numbered scene op
 layer_returns scene ty _ = returns_typed scene ty
 
 -- the type of the value of a call, by what is called
-abbrev pub call_returns : Scene → Sending → Option Shape
+abbrev pub call_returns : Scene → LoweredInvocation → Option Shape
 call_returns scene sending = layer_returns scene (type_of scene.facts sending.callee.0) (out-Expr (value_of sending.callee.1))
 
 -- an invocation of an operation
-abbrev pub sent_core : Scene → Sending → Sent
+abbrev pub sent_core : Scene → LoweredInvocation → Sent
 sent_core scene sending = record { target = value_of sending.callee.1; args = sent_arguments scene.facts sending; returns = call_returns scene sending }
 
-abbrev pub called : Scene → Sending → Expr
+abbrev pub called : Scene → LoweredInvocation → Expr
 called scene sending = core.Call (value_of sending.callee.1) (sent_arguments scene.facts sending) (call_returns scene sending)
 
 -- a call is of a predefined function, of a record type, or of an operation
-abbrev pub call_core : Scene → Sending → Named → Expr
-call_core scene sending (named.Predefined name) = function_core scene name (trees_of sending.arguments) (cored_of sending.arguments)
-call_core scene sending (named.«Type» ty) = core.Apply function.Record (values (cored_of sending.arguments))
+abbrev pub call_core : Scene → LoweredInvocation → Named → Expr
+call_core scene sending (named.Predefined name) = function_core scene name (trees_of sending.arguments) (lowered_of sending.arguments)
+call_core scene sending (named.«Type» ty) = core.Apply function.Record (values (lowered_of sending.arguments))
 call_core scene sending _ = called scene sending
 
-abbrev pub call_of : Scene → Sending → Expr
-call_of scene sending = call_core scene sending (judged scene.facts sending.callee.0).named
+abbrev pub call_of : Scene → LoweredInvocation → Expr
+call_of scene sending = call_core scene sending (typed_expr scene.facts sending.callee.0).named
 
 -- ---- create
 
 -- without `on` the machine is the creator's
-abbrev pub machine_core : Option Told → Expr
+abbrev pub machine_core : Option LoweredTree → Expr
 machine_core None = core.Leaf leaf.MyMachine
 machine_core (Some machine) = value_of machine.1
 
@@ -293,62 +293,62 @@ pending_core scene spot = naming scene spot (λ operation number. core.Leaf (lea
 
 -- ---- all
 
-abbrev pub create_core : Scene → Create-F (Create × Expr) Told Sending (PartTree × Part) → Expr
+abbrev pub create_core : Scene → Create-F (Create × Expr) LoweredTree LoweredInvocation (PartTree × Part) → Expr
 create_core scene (Create-F.Resource span resource arguments machine) =
-    instance_core scene (meant_by scene.facts (deciding resource)) (values (cored_of arguments)) (machine_core machine)
+    instance_core scene (meant_by scene.facts (deciding resource)) (values (lowered_of arguments)) (machine_core machine)
 create_core scene (Create-F.Machine span) = core.Leaf leaf.MakeMachine
 
-abbrev pub part_by : Option Told → Told → Part
+abbrev pub part_by : Option LoweredTree → LoweredTree → Part
 part_by None value = part.One (value_of value.1)
 part_by (Some count) value = part.Repeated (value_of count.1) (value_of value.1)
 
-abbrev pub expr_core : Scene → Expr-F (Create × Expr) Told Sending (PartTree × Part) → Cored
-expr_core scene (Expr-F.Literal span literal) = cored.Value (static_expr (literal_typed literal).value)
+abbrev pub expr_core : Scene → Expr-F (Create × Expr) LoweredTree LoweredInvocation (PartTree × Part) → Lowered
+expr_core scene (Expr-F.Literal span literal) = lowered.Value (static_expr (literal_typed literal).value)
 expr_core scene (Expr-F.Name name) = name_core scene name.span
-expr_core scene (Expr-F.BasicType span basic) = cored.Value nothing
-expr_core scene (Expr-F.Conversion span conversion value) = cored.Value (core.Apply (conversion_function conversion) (value_of value.1 ∷ []))
-expr_core scene (Expr-F.Group span inner) = cored.Value (value_of inner.1)
-expr_core scene (Expr-F.Parts span parts) = cored.Value (core.Array (map (λ part. part.1) parts))
-expr_core scene (Expr-F.Field span owner field) = field_core scene owner field (judged scene.facts owner.0).named
+expr_core scene (Expr-F.BasicType span basic) = lowered.Value nothing
+expr_core scene (Expr-F.Conversion span conversion value) = lowered.Value (core.Apply (conversion_function conversion) (value_of value.1 ∷ []))
+expr_core scene (Expr-F.Group span inner) = lowered.Value (value_of inner.1)
+expr_core scene (Expr-F.Parts span parts) = lowered.Value (core.Array (map (λ part. part.1) parts))
+expr_core scene (Expr-F.Field span owner field) = field_core scene owner field (typed_expr scene.facts owner.0).named
 expr_core scene (Expr-F.Index span array first second) = part_of array.1 (index_step first.1 second)
-expr_core scene (Expr-F.Call sending) = cored.Value (call_of scene sending)
-expr_core scene (Expr-F.Create create) = cored.Value create.1
-expr_core scene (Expr-F.Unary span operator operand) = cored.Value (core.Unary (prefix_of operator) (value_of operand.1))
-expr_core scene (Expr-F.Pending span operation) = cored.Value (pending_core scene (meant_by scene.facts operation))
-expr_core scene (Expr-F.Binary span left operator right) = cored.Value (binary_core operator (value_of left.1) (value_of right.1))
+expr_core scene (Expr-F.Call sending) = lowered.Value (call_of scene sending)
+expr_core scene (Expr-F.Create create) = lowered.Value create.1
+expr_core scene (Expr-F.Unary span operator operand) = lowered.Value (core.Unary (prefix_of operator) (value_of operand.1))
+expr_core scene (Expr-F.Pending span operation) = lowered.Value (pending_core scene (meant_by scene.facts operation))
+expr_core scene (Expr-F.Binary span left operator right) = lowered.Value (binary_core operator (value_of left.1) (value_of right.1))
 
 -- ---- each with its tree
 
-abbrev pub create_told : Scene → Create-F (Create × Expr) Told Sending (PartTree × Part) → Create × Expr
-create_told scene create = (
-  roll-Create (map-Create (Create × Expr) Told Sending (PartTree × Part) Create Tree Invocation PartTree (λ c. c.0) (λ e. e.0) (λ s. s.tree) (λ p. p.0) create),
+abbrev pub create_lowered : Scene → Create-F (Create × Expr) LoweredTree LoweredInvocation (PartTree × Part) → Create × Expr
+create_lowered scene create = (
+  roll-Create (map-Create (Create × Expr) LoweredTree LoweredInvocation (PartTree × Part) Create Tree Invocation PartTree (λ c. c.0) (λ e. e.0) (λ s. s.tree) (λ p. p.0) create),
   create_core scene create,
 )
 
-abbrev pub expr_tree : Expr-F (Create × Expr) Told Sending (PartTree × Part) → Tree
-expr_tree expr = roll-Expr (map-Expr (Create × Expr) Told Sending (PartTree × Part) Create Tree Invocation PartTree (λ c. c.0) (λ e. e.0) (λ s. s.tree) (λ p. p.0) expr)
+abbrev pub expr_tree : Expr-F (Create × Expr) LoweredTree LoweredInvocation (PartTree × Part) → Tree
+expr_tree expr = roll-Expr (map-Expr (Create × Expr) LoweredTree LoweredInvocation (PartTree × Part) Create Tree Invocation PartTree (λ c. c.0) (λ e. e.0) (λ s. s.tree) (λ p. p.0) expr)
 
-abbrev pub expr_told : Scene → Expr-F (Create × Expr) Told Sending (PartTree × Part) → Told
-expr_told scene expr = (expr_tree expr, expr_core scene expr)
+abbrev pub expr_lowered : Scene → Expr-F (Create × Expr) LoweredTree LoweredInvocation (PartTree × Part) → LoweredTree
+expr_lowered scene expr = (expr_tree expr, expr_core scene expr)
 
-abbrev pub invocation_told : Invocation-F (Create × Expr) Told Sending (PartTree × Part) → Sending
-invocation_told invocation = record {
-  tree = roll-Invocation (map-Invocation (Create × Expr) Told Sending (PartTree × Part) Create Tree Invocation PartTree (λ c. c.0) (λ e. e.0) (λ s. s.tree) (λ p. p.0) invocation);
+abbrev pub invocation_lowered : Invocation-F (Create × Expr) LoweredTree LoweredInvocation (PartTree × Part) → LoweredInvocation
+invocation_lowered invocation = record {
+  tree = roll-Invocation (map-Invocation (Create × Expr) LoweredTree LoweredInvocation (PartTree × Part) Create Tree Invocation PartTree (λ c. c.0) (λ e. e.0) (λ s. s.tree) (λ p. p.0) invocation);
   callee = invocation.callee;
   arguments = invocation.arguments;
 }
 
-abbrev pub part_told : Part-F (Create × Expr) Told Sending (PartTree × Part) → PartTree × Part
-part_told part = (
-  roll-Part (map-Part (Create × Expr) Told Sending (PartTree × Part) Create Tree Invocation PartTree (λ c. c.0) (λ e. e.0) (λ s. s.tree) (λ p. p.0) part),
+abbrev pub part_lowered : Part-F (Create × Expr) LoweredTree LoweredInvocation (PartTree × Part) → PartTree × Part
+part_lowered part = (
+  roll-Part (map-Part (Create × Expr) LoweredTree LoweredInvocation (PartTree × Part) Create Tree Invocation PartTree (λ c. c.0) (λ e. e.0) (λ s. s.tree) (λ p. p.0) part),
   part_by part.count part.value,
 )
 
-abbrev pub told : Scene → Tree → Told
-told scene = fold-Expr (Create × Expr) Told Sending (PartTree × Part) (create_told scene) (expr_told scene) invocation_told part_told
+abbrev pub told : Scene → Tree → LoweredTree
+told scene = fold-Expr (Create × Expr) LoweredTree LoweredInvocation (PartTree × Part) (create_lowered scene) (expr_lowered scene) invocation_lowered part_lowered
 
 -- what an expression is in the core
-abbrev pub core_expr : Scene → Tree → Cored
+abbrev pub core_expr : Scene → Tree → Lowered
 core_expr scene tree = (told scene tree).1
 
 abbrev pub core_value : Scene → Tree → Expr
@@ -358,13 +358,13 @@ abbrev pub core_place : Scene → Tree → PlaceExpr
 core_place scene tree = place_of (core_expr scene tree)
 
 abbrev pub core_create : Scene → Create → Expr
-core_create scene tree = (fold-Create (Create × Expr) Told Sending (PartTree × Part) (create_told scene) (expr_told scene) invocation_told part_told tree).1
+core_create scene tree = (fold-Create (Create × Expr) LoweredTree LoweredInvocation (PartTree × Part) (create_lowered scene) (expr_lowered scene) invocation_lowered part_lowered tree).1
 
 -- a tree, with what it is in the core
-abbrev pub with_core : Scene → Tree → Told
+abbrev pub with_core : Scene → Tree → LoweredTree
 with_core scene tree = (tree, core_expr scene tree)
 
-abbrev pub core_sending : Scene → Invocation → Sending
+abbrev pub core_sending : Scene → Invocation → LoweredInvocation
 core_sending scene tree = record {
   tree = tree;
   callee = with_core scene (out-Invocation tree).callee;
@@ -372,4 +372,4 @@ core_sending scene tree = record {
 }
 
 abbrev pub core_part : Scene → PartTree → Part
-core_part scene tree = (fold-Part (Create × Expr) Told Sending (PartTree × Part) (create_told scene) (expr_told scene) invocation_told part_told tree).1
+core_part scene tree = (fold-Part (Create × Expr) LoweredTree LoweredInvocation (PartTree × Part) (create_lowered scene) (expr_lowered scene) invocation_lowered part_lowered tree).1

@@ -13,16 +13,16 @@ use Rattle.sr_core.specs.declared.owner.Home.{Home}
 use Rattle.sr_core.specs.declared.owner.Home.TheVariants as home
 use Rattle.sr_core.specs.declared.owner.Root.{Root}
 use Rattle.sr_core.specs.declared.owner.Root.TheVariants as root
-use Rattle.sr_core.specs.declared.owner.Whose.{Whose}
-use Rattle.sr_core.specs.declared.owner.Whose.TheVariants as whose
+use Rattle.sr_core.specs.declared.owner.OperationOwner.{OperationOwner}
+use Rattle.sr_core.specs.declared.owner.OperationOwner.TheVariants as whose
 use Rattle.sr_core.specs.declared.statement.Scope.{Scope}
 use Rattle.sr_core.specs.declared.statement.Scope.TheVariants.{Own, Shared}
 use Rattle.sr_names.specs.declared.spot.Spot.{Spot}
 use Rattle.sr_names.specs.Spots.{same_spot}
 use Rattle.sr_value.specs.declared.shape.Shape.{Shape}
 use Rattle.sr_value.specs.declared.value.Value.TheVariants.{Bool as truth_value}
-use Rattle.sr_desugar.specs.declared.scene.Cored.{Cored}
-use Rattle.sr_desugar.specs.declared.scene.Cored.TheVariants as cored
+use Rattle.sr_desugar.specs.declared.scene.Lowered.{Lowered}
+use Rattle.sr_desugar.specs.declared.scene.Lowered.TheVariants as lowered
 use Rattle.sr_desugar.specs.declared.scene.Scene.{Scene}
 use Rattle.sr_tables.specs.declared.tables.SharedVariable.{SharedVariable}
 use Rattle.sr_tables.specs.Tables.{found_at, keys_of, number_in}
@@ -85,11 +85,11 @@ own_place scene spot = place_at (own_root scene spot)
 
 -- ---- operations
 
-abbrev pub imported_whose : Option ℕ → Whose
+abbrev pub imported_whose : Option ℕ → OperationOwner
 imported_whose None = whose.Mine
 imported_whose (Some import) = whose.Imported import
 
-abbrev pub whose_by : Scene → Scope → ℕ → Whose
+abbrev pub whose_by : Scene → Scope → ℕ → OperationOwner
 whose_by scene Own component = whose.Process
 whose_by scene Shared component = if component == scene.component then whose.Mine else imported_whose (import_place scene component)
 
@@ -111,21 +111,21 @@ operation_expr scene spot = naming scene spot (λ operation number. Leaf (operat
 -- ---- expressions that are places
 
 -- the value at a place is loaded
-abbrev pub value_of : Cored → Expr
-value_of (cored.Place place) = Load place
-value_of (cored.Value value) = value
+abbrev pub value_of : Lowered → Expr
+value_of (lowered.Place place) = Load place
+value_of (lowered.Value value) = value
 
-abbrev pub place_of : Cored → PlaceExpr
-place_of (cored.Place place) = place
-place_of (cored.Value value) = place_at nowhere
+abbrev pub place_of : Lowered → PlaceExpr
+place_of (lowered.Place place) = place
+place_of (lowered.Value value) = place_at nowhere
 
 abbrev pub further : PlaceExpr → Step → PlaceExpr
 further place step = roll-PlaceExpr (record { root = (out-PlaceExpr place).root; path = (out-PlaceExpr place).path ++ step ∷ [] })
 
--- a part of what stands at a place stands at a place too
-abbrev pub part_of : Cored → Step → Cored
-part_of (cored.Place place) step = cored.Place (further place step)
-part_of (cored.Value value) step = cored.Value (Of value step)
+-- a part of a value at a place is at a place too
+abbrev pub part_of : Lowered → Step → Lowered
+part_of (lowered.Place place) step = lowered.Place (further place step)
+part_of (lowered.Value value) step = lowered.Value (Of value step)
 
 -- ---- formals of services
 
@@ -137,14 +137,14 @@ abbrev pub first_var : List ℕ → ℕ
 first_var [] = 0
 first_var (var ∷ vars) = var
 
-abbrev pub vars_behind : List ℕ → List ℕ
-vars_behind [] = []
-vars_behind (var ∷ vars) = vars
+abbrev pub vars_after : List ℕ → List ℕ
+vars_after [] = []
+vars_after (var ∷ vars) = vars
 
 -- variables stand for formals in order
 abbrev pub formals_of : List ℕ → List Parameter → List Formal
 formals_of vars [] = []
-formals_of vars (parameter ∷ parameters) = formal_of (first_var vars) parameter ∷ formals_of (vars_behind vars) parameters
+formals_of vars (parameter ∷ parameters) = formal_of (first_var vars) parameter ∷ formals_of (vars_after vars) parameters
 
 abbrev pub parameters_at : Scene → Spot → List Parameter
 parameters_at scene operation = by (operation_at scene operation)

@@ -40,7 +40,7 @@ use Rattle.sr_value.specs.declared.place.Place.{Place}
 use Rattle.sr_value.specs.declared.place.Span.{Span}
 use Rattle.sr_desugar.specs.declared.scene.Scene.{Scene}
 use Rattle.sr_desugar.specs.Declarations.{int_constant, var_core, const_core}
-use Rattle.sr_desugar.specs.Expressions.{Sending, values, cored_of, core_value, core_place, core_create, core_sending, sent_arguments, call_returns, call_of}
+use Rattle.sr_desugar.specs.Expressions.{LoweredInvocation, values, lowered_of, core_value, core_place, core_create, core_sending, sent_arguments, call_returns, call_of}
 use Rattle.sr_outline.specs.Meanings.{function_called, meant_by}
 use Rattle.sr_tables.specs.Lists.{lists, maybe}
 use Rattle.sr_outline.specs.Numbers.{is_p, receive_returned, returned_names, wait_operation}
@@ -49,17 +49,17 @@ use Rattle.sr_desugar.specs.Places.{own_number, own_place, own_formals, own_retu
 use Rattle.sr_tables.specs.Sites.{site_of}
 
 -- What a construct is in the core, with the sites of the statements in it that wait.
-pub record Made (A : Type 0) : Type 0 where
+pub record WithSites (A : Type 0) : Type 0 where
   pub made : A
   pub sites : List Site
 
-abbrev pub alone : {A : Type 0} → A → Made A
+abbrev pub alone : {A : Type 0} → A → WithSites A
 alone thing = record { made = thing; sites = [] }
 
-abbrev pub all_made : {A : Type 0} → List (Made A) → List A
+abbrev pub all_made : {A : Type 0} → List (WithSites A) → List A
 all_made things = map (λ thing. thing.made) things
 
-abbrev pub all_sites : {A : Type 0} → List (Made A) → List Site
+abbrev pub all_sites : {A : Type 0} → List (WithSites A) → List Site
 all_sites things = flat_map (λ thing. thing.sites) things
 
 -- ---- blocks
@@ -68,11 +68,11 @@ abbrev pub Block : Type 0
 Block = List Statement
 
 -- the statements of a block, one item after another
-abbrev pub block_made : List (Made Block) → Made Block
+abbrev pub block_made : List (WithSites Block) → WithSites Block
 block_made items = record { made = lists (all_made items); sites = all_sites items }
 
 -- a block that isn't written does nothing
-abbrev pub maybe_made : Option (List (Made Block)) → Made Block
+abbrev pub maybe_made : Option (List (WithSites Block)) → WithSites Block
 maybe_made None = alone []
 maybe_made (Some items) = block_made items
 
@@ -81,10 +81,10 @@ maybe_made (Some items) = block_made items
 abbrev pub act : Span → Action → Statement
 act span action = statement.Act (line_of span) action
 
-abbrev pub send_of : Scene → Sending → Action
+abbrev pub send_of : Scene → LoweredInvocation → Action
 send_of scene sending = action.Send (value_of sending.callee.1) (sent_arguments scene.facts sending)
 
-abbrev pub forward_of : Scene → Sending → Action
+abbrev pub forward_of : Scene → LoweredInvocation → Action
 forward_of scene sending = action.Forward (value_of sending.callee.1) (sent_arguments scene.facts sending)
 
 -- ---- `receive`
@@ -104,7 +104,7 @@ receive_arm scene span operation places = record {
 }
 
 -- `receive f(v, w)` is an `in` with one arm that assigns its formals to `v` and then `w`
-abbrev pub receive_made : Scene → Span → Spot → List Expr → Made Statement
+abbrev pub receive_made : Scene → Span → Spot → List Expr → WithSites Statement
 receive_made scene span operation places = record {
   made = statement.In (line_of span) (site_number scene (spot_of span)) (map (receive_assign scene span) places ∷ []) [];
   sites = site_of (receive_arm scene span operation places ∷ []) false ∷ [];
@@ -112,15 +112,15 @@ receive_made scene span operation places = record {
 
 -- ---- invocations as statements
 
-abbrev pub all_told : Sending → List CoreExpr
-all_told sending = values (cored_of sending.arguments)
+abbrev pub all_told : LoweredInvocation → List CoreExpr
+all_told sending = values (lowered_of sending.arguments)
 
 abbrev pub first_expr : List CoreExpr → CoreExpr
 first_expr [] = nothing
 first_expr (expr ∷ exprs) = expr
 
 -- `V(e)` is `send e()`
-abbrev pub v_action : Sending → Action
+abbrev pub v_action : LoweredInvocation → Action
 v_action sending = action.Send (first_expr (all_told sending)) []
 
 -- a call whose value isn't used
@@ -139,7 +139,7 @@ call_action scene invocation None = evaluation scene invocation
 call_action scene invocation (Some name) = named_action scene invocation name
 
 -- `P(s)` is `receive s()`
-abbrev pub call_made : Scene → Span → Invocation → Option Predefined → Made Statement
+abbrev pub call_made : Scene → Span → Invocation → Option Predefined → WithSites Statement
 call_made scene span invocation function =
     if is_p function then receive_made scene span (wait_operation scene.facts span invocation) [] else alone (act span (call_action scene invocation function))
 
@@ -183,7 +183,7 @@ semaphores_core scene span semaphores = flat_map (semaphore_sends scene (line_of
 -- ---- parts of statements
 
 -- an arm of an `in`, and its block
-pub record ArmMade : Type 0 where
+pub record LoweredArm : Type 0 where
   pub arm : Arm
   pub block : Block
 
@@ -201,7 +201,7 @@ arm_core scene span operation formals returned condition order = record {
   by = option_map (core_value scene) order;
 }
 
-abbrev pub arm_made : Scene → Arm-F (Made Block) (Made Statement) (Made ArmMade) (Made Guarded) (Made CoArm) → Made ArmMade
+abbrev pub arm_made : Scene → Arm-F (WithSites Block) (WithSites Statement) (WithSites LoweredArm) (WithSites Guarded) (WithSites CoArm) → WithSites LoweredArm
 arm_made scene arm = record {
   made = record {
     arm = arm_core scene arm.span (meant_by scene.facts arm.operation) arm.formals arm.returned arm.condition arm.order;
@@ -210,13 +210,13 @@ arm_made scene arm = record {
   sites = (block_made arm.block).sites;
 }
 
-abbrev pub branch_made : Scene → Branch-F (Made Block) (Made Statement) (Made ArmMade) (Made Guarded) (Made CoArm) → Made Guarded
+abbrev pub branch_made : Scene → Branch-F (WithSites Block) (WithSites Statement) (WithSites LoweredArm) (WithSites Guarded) (WithSites CoArm) → WithSites Guarded
 branch_made scene branch = record {
   made = roll-Guarded (record { condition = core_value scene branch.guard; body = (block_made branch.block).made });
   sites = (block_made branch.block).sites;
 }
 
-abbrev pub co_call : Scene → Option Expr → Sending → CoCall
+abbrev pub co_call : Scene → Option Expr → LoweredInvocation → CoCall
 co_call scene target sending = record {
   place = option_map (core_place scene) target;
   target = value_of sending.callee.1;
@@ -224,7 +224,7 @@ co_call scene target sending = record {
   returns = call_returns scene sending;
 }
 
-abbrev pub co_arm_made : Scene → CoArm-F (Made Block) (Made Statement) (Made ArmMade) (Made Guarded) (Made CoArm) → Made CoArm
+abbrev pub co_arm_made : Scene → CoArm-F (WithSites Block) (WithSites Statement) (WithSites LoweredArm) (WithSites Guarded) (WithSites CoArm) → WithSites CoArm
 co_arm_made scene arm = record {
   made = roll-CoArm (record {
     quantifiers = quantifiers_core scene arm.quantifiers;
@@ -236,32 +236,32 @@ co_arm_made scene arm = record {
 
 -- ---- statements with blocks
 
--- a statement of parts and of what stands behind `else`
-abbrev pub with_otherwise : {A : Type 0} → List (Made A) → Option (List (Made Block)) → Statement → Made Statement
+-- a statement of parts and of what stands after `else`
+abbrev pub with_otherwise : {A : Type 0} → List (WithSites A) → Option (List (WithSites Block)) → Statement → WithSites Statement
 with_otherwise parts otherwise whole = record { made = whole; sites = all_sites parts ++ (maybe_made otherwise).sites }
 
-abbrev pub blocks_of : List (Made ArmMade) → List Block
+abbrev pub blocks_of : List (WithSites LoweredArm) → List Block
 blocks_of arms = map (λ arm. arm.made.block) arms
 
-abbrev pub arms_of : List (Made ArmMade) → List Arm
+abbrev pub arms_of : List (WithSites LoweredArm) → List Arm
 arms_of arms = map (λ arm. arm.made.arm) arms
 
 -- the site of an `in` goes before those in its blocks
-abbrev pub in_made : Scene → Span → List (Made ArmMade) → Option (List (Made Block)) → Made Statement
+abbrev pub in_made : Scene → Span → List (WithSites LoweredArm) → Option (List (WithSites Block)) → WithSites Statement
 in_made scene span arms otherwise = record {
   made = statement.In (line_of span) (site_number scene (spot_of span)) (blocks_of arms) (maybe_made otherwise).made;
   sites = site_of (arms_of arms) (is_some otherwise) ∷ all_sites arms ++ (maybe_made otherwise).sites;
 }
 
 -- `do` knows whether an `else` is written
-abbrev pub otherwise_of : Option (List (Made Block)) → Option Block
+abbrev pub otherwise_of : Option (List (WithSites Block)) → Option Block
 otherwise_of otherwise = option_map (λ items. (block_made items).made) otherwise
 
-abbrev pub for_all_made : Scene → Span → List QuantifierTree → List (Made Block) → Made Statement
+abbrev pub for_all_made : Scene → Span → List QuantifierTree → List (WithSites Block) → WithSites Statement
 for_all_made scene span quantifiers block =
     record { made = statement.Fa (line_of span) (quantifiers_core scene quantifiers) (block_made block).made; sites = (block_made block).sites }
 
-abbrev pub co_made : Span → List (Made CoArm) → Made Statement
+abbrev pub co_made : Span → List (WithSites CoArm) → WithSites Statement
 co_made span arms = record { made = statement.Co (line_of span) (all_made arms); sites = all_sites arms }
 
 -- ---- all
@@ -310,7 +310,7 @@ plain_action scene _ = action.Skip
 abbrev pub plain_core : Scene → StatementTree → Statement
 plain_core scene tree = act (first_token (out-Statement tree)) (plain_action scene (out-Statement tree))
 
-abbrev pub statement_made : Scene → Statement-F (Made Block) (Made Statement) (Made ArmMade) (Made Guarded) (Made CoArm) → Made Statement
+abbrev pub statement_made : Scene → Statement-F (WithSites Block) (WithSites Statement) (WithSites LoweredArm) (WithSites Guarded) (WithSites CoArm) → WithSites Statement
 statement_made scene (Statement-F.Call span with_call invocation) = call_made scene span invocation (function_called scene.facts invocation)
 statement_made scene (Statement-F.Receive span operation places) = receive_made scene span (meant_by scene.facts operation) places
 statement_made scene (Statement-F.If span branches otherwise) =
@@ -323,30 +323,30 @@ statement_made scene (Statement-F.Co span arms) = co_made span arms
 statement_made scene plain = alone (act (first_token plain) (plain_action scene plain))
 
 -- what a block declares is the process's own
-abbrev pub item_made : Scene → BlockItem-F (Made Block) (Made Statement) (Made ArmMade) (Made Guarded) (Made CoArm) → Made Block
+abbrev pub item_made : Scene → BlockItem-F (WithSites Block) (WithSites Statement) (WithSites LoweredArm) (WithSites Guarded) (WithSites CoArm) → WithSites Block
 item_made scene (BlockItem-F.Const constant) = alone (const_core scene Own constant)
 item_made scene (BlockItem-F.Var variables) = alone (var_core scene Own variables)
 item_made scene (BlockItem-F.Statement statement) = record { made = statement.made ∷ []; sites = statement.sites }
 
-abbrev pub core_statement : Scene → StatementTree → Made Statement
+abbrev pub core_statement : Scene → StatementTree → WithSites Statement
 core_statement scene =
-    fold-Statement (Made Block) (Made Statement) (Made ArmMade) (Made Guarded) (Made CoArm) (item_made scene) (statement_made scene) (arm_made scene) (branch_made scene) (co_arm_made scene)
+    fold-Statement (WithSites Block) (WithSites Statement) (WithSites LoweredArm) (WithSites Guarded) (WithSites CoArm) (item_made scene) (statement_made scene) (arm_made scene) (branch_made scene) (co_arm_made scene)
 
-abbrev pub core_block_item : Scene → BlockItem → Made Block
+abbrev pub core_block_item : Scene → BlockItem → WithSites Block
 core_block_item scene =
-    fold-BlockItem (Made Block) (Made Statement) (Made ArmMade) (Made Guarded) (Made CoArm) (item_made scene) (statement_made scene) (arm_made scene) (branch_made scene) (co_arm_made scene)
+    fold-BlockItem (WithSites Block) (WithSites Statement) (WithSites LoweredArm) (WithSites Guarded) (WithSites CoArm) (item_made scene) (statement_made scene) (arm_made scene) (branch_made scene) (co_arm_made scene)
 
-abbrev pub core_arm : Scene → ArmTree → Made ArmMade
+abbrev pub core_arm : Scene → ArmTree → WithSites LoweredArm
 core_arm scene =
-    fold-Arm (Made Block) (Made Statement) (Made ArmMade) (Made Guarded) (Made CoArm) (item_made scene) (statement_made scene) (arm_made scene) (branch_made scene) (co_arm_made scene)
+    fold-Arm (WithSites Block) (WithSites Statement) (WithSites LoweredArm) (WithSites Guarded) (WithSites CoArm) (item_made scene) (statement_made scene) (arm_made scene) (branch_made scene) (co_arm_made scene)
 
-abbrev pub core_branch : Scene → Branch → Made Guarded
+abbrev pub core_branch : Scene → Branch → WithSites Guarded
 core_branch scene =
-    fold-Branch (Made Block) (Made Statement) (Made ArmMade) (Made Guarded) (Made CoArm) (item_made scene) (statement_made scene) (arm_made scene) (branch_made scene) (co_arm_made scene)
+    fold-Branch (WithSites Block) (WithSites Statement) (WithSites LoweredArm) (WithSites Guarded) (WithSites CoArm) (item_made scene) (statement_made scene) (arm_made scene) (branch_made scene) (co_arm_made scene)
 
-abbrev pub core_co_arm : Scene → CoArmTree → Made CoArm
+abbrev pub core_co_arm : Scene → CoArmTree → WithSites CoArm
 core_co_arm scene =
-    fold-CoArm (Made Block) (Made Statement) (Made ArmMade) (Made Guarded) (Made CoArm) (item_made scene) (statement_made scene) (arm_made scene) (branch_made scene) (co_arm_made scene)
+    fold-CoArm (WithSites Block) (WithSites Statement) (WithSites LoweredArm) (WithSites Guarded) (WithSites CoArm) (item_made scene) (statement_made scene) (arm_made scene) (branch_made scene) (co_arm_made scene)
 
-abbrev pub core_items : Scene → List BlockItem → List (Made Block)
+abbrev pub core_items : Scene → List BlockItem → List (WithSites Block)
 core_items scene items = map (core_block_item scene) items

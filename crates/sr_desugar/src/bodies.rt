@@ -28,7 +28,7 @@ pub struct Gathered {
     pub sites: Row<Site>,
 }
 
-/// Puts an item of a proc's block behind other statements. What a proc declares is the process's own.
+/// Appends an item of a proc's block to other statements. What a proc declares is the process's own.
 fn push_inner(
     alloc: Global,
     item: &ProcItem,
@@ -109,7 +109,7 @@ fn served(
     })
 }
 
-/// Puts a proc behind the others. The scene is that of the initial code, and is so again afterwards.
+/// Appends a proc to the others. The scene is the one of the initial code, before and after the call.
 fn push_service(
     alloc: Global,
     service: &Service,
@@ -184,7 +184,7 @@ fn push_process(
     push_service(alloc, &service, process.block.as_slice(), scene, gathered)
 }
 
-/// Final code. The scene is that of the initial code, and is so again afterwards.
+/// Final code. The scene is the one of the initial code, before and after the call.
 fn final_body(
     alloc: Global,
     last: &FinalCode,
@@ -202,7 +202,7 @@ fn final_body(
     Ok(body)
 }
 
-/// Puts what a declaration of a component is of the initial code behind other statements.
+/// Appends what a declaration of a component is of the initial code to other statements.
 pub fn push_spec_item(
     alloc: Global,
     item: &SpecItem,
@@ -253,7 +253,7 @@ fn push_final(
     Ok(())
 }
 
-/// Adds an item of a component's body to what there is.
+/// Adds an item of a component's body.
 pub fn push_item(
     alloc: Global,
     item: &Item,

@@ -87,7 +87,7 @@ fn string_item(
     }
 }
 
-/// The type behind the dimensions.
+/// The type after the dimensions.
 fn item(alloc: Global, ty: &TypeTree, scene: &Scene) -> Result<ItemShape, NoMemory>
     ensures { IfOk result (λ item. item ≡ declarations.item_core scene.now ty.now) }
 {
@@ -172,7 +172,7 @@ fn declare(scope: Scope, place: Place, var: u32, setup: Setup) -> Statement
     }
 }
 
-/// The type and the bounds of what is declared at a spot.
+/// The type and the bounds of the declaration at a spot.
 fn shape_at(alloc: Global, scene: &Scene, spot: Spot) -> Result<Shape, NoMemory>
     ensures { IfOk result (λ shape. shape ≡ shape_of_type scene.now.tables.shapes (type_at scene.now.facts spot)) }
 {
@@ -234,9 +234,9 @@ fn first_of(values: &[Expr]) -> Option<&Expr>
     }
 }
 
-/// The values behind the first.
-fn behind(values: &[Expr]) -> &[Expr]
-    ensures { result.now ≡ declarations.behind values.now }
+/// The values after the first.
+fn after_first(values: &[Expr]) -> &[Expr]
+    ensures { result.now ≡ declarations.after_first values.now }
 {
     match values {
         [] => &[],
@@ -261,7 +261,7 @@ fn typed_vars(
         let var = var_number(scene, scope, spot_named(&decl.name))?;
         let setup = typed(alloc, scene, decl, ty, first_of(values))?;
         code.push(declare(scope, place, var, setup))?;
-        values = behind(values);
+        values = after_first(values);
     }
     Ok(())
 }
@@ -294,7 +294,7 @@ fn untyped_vars(
     Ok(())
 }
 
-/// Puts the declarations of variables behind other statements.
+/// Appends the declarations of variables to other statements.
 pub fn push_vars(
     alloc: Global,
     scene: &Scene,
@@ -310,7 +310,7 @@ pub fn push_vars(
     }
 }
 
-/// Puts the declaration of a constant that isn't static behind other statements.
+/// Appends the declaration of a constant that isn't static to other statements.
 pub fn push_const(
     alloc: Global,
     scene: &Scene,

@@ -5,7 +5,7 @@ ghost use Rattle.sr_desugar.specs.Expressions as exprs;
 ghost use Rattle.std.specs.Option.{option_map};
 ghost use Rattle.sr_desugar.specs.Places as places;
 ghost use Rattle.sr_core.specs.declared.expression.Expr.TheVariants as nodes;
-ghost use Rattle.sr_outline.specs.Meanings.{constant_at, judged};
+ghost use Rattle.sr_outline.specs.Meanings.{constant_at, typed_expr};
 ghost use Rattle.sr_outline.specs.Operators.{conversion_function};
 ghost use Rattle.sr_check_expr.specs.Exprs.{prefix_of};
 ghost use Rattle.sr_types.specs.declared.ty.Ty.{out-Ty};
@@ -13,11 +13,11 @@ ghost use Rattle.sr_types.specs.declared.ty.Ty.{out-Ty};
 use crate::functions::function;
 use crate::invoked::{arguments_of, returned_by_call};
 use crate::places::{nothing, operation_expr, part_of, place_at, place_of, root_of, value_of};
-use crate::scene::{Cored, Scene};
+use crate::scene::{Lowered, Scene};
 use sr_check_expr::{Facts, FieldInfo, Info, Named, name_spot};
 use sr_core::{Argument, Function, Leaf, PlaceExpr, Step};
 use sr_names::{Meaning, Predefined, Spot};
-use sr_outline::{binary, constant_at, conversion_function, judge, meant_by, prefix_of};
+use sr_outline::{binary, constant_at, conversion_function, infer, meant_by, prefix_of};
 use sr_tables::{deciding, number_of};
 use sr_tree::{Conversion, Create, Expr, Invocation, Name, Part, UnaryOperator};
 use sr_types::{Static, Ty};
@@ -44,29 +44,29 @@ fn static_expr(value: Static) -> sr_core::Expr
 }
 
 /// The static constant, operation or variable that is declared at a spot.
-fn declared(alloc: Global, scene: &Scene, spot: Spot) -> Result<Cored, NoMemory>
-    ensures { IfOk result (λ cored. cored ≡ exprs.named_core scene.now spot (constant_at scene.now.facts spot) (places.operation_at scene.now spot)) }
+fn declared(alloc: Global, scene: &Scene, spot: Spot) -> Result<Lowered, NoMemory>
+    ensures { IfOk result (λ lowered. lowered ≡ exprs.named_core scene.now spot (constant_at scene.now.facts spot) (places.operation_at scene.now spot)) }
 {
     if let Some(value) = constant_at(&scene.facts, spot) {
         let value = value.copy(alloc)?;
-        return Ok(Cored::Value(sr_core::Expr::Leaf(Leaf::Constant(value))));
+        return Ok(Lowered::Value(sr_core::Expr::Leaf(Leaf::Constant(value))));
     }
     if scene.tables.operations.get(spot).is_some() {
-        return Ok(Cored::Value(operation_expr(scene, spot)?));
+        return Ok(Lowered::Value(operation_expr(scene, spot)?));
     }
-    Ok(Cored::Place(place_at(alloc, root_of(scene, spot)?)))
+    Ok(Lowered::Place(place_at(alloc, root_of(scene, spot)?)))
 }
 
 /// What a name is that is used at a span; `EOF` is -1.
-fn named(alloc: Global, scene: &Scene, span: Span) -> Result<Cored, NoMemory>
-    ensures { IfOk result (λ cored. cored ≡ exprs.name_core scene.now span) }
+fn named(alloc: Global, scene: &Scene, span: Span) -> Result<Lowered, NoMemory>
+    ensures { IfOk result (λ lowered. lowered ≡ exprs.name_core scene.now span) }
 {
     match scene.facts.uses.get(Spot::of(span)) {
         Some(Meaning::Declared(decl)) => declared(alloc, scene, decl.spot),
         Some(Meaning::Predefined(Predefined::Eof)) => {
-            Ok(Cored::Value(sr_core::Expr::Leaf(Leaf::Constant(Value::Int(-1)))))
+            Ok(Lowered::Value(sr_core::Expr::Leaf(Leaf::Constant(Value::Int(-1)))))
         }
-        Some(Meaning::Predefined(_)) | None => Ok(Cored::Value(nothing())),
+        Some(Meaning::Predefined(_)) | None => Ok(Lowered::Value(nothing())),
     }
 }
 
@@ -105,7 +105,7 @@ fn member_spot(facts: &Facts, resource: sr_types::Spot, name: &[u8]) -> Spot
 fn member_expr(
     alloc: Global,
     scene: &Scene,
-    owner: Boxed<Cored>,
+    owner: Boxed<Lowered>,
     operation: Spot,
 ) -> Result<sr_core::Expr, NoMemory>
     ensures { IfOk result (λ expr. expr ≡ exprs.member_core scene.now owner operation) }
@@ -155,10 +155,10 @@ fn member(
     alloc: Global,
     scene: &Scene,
     ty: &Ty,
-    owner: Boxed<Cored>,
+    owner: Boxed<Lowered>,
     name: &[u8],
-) -> Result<Cored, NoMemory>
-    ensures { IfOk result (λ cored. cored ≡ exprs.layer_member scene.now owner name.now (out-Ty ty.now)) }
+) -> Result<Lowered, NoMemory>
+    ensures { IfOk result (λ lowered. lowered ≡ exprs.layer_member scene.now owner name.now (out-Ty ty.now)) }
 {
     match ty {
         Ty::Rec(spot) => {
@@ -168,42 +168,42 @@ fn member(
         }
         Ty::Resource(spot) => {
             let operation = member_spot(&scene.facts, *spot, name);
-            Ok(Cored::Value(member_expr(alloc, scene, owner, operation)?))
+            Ok(Lowered::Value(member_expr(alloc, scene, owner, operation)?))
         }
-        _ => Ok(Cored::Value(nothing())),
+        _ => Ok(Lowered::Value(nothing())),
     }
 }
 
 /// The value of a literal.
 fn literal(alloc: Global, tree: &Expr, facts: &Facts) -> Result<sr_core::Expr, NoMemory>
-    ensures { IfOk result (λ expr. expr ≡ exprs.static_expr (judged facts.now tree.now).typed.value) }
+    ensures { IfOk result (λ expr. expr ≡ exprs.static_expr (typed_expr facts.now tree.now).typed.value) }
 {
-    let judged = judge(alloc, tree, facts)?;
-    Ok(static_expr(judged.typed.value))
+    let typed_expr = infer(alloc, tree, facts)?;
+    Ok(static_expr(typed_expr.typed.value))
 }
 
-/// What an expression is in the core.
+/// What an expression becomes in the core.
 #[tactic(auto, using(crate::proofs::Trees::call_is, crate::proofs::Trees::field_is))]
 #[cycle(exprs)]
-pub fn cored(alloc: Global, tree: &Expr, scene: &Scene) -> Result<Cored, NoMemory>
-    ensures { IfOk result (λ cored. cored ≡ exprs.core_expr scene.now tree.now) }
+pub fn lowered(alloc: Global, tree: &Expr, scene: &Scene) -> Result<Lowered, NoMemory>
+    ensures { IfOk result (λ lowered. lowered ≡ exprs.core_expr scene.now tree.now) }
 {
     match tree {
-        Expr::Literal { .. } => Ok(Cored::Value(literal(alloc, tree, &scene.facts)?)),
+        Expr::Literal { .. } => Ok(Lowered::Value(literal(alloc, tree, &scene.facts)?)),
         Expr::Name(name) => named(alloc, scene, name.span),
-        Expr::BasicType { .. } => Ok(Cored::Value(nothing())),
+        Expr::BasicType { .. } => Ok(Lowered::Value(nothing())),
         Expr::Conversion {
             conversion,
             value,
             ..
         } => {
             let converted = core_conversion(alloc, *conversion, value.get(), scene)?;
-            Ok(Cored::Value(converted))
+            Ok(Lowered::Value(converted))
         }
-        Expr::Group { inner, .. } => Ok(Cored::Value(core_value(alloc, inner.get(), scene)?)),
+        Expr::Group { inner, .. } => Ok(Lowered::Value(core_value(alloc, inner.get(), scene)?)),
         Expr::Parts { parts, .. } => {
             let parts = core_parts(alloc, parts.as_slice(), scene)?;
-            Ok(Cored::Value(sr_core::Expr::Array(parts)))
+            Ok(Lowered::Value(sr_core::Expr::Array(parts)))
         }
         Expr::Field { record, field, .. } => core_field(alloc, record.get(), field, scene),
         Expr::Index {
@@ -212,20 +212,20 @@ pub fn cored(alloc: Global, tree: &Expr, scene: &Scene) -> Result<Cored, NoMemor
             second,
             ..
         } => {
-            let whole = Boxed::new(alloc, cored(alloc, array.get(), scene)?)?;
-            let first = Boxed::new(alloc, cored(alloc, first.get(), scene)?)?;
+            let whole = Boxed::new(alloc, lowered(alloc, array.get(), scene)?)?;
+            let first = Boxed::new(alloc, lowered(alloc, first.get(), scene)?)?;
             let step = Boxed::new(alloc, core_step(alloc, first, second, scene)?)?;
             part_of(alloc, whole.into_inner(), step)
         }
-        Expr::Call(invocation) => Ok(Cored::Value(core_call(alloc, invocation, scene)?)),
-        Expr::Create(create) => Ok(Cored::Value(core_create(alloc, create, scene)?)),
+        Expr::Call(invocation) => Ok(Lowered::Value(core_call(alloc, invocation, scene)?)),
+        Expr::Create(create) => Ok(Lowered::Value(core_create(alloc, create, scene)?)),
         Expr::Unary {
             operator,
             operand,
             ..
-        } => Ok(Cored::Value(core_unary(alloc, *operator, operand.get(), scene)?)),
+        } => Ok(Lowered::Value(core_unary(alloc, *operator, operand.get(), scene)?)),
         Expr::Pending { operation, .. } => {
-            Ok(Cored::Value(pending(scene, meant_by(&scene.facts, operation))?))
+            Ok(Lowered::Value(pending(scene, meant_by(&scene.facts, operation))?))
         }
         Expr::Binary {
             left,
@@ -235,7 +235,7 @@ pub fn cored(alloc: Global, tree: &Expr, scene: &Scene) -> Result<Cored, NoMemor
         } => {
             let left = Boxed::new(alloc, core_value(alloc, left.get(), scene)?)?;
             let right = Boxed::new(alloc, core_value(alloc, right.get(), scene)?)?;
-            Ok(Cored::Value(binary(*operator, left, right)))
+            Ok(Lowered::Value(binary(*operator, left, right)))
         }
     }
 }
@@ -278,14 +278,14 @@ fn core_unary(
 pub fn core_value(alloc: Global, tree: &Expr, scene: &Scene) -> Result<sr_core::Expr, NoMemory>
     ensures { IfOk result (λ expr. expr ≡ exprs.core_value scene.now tree.now) }
 {
-    Ok(value_of(cored(alloc, tree, scene)?))
+    Ok(value_of(lowered(alloc, tree, scene)?))
 }
 
 /// The place that an expression is.
 pub fn core_place(alloc: Global, tree: &Expr, scene: &Scene) -> Result<PlaceExpr, NoMemory>
     ensures { IfOk result (λ place. place ≡ exprs.core_place scene.now tree.now) }
 {
-    Ok(place_of(alloc, cored(alloc, tree, scene)?))
+    Ok(place_of(alloc, lowered(alloc, tree, scene)?))
 }
 
 /// The value of an expression that may be left out.
@@ -319,12 +319,12 @@ pub fn core_values(
 }
 
 #[cycle(exprs)]
-fn all_cored(alloc: Global, trees: &[Expr], scene: &Scene) -> Result<Row<Cored>, NoMemory>
+fn all_lowered(alloc: Global, trees: &[Expr], scene: &Scene) -> Result<Row<Lowered>, NoMemory>
     ensures { IfOk result (λ all. all ≡ map (exprs.core_expr scene.now) trees.now) }
 {
     let mut all = Row::new(alloc);
     for tree in trees {
-        all.push(cored(alloc, tree, scene)?)?;
+        all.push(lowered(alloc, tree, scene)?)?;
     }
     Ok(all)
 }
@@ -333,7 +333,7 @@ fn all_cored(alloc: Global, trees: &[Expr], scene: &Scene) -> Result<Row<Cored>,
 #[cycle(exprs)]
 fn core_step(
     alloc: Global,
-    first: Boxed<Cored>,
+    first: Boxed<Lowered>,
     second: &Option<Boxed<Expr>>,
     scene: &Scene,
 ) -> Result<Step, NoMemory>
@@ -348,20 +348,20 @@ fn core_step(
     }
 }
 
-/// Behind a component stands a name of its spec, behind a value a field or an operation.
+/// After a component stands a name of its spec, after a value a field or an operation.
 #[cycle(exprs)]
-fn core_field(alloc: Global, owner: &Expr, field: &Name, scene: &Scene) -> Result<Cored, NoMemory>
-    ensures { IfOk result (λ cored. cored ≡ exprs.field_core scene.now (exprs.with_core scene.now owner.now) field.now (judged scene.now.facts owner.now).named) }
+fn core_field(alloc: Global, owner: &Expr, field: &Name, scene: &Scene) -> Result<Lowered, NoMemory>
+    ensures { IfOk result (λ lowered. lowered ≡ exprs.field_core scene.now (exprs.with_core scene.now owner.now) field.now (typed_expr scene.now.facts owner.now).named) }
 {
-    let judged = Boxed::new(alloc, judge(alloc, owner, &scene.facts)?)?;
-    if let Named::Component(_) = &judged.get().named {
+    let typed_expr = Boxed::new(alloc, infer(alloc, owner, &scene.facts)?)?;
+    if let Named::Component(_) = &typed_expr.get().named {
         return named(alloc, scene, field.span);
     }
-    let whole = Boxed::new(alloc, cored(alloc, owner, scene)?)?;
+    let whole = Boxed::new(alloc, lowered(alloc, owner, scene)?)?;
     member(
         alloc,
         scene,
-        &judged.get().typed.ty,
+        &typed_expr.get().typed.ty,
         whole,
         field.text.as_bytes(),
     )
@@ -396,16 +396,16 @@ fn core_part(alloc: Global, tree: &Part, scene: &Scene) -> Result<sr_core::Part,
 }
 
 /// An invocation of an operation.
-#[tactic(auto, using(crate::proofs::Trees::cored_told))]
+#[tactic(auto, using(crate::proofs::Trees::lowered_of_tree))]
 #[cycle(exprs)]
 pub fn core_sent(alloc: Global, tree: &Invocation, scene: &Scene) -> Result<Sent, NoMemory>
     ensures { IfOk result (λ sent. sent ≡ exprs.sent_core scene.now (exprs.core_sending scene.now tree.now)) }
 {
-    let judged = Boxed::new(alloc, judge(alloc, tree.callee.get(), &scene.facts)?)?;
+    let typed_expr = Boxed::new(alloc, infer(alloc, tree.callee.get(), &scene.facts)?)?;
     let target = Boxed::new(alloc, core_value(alloc, tree.callee.get(), scene)?)?;
-    let cored = all_cored(alloc, tree.arguments.as_slice(), scene)?;
-    let args = arguments_of(alloc, &scene.facts, &judged.get().typed.ty, cored)?;
-    let returns = returned_by_call(alloc, scene, &judged.get().typed.ty, target.get())?;
+    let lowered = all_lowered(alloc, tree.arguments.as_slice(), scene)?;
+    let args = arguments_of(alloc, &scene.facts, &typed_expr.get().typed.ty, lowered)?;
+    let returns = returned_by_call(alloc, scene, &typed_expr.get().typed.ty, target.get())?;
     Ok(Sent {
         target,
         args,
@@ -431,16 +431,16 @@ fn core_called(alloc: Global, tree: &Invocation, scene: &Scene) -> Result<sr_cor
 }
 
 /// A call is of a predefined function, of a record type, or of an operation.
-#[tactic(auto, using(crate::proofs::Trees::trees_told, crate::proofs::Trees::cored_told, crate::proofs::Values::values_of_pairs))]
+#[tactic(auto, using(crate::proofs::Trees::trees_told, crate::proofs::Trees::lowered_of_tree, crate::proofs::Values::values_of_pairs))]
 #[cycle(exprs)]
 pub fn core_call(alloc: Global, tree: &Invocation, scene: &Scene) -> Result<sr_core::Expr, NoMemory>
     ensures { IfOk result (λ expr. expr ≡ exprs.call_of scene.now (exprs.core_sending scene.now tree.now)) }
 {
-    let judged = Boxed::new(alloc, judge(alloc, tree.callee.get(), &scene.facts)?)?;
-    match &judged.get().named {
+    let typed_expr = Boxed::new(alloc, infer(alloc, tree.callee.get(), &scene.facts)?)?;
+    match &typed_expr.get().named {
         Named::Predefined(name) => {
-            let cored = all_cored(alloc, tree.arguments.as_slice(), scene)?;
-            function(alloc, scene, *name, tree.arguments.as_slice(), cored)
+            let lowered = all_lowered(alloc, tree.arguments.as_slice(), scene)?;
+            function(alloc, scene, *name, tree.arguments.as_slice(), lowered)
         }
         Named::Type(_) => Ok(sr_core::Expr::Apply {
             function: Function::Record,

@@ -7,21 +7,21 @@ ghost use Rattle.sr_outline.specs.Meanings.{type_of};
 ghost use Rattle.sr_outline.specs.Shapes.{shape_of_type};
 
 use crate::places::{nothing, place_of, value_of};
-use crate::scene::{Cored, Scene};
+use crate::scene::{Lowered, Scene};
 use sr_check_expr::{Facts, Named};
 use sr_core::{Function, Leaf, Readable, Reading};
 use sr_names::Predefined;
-use sr_outline::{judge, literals_of, shape_of_type, type_of};
-use sr_tables::BySpot;
+use sr_outline::{infer, literals_of, shape_of_type, type_of};
+use sr_tables::SpotMap;
 use sr_tree::Expr;
 use sr_types::Ty;
 use sr_value::{Fault, NoMemory, Row, Shape, Value, highest, lowest};
 use std::alloc::Global;
 
-fn values(alloc: Global, cored: Row<Cored>) -> Result<Row<sr_core::Expr>, NoMemory>
-    ensures { IfOk result (λ values. values ≡ exprs.values cored) }
+fn values(alloc: Global, lowered: Row<Lowered>) -> Result<Row<sr_core::Expr>, NoMemory>
+    ensures { IfOk result (λ values. values ≡ exprs.values lowered) }
 {
-    let values = cored
+    let values = lowered
         .into_vec()
         .into_iter()
         .map(|one| value_of(one))
@@ -29,12 +29,16 @@ fn values(alloc: Global, cored: Row<Cored>) -> Result<Row<sr_core::Expr>, NoMemo
     Ok(Row::from_vec(values))
 }
 
-fn apply(alloc: Global, function: Function, cored: Row<Cored>) -> Result<sr_core::Expr, NoMemory>
-    ensures { IfOk result (λ expr. expr ≡ nodes.Apply function (exprs.values cored)) }
+fn apply(
+    alloc: Global,
+    function: Function,
+    lowered: Row<Lowered>,
+) -> Result<sr_core::Expr, NoMemory>
+    ensures { IfOk result (λ expr. expr ≡ nodes.Apply function (exprs.values lowered)) }
 {
     Ok(sr_core::Expr::Apply {
         function,
-        args: values(alloc, cored)?,
+        args: values(alloc, lowered)?,
     })
 }
 
@@ -52,7 +56,7 @@ fn end_value(shape: &Shape, is_high: bool) -> Result<Value, Fault>
 /// The least or the greatest value of a type.
 fn end_of(
     alloc: Global,
-    table: &BySpot<Shape>,
+    table: &SpotMap<Shape>,
     ty: &Ty,
     is_high: bool,
 ) -> Result<sr_core::Expr, NoMemory>
@@ -75,8 +79,8 @@ fn ends(
     ensures { IfOk result (λ expr. expr ≡ exprs.ends_core scene.now is_high (exprs.named_types scene.now.facts trees.now)) }
 {
     for tree in trees {
-        let judged = judge(alloc, tree, &scene.facts)?;
-        if let Named::Type(ty) = &judged.named {
+        let typed_expr = infer(alloc, tree, &scene.facts)?;
+        if let Named::Type(ty) = &typed_expr.named {
             return end_of(alloc, &scene.tables.shapes, ty, is_high);
         }
     }
@@ -98,21 +102,21 @@ fn is_second(alloc: Global, trees: &[Expr], facts: &Facts) -> Result<bool, NoMem
 {
     match trees {
         [_, number] => {
-            let judged = judge(alloc, number, facts)?;
-            Ok(is_two(&judged.named))
+            let typed_expr = infer(alloc, number, facts)?;
+            Ok(is_two(&typed_expr.named))
         }
         [] | [_] | [_, _, _, ..] => Ok(false),
     }
 }
 
 /// The number of the dimension is no argument.
-fn without_number(trees: &[Expr], cored: Row<Cored>) -> Row<Cored>
-    ensures { result ≡ exprs.without_number trees.now cored }
+fn without_number(trees: &[Expr], lowered: Row<Lowered>) -> Row<Lowered>
+    ensures { result ≡ exprs.without_number trees.now lowered }
 {
     match trees {
-        [] | [_] | [_, _, _, ..] => cored,
+        [] | [_] | [_, _, _, ..] => lowered,
         [_, _] => {
-            let mut first = cored;
+            let mut first = lowered;
             first.truncate(1);
             first
         }
@@ -125,9 +129,9 @@ fn bound(
     facts: &Facts,
     functions: (Function, Function),
     trees: &[Expr],
-    cored: Row<Cored>,
+    lowered: Row<Lowered>,
 ) -> Result<sr_core::Expr, NoMemory>
-    ensures { IfOk result (λ expr. expr ≡ exprs.bound_core facts.now functions.0 functions.1 trees.now cored) }
+    ensures { IfOk result (λ expr. expr ≡ exprs.bound_core facts.now functions.0 functions.1 trees.now lowered) }
 {
     let (first, second) = functions;
     let function = if is_second(alloc, trees, facts)? {
@@ -135,7 +139,7 @@ fn bound(
     } else {
         first
     };
-    apply(alloc, function, without_number(trees, cored))
+    apply(alloc, function, without_number(trees, lowered))
 }
 
 /// How many literals the enumeration of the first argument has.
@@ -171,23 +175,27 @@ fn readables(alloc: Global, trees: &[Expr], facts: &Facts) -> Result<Row<Readabl
 }
 
 /// An item that is read as a kind, at its place.
-fn reading(alloc: Global, kind: Readable, cored: Cored) -> Reading
-    ensures { result ≡ exprs.reading_core (kind, cored) }
+fn reading(alloc: Global, kind: Readable, lowered: Lowered) -> Reading
+    ensures { result ≡ exprs.reading_core (kind, lowered) }
 {
     Reading {
         kind,
-        place: place_of(alloc, cored),
+        place: place_of(alloc, lowered),
     }
 }
 
 /// Items that are read as these kinds, at these places.
-fn read_as(alloc: Global, kinds: Row<Readable>, cored: Row<Cored>) -> Result<Row<Reading>, NoMemory>
-    ensures { IfOk result (λ readings. readings ≡ map exprs.reading_core (zip kinds cored)) }
+fn read_as(
+    alloc: Global,
+    kinds: Row<Readable>,
+    lowered: Row<Lowered>,
+) -> Result<Row<Reading>, NoMemory>
+    ensures { IfOk result (λ readings. readings ≡ map exprs.reading_core (zip kinds lowered)) }
 {
     let readings = kinds
         .into_vec()
         .into_iter()
-        .zip(cored.into_vec())
+        .zip(lowered.into_vec())
         .map(|(kind, one)| reading(alloc, kind, one))
         .collect(alloc)?;
     Ok(Row::from_vec(readings))
@@ -197,13 +205,13 @@ fn read_as(alloc: Global, kinds: Row<Readable>, cored: Row<Cored>) -> Result<Row
 fn readings(
     alloc: Global,
     trees: &[Expr],
-    cored: Row<Cored>,
+    lowered: Row<Lowered>,
     facts: &Facts,
 ) -> Result<Row<Reading>, NoMemory>
-    ensures { IfOk result (λ readings. readings ≡ exprs.readings_core facts.now trees.now cored) }
+    ensures { IfOk result (λ readings. readings ≡ exprs.readings_core facts.now trees.now lowered) }
 {
     let kinds = readables(alloc, trees, facts)?;
-    read_as(alloc, kinds, cored)
+    read_as(alloc, kinds, lowered)
 }
 
 /// A call of a predefined function, whose arguments are these in the core.
@@ -212,14 +220,14 @@ pub fn function(
     scene: &Scene,
     name: Predefined,
     trees: &[Expr],
-    cored: Row<Cored>,
+    lowered: Row<Lowered>,
 ) -> Result<sr_core::Expr, NoMemory>
-    ensures { IfOk result (λ expr. expr ≡ exprs.function_core scene.now name trees.now cored) }
+    ensures { IfOk result (λ expr. expr ≡ exprs.function_core scene.now name trees.now lowered) }
 {
     match name {
-        Predefined::Abs => apply(alloc, Function::Abs, cored),
-        Predefined::Min => apply(alloc, Function::Min, cored),
-        Predefined::Max => apply(alloc, Function::Max, cored),
+        Predefined::Abs => apply(alloc, Function::Abs, lowered),
+        Predefined::Min => apply(alloc, Function::Min, lowered),
+        Predefined::Max => apply(alloc, Function::Max, lowered),
         Predefined::Low => ends(alloc, scene, trees, false),
         Predefined::High => ends(alloc, scene, trees, true),
         Predefined::Lb => {
@@ -228,7 +236,7 @@ pub fn function(
                 &scene.facts,
                 (Function::LowBound, Function::LowBound2),
                 trees,
-                cored,
+                lowered,
             )
         }
         Predefined::Ub => {
@@ -237,19 +245,19 @@ pub fn function(
                 &scene.facts,
                 (Function::HighBound, Function::HighBound2),
                 trees,
-                cored,
+                lowered,
             )
         }
-        Predefined::Length => apply(alloc, Function::Length, cored),
-        Predefined::Pred => apply(alloc, Function::Pred, cored),
+        Predefined::Length => apply(alloc, Function::Length, lowered),
+        Predefined::Pred => apply(alloc, Function::Pred, lowered),
         Predefined::Succ => {
             let literals = literals_in(alloc, trees, &scene.facts)?;
-            apply(alloc, Function::Succ { literals }, cored)
+            apply(alloc, Function::Succ { literals }, lowered)
         }
         Predefined::MyResource => Ok(sr_core::Expr::Leaf(Leaf::MyResource)),
         Predefined::MyVm => Ok(sr_core::Expr::Leaf(Leaf::MyMachine)),
         Predefined::Read => {
-            Ok(sr_core::Expr::Read(readings(alloc, trees, cored, &scene.facts)?))
+            Ok(sr_core::Expr::Read(readings(alloc, trees, lowered, &scene.facts)?))
         }
         _ => Ok(nothing()),
     }

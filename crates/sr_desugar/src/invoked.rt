@@ -6,11 +6,11 @@ ghost use Rattle.sr_core.specs.declared.expression.Expr.{out-Expr};
 ghost use Rattle.sr_tables.specs.Tables.{things_in};
 
 use crate::places::{place_of, value_of};
-use crate::scene::{Cored, Scene};
+use crate::scene::{Lowered, Scene};
 use sr_check_expr::Facts;
 use sr_core::{Argument, Expr, Leaf, Operation};
 use sr_outline::{copy_shape, shape_of_type};
-use sr_tables::BySpot;
+use sr_tables::SpotMap;
 use sr_types::{Mode, Param, Ty};
 use sr_value::{NoMemory, Row, Shape};
 use std::alloc::Global;
@@ -26,13 +26,13 @@ fn params_of<'a>(facts: &'a Facts, ty: &Ty) -> &'a [Param]
 }
 
 /// An argument goes as its formal says.
-fn argument(alloc: Global, mode: Mode, cored: Cored) -> Argument
-    ensures { result ≡ exprs.argument_core mode cored }
+fn argument(alloc: Global, mode: Mode, lowered: Lowered) -> Argument
+    ensures { result ≡ exprs.argument_core mode lowered }
 {
     match mode {
-        Mode::Val => Argument::Val(value_of(cored)),
-        Mode::Var => Argument::Var(place_of(alloc, cored)),
-        Mode::Res => Argument::Res(place_of(alloc, cored)),
+        Mode::Val => Argument::Val(value_of(lowered)),
+        Mode::Var => Argument::Var(place_of(alloc, lowered)),
+        Mode::Res => Argument::Res(place_of(alloc, lowered)),
     }
 }
 
@@ -41,13 +41,13 @@ pub fn arguments_of(
     alloc: Global,
     facts: &Facts,
     callee: &Ty,
-    cored: Row<Cored>,
+    lowered: Row<Lowered>,
 ) -> Result<Row<Argument>, NoMemory>
-    ensures { IfOk result (λ args. args ≡ exprs.arguments_by (meanings.params_of facts.now callee.now) cored) }
+    ensures { IfOk result (λ args. args ≡ exprs.arguments_by (meanings.params_of facts.now callee.now) lowered) }
 {
     let args = params_of(facts, callee)
         .iter()
-        .zip(cored.into_vec())
+        .zip(lowered.into_vec())
         .map(|(param, one)| argument(alloc, param.mode, one))
         .collect(alloc)?;
     Ok(Row::from_vec(args))
@@ -56,7 +56,7 @@ pub fn arguments_of(
 /// What an operation of a number returns.
 fn returns_numbered(
     alloc: Global,
-    operations: &BySpot<Operation>,
+    operations: &SpotMap<Operation>,
     op: u32,
 ) -> Result<Option<Shape>, NoMemory>
     ensures { IfOk result (λ shape. shape ≡ option_and_then (λ operation. operation.returns) (slice_get (things_in operations.now) op)) }

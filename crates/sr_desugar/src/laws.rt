@@ -17,7 +17,8 @@ pub fn numbers_exist()
         → IsTrue (list_all (procs_numbered (core_of files facts)) (wholes_of facts (components_in files) (tables_of facts (components_in files)))) }
 {}
 
-/// A law of the core: where statements that wait stand at different spots, each `in` has a block for each arm of its site.
+/// A law of the core: where statements that wait stand at different spots, each `in` has a block for each arm of its
+/// site.
 pub fn each_wait_has_its_site()
     ensures { (files : List File) (facts : Facts) → WaitApart files facts → IsTrue (all_waits_ok (core_of files facts)) }
 {}

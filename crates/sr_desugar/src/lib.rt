@@ -19,4 +19,4 @@ mod statements;
 
 pub use laws::{each_wait_has_its_site, numbers_exist};
 pub use program::to_core;
-pub use scene::{Cored, Scene};
+pub use scene::{Lowered, Scene};

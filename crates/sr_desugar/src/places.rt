@@ -4,9 +4,10 @@ ghost use Rattle.sr_core.specs.declared.statement.Scope.TheVariants.{Shared};
 ghost use Rattle.sr_desugar.specs.Places as places;
 ghost use Rattle.sr_tables.specs.Tables.{number_in};
 
-use crate::scene::{Cored, Scene};
+use crate::scene::{Lowered, Scene};
 use sr_core::{
-    Expr, Formal, Home, Leaf, Operation, Parameter, PlaceExpr, Returned, Root, Scope, Step, Whose,
+    Expr, Formal, Home, Leaf, Operation, OperationOwner, Parameter, PlaceExpr, Returned, Root,
+    Scope, Step,
 };
 use sr_names::Spot;
 use sr_outline::copy_shape;
@@ -94,23 +95,23 @@ pub fn own_place(alloc: Global, scene: &Scene, spot: Spot) -> Result<PlaceExpr, 
 }
 
 /// Whose an operation of a component is.
-fn shared_whose(scene: &Scene, component: u32) -> Result<Whose, NoMemory>
+fn shared_whose(scene: &Scene, component: u32) -> Result<OperationOwner, NoMemory>
     ensures { IfOk result (λ whose. whose ≡ places.whose_by scene.now Shared component) }
 {
     if component == scene.component {
-        return Ok(Whose::Mine);
+        return Ok(OperationOwner::Mine);
     }
     match import_number(scene.imports.as_slice(), component)? {
-        None => Ok(Whose::Mine),
-        Some(import) => Ok(Whose::Imported(import)),
+        None => Ok(OperationOwner::Mine),
+        Some(import) => Ok(OperationOwner::Imported(import)),
     }
 }
 
-fn whose_of(scene: &Scene, operation: &Operation) -> Result<Whose, NoMemory>
+fn whose_of(scene: &Scene, operation: &Operation) -> Result<OperationOwner, NoMemory>
     ensures { IfOk result (λ whose. whose ≡ places.whose_by scene.now operation.now.scope operation.now.component) }
 {
     match operation.scope {
-        Scope::Own => Ok(Whose::Process),
+        Scope::Own => Ok(OperationOwner::Process),
         Scope::Shared => shared_whose(scene, operation.component),
     }
 }
@@ -136,37 +137,37 @@ pub fn nothing() -> Expr
 }
 
 /// The value at a place is loaded.
-pub fn value_of(cored: Cored) -> Expr
-    ensures { result ≡ places.value_of cored }
+pub fn value_of(lowered: Lowered) -> Expr
+    ensures { result ≡ places.value_of lowered }
 {
-    match cored {
-        Cored::Place(place) => Expr::Load(place),
-        Cored::Value(value) => value,
+    match lowered {
+        Lowered::Place(place) => Expr::Load(place),
+        Lowered::Value(value) => value,
     }
 }
 
 /// The place, where the expression is one.
-pub fn place_of(alloc: Global, cored: Cored) -> PlaceExpr
-    ensures { result ≡ places.place_of cored }
+pub fn place_of(alloc: Global, lowered: Lowered) -> PlaceExpr
+    ensures { result ≡ places.place_of lowered }
 {
-    match cored {
-        Cored::Place(place) => place,
-        Cored::Value(_) => place_at(alloc, nowhere()),
+    match lowered {
+        Lowered::Place(place) => place,
+        Lowered::Value(_) => place_at(alloc, nowhere()),
     }
 }
 
-/// A part of what stands at a place stands at a place too.
-pub fn part_of(alloc: Global, whole: Cored, step: Boxed<Step>) -> Result<Cored, NoMemory>
+/// A part of a value at a place is at a place too.
+pub fn part_of(alloc: Global, whole: Lowered, step: Boxed<Step>) -> Result<Lowered, NoMemory>
     ensures { IfOk result (λ part. part ≡ places.part_of whole step) }
 {
     match whole {
-        Cored::Place(place) => {
+        Lowered::Place(place) => {
             let PlaceExpr { root, path } = place;
             let mut path = path;
             path.push(step.into_inner())?;
-            Ok(Cored::Place(PlaceExpr { root, path }))
+            Ok(Lowered::Place(PlaceExpr { root, path }))
         }
-        Cored::Value(value) => Ok(Cored::Value(Expr::Of {
+        Lowered::Value(value) => Ok(Lowered::Value(Expr::Of {
             whole: Boxed::new(alloc, value)?,
             step,
         })),
@@ -204,9 +205,9 @@ fn first_var(vars: &[u32]) -> u32
     }
 }
 
-/// The variables behind the first.
-fn vars_behind(vars: &[u32]) -> &[u32]
-    ensures { result.now ≡ places.vars_behind vars.now }
+/// The variables after the first.
+fn vars_after(vars: &[u32]) -> &[u32]
+    ensures { result.now ≡ places.vars_after vars.now }
 {
     match vars {
         [] => &[],
@@ -236,7 +237,7 @@ pub fn formals_of(
     let mut rest = vars;
     for parameter in parameters {
         formals.push(formal_of(alloc, first_var(rest), parameter)?)?;
-        rest = vars_behind(rest);
+        rest = vars_after(rest);
     }
     Ok(formals)
 }
@@ -274,7 +275,7 @@ fn optional_number(own: &Spots, spot: Option<Spot>) -> Result<u32, NoMemory>
     }
 }
 
-/// A name stands for what the operation returns.
+/// A name stands for the result of the operation.
 pub fn own_returned(
     alloc: Global,
     scene: &Scene,

@@ -25,7 +25,7 @@ use sr_outline::{
     all_imports, enumerations_of, formal_spots, imports_at, initial_spots, needs_of, parameters_of,
     tables_of,
 };
-use sr_tables::{BySpot, Spots, component_decl, kind_of, line_of, number_of};
+use sr_tables::{SpotMap, Spots, component_decl, kind_of, line_of, number_of};
 use sr_tree::{File, Item, SpecItem};
 use sr_value::{Duplicate, NoMemory, Row};
 use std::alloc::Global;
@@ -67,7 +67,7 @@ fn spec_code(alloc: Global, items: &[SpecItem], scene: &Scene) -> Result<Row<Sta
     Ok(code)
 }
 
-/// Adds the items of a component's body to what there is.
+/// Adds the items of a component's body.
 fn push_items(
     alloc: Global,
     items: &[Item],
@@ -85,7 +85,7 @@ fn push_items(
     Ok(())
 }
 
-/// The initial and the final code of a component. Its procs and sites are put behind the others.
+/// The initial and the final code of a component. Its procs and sites are appended.
 fn codes_of(
     alloc: Global,
     component: &sr_tree::Component,
@@ -202,7 +202,7 @@ fn component_core(
     component_with(alloc, component, imports, scene, codes)
 }
 
-/// Puts a component behind the others. The facts are afterwards seen from where they were before.
+/// Appends a component to the others. The facts are afterwards seen from where they were before.
 fn push_component(
     alloc: Global,
     component: &sr_tree::Component,
@@ -228,7 +228,7 @@ fn push_component(
     components.push(made)
 }
 
-/// Puts components, the first of which has this number, behind the others. Hands out the number behind the last.
+/// Appends components, numbered from this number on. Returns the number after the last.
 fn push_components(
     alloc: Global,
     trees: &[sr_tree::Component],
@@ -281,7 +281,7 @@ fn components_of(
     Ok(components)
 }
 
-/// The components of all files. Their procs and sites are put behind the others.
+/// The components of all files. Their procs and sites are appended.
 fn all_components(
     alloc: Global,
     files: &[File],
@@ -299,11 +299,11 @@ fn all_components(
 /// The operations, taken out of the table.
 fn take_operations(
     alloc: Global,
-    operations: &mut BySpot<Operation>,
+    operations: &mut SpotMap<Operation>,
 ) -> Result<Row<Operation>, NoMemory>
     ensures { IfOk result (λ things. things ≡ things_in operations.old) }
 {
-    mem::replace(operations, BySpot::new(alloc)).into_things(alloc)
+    mem::replace(operations, SpotMap::new(alloc)).into_things(alloc)
 }
 
 /// The core of a program whose tables the scene has. The operations are taken out of them.

@@ -90,7 +90,7 @@ fn value_sends(
     })
 }
 
-/// Puts the sends of semaphores behind other statements. Without a value it is 0.
+/// Appends the sends of semaphores to other statements. Without a value it is 0.
 pub fn push_semaphores(
     alloc: Global,
     scene: &Scene,

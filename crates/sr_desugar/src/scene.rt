@@ -17,9 +17,9 @@ pub struct Scene {
     pub tables: Tables,
 }
 
-/// What an expression is in the core.
+/// What an expression becomes in the core.
 #[derive(Drop)]
-pub enum Cored {
+pub enum Lowered {
     /// A place: a variable or a part of one.
     Place(PlaceExpr),
     /// A value that stands at no place.

@@ -262,7 +262,7 @@ fn co_arm_of(quantifiers: Row<Quantifier>, call: CoCall, body: Row<Statement>) -
     }
 }
 
-/// Puts an item of a block behind other statements. What a block declares is the process's own.
+/// Appends an item of a block to other statements. What a block declares is the process's own.
 #[cycle(statements)]
 fn push_item(
     alloc: Global,
@@ -450,7 +450,7 @@ fn for_all(
     })
 }
 
-/// A statement in the core. The sites of the statements in it that wait are put behind others.
+/// A statement in the core. The sites of the statements in it that wait are put after others.
 #[cycle(statements)]
 pub fn statement(
     alloc: Global,

@@ -18,8 +18,8 @@ use Rattle.sr_tree.specs.Expressions as g
 use Rattle.sr_tree.specs.Expressions.{SpellsExpr, SpellsFactor, SpellsCreate, SpellsPrimary}
 use Rattle.sr_tree.specs.Tables.{literal_of, word_literal, basic_of, word_basic, conversion_of, word_conversion, unary_of, sign_unary, word_unary, binary_of}
 use Rattle.sr_tree.specs.Tests.{is_sign, is_word}
-use Rattle.sr_expr_reader.proofs.TokensLocal.{kind_of_sign, kind_of_word, none_some}
-use Rattle.sr_expr_reader.proofs.TokensWhole.{Stops}
+use Rattle.sr_expr_reader.proofs.TokensSound.{kind_of_sign, kind_of_word, none_some}
+use Rattle.sr_expr_reader.proofs.TokensComplete.{Stops}
 
 abbrev pub sign_begins : Sign → Bool
 sign_begins sign.Minus = true

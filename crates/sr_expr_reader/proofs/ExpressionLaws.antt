@@ -3,14 +3,14 @@ use Rattle.std.proofs.Common.{◌≡◌, refl, sym, ◌∙◌, ap, ℕ, ◌-◌,
 use Rattle.sr_reader.specs.Pieces.{GoesOn, IsLongest, IsDead}
 use Rattle.sr_reader.specs.Reader.{Reader}
 use Rattle.sr_reader.proofs.Laws as laws
-use Rattle.sr_reader.proofs.Locality.{Local, append-nil}
+use Rattle.sr_reader.proofs.Soundness.{Sound, append-nil}
 use Rattle.sr_tree.specs.declared.expr.Expr.{Expr}
 use Rattle.sr_tree.specs.declared.token.Token.{Token}
 use Rattle.sr_tree.specs.Expressions.{SpellsExpr}
 use Rattle.sr_expr_reader.specs.Readers.{readers, is_operator, operation_at, operand_at}
 use Rattle.sr_expr_reader.proofs.ExpressionEdges.{end-stops}
-use Rattle.sr_expr_reader.proofs.ExpressionsLocal.{operand-local, readers-local}
-use Rattle.sr_expr_reader.proofs.ExpressionsWhole.{whole-expr}
+use Rattle.sr_expr_reader.proofs.ExpressionsSound.{operand-sound, readers-sound}
+use Rattle.sr_expr_reader.proofs.ExpressionsComplete.{complete-expr}
 use Rattle.sr_expr_reader.proofs.Extends.{Extends, expr-extends}
 use Rattle.sr_expr_reader.proofs.Quiet.{QuietExpr, stops-quiet}
 use Rattle.sr_expr_reader.proofs.Families.{loop_stops}
@@ -18,16 +18,16 @@ use Rattle.sr_expr_reader.proofs.Families.{loop_stops}
 reading : ℕ → Reader Token Expr
 reading k = operand_at (readers k) 5
 
-local : (k : ℕ) → Local (SpellsExpr 5) (reading k)
+local : (k : ℕ) → Sound (SpellsExpr 5) (reading k)
 unfolding reading
-local k = operand-local (readers k) (readers-local k) 5
+local k = operand-sound (readers k) (readers-sound k) 5
 
 whole : (a : Expr) (u : List Token) → SpellsExpr 5 a u → (k : ℕ) → length u ≤ k → reading k u ≡ Ok (a, [])
 unfolding reading
 whole a u d k h =
     let n : length (u ++ []) ≡ length u = ap length (append-nil u) in
     ap (operand_at (readers k) 5) (sym (append-nil u))
-    ∙ (whole-expr d 5 (omega arith) [] (Ok (a, [])) (stops-quiet d [] end-stops) (loop_stops (is_operator 5) operation_at a [] refl)).gives k (omega (arith, h, n))
+    ∙ (complete-expr d 5 (omega arith) [] (Ok (a, [])) (stops-quiet d [] end-stops) (loop_stops (is_operator 5) operation_at a [] refl)).gives k (omega (arith, h, n))
 
 decides : (a : Expr) (u : List Token) → SpellsExpr 5 a u → (t : Token) (q : List Token)
     → GoesOn (SpellsExpr 5) u t ⊎ ((k : ℕ) → length (u ++ t ∷ q) ≤ k → reading k (u ++ t ∷ q) ≡ Ok (a, t ∷ q))
@@ -36,7 +36,7 @@ decides a u d t q = go (expr-extends d t q)
   where
     go : (QuietExpr d (t ∷ q) × (is_operator 5 a t ≡ false)) ⊎ Extends (SpellsExpr 5) u t
         → GoesOn (SpellsExpr 5) u t ⊎ ((k : ℕ) → length (u ++ t ∷ q) ≤ k → operand_at (readers k) 5 (u ++ t ∷ q) ≡ Ok (a, t ∷ q))
-    go (inl x) = inr (λ k h. (whole-expr d 5 (omega arith) (t ∷ q) (Ok (a, t ∷ q)) x.0 (loop_stops (is_operator 5) operation_at a (t ∷ q) x.1)).gives k h)
+    go (inl x) = inr (λ k h. (complete-expr d 5 (omega arith) (t ∷ q) (Ok (a, t ∷ q)) x.0 (loop_stops (is_operator 5) operation_at a (t ∷ q) x.1)).gives k h)
     go (inr x) = inl (record { tree = x.tree; more = x.more; spelled = x.spelled })
 
 -- one list of tokens has at most one expression

@@ -23,9 +23,9 @@ use Rattle.sr_tree.specs.Tables.{IsSign, IsWord, IsName, name_of, literal_of, ba
 use Rattle.sr_tree.specs.Tests.{is_sign, is_word, is_name}
 use Rattle.sr_expr_reader.specs.Readers.{binary_at, unary_at, literal_at, conversion_at, qualified_at, enclosed_at, is_comma, next_argument_at, more_arguments_at, arguments_at, on_at, create_at, repeated_part_at, part_at, next_part_at, more_parts_at, array_at, bracketed_at, unconverted_at, converted_at, start_at, field_at, second_at, index_at, call_at, is_callable, is_suffix, suffix_at, suffixes_at, primary_at, signed_at, pending_at, factor_at, is_operator, operation_at, operators_at, operand_at}
 use Rattle.sr_tree.specs.Tokens.{sign_at, word_at, name_at}
-use Rattle.sr_expr_reader.proofs.ExpressionsLocal.{alone}
+use Rattle.sr_expr_reader.proofs.ExpressionsSound.{alone}
 use Rattle.sr_expr_reader.proofs.Quiet.{QuietExpr, stops-quiet}
-use Rattle.sr_expr_reader.proofs.TokensWhole.{is_that_sign, is_that_word, sign-reads, word-reads, name-reads, binary-reads, unary-reads, literal-reads, conversion-reads, only_literal, basic_cases, Stops, comma-stops, paren-stops, bracket-stops, stops-operator, unary_create, IsNoPrefix, sign_starts, name_starts, literal_starts, conversion_starts, basic_starts, unary_opens}
+use Rattle.sr_expr_reader.proofs.TokensComplete.{is_that_sign, is_that_word, sign-reads, word-reads, name-reads, binary-reads, unary-reads, literal-reads, conversion-reads, only_literal, basic_cases, Stops, comma-stops, paren-stops, bracket-stops, stops-operator, unary_create, IsNoPrefix, sign_starts, name_starts, literal_starts, conversion_starts, basic_starts, unary_opens}
 use Rattle.sr_expr_reader.proofs.Families.{below, token_then, below_token, below_then, yields_then, below_returned, yields_returned, yields_met, yields_unmet, below_met, below_unmet, below_seq, loop_stops}
 use Rattle.sr_expr_reader.proofs.Yields.{Yields, Below, Loops, below-operand, loop_yields}
 
@@ -74,7 +74,7 @@ pub expr-opens : {m : ℕ} {e : Expr} {u : List Token} → SpellsExpr m e u → 
 expr-opens (g.factor d) q = factor-opens d q
 expr-opens (g.binary {u = u} {v = v} t o h i a d) q = subst Opens (sym (append_assoc u (t ∷ v) q)) (expr-opens a (t ∷ (v ++ q)))
 
--- the tokens behind a part of a list stop it
+-- the tokens after a part of a list stop it
 pub more-stops : {es : List Expr} {v : List Token} → SpellsMoreExprs es v → (k : Token) (q : List Token) → IsSign sign.CloseParen k → Stops (v ++ k ∷ q)
 more-stops g.no_more_exprs k q h = paren-stops k q h
 more-stops (g.one_more_expr {u = u} {v = v} comma h d m) k q i = comma-stops comma ((u ++ v) ++ k ∷ q) h
@@ -96,13 +96,13 @@ inner {e = e} {u = u} d q st w = below-operand 5 (u ++ q) (Ok (e, q)) (w q (Ok (
 
 -- names
 
-pub whole-qualified : {n : QualifiedName} {u : List Token} → SpellsQualifiedName n u → (q : List Token) → next_is (λ t. is_sign sign.Point t.kind) q ≡ false
+pub complete-qualified : {n : QualifiedName} {u : List Token} → SpellsQualifiedName n u → (q : List Token) → next_is (λ t. is_sign sign.Point t.kind) q ≡ false
     → Below (λ r. qualified_at) (u ++ q) (Ok (n, q))
 unfolding qualified_at
-whole-qualified (g.plain n h) q e =
+complete-qualified (g.plain n h) q e =
     below_token name_at _ n q (name_of n) _ (name-reads n q h)
     (below_unmet (λ t. is_sign sign.Point t.kind) _ (λ r. returned _) q _ e (below_returned _ q))
-whole-qualified (g.qualified n p m h i j) q e =
+complete-qualified (g.qualified n p m h i j) q e =
     below_token name_at _ n (p ∷ m ∷ q) (name_of n) _ (name-reads n (p ∷ m ∷ q) h)
     (below_met (λ t. is_sign sign.Point t.kind) _ (λ r. returned _) (p ∷ m ∷ q) _ (is_that_sign sign.Point p i)
     (below_token (sign_at sign.Point) _ p (m ∷ q) p.span _ (sign-reads sign.Point p (m ∷ q) i)
@@ -428,7 +428,7 @@ unfolding create_at
 resource-yields {n = n} {es = es} {m = m} t o k u v w q h d i a y =
     token_then (word_at word.Create) _ t (u ++ o ∷ (v ++ k ∷ (w ++ q))) t.span _ (word-reads word.Create t (u ++ o ∷ (v ++ k ∷ (w ++ q))) h)
     (below_unmet _ _ _ (u ++ o ∷ (v ++ k ∷ (w ++ q))) _ (qualified-starts d (o ∷ (v ++ k ∷ (w ++ q))))
-    (below_then (λ r. qualified_at) _ u (o ∷ (v ++ k ∷ (w ++ q))) n _ (whole-qualified d (o ∷ (v ++ k ∷ (w ++ q))) (ap (is_sign sign.Point) i))
+    (below_then (λ r. qualified_at) _ u (o ∷ (v ++ k ∷ (w ++ q))) n _ (complete-qualified d (o ∷ (v ++ k ∷ (w ++ q))) (ap (is_sign sign.Point) i))
     (below_seq arguments_at _ (o ∷ (v ++ k ∷ (w ++ q))) (o ∷ (v ++ k ∷ [])) (w ++ q) es _ (ap (λ x. o ∷ x) (sym (append_assoc v (k ∷ []) (w ++ q))))
     (below arguments_at (o ∷ (v ++ k ∷ (w ++ q))) _ a)
     (below_then on_at _ w q m _ (below on_at (w ++ q) _ y) (below_returned _ q)))))

@@ -1,4 +1,4 @@
--- Where the token behind an expression continues its right edge, some longer list spells an expression.
+-- Where the token after an expression continues its right edge, some longer list spells an expression.
 use Rattle.std.proofs.Common.{◌≡◌, refl, sym, ◌∙◌, ap, subst, ℕ, Bool, true, false, List, [], ◌∷◌, ◌++◌, Option, Some, None, ◌⊎◌, inl, inr, append_assoc}
 use Rattle.std.specs.Prelude.{nat_lt, nat_le, if◌then◌else◌}
 use Rattle.std.proofs.lemmas.Bool.{ltb-true, leb-true}
@@ -20,10 +20,10 @@ use Rattle.sr_tree.specs.Expressions.{SpellsExpr, SpellsFactor, SpellsCreate, Sp
 use Rattle.sr_tree.specs.Tables.{IsSign, name_of, conversion_of, binary_of, right_level, left_level}
 use Rattle.sr_tree.specs.Tests.{is_sign, is_word}
 use Rattle.sr_expr_reader.specs.Readers.{level_of, may_follow, is_operator}
-use Rattle.sr_expr_reader.proofs.ExpressionsLocal.{alone, at_level, both}
+use Rattle.sr_expr_reader.proofs.ExpressionsSound.{alone, at_level, both}
 use Rattle.sr_expr_reader.proofs.Quiet.{QuietExpr, QuietFactor, QuietCreate, QuietOn}
-use Rattle.sr_expr_reader.proofs.TokensLocal.{kind_of_sign, kind_of_word}
-use Rattle.sr_expr_reader.proofs.TokensWhole.{basic_cases, continues}
+use Rattle.sr_expr_reader.proofs.TokensSound.{kind_of_sign, kind_of_word}
+use Rattle.sr_expr_reader.proofs.TokensComplete.{basic_cases, continues}
 
 -- a token of a kind
 pub with_kind : Token → TokenKind → Token

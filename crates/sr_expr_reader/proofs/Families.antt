@@ -18,15 +18,15 @@ pub record LoopsIn {R A : Type 0} (family : ℕ → R) (test : A → Token → B
     (z : Result (A × List Token) ℕ) : Type 0 where
   pub gives : (k n : ℕ) → length s ≤ k → length s ≤ n → while test (step (family k)) n a s ≡ z
 
-pub behind-length : (u q : List Token) → length q ≤ length (u ++ q)
-behind-length [] q = omega arith
-behind-length (t ∷ u) q = let h : length q ≤ length (u ++ q) = behind-length u q in omega arith
+pub after-length : (u q : List Token) → length q ≤ length (u ++ q)
+after-length [] q = omega arith
+after-length (t ∷ u) q = let h : length q ≤ length (u ++ q) = after-length u q in omega arith
 
 module _ {R A : Type 0} {family : ℕ → R} (f : R → Reader Token A) (s : List Token) (z : Result (A × List Token) ℕ) where
   pub below : YieldsIn family f s z → BelowIn family f s z
   below y = record { gives = λ k h. y.gives k (omega (arith, h)) }
 
--- a token, and then what stands behind it
+-- a token, and then what stands after it
 pub token_then : {R A B : Type 0} {family : ℕ → R} (f : Reader Token A) (g : R → A → Reader Token B) (t : Token) (s : List Token) (a : A) (z : Result (B × List Token) ℕ)
     → f (t ∷ s) ≡ Ok (a, s) → BelowIn family (λ r. g r a) s z → YieldsIn family (λ r. f >>= g r) (t ∷ s) z
 token_then {family = family} f g t s a z e b = record { gives = λ k h. ap (λ x. continued x (g (family k))) e ∙ b.gives k (omega (arith, h)) }
@@ -40,7 +40,7 @@ module _ {R A B : Type 0} {family : ℕ → R} (f : R → Reader Token A) (g : R
       → BelowIn family f (u ++ q) (Ok (a, q)) → BelowIn family (λ r. g r a) q z → BelowIn family (λ r. f r >>= g r) (u ++ q) z
   below_then u q a z b c = record {
     gives = λ k h.
-        let l : length q ≤ length (u ++ q) = behind-length u q in
+        let l : length q ≤ length (u ++ q) = after-length u q in
         ap (λ x. continued x (g (family k))) (b.gives k h) ∙ c.gives k (omega (arith, h, l));
   }
 
@@ -48,14 +48,14 @@ module _ {R A B : Type 0} {family : ℕ → R} (f : R → Reader Token A) (g : R
       → YieldsIn family f (u ++ q) (Ok (a, q)) → YieldsIn family (λ r. g r a) q z → YieldsIn family (λ r. f r >>= g r) (u ++ q) z
   yields_then u q a z b c = record {
     gives = λ k h.
-        let l : length q ≤ length (u ++ q) = behind-length u q in
+        let l : length q ≤ length (u ++ q) = after-length u q in
         ap (λ x. continued x (g (family k))) (b.gives k h) ∙ c.gives k (omega (arith, h, l));
   }
 
-  -- behind at least one token
-  pub behind_then : (u q : List Token) (a : A) (z : Result (B × List Token) ℕ) → 0 < length u
+  -- after at least one token
+  pub after_then : (u q : List Token) (a : A) (z : Result (B × List Token) ℕ) → 0 < length u
       → YieldsIn family f (u ++ q) (Ok (a, q)) → BelowIn family (λ r. g r a) q z → YieldsIn family (λ r. f r >>= g r) (u ++ q) z
-  behind_then u q a z n b c = record {
+  after_then u q a z n b c = record {
     gives = λ k h.
         let l : length (u ++ q) ≡ length u + length q = length-append u q in
         ap (λ x. continued x (g (family k))) (b.gives k h) ∙ c.gives k (omega (arith, h, l, n));
@@ -66,7 +66,7 @@ module _ {R A B : Type 0} {family : ℕ → R} (f : R → Reader Token A) (g : R
       → s ≡ u ++ q → BelowIn family f s (Ok (a, q)) → BelowIn family (λ r. g r a) q z → BelowIn family (λ r. f r >>= g r) s z
   below_seq s u q a z e b c = record {
     gives = λ k h.
-        let l : length q ≤ length (u ++ q) = behind-length u q in
+        let l : length q ≤ length (u ++ q) = after-length u q in
         let m : length s ≡ length (u ++ q) = ap length e in
         ap (λ x. continued x (g (family k))) (b.gives k h) ∙ c.gives k (omega (arith, h, l, m));
   }
@@ -105,7 +105,7 @@ module _ {R A : Type 0} {family : ℕ → R} (test : A → Token → Bool) (step
       at : (k n : ℕ) → length (t ∷ s) ≤ k → length (t ∷ s) ≤ n → while test (step (family k)) n a (t ∷ s) ≡ z
       at k zero i j = absurd (omega (arith, j))
       at k (suc n) i j =
-          let m : length q ≤ length (u ++ q) = behind-length u q in
+          let m : length q ≤ length (u ++ q) = after-length u q in
           let o : length s ≡ length (u ++ q) = ap length e in
           ap (λ x. if x then (step (family k) a >>= while test (step (family k)) n) (t ∷ s) else returned a (t ∷ s)) h
           ∙ ap (λ x. continued x (while test (step (family k)) n)) (y.gives k i)

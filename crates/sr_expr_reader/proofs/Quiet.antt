@@ -1,4 +1,4 @@
--- When the token behind an expression continues nothing at its right edge.
+-- When the token after an expression continues nothing at its right edge.
 use Rattle.std.proofs.Common.{◌≡◌, refl, ◌∙◌, ap, ℕ, ◌<◌, ◌≤◌, Bool, true, false, List, ◌∷◌, Option, Some, arith}
 use Rattle.std.specs.Prelude.{◌&&◌, nat_lt, nat_le}
 use Rattle.std.proofs.lemmas.Bool.{ltb-true, lt-ltb, le-leb}
@@ -13,8 +13,8 @@ use Rattle.sr_tree.specs.Expressions.{SpellsExpr, SpellsFactor, SpellsCreate, Sp
 use Rattle.sr_tree.specs.Tables.{binary_of, right_level, left_level}
 use Rattle.sr_tree.specs.Tests.{is_word}
 use Rattle.sr_expr_reader.specs.Readers.{level_of, may_follow, is_operator}
-use Rattle.sr_expr_reader.proofs.ExpressionsLocal.{level-binary}
-use Rattle.sr_expr_reader.proofs.TokensWhole.{Stops, continues, stops-continued, stops-operator, only_operator, operator-continued, left-right}
+use Rattle.sr_expr_reader.proofs.ExpressionsSound.{level-binary}
+use Rattle.sr_expr_reader.proofs.TokensComplete.{Stops, continues, stops-continued, stops-operator, only_operator, operator-continued, left-right}
 
 unfoldable mutual
   pub QuietExpr : {m : ℕ} {e : Expr} {u : List Token} → SpellsExpr m e u → List Token → Type 0

@@ -3,28 +3,28 @@ use Rattle.std.proofs.Common.{◌≡◌, sym, ◌∙◌, ap, ℕ, ◌-◌, ◌<�
 use Rattle.sr_reader.specs.Pieces.{GoesOn, IsLongest, IsDead, HasOneTree}
 use Rattle.sr_reader.specs.Reader.{Reader}
 use Rattle.sr_reader.proofs.Laws as laws
-use Rattle.sr_reader.proofs.Locality.{Local, append-nil}
+use Rattle.sr_reader.proofs.Soundness.{Sound, append-nil}
 use Rattle.sr_tree.specs.declared.token.Token.{Token}
 use Rattle.sr_tree.specs.declared.types.TypeTree.{TypeTree}
 use Rattle.sr_tree.specs.Types.{SpellsType}
 use Rattle.sr_expr_reader.specs.TypeReaders.{type_at, type_readers}
 use Rattle.sr_expr_reader.proofs.TypesExtend.{type-goes-on}
-use Rattle.sr_expr_reader.proofs.TypesLocal.{type-local, type_readers-local}
+use Rattle.sr_expr_reader.proofs.TypesSound.{type-sound, type_readers-sound}
 use Rattle.sr_expr_reader.proofs.TypesQuiet.{QuietType, end-stops-type, stops-quiet-type}
-use Rattle.sr_expr_reader.proofs.TypesWhole.{whole-type}
+use Rattle.sr_expr_reader.proofs.TypesComplete.{complete-type}
 
 reading : ℕ → Reader Token TypeTree
 reading k = type_at (type_readers k)
 
-local : (k : ℕ) → Local SpellsType (reading k)
+local : (k : ℕ) → Sound SpellsType (reading k)
 unfolding reading
-local k = type-local (type_readers k) (type_readers-local k)
+local k = type-sound (type_readers k) (type_readers-sound k)
 
 whole : (a : TypeTree) (u : List Token) → SpellsType a u → (k : ℕ) → length u ≤ k → reading k u ≡ Ok (a, [])
 unfolding reading
 whole a u d k h =
     let n : length (u ++ []) ≡ length u = ap length (append-nil u) in
-    ap (type_at (type_readers k)) (sym (append-nil u)) ∙ (whole-type d [] (stops-quiet-type d [] end-stops-type)).gives k (omega (arith, h, n))
+    ap (type_at (type_readers k)) (sym (append-nil u)) ∙ (complete-type d [] (stops-quiet-type d [] end-stops-type)).gives k (omega (arith, h, n))
 
 decides : (a : TypeTree) (u : List Token) → SpellsType a u → (t : Token) (q : List Token)
     → GoesOn SpellsType u t ⊎ ((k : ℕ) → length (u ++ t ∷ q) ≤ k → reading k (u ++ t ∷ q) ≡ Ok (a, t ∷ q))
@@ -33,7 +33,7 @@ decides a u d t q = go (type-goes-on d t q)
   where
     go : QuietType d (t ∷ q) ⊎ GoesOn SpellsType u t
         → GoesOn SpellsType u t ⊎ ((k : ℕ) → length (u ++ t ∷ q) ≤ k → type_at (type_readers k) (u ++ t ∷ q) ≡ Ok (a, t ∷ q))
-    go (inl x) = inr (λ k h. (whole-type d (t ∷ q) x).gives k h)
+    go (inl x) = inr (λ k h. (complete-type d (t ∷ q) x).gives k h)
     go (inr x) = inl x
 
 -- one list of tokens has at most one type

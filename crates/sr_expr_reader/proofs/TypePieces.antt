@@ -27,13 +27,13 @@ use Rattle.sr_tree.specs.Types as g
 use Rattle.sr_tree.specs.Types.{SpellsNames, SpellsDims, SpellsDecl, SpellsDecls, SpellsMode, SpellsKinds, SpellsMoreKinds, SpellsFormal, SpellsMoreFormals, SpellsField, SpellsMoreFields, SpellsFormals, SpellsSignature, kind_of, pass_mode_of}
 use Rattle.sr_expr_reader.specs.Readers.{qualified_at}
 use Rattle.sr_tree.specs.Tokens.{sign_at, word_at, separator_at, is_separator}
-use Rattle.sr_expr_reader.specs.TypeReaders.{basic_type, basic_type_at, mode_of, mode_word_at, invocation_kind_of, kind_at, names_at, dims_at, decl_at, decls_at, mode_at, formal_behind_at, formal_at, is_separated, next_formal_at, more_formals_at, formals_behind_at, formals_at, returned_at, more_kinds_at, kinds_at, returns_open, own_kinds_at, signature_at, string_at, cap_at, array_type_at, plain_type_at, enum_at, next_field_at, more_fields_at, record_type_at, type_at, nested, type_readers}
-use Rattle.sr_expr_reader.proofs.DeclsWhole.{name-first, dims-first, decls-first, whole-name, whole-names, whole-dims, whole-decl, whole-decls}
+use Rattle.sr_expr_reader.specs.TypeReaders.{basic_type, basic_type_at, mode_of, mode_word_at, invocation_kind_of, kind_at, names_at, dims_at, decl_at, decls_at, mode_at, formal_after_at, formal_at, is_separated, next_formal_at, more_formals_at, formals_after_at, formals_at, returned_at, more_kinds_at, kinds_at, returns_open, own_kinds_at, signature_at, string_at, cap_at, array_type_at, plain_type_at, enum_at, next_field_at, more_fields_at, record_type_at, type_at, nested, type_readers}
+use Rattle.sr_expr_reader.proofs.DeclsComplete.{name-first, dims-first, decls-first, complete-name, complete-names, complete-dims, complete-decl, complete-decls}
 use Rattle.sr_expr_reader.proofs.ExpressionEdges.{expr-begins, begins-no-sign, continues_expr, token-stops}
-use Rattle.sr_expr_reader.proofs.ExpressionsWhole.{operand-below}
-use Rattle.sr_expr_reader.proofs.Families.{YieldsIn, BelowIn, LoopsIn, below, token_then, below_token, below_then, yields_then, behind_then, below_returned, yields_returned, yields_met, yields_unmet, below_met, below_unmet, below_seq, loop_within, yields_part, below_part}
-use Rattle.sr_expr_reader.proofs.TokensWhole.{is_that_sign, is_that_word, sign-reads, word-reads}
-use Rattle.sr_expr_reader.proofs.TypesLocal.{formal_of, returned_of, signature_of}
+use Rattle.sr_expr_reader.proofs.ExpressionsComplete.{operand-below}
+use Rattle.sr_expr_reader.proofs.Families.{YieldsIn, BelowIn, LoopsIn, below, token_then, below_token, below_then, yields_then, after_then, below_returned, yields_returned, yields_met, yields_unmet, below_met, below_unmet, below_seq, loop_within, yields_part, below_part}
+use Rattle.sr_expr_reader.proofs.TokensComplete.{is_that_sign, is_that_word, sign-reads, word-reads}
+use Rattle.sr_expr_reader.proofs.TypesSound.{formal_of, returned_of, signature_of}
 use Rattle.sr_expr_reader.proofs.TypesQuiet.{QuietName, TypeStops, continues_type, token-stops-type}
 use Rattle.sr_expr_reader.proofs.Yields.{steps-readers}
 
@@ -97,7 +97,7 @@ plain-any-string t o s k q h i j l =
     (below_token (sign_at sign.Star) _ s (k ∷ q) s.span _ (sign-reads sign.Star s (k ∷ q) j)
     (below_token (sign_at sign.CloseBracket) _ k q k.span _ (sign-reads sign.CloseBracket k q l) (below_returned _ q)))))))
 
--- what stands behind `cap`
+-- what stands after `cap`
 at_cap : (t : Token) (s : List Token) (z : Result (TypeTree × List Token) ℕ) → IsWord word.Cap t → YieldsIn type_readers cap_at (t ∷ s) z → YieldsIn type_readers plain_type_at (t ∷ s) z
 unfolding plain_type_at
 at_cap t s z h y =
@@ -128,7 +128,7 @@ plain-cap {n = n} {u = u} t d q h e =
     at_cap t (u ++ q) _ h
     (token_then (word_at word.Cap) _ t (u ++ q) t.span _ (word-reads word.Cap t (u ++ q) h)
     (below_unmet _ _ _ (u ++ q) _ (name-first d (is_word word.Vm) q) (below_unmet _ _ _ (u ++ q) _ (name-first d (is_sign sign.OpenParen) q)
-    (below_then (λ r. qualified_at) _ u q n _ (below (λ r. qualified_at) (u ++ q) _ (whole-name d q e)) (below_returned _ q)))))
+    (below_then (λ r. qualified_at) _ u q n _ (below (λ r. qualified_at) (u ++ q) _ (complete-name d q e)) (below_returned _ q)))))
 
 dims_long : {d : DimsTree} {u : List Token} → SpellsDims d u → 0 < length u
 dims_long (g.dims o k h x y i) = omega arith
@@ -141,7 +141,7 @@ plain-array {d = d} {item = item} {u = u} v q x y =
     (yields_unmet _ _ _ (u ++ (v ++ q)) _ (dims-first x (is_word word.String) (v ++ q))
     (yields_unmet _ _ _ (u ++ (v ++ q)) _ (dims-first x (is_word word.Cap) (v ++ q))
     (yields_met _ _ _ (u ++ (v ++ q)) _ (dims-first x (is_sign sign.OpenBracket) (v ++ q))
-    (behind_then (λ r. dims_at r.expressions) _ u (v ++ q) d _ (dims_long x) (yields_part (λ r. r.expressions) (λ n. refl) dims_at (u ++ (v ++ q)) _ (whole-dims x (v ++ q)))
+    (after_then (λ r. dims_at r.expressions) _ u (v ++ q) d _ (dims_long x) (yields_part (λ r. r.expressions) (λ n. refl) dims_at (u ++ (v ++ q)) _ (complete-dims x (v ++ q)))
     (below_then (λ r. r.nested) _ v q item _ (below-nested (v ++ q) _ y) (below_returned _ q))))))
 
 pub plain-named : {n : QualifiedName} {u : List Token} (d : SpellsQualifiedName n u) (q : List Token) → QuietName d q
@@ -152,30 +152,30 @@ plain-named {n = n} {u = u} d q e =
     (yields_unmet _ _ _ (u ++ q) _ (name-first d (is_word word.String) q)
     (yields_unmet _ _ _ (u ++ q) _ (name-first d (is_word word.Cap) q)
     (yields_unmet _ _ _ (u ++ q) _ (name-first d (is_sign sign.OpenBracket) q)
-    (yields_then (λ r. qualified_at) _ u q n _ (whole-name d q e) (yields_returned _ q)))))
+    (yields_then (λ r. qualified_at) _ u q n _ (complete-name d q e) (yields_returned _ q)))))
 
 -- formals
 
-pub formal-behind : {ds : List Decl} {t : TypeTree} {u : List Token} (m : Option (Span × PassMode)) (c : Token) (v q : List Token) → SpellsDecls ds u → IsSign sign.Colon c
-    → YieldsIn type_readers plain_type_at (v ++ q) (Ok (t, q)) → YieldsIn type_readers (λ r. formal_behind_at r m) (u ++ c ∷ (v ++ q)) (Ok (formal_of m ds t, q))
-unfolding formal_behind_at
-formal-behind {ds = ds} {t = t} {u = u} m c v q d h y =
+pub formal-after : {ds : List Decl} {t : TypeTree} {u : List Token} (m : Option (Span × PassMode)) (c : Token) (v q : List Token) → SpellsDecls ds u → IsSign sign.Colon c
+    → YieldsIn type_readers plain_type_at (v ++ q) (Ok (t, q)) → YieldsIn type_readers (λ r. formal_after_at r m) (u ++ c ∷ (v ++ q)) (Ok (formal_of m ds t, q))
+unfolding formal_after_at
+formal-after {ds = ds} {t = t} {u = u} m c v q d h y =
     yields_then (λ r. decls_at r.expressions) _ u (c ∷ (v ++ q)) ds _
-    (yields_part (λ r. r.expressions) (λ n. refl) decls_at (u ++ c ∷ (v ++ q)) _ (whole-decls d (c ∷ (v ++ q)) (ap (is_sign sign.OpenBracket) h) (ap (is_sign sign.Comma) h)))
+    (yields_part (λ r. r.expressions) (λ n. refl) decls_at (u ++ c ∷ (v ++ q)) _ (complete-decls d (c ∷ (v ++ q)) (ap (is_sign sign.OpenBracket) h) (ap (is_sign sign.Comma) h)))
     (token_then (sign_at sign.Colon) _ c (v ++ q) c.span _ (sign-reads sign.Colon c (v ++ q) h)
     (below_then (λ r. r.nested) _ v q t _ (below-nested (v ++ q) _ y) (below_returned _ q)))
 
-pub formal-with : {f : Formal} (t : Token) (m : PassMode) (s q : List Token) → mode_of t.kind ≡ Some m → YieldsIn type_readers (λ r. formal_behind_at r (Some (t.span, m))) s (Ok (f, q))
+pub formal-with : {f : Formal} (t : Token) (m : PassMode) (s q : List Token) → mode_of t.kind ≡ Some m → YieldsIn type_readers (λ r. formal_after_at r (Some (t.span, m))) s (Ok (f, q))
     → YieldsIn type_readers formal_at (t ∷ s) (Ok (f, q))
 unfolding formal_at mode_at
 formal-with t m s q h y =
-    yields_then (λ r. mode_at) formal_behind_at (t ∷ []) s (Some (t.span, m)) _
+    yields_then (λ r. mode_at) formal_after_at (t ∷ []) s (Some (t.span, m)) _
     (yields_met _ _ _ (t ∷ s) _ (ap is_some h) (token_then mode_word_at _ t s (t.span, m) _ (mode_reads t m s h) (below_returned _ s))) y
 
-pub formal-without : {f : Formal} (s q : List Token) → next_is (λ t. is_some (mode_of t.kind)) s ≡ false → YieldsIn type_readers (λ r. formal_behind_at r None) s (Ok (f, q))
+pub formal-without : {f : Formal} (s q : List Token) → next_is (λ t. is_some (mode_of t.kind)) s ≡ false → YieldsIn type_readers (λ r. formal_after_at r None) s (Ok (f, q))
     → YieldsIn type_readers formal_at s (Ok (f, q))
 unfolding formal_at mode_at
-formal-without s q h y = yields_then (λ r. mode_at) formal_behind_at [] s None _ (yields_unmet _ _ _ s _ h (yields_returned None s)) y
+formal-without s q h y = yields_then (λ r. mode_at) formal_after_at [] s None _ (yields_unmet _ _ _ s _ h (yields_returned None s)) y
 
 -- a formal begins with a name or with the word of its mode
 pub formal-opens : {f : Formal} {u : List Token} → SpellsFormal f u → (q : List Token) → next_is (λ t. is_sign sign.CloseParen t.kind) (u ++ q) ≡ false
@@ -191,15 +191,15 @@ pub more-fields-stop : {fs : List Formal} {v : List Token} → SpellsMoreFields 
 more-fields-stop g.no_more_fields k q h = token-stops-type k q (ap continues_type h)
 more-fields-stop (g.one_more_field {u = u} {v = v} s h d m) k q i = token-stops-type s ((u ++ v) ++ k ∷ q) (ap continues_type h)
 
-pub no-formals : (k : Token) (q : List Token) → IsSign sign.CloseParen k → YieldsIn type_readers formals_behind_at (k ∷ q) (Ok ([], q))
-unfolding formals_behind_at
+pub no-formals : (k : Token) (q : List Token) → IsSign sign.CloseParen k → YieldsIn type_readers formals_after_at (k ∷ q) (Ok ([], q))
+unfolding formals_after_at
 no-formals k q h =
     yields_met _ _ _ (k ∷ q) _ (is_that_sign sign.CloseParen k h) (token_then (sign_at sign.CloseParen) _ k q k.span _ (sign-reads sign.CloseParen k q h) (below_returned _ q))
 
 pub some-formals : {f : Formal} {fs : List Formal} (u v : List Token) (k : Token) (q : List Token) → IsSign sign.CloseParen k
     → next_is (λ t. is_sign sign.CloseParen t.kind) (u ++ (v ++ k ∷ q)) ≡ false → YieldsIn type_readers formal_at (u ++ (v ++ k ∷ q)) (Ok (f, v ++ k ∷ q))
-    → LoopsIn type_readers is_separated next_formal_at (f ∷ []) (v ++ k ∷ q) (Ok (f ∷ fs, k ∷ q)) → YieldsIn type_readers formals_behind_at (u ++ (v ++ k ∷ q)) (Ok (f ∷ fs, q))
-unfolding formals_behind_at more_formals_at
+    → LoopsIn type_readers is_separated next_formal_at (f ∷ []) (v ++ k ∷ q) (Ok (f ∷ fs, k ∷ q)) → YieldsIn type_readers formals_after_at (u ++ (v ++ k ∷ q)) (Ok (f ∷ fs, q))
+unfolding formals_after_at more_formals_at
 some-formals {f = f} {fs = fs} u v k q h e y l =
     yields_unmet _ _ _ (u ++ (v ++ k ∷ q)) _ e
     (yields_then formal_at _ u (v ++ k ∷ q) f _ y
@@ -220,7 +220,7 @@ returns-yields {d = d} {t = t} {u = u} w c v q h x i y =
     yields_met _ _ _ (w ∷ (u ++ c ∷ (v ++ q))) _ (is_that_word word.Returns w h)
     (token_then (word_at word.Returns) _ w (u ++ c ∷ (v ++ q)) w.span _ (word-reads word.Returns w (u ++ c ∷ (v ++ q)) h)
     (below_then (λ r. decl_at r.expressions) _ u (c ∷ (v ++ q)) d _
-    (below_part (λ r. r.expressions) (λ n. refl) decl_at (u ++ c ∷ (v ++ q)) _ (below decl_at (u ++ c ∷ (v ++ q)) _ (whole-decl x (c ∷ (v ++ q)) (ap (is_sign sign.OpenBracket) i))))
+    (below_part (λ r. r.expressions) (λ n. refl) decl_at (u ++ c ∷ (v ++ q)) _ (below decl_at (u ++ c ∷ (v ++ q)) _ (complete-decl x (c ∷ (v ++ q)) (ap (is_sign sign.OpenBracket) i))))
     (below_token (sign_at sign.Colon) _ c (v ++ q) c.span _ (sign-reads sign.Colon c (v ++ q) i)
     (below_then (λ r. r.nested) _ v q t _ (below-nested (v ++ q) _ y) (below_returned _ q)))))
 
@@ -259,19 +259,19 @@ unfolding own_kinds_at
 own-closed x s z e y = record { gives = λ k h. ap (λ b. (if b then returned [] else kinds_at) s) e ∙ y.gives k h }
 
 pub signature-yields : {fs : List Formal} {x : Option Returned} {ks : List InvocationKind} (o : Token) (u v w q : List Token) → IsSign sign.OpenParen o
-    → YieldsIn type_readers formals_behind_at (u ++ (v ++ (w ++ q))) (Ok (fs, v ++ (w ++ q))) → YieldsIn type_readers returned_at (v ++ (w ++ q)) (Ok (x, w ++ q))
+    → YieldsIn type_readers formals_after_at (u ++ (v ++ (w ++ q))) (Ok (fs, v ++ (w ++ q))) → YieldsIn type_readers returned_at (v ++ (w ++ q)) (Ok (x, w ++ q))
     → YieldsIn type_readers (λ r. own_kinds_at x) (w ++ q) (Ok (ks, q)) → YieldsIn type_readers signature_at (o ∷ (u ++ (v ++ (w ++ q)))) (Ok (signature_of o.span fs x ks, q))
 unfolding signature_at
 signature-yields {fs = fs} {x = x} {ks = ks} o u v w q h a b c =
     token_then (sign_at sign.OpenParen) _ o (u ++ (v ++ (w ++ q))) o.span _ (sign-reads sign.OpenParen o (u ++ (v ++ (w ++ q))) h)
-    (below_then formals_behind_at _ u (v ++ (w ++ q)) fs _ (below formals_behind_at (u ++ (v ++ (w ++ q))) _ a)
+    (below_then formals_after_at _ u (v ++ (w ++ q)) fs _ (below formals_after_at (u ++ (v ++ (w ++ q))) _ a)
     (below_then returned_at _ v (w ++ q) x _ (below returned_at (v ++ (w ++ q)) _ b)
     (below_then (λ r. own_kinds_at x) _ w q ks _ (below (λ r. own_kinds_at x) (w ++ q) _ c) (below_returned _ q))))
 
-pub formals-yields : {fs : List Formal} (o : Token) (s q : List Token) → IsSign sign.OpenParen o → YieldsIn type_readers formals_behind_at s (Ok (fs, q))
+pub formals-yields : {fs : List Formal} (o : Token) (s q : List Token) → IsSign sign.OpenParen o → YieldsIn type_readers formals_after_at s (Ok (fs, q))
     → YieldsIn type_readers formals_at (o ∷ s) (Ok (fs, q))
 unfolding formals_at
-formals-yields o s q h y = token_then (sign_at sign.OpenParen) (λ r x. formals_behind_at r) o s o.span _ (sign-reads sign.OpenParen o s h) (below formals_behind_at s _ y)
+formals-yields o s q h y = token_then (sign_at sign.OpenParen) (λ r x. formals_after_at r) o s o.span _ (sign-reads sign.OpenParen o s h) (below formals_after_at s _ y)
 
 -- types that are declared
 
@@ -288,11 +288,11 @@ type-enum {ns = ns} {u = u} t o c q h i d j =
     (token_then (word_at word.Enum) _ t (o ∷ (u ++ c ∷ q)) t.span _ (word-reads word.Enum t (o ∷ (u ++ c ∷ q)) h)
     (below_token (sign_at sign.OpenParen) _ o (u ++ c ∷ q) o.span _ (sign-reads sign.OpenParen o (u ++ c ∷ q) i)
     (below_then (λ r. names_at r.expressions) _ u (c ∷ q) ns _
-    (below_part (λ r. r.expressions) (λ n. refl) names_at (u ++ c ∷ q) _ (below names_at (u ++ c ∷ q) _ (whole-names d (c ∷ q) (ap (is_sign sign.Comma) j))))
+    (below_part (λ r. r.expressions) (λ n. refl) names_at (u ++ c ∷ q) _ (below names_at (u ++ c ∷ q) _ (complete-names d (c ∷ q) (ap (is_sign sign.Comma) j))))
     (below_token (sign_at sign.CloseParen) _ c q c.span _ (sign-reads sign.CloseParen c q j) (below_returned _ q)))))
 
 pub type-record : {f : Formal} {fs : List Formal} (t o c : Token) (u v q : List Token) → IsWord word.Rec t → IsSign sign.OpenParen o → IsSign sign.CloseParen c
-    → YieldsIn type_readers (λ r. formal_behind_at r None) (u ++ (v ++ c ∷ q)) (Ok (f, v ++ c ∷ q))
+    → YieldsIn type_readers (λ r. formal_after_at r None) (u ++ (v ++ c ∷ q)) (Ok (f, v ++ c ∷ q))
     → LoopsIn type_readers is_separated next_field_at (f ∷ []) (v ++ c ∷ q) (Ok (f ∷ fs, c ∷ q))
     → YieldsIn type_readers type_at (t ∷ o ∷ (u ++ (v ++ c ∷ q))) (Ok (ty.Rec t.span (f ∷ fs), q))
 unfolding type_at record_type_at more_fields_at
@@ -301,7 +301,7 @@ type-record {f = f} {fs = fs} t o c u v q h i j y l =
     (yields_met _ _ _ (t ∷ o ∷ (u ++ (v ++ c ∷ q))) _ (is_that_word word.Rec t h)
     (token_then (word_at word.Rec) _ t (o ∷ (u ++ (v ++ c ∷ q))) t.span _ (word-reads word.Rec t (o ∷ (u ++ (v ++ c ∷ q))) h)
     (below_token (sign_at sign.OpenParen) _ o (u ++ (v ++ c ∷ q)) o.span _ (sign-reads sign.OpenParen o (u ++ (v ++ c ∷ q)) i)
-    (below_then (λ r. formal_behind_at r None) _ u (v ++ c ∷ q) f _ (below (λ r. formal_behind_at r None) (u ++ (v ++ c ∷ q)) _ y)
+    (below_then (λ r. formal_after_at r None) _ u (v ++ c ∷ q) f _ (below (λ r. formal_after_at r None) (u ++ (v ++ c ∷ q)) _ y)
     (below_then (λ r. more_fields_at r (f ∷ [])) _ v (c ∷ q) (f ∷ fs) _
     (below _ (v ++ c ∷ q) _ (loop_within is_separated next_field_at (λ r. r.expressions.steps) steps-readers (f ∷ []) (v ++ c ∷ q) _ l))
     (below_token (sign_at sign.CloseParen) _ c q c.span _ (sign-reads sign.CloseParen c q j) (below_returned _ q)))))))

@@ -1,7 +1,7 @@
--- Where the token behind a type continues its right edge, some longer list spells a type.
+-- Where the token after a type continues its right edge, some longer list spells a type.
 use Rattle.std.proofs.Common.{◌≡◌, refl, sym, ◌∙◌, ap, subst, Bool, true, false, List, [], ◌∷◌, ◌++◌, Option, Some, None, ◌⊎◌, inl, inr, append_assoc}
 use Rattle.sr_reader.specs.Pieces.{GoesOn}
-use Rattle.sr_reader.proofs.Locality.{append-nil}
+use Rattle.sr_reader.proofs.Soundness.{append-nil}
 use Rattle.sr_tree.specs.declared.name.QualifiedName.{QualifiedName}
 use Rattle.sr_tree.specs.declared.token.Sign.TheVariants as sign
 use Rattle.sr_tree.specs.declared.token.Token.{Token}
@@ -22,11 +22,11 @@ use Rattle.sr_tree.specs.Types as g
 use Rattle.sr_tree.specs.Types.{SpellsPlainType, SpellsReturned, SpellsKinds, SpellsSignature, SpellsType, EndsOpen, BracesBelong, formal_span}
 use Rattle.sr_expr_reader.specs.TypeReaders.{ends_open}
 use Rattle.sr_expr_reader.proofs.Extends.{with_kind, has-kind}
-use Rattle.sr_expr_reader.proofs.TokensLocal.{kind_of_sign, kind_of_word}
-use Rattle.sr_expr_reader.proofs.TypesLocal.{returned_of, signature_of}
+use Rattle.sr_expr_reader.proofs.TokensSound.{kind_of_sign, kind_of_word}
+use Rattle.sr_expr_reader.proofs.TypesSound.{returned_of, signature_of}
 use Rattle.sr_expr_reader.proofs.TypesOpen.{closed-type}
 use Rattle.sr_expr_reader.proofs.TypesQuiet.{QuietName, QuietPlainType, QuietSignature, QuietTail, QuietType}
-use Rattle.sr_expr_reader.proofs.TypesWhole.{type-of-returned}
+use Rattle.sr_expr_reader.proofs.TypesComplete.{type-of-returned}
 
 name_goes_on : {n : QualifiedName} {u : List Token} (d : SpellsQualifiedName n u) (t : Token) (q : List Token) → QuietName d (t ∷ q) ⊎ GoesOn SpellsQualifiedName u t
 unfolding QuietName
@@ -41,7 +41,7 @@ name_goes_on (names.plain n h) t q = go (is_sign sign.Point t.kind) refl
       spelled = names.qualified n t (with_kind t kind.Name) h (kind_of_sign sign.Point t.kind e) (has-kind t kind.Name);
     })
 
--- a longer list that spells what stands behind formals
+-- a longer list that spells what stands after formals
 record TailGoesOn (s : List Token) (t : Token) : Type 0 where
   returned : Option Returned
   kinds : List InvocationKind
@@ -53,7 +53,7 @@ record TailGoesOn (s : List Token) (t : Token) : Type 0 where
   braces : SpellsKinds kinds back
   belong : BracesBelong returned kinds
 
--- a type and braces that may stand behind it
+-- a type and braces that may stand after it
 
 some_returned : (w : Token) → IsWord word.Returns w
     → SpellsReturned (Some (returned_of w.span (record { span = (with_kind w kind.Name).span; name = name_of (with_kind w kind.Name); dims = None }) (ty.Int (with_kind w (kind.Word word.Int)).span)))
@@ -67,7 +67,7 @@ some_braces o h =
     g.kinds o (with_kind o (kind.Word word.Call)) (with_kind o (kind.Sign sign.CloseBrace)) word.Call invoked.Call h (has-kind o (kind.Word word.Call)) refl g.no_more_kinds
     (has-kind o (kind.Sign sign.CloseBrace))
 
--- behind formals alone
+-- after formals alone
 bare_tail : (t : Token) (q : List Token) → ((is_word word.Returns t.kind ≡ false) × (is_sign sign.OpenBrace t.kind ≡ false)) ⊎ TailGoesOn [] t
 bare_tail t q = by_word (is_word word.Returns t.kind) refl
   where
@@ -83,7 +83,7 @@ bare_tail t q = by_word (is_word word.Returns t.kind) refl
       splits = refl;
       returns = g.returns_nothing;
       braces = some_braces t (kind_of_sign sign.OpenBrace t.kind e);
-      belong = g.behind_formals;
+      belong = g.after_formals;
     })
 
     by_word : (b : Bool) → is_word word.Returns t.kind ≡ b → ((is_word word.Returns t.kind ≡ false) × (is_sign sign.OpenBrace t.kind ≡ false)) ⊎ TailGoesOn [] t
@@ -100,9 +100,9 @@ bare_tail t q = by_word (is_word word.Returns t.kind) refl
       belong = g.no_braces;
     })
 
--- behind a type that is returned
-braces_behind : {d : Decl} {ty : TypeTree} {v : List Token} (w t : Token) → SpellsReturned (Some (returned_of w.span d ty)) v → ends_open ty ≡ false → IsSign sign.OpenBrace t → TailGoesOn (v ++ []) t
-braces_behind {d = d} {ty = y} {v = v} w t r e h = record {
+-- after a type that is returned
+braces_after : {d : Decl} {ty : TypeTree} {v : List Token} (w t : Token) → SpellsReturned (Some (returned_of w.span d ty)) v → ends_open ty ≡ false → IsSign sign.OpenBrace t → TailGoesOn (v ++ []) t
+braces_after {d = d} {ty = y} {v = v} w t r e h = record {
   returned = Some (returned_of w.span d y);
   kinds = invoked.Call ∷ [];
   front = v;
@@ -111,7 +111,7 @@ braces_behind {d = d} {ty = y} {v = v} w t r e h = record {
   splits = ap (λ x. x ++ t ∷ with_kind t (kind.Word word.Call) ∷ with_kind t (kind.Sign sign.CloseBrace) ∷ []) (append-nil v);
   returns = r;
   braces = some_braces t h;
-  belong = g.behind_type (returned_of w.span d y) (λ o. closed-type y e (subst EndsOpen (type-of-returned w.span d y) o));
+  belong = g.after_type (returned_of w.span d y) (λ o. closed-type y e (subst EndsOpen (type-of-returned w.span d y) o));
 }
 
 longer_type : {d : Decl} {u v : List Token} (w c t : Token) (h : IsWord word.Returns w) (x : g.SpellsDecl d u) (i : IsSign sign.Colon c) → GoesOn SpellsPlainType v t
@@ -184,7 +184,7 @@ mutual
       by_brace : QuietPlainType p (t ∷ q) → ends_open y ≡ false → (b : Bool) → is_sign sign.OpenBrace t.kind ≡ b
           → (QuietPlainType p (t ∷ q) × (ends_open y ≡ false → is_sign sign.OpenBrace t.kind ≡ false)) ⊎ TailGoesOn ((w ∷ (u ++ c ∷ v)) ++ []) t
       by_brace z e false n = inl (z, λ f. n)
-      by_brace z e true n = inr (braces_behind w t (g.returned w c h x i p) e (kind_of_sign sign.OpenBrace t.kind n))
+      by_brace z e true n = inr (braces_after w t (g.returned w c h x i p) e (kind_of_sign sign.OpenBrace t.kind n))
 
       by_open : QuietPlainType p (t ∷ q) → (b : Bool) → ends_open y ≡ b
           → (QuietPlainType p (t ∷ q) × (ends_open y ≡ false → is_sign sign.OpenBrace t.kind ≡ false)) ⊎ TailGoesOn ((w ∷ (u ++ c ∷ v)) ++ []) t

@@ -1,4 +1,4 @@
--- When the token behind a type continues nothing at its right edge.
+-- When the token after a type continues nothing at its right edge.
 use Rattle.std.proofs.Common.{◌≡◌, refl, ap, Bool, true, false, List, [], ◌∷◌, Option}
 use Rattle.std.specs.Prelude.{if◌then◌else◌}
 use Rattle.sr_reader.specs.Reader.{next_is}
@@ -115,7 +115,7 @@ unfolding QuietPlainType
 kinds_quiet (g.kinds o t c w k h i e m j) r q n = tt
 kinds_quiet g.no_kinds r q n = absurd (n refl)
 
--- braces behind a type that doesn't end in a signature without them
+-- braces after a type that doesn't end in a signature without them
 pub braces-quiet : {t : TypeTree} {u : List Token} (d : SpellsPlainType t u) (o : Token) (q : List Token) → IsSign sign.OpenBrace o → ¬ EndsOpen t → QuietPlainType d (o ∷ q)
 unfolding QuietPlainType
 braces-quiet (g.int t h) o q b n = tt

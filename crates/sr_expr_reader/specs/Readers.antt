@@ -1,4 +1,4 @@
--- Readers of expressions. Those that read from behind a token again are fields of a record, so that they
+-- Readers of expressions. Those that read from after a token again are fields of a record, so that they
 -- are defined by recursion on a number that bounds the tokens.
 use Rattle.std.specs.Prelude.{ℕ, zero, suc, Bool, true, false, ◌&&◌, nat_lt, nat_le, List, [], ◌∷◌, ◌++◌, Option, Some, None, is_some, option_map, if◌then◌else◌}
 use Rattle.sr_reader.specs.Reader.{Reader, returned, unfit, ◌>>=◌, one, branch, while}
@@ -136,7 +136,7 @@ next_part_at r ps = do
 unfoldable pub more_parts_at : Readers → List Part → Reader Token (List Part)
 more_parts_at r ps = while is_comma (next_part_at r) r.steps ps
 
--- the rest of an array behind its first parts
+-- the rest of an array after its first parts
 unfoldable pub array_at : Readers → Span → List Part → Reader Token Expr
 array_at r span first = do
   ps ← more_parts_at r first
@@ -191,7 +191,7 @@ start_at r = branch (λ t. is_some (conversion_of t.kind)) (converted_at r)
       l ← literal_at
       returned (expr.Literal l.0 l.1)))))
 
--- what may stand behind a primary and continue it
+-- what may stand after a primary and continue it
 unfoldable pub field_at : Expr → Reader Token Expr
 field_at p = do
   point ← sign_at sign.Point
@@ -219,7 +219,7 @@ call_at r p = do
   es ← arguments_at r
   returned (expr.Call (invocation p es))
 
--- a bracket behind `int` or `char` would be a conversion's
+-- a bracket after `int` or `char` would be a conversion's
 abbrev pub is_callable : Expr → Token → Bool
 is_callable p t = if is_conversion_word p then false else is_sign sign.OpenParen t.kind
 

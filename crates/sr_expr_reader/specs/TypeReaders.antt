@@ -1,4 +1,4 @@
--- Readers of types, signatures and declared names. What reads a type from behind a token again is a field of a
+-- Readers of types, signatures and declared names. What reads a type from after a token again is a field of a
 -- record, as with expressions.
 use Rattle.std.specs.Prelude.{ℕ, zero, suc, Bool, true, false, List, [], ◌∷◌, ◌++◌, Option, Some, None, is_some, option_map, if◌then◌else◌}
 use Rattle.sr_reader.specs.Reader.{Reader, returned, unfit, ◌>>=◌, one, branch, while}
@@ -75,7 +75,7 @@ names_at r = do
   n ← name_at
   more_names_at r (n ∷ [])
 
--- ":" (expr | "*") behind a lower bound
+-- ":" (expr | "*") after a lower bound
 unfoldable pub upper_bound_at : Readers → Expr → Reader Token RangeTree
 upper_bound_at r low = do
   colon ← sign_at sign.Colon
@@ -150,9 +150,9 @@ formal_start (Some m) ds = m.0
 formal_start None (d ∷ ds) = d.span
 formal_start None [] = record { file = 0; from = 0; to = 0; line = 0 }
 
--- what stands behind the word before a formal
-unfoldable pub formal_behind_at : TypeReaders → Option (Span × PassMode) → Reader Token Formal
-formal_behind_at r m = do
+-- what stands after the word before a formal
+unfoldable pub formal_after_at : TypeReaders → Option (Span × PassMode) → Reader Token Formal
+formal_after_at r m = do
   ds ← decls_at r.expressions
   colon ← sign_at sign.Colon
   t ← r.nested
@@ -161,7 +161,7 @@ formal_behind_at r m = do
 unfoldable pub formal_at : TypeReaders → Reader Token Formal
 formal_at r = do
   m ← mode_at
-  formal_behind_at r m
+  formal_after_at r m
 
 abbrev pub is_separated : {A : Type 0} → A → Token → Bool
 is_separated a t = is_separator t.kind
@@ -177,8 +177,8 @@ unfoldable pub more_formals_at : TypeReaders → List Formal → Reader Token (L
 more_formals_at r fs = while is_separated (next_formal_at r) r.expressions.steps fs
 
 -- [formal {";" formal}] ")"
-unfoldable pub formals_behind_at : TypeReaders → Reader Token (List Formal)
-formals_behind_at r = branch (λ t. is_sign sign.CloseParen t.kind)
+unfoldable pub formals_after_at : TypeReaders → Reader Token (List Formal)
+formals_after_at r = branch (λ t. is_sign sign.CloseParen t.kind)
     (do
       closing ← sign_at sign.CloseParen
       returned [])
@@ -191,7 +191,7 @@ formals_behind_at r = branch (λ t. is_sign sign.CloseParen t.kind)
 unfoldable pub formals_at : TypeReaders → Reader Token (List Formal)
 formals_at r = do
   opening ← sign_at sign.OpenParen
-  formals_behind_at r
+  formals_after_at r
 
 -- ["returns" decl ":" type]
 unfoldable pub returned_at : TypeReaders → Reader Token (Option Returned)
@@ -226,7 +226,7 @@ kinds_at = branch (λ t. is_sign sign.OpenBrace t.kind)
       returned (k ∷ ks))
     (returned [])
 
--- whether the braces behind a type would be those of a signature that it ends in
+-- whether the braces after a type would belong to a signature at its end
 abbrev pub has_no_kinds : {A : Type 0} → List A → Bool
 has_no_kinds [] = true
 has_no_kinds (k ∷ ks) = false
@@ -250,7 +250,7 @@ own_kinds_at r = if returns_open r then returned [] else kinds_at
 unfoldable pub signature_at : TypeReaders → Reader Token Signature
 signature_at r = do
   span ← sign_at sign.OpenParen
-  fs ← formals_behind_at r
+  fs ← formals_after_at r
   x ← returned_at r
   ks ← own_kinds_at x
   returned (roll-Signature (record { span = span; formals = fs; returned = x; kinds = ks }))
@@ -315,7 +315,7 @@ enum_at r = do
 unfoldable pub next_field_at : TypeReaders → List Formal → Reader Token (List Formal)
 next_field_at r fs = do
   separator ← separator_at
-  f ← formal_behind_at r None
+  f ← formal_after_at r None
   returned (fs ++ f ∷ [])
 
 unfoldable pub more_fields_at : TypeReaders → List Formal → Reader Token (List Formal)
@@ -326,7 +326,7 @@ unfoldable pub record_type_at : TypeReaders → Reader Token TypeTree
 record_type_at r = do
   span ← word_at word.Rec
   opening ← sign_at sign.OpenParen
-  f ← formal_behind_at r None
+  f ← formal_after_at r None
   fs ← more_fields_at r (f ∷ [])
   closing ← sign_at sign.CloseParen
   returned (ty.Rec span fs)

@@ -14,7 +14,7 @@ pub fn one_expression()
 {}
 
 /// A law of the readers, where they have enough turns: what is read is the longest piece from the front that spells
-/// an expression; where reading fails, there is no longest piece, and unless the place is behind the last token no
+/// an expression; where reading fails, there is no longest piece, and unless the place is after the last token no
 /// list with an expression begins with the tokens up to and with the place.
 pub fn reads_longest()
     ensures longest { (s : List Token) (a : Expr) (q : List Token)
@@ -34,7 +34,7 @@ pub fn one_type()
 {}
 
 /// A law of the readers of types, where they have enough turns: what is read is the longest piece from the front that
-/// spells a type; where reading fails, there is no longest piece, and unless the place is behind the last token no
+/// spells a type; where reading fails, there is no longest piece, and unless the place is after the last token no
 /// list with a type begins with the tokens up to and with the place.
 pub fn reads_longest_type()
     ensures longest { (s : List Token) (a : TypeTree) (q : List Token)

@@ -14,7 +14,7 @@ use Rattle.sr_core.specs.declared.statement.Statement.{Statement as CoreStatemen
 use Rattle.sr_core.specs.declared.statement.Statement.TheFolds.{fold-Statement as fold_core, fold-CoArm as fold_core_arm, fold-Guarded, fold-roll-Statement as fold_roll_core, fold-roll-CoArm as fold_roll_core_arm, fold-roll-Guarded, map-CoArm as map_core_arm}
 use Rattle.sr_core.specs.declared.statement.Statement.TheOpen.{Statement-F as Core-F, CoArm-F as CoreArm-F, Guarded-F}
 use Rattle.sr_core.specs.declared.statement.Statement.TheVariants as core
-use Rattle.sr_core.specs.WellFormed.{Around, Rule, all_allowed, block_allowed, within_arm, within_loop, action_allowed, co_arm_allowed, guarded_allowed, statement_allowed, if_some}
+use Rattle.sr_core.specs.WellFormed.{Enclosing, Rule, all_allowed, block_allowed, within_arm, within_loop, action_allowed, co_arm_allowed, guarded_allowed, statement_allowed, if_some}
 use Rattle.sr_check.specs.Contexts.{Context, Steps, in_order, with_facts, looping, with_more}
 use Rattle.sr_check.specs.Invoking.{invoked_found, is_serving, may_reply, started_found}
 use Rattle.sr_check.specs.Quantifying.{expr_with, quantifiers_found, quantifiers_known}
@@ -27,9 +27,9 @@ use Rattle.sr_names.specs.declared.predefined.Predefined.TheVariants as predefin
 use Rattle.sr_names.specs.declared.spot.Spot.{Spot}
 use Rattle.sr_names.specs.Spots.{spot_of}
 use Rattle.sr_check_expr.specs.Calls.{parts_found}
-use Rattle.sr_check_expr.specs.Judgements.{broken_unless, judged_of}
+use Rattle.sr_check_expr.specs.Typings.{broken_unless, typed_exprs_of}
 use Rattle.sr_names.specs.declared.finding.Rule.TheVariants.{BadUse}
-use Rattle.sr_check_expr.specs.Exprs.{judge_invocation}
+use Rattle.sr_check_expr.specs.Exprs.{infer_invocation}
 use Rattle.sr_core.specs.declared.statement.Scope.{Scope}
 use Rattle.sr_core.specs.declared.statement.Scope.TheVariants.{Own}
 use Rattle.sr_core.specs.declared.statement.Setup.{Setup}
@@ -40,7 +40,7 @@ use Rattle.sr_tree.specs.declared.declaration.ConstDecl.{ConstDecl}
 use Rattle.sr_tree.specs.declared.declaration.VarDecl.{VarDecl}
 use Rattle.sr_tree.specs.declared.types.Decl.{Decl}
 use Rattle.sr_tree.specs.declared.types.TypeTree.{TypeTree}
-use Rattle.sr_desugar.specs.Declarations.{behind, const_core, declare, first_of, typed, typed_vars, untyped, untyped_vars, var_core}
+use Rattle.sr_desugar.specs.Declarations.{after_first, const_core, declare, first_of, typed, typed_vars, untyped, untyped_vars, var_core}
 use Rattle.sr_desugar.specs.Places.{site_number}
 use Rattle.sr_tree.specs.declared.expr.Expr.{Expr}
 use Rattle.sr_tree.specs.declared.expr.Invocation.{Invocation}
@@ -55,10 +55,10 @@ use Rattle.sr_tree.specs.declared.statement.Statement.{Statement, roll-Statement
 use Rattle.sr_value.specs.declared.place.Place.{Place}
 use Rattle.sr_value.specs.declared.place.Span.{Span}
 use Rattle.sr_desugar.specs.declared.scene.Scene.{Scene}
-use Rattle.sr_desugar.specs.Statements.{ArmMade, Block, Made, all_made, arm_made, block_made, blocks_of, branch_made, call_action, call_made, co_arm_made, core_arm, core_block_item, core_branch, core_co_arm, core_statement, item_made, maybe_made, named_action, quantifiers_core, receive_assign, receive_made, statement_made}
+use Rattle.sr_desugar.specs.Statements.{LoweredArm, Block, WithSites, all_made, arm_made, block_made, blocks_of, branch_made, call_action, call_made, co_arm_made, core_arm, core_block_item, core_branch, core_co_arm, core_statement, item_made, maybe_made, named_action, quantifiers_core, receive_assign, receive_made, statement_made}
 use Rattle.sr_desugar.proofs.Waits.{all_appended, both}
-use Rattle.sr_check.specs.Unbroken.{Unbroken}
-use Rattle.sr_check.proofs.Unbroken.{rule_met, unbroken_first, unbroken_second}
+use Rattle.sr_check.specs.ErrorFree.{ErrorFree}
+use Rattle.sr_check.proofs.ErrorFree.{rule_met, error_free_first, error_free_second}
 
 -- ---- lists of tests
 
@@ -83,81 +83,81 @@ abbrev opened_arm : CoreArm-F CoreStatement CoreCoArm Guarded → CoreArm-F Rule
 opened_arm = map_core_arm CoreStatement CoreCoArm Guarded Rule Rule Rule allowed arm_is_allowed guarded_is_allowed
 
 -- a statement is allowed where it is, part by part
-pub rolled : (around : Around) (made : CoreStatement) (parts : Core-F CoreStatement CoreCoArm Guarded) → roll_core parts ≡ made
-    → IsTrue (statement_allowed (opened parts) around) → IsTrue (allowed made around)
-rolled around made parts is allowed_parts =
-    subst (λ one. IsTrue (allowed one around)) is
-    (subst (λ rule. IsTrue (rule around)) (sym (fold_roll_core Rule Rule Rule statement_allowed co_arm_allowed guarded_allowed parts)) allowed_parts)
+pub rolled : (enclosing : Enclosing) (made : CoreStatement) (parts : Core-F CoreStatement CoreCoArm Guarded) → roll_core parts ≡ made
+    → IsTrue (statement_allowed (opened parts) enclosing) → IsTrue (allowed made enclosing)
+rolled enclosing made parts is allowed_parts =
+    subst (λ one. IsTrue (allowed one enclosing)) is
+    (subst (λ rule. IsTrue (rule enclosing)) (sym (fold_roll_core Rule Rule Rule statement_allowed co_arm_allowed guarded_allowed parts)) allowed_parts)
 
 -- a statement that does something is allowed where what it does is
-pub act_allowed : (around : Around) (place : Place) (action : Action) → IsTrue (action_allowed action around) → IsTrue (allowed (core.Act place action) around)
-act_allowed around place action is = rolled around (core.Act place action) (Core-F.Act place action) (core.rolls-Act place action) is
+pub act_allowed : (enclosing : Enclosing) (place : Place) (action : Action) → IsTrue (action_allowed action enclosing) → IsTrue (allowed (core.Act place action) enclosing)
+act_allowed enclosing place action is = rolled enclosing (core.Act place action) (Core-F.Act place action) (core.rolls-Act place action) is
 
-pub block_appended : (around : Around) (a b : List CoreStatement) → IsTrue (block_allowed a around) → IsTrue (block_allowed b around) → IsTrue (block_allowed (a ++ b) around)
-block_appended around a b first second =
-    subst (λ rules. IsTrue (all_allowed rules around)) (sym (map-append allowed a b)) (all_appended (λ rule. rule around) (map allowed a) (map allowed b) first second)
+pub block_appended : (enclosing : Enclosing) (a b : List CoreStatement) → IsTrue (block_allowed a enclosing) → IsTrue (block_allowed b enclosing) → IsTrue (block_allowed (a ++ b) enclosing)
+block_appended enclosing a b first second =
+    subst (λ rules. IsTrue (all_allowed rules enclosing)) (sym (map-append allowed a b)) (all_appended (λ rule. rule enclosing) (map allowed a) (map allowed b) first second)
 
 -- ---- where the core stands
 
 -- what is around a statement in the core is what is around it in the text
-abbrev pub around_of : Context → Around
-around_of context = record { in_loop = context.in_loop; may_reply = may_reply context.serving; may_forward = is_serving context.serving }
+abbrev pub enclosing_of : Context → Enclosing
+enclosing_of context = record { in_loop = context.in_loop; may_reply = may_reply context.serving; may_forward = is_serving context.serving }
 
 -- ---- statements without blocks
 
 -- declarations and invocations are allowed everywhere
-named_call_allowed : (scene : Scene) (around : Around) (invocation : Invocation) (name : Predefined) → IsTrue (action_allowed (named_action scene invocation name) around)
-named_call_allowed scene around invocation predefined.Write = refl
-named_call_allowed scene around invocation predefined.Writes = refl
-named_call_allowed scene around invocation predefined.V = refl
-named_call_allowed scene around invocation _ = refl
+named_call_allowed : (scene : Scene) (enclosing : Enclosing) (invocation : Invocation) (name : Predefined) → IsTrue (action_allowed (named_action scene invocation name) enclosing)
+named_call_allowed scene enclosing invocation predefined.Write = refl
+named_call_allowed scene enclosing invocation predefined.Writes = refl
+named_call_allowed scene enclosing invocation predefined.V = refl
+named_call_allowed scene enclosing invocation _ = refl
 
-call_allowed : (scene : Scene) (around : Around) (invocation : Invocation) (name : Option Predefined) → IsTrue (action_allowed (call_action scene invocation name) around)
-call_allowed scene around invocation None = refl
-call_allowed scene around invocation (Some name) = named_call_allowed scene around invocation name
+call_allowed : (scene : Scene) (enclosing : Enclosing) (invocation : Invocation) (name : Option Predefined) → IsTrue (action_allowed (call_action scene invocation name) enclosing)
+call_allowed scene enclosing invocation None = refl
+call_allowed scene enclosing invocation (Some name) = named_call_allowed scene enclosing invocation name
 
-assigns_allowed : (scene : Scene) (around : Around) (span : Span) (places : List Expr) → IsTrue (block_allowed (map (receive_assign scene span) places) around)
-assigns_allowed scene around span [] = refl
-assigns_allowed scene around span (place ∷ places) =
-    both (allowed (receive_assign scene span place) around) (block_allowed (map (receive_assign scene span) places) around)
-    (act_allowed around _ _ refl) (assigns_allowed scene around span places)
+assigns_allowed : (scene : Scene) (enclosing : Enclosing) (span : Span) (places : List Expr) → IsTrue (block_allowed (map (receive_assign scene span) places) enclosing)
+assigns_allowed scene enclosing span [] = refl
+assigns_allowed scene enclosing span (place ∷ places) =
+    both (allowed (receive_assign scene span place) enclosing) (block_allowed (map (receive_assign scene span) places) enclosing)
+    (act_allowed enclosing _ _ refl) (assigns_allowed scene enclosing span places)
 
-receive_allowed : (scene : Scene) (around : Around) (span : Span) (operation : Spot) (places : List Expr) → IsTrue (allowed (receive_made scene span operation places).made around)
-receive_allowed scene around span operation places =
-    rolled around _ (Core-F.In (line_of span) (site_number scene (spot_of span)) (map (receive_assign scene span) places ∷ []) []) (core.rolls-In _ _ _ _)
-    (both _ true (both (block_allowed (map (receive_assign scene span) places) (within_arm around)) true (assigns_allowed scene (within_arm around) span places) refl) refl)
+receive_allowed : (scene : Scene) (enclosing : Enclosing) (span : Span) (operation : Spot) (places : List Expr) → IsTrue (allowed (receive_made scene span operation places).made enclosing)
+receive_allowed scene enclosing span operation places =
+    rolled enclosing _ (Core-F.In (line_of span) (site_number scene (spot_of span)) (map (receive_assign scene span) places ∷ []) []) (core.rolls-In _ _ _ _)
+    (both _ true (both (block_allowed (map (receive_assign scene span) places) (within_arm enclosing)) true (assigns_allowed scene (within_arm enclosing) span places) refl) refl)
 
-either_allowed : (around : Around) (test : Bool) (one other : Made CoreStatement) → IsTrue (allowed one.made around) → IsTrue (allowed other.made around)
-    → IsTrue (allowed (if test then one else other).made around)
-either_allowed around true one other first second = first
-either_allowed around false one other first second = second
+either_allowed : (enclosing : Enclosing) (test : Bool) (one other : WithSites CoreStatement) → IsTrue (allowed one.made enclosing) → IsTrue (allowed other.made enclosing)
+    → IsTrue (allowed (if test then one else other).made enclosing)
+either_allowed enclosing true one other first second = first
+either_allowed enclosing false one other first second = second
 
-invocation_allowed : (scene : Scene) (around : Around) (span : Span) (invocation : Invocation) (function : Option Predefined) → IsTrue (allowed (call_made scene span invocation function).made around)
-invocation_allowed scene around span invocation function =
-    either_allowed around (is_p function) _ _
-    (receive_allowed scene around span (wait_operation scene.facts span invocation) [])
-    (act_allowed around (line_of span) (call_action scene invocation function) (call_allowed scene around invocation function))
+invocation_allowed : (scene : Scene) (enclosing : Enclosing) (span : Span) (invocation : Invocation) (function : Option Predefined) → IsTrue (allowed (call_made scene span invocation function).made enclosing)
+invocation_allowed scene enclosing span invocation function =
+    either_allowed enclosing (is_p function) _ _
+    (receive_allowed scene enclosing span (wait_operation scene.facts span invocation) [])
+    (act_allowed enclosing (line_of span) (call_action scene invocation function) (call_allowed scene enclosing invocation function))
 
 -- the sends of a semaphore
-pub sends_allowed : (around : Around) (place : Place) (target count : CoreExpr) → IsTrue (allowed (core.Sends place target count) around)
-sends_allowed around place target count = rolled around _ (Core-F.Sends place target count) (core.rolls-Sends _ _ _) refl
+pub sends_allowed : (enclosing : Enclosing) (place : Place) (target count : CoreExpr) → IsTrue (allowed (core.Sends place target count) enclosing)
+sends_allowed enclosing place target count = rolled enclosing _ (Core-F.Sends place target count) (core.rolls-Sends _ _ _) refl
 
 -- ---- trees
 
 abbrev ItemGood : BlockItem → Type 0
-ItemGood item = (scene : Scene) (context : Context) → Unbroken (block_item_read item context).found → IsTrue (block_allowed (core_block_item scene item).made (around_of context))
+ItemGood item = (scene : Scene) (context : Context) → ErrorFree (block_item_read item context).found → IsTrue (block_allowed (core_block_item scene item).made (enclosing_of context))
 
 abbrev pub StatementGood : Statement → Type 0
-StatementGood tree = (scene : Scene) (context : Context) → Unbroken (statement_read tree context).found → IsTrue (allowed (core_statement scene tree).made (around_of context))
+StatementGood tree = (scene : Scene) (context : Context) → ErrorFree (statement_read tree context).found → IsTrue (allowed (core_statement scene tree).made (enclosing_of context))
 
 abbrev ArmGood : Arm → Type 0
-ArmGood arm = (scene : Scene) (context : Context) (span : Span) → Unbroken ((arm_read arm).steps span context).found → IsTrue (block_allowed (core_arm scene arm).made.block (within_arm (around_of context)))
+ArmGood arm = (scene : Scene) (context : Context) (span : Span) → ErrorFree ((arm_read arm).steps span context).found → IsTrue (block_allowed (core_arm scene arm).made.block (within_arm (enclosing_of context)))
 
 abbrev BranchGood : Branch → Type 0
-BranchGood branch = (scene : Scene) (context : Context) → Unbroken (branch_read branch context).found → IsTrue (guarded_is_allowed (core_branch scene branch).made (around_of context))
+BranchGood branch = (scene : Scene) (context : Context) → ErrorFree (branch_read branch context).found → IsTrue (guarded_is_allowed (core_branch scene branch).made (enclosing_of context))
 
 abbrev CoArmGood : CoArm → Type 0
-CoArmGood arm = (scene : Scene) (context : Context) → Unbroken (co_arm_read arm context).found → IsTrue (arm_is_allowed (core_co_arm scene arm).made (around_of context))
+CoArmGood arm = (scene : Scene) (context : Context) → ErrorFree (co_arm_read arm context).found → IsTrue (arm_is_allowed (core_co_arm scene arm).made (enclosing_of context))
 
 -- trees with what is known of them
 abbrev I : Type 0
@@ -176,174 +176,174 @@ abbrev C : Type 0
 C = (tree : CoArm) × CoArmGood tree
 
 items_good : (scene : Scene) (context : Context) (items : List I)
-    → Unbroken (in_order (map block_item_read (map (λ e. e.0) items)) context).found
-    → IsTrue (block_allowed (block_made (map (core_block_item scene) (map (λ e. e.0) items))).made (around_of context))
+    → ErrorFree (in_order (map block_item_read (map (λ e. e.0) items)) context).found
+    → IsTrue (block_allowed (block_made (map (core_block_item scene) (map (λ e. e.0) items))).made (enclosing_of context))
 items_good scene context [] whole = refl
 items_good scene context (item ∷ items) whole =
-    block_appended (around_of context) (core_block_item scene item.0).made (block_made (map (core_block_item scene) (map (λ e. e.0) items))).made
-    (item.1 scene context (unbroken_first (block_item_read item.0 context).found _ whole))
-    (items_good scene (with_facts context (block_item_read item.0 context).facts) items (unbroken_second (block_item_read item.0 context).found _ whole))
+    block_appended (enclosing_of context) (core_block_item scene item.0).made (block_made (map (core_block_item scene) (map (λ e. e.0) items))).made
+    (item.1 scene context (error_free_first (block_item_read item.0 context).found _ whole))
+    (items_good scene (with_facts context (block_item_read item.0 context).facts) items (error_free_second (block_item_read item.0 context).found _ whole))
 
 branches_good : (scene : Scene) (context : Context) (branches : List B)
-    → Unbroken (in_order (map branch_read (map (λ e. e.0) branches)) context).found
-    → IsTrue (all_allowed (map guarded_is_allowed (all_made (map (core_branch scene) (map (λ e. e.0) branches)))) (around_of context))
+    → ErrorFree (in_order (map branch_read (map (λ e. e.0) branches)) context).found
+    → IsTrue (all_allowed (map guarded_is_allowed (all_made (map (core_branch scene) (map (λ e. e.0) branches)))) (enclosing_of context))
 branches_good scene context [] whole = refl
 branches_good scene context (branch ∷ branches) whole =
-    both (guarded_is_allowed (core_branch scene branch.0).made (around_of context)) _
-    (branch.1 scene context (unbroken_first (branch_read branch.0 context).found _ whole))
-    (branches_good scene (with_facts context (branch_read branch.0 context).facts) branches (unbroken_second (branch_read branch.0 context).found _ whole))
+    both (guarded_is_allowed (core_branch scene branch.0).made (enclosing_of context)) _
+    (branch.1 scene context (error_free_first (branch_read branch.0 context).found _ whole))
+    (branches_good scene (with_facts context (branch_read branch.0 context).facts) branches (error_free_second (branch_read branch.0 context).found _ whole))
 
 co_arms_good : (scene : Scene) (context : Context) (arms : List C)
-    → Unbroken (in_order (map co_arm_read (map (λ e. e.0) arms)) context).found
-    → IsTrue (all_allowed (map arm_is_allowed (all_made (map (core_co_arm scene) (map (λ e. e.0) arms)))) (around_of context))
+    → ErrorFree (in_order (map co_arm_read (map (λ e. e.0) arms)) context).found
+    → IsTrue (all_allowed (map arm_is_allowed (all_made (map (core_co_arm scene) (map (λ e. e.0) arms)))) (enclosing_of context))
 co_arms_good scene context [] whole = refl
 co_arms_good scene context (arm ∷ arms) whole =
-    both (arm_is_allowed (core_co_arm scene arm.0).made (around_of context)) _
-    (arm.1 scene context (unbroken_first (co_arm_read arm.0 context).found _ whole))
-    (co_arms_good scene (with_facts context (co_arm_read arm.0 context).facts) arms (unbroken_second (co_arm_read arm.0 context).found _ whole))
+    both (arm_is_allowed (core_co_arm scene arm.0).made (enclosing_of context)) _
+    (arm.1 scene context (error_free_first (co_arm_read arm.0 context).found _ whole))
+    (co_arms_good scene (with_facts context (co_arm_read arm.0 context).facts) arms (error_free_second (co_arm_read arm.0 context).found _ whole))
 
 arms_good : (scene : Scene) (context : Context) (span : Span) (arms : List A)
-    → Unbroken (in_order (arms_at span (map arm_read (map (λ e. e.0) arms))) context).found
-    → IsTrue (list_all (λ block. all_allowed block (within_arm (around_of context))) (map (map allowed) (blocks_of (map (core_arm scene) (map (λ e. e.0) arms)))))
+    → ErrorFree (in_order (arms_at span (map arm_read (map (λ e. e.0) arms))) context).found
+    → IsTrue (list_all (λ block. all_allowed block (within_arm (enclosing_of context))) (map (map allowed) (blocks_of (map (core_arm scene) (map (λ e. e.0) arms)))))
 arms_good scene context span [] whole = refl
 arms_good scene context span (arm ∷ arms) whole =
-    both (block_allowed (core_arm scene arm.0).made.block (within_arm (around_of context))) _
-    (arm.1 scene context span (unbroken_first ((arm_read arm.0).steps span context).found _ whole))
-    (arms_good scene (with_facts context ((arm_read arm.0).steps span context).facts) span arms (unbroken_second ((arm_read arm.0).steps span context).found _ whole))
+    both (block_allowed (core_arm scene arm.0).made.block (within_arm (enclosing_of context))) _
+    (arm.1 scene context span (error_free_first ((arm_read arm.0).steps span context).found _ whole))
+    (arms_good scene (with_facts context ((arm_read arm.0).steps span context).facts) span arms (error_free_second ((arm_read arm.0).steps span context).found _ whole))
 
 -- ---- the open trees
 
 abbrev read_statement : Statement-F BlockItem Statement Arm Branch CoArm → Statement-F Steps Steps ArmSteps Steps Steps
 read_statement = map-Statement BlockItem Statement Arm Branch CoArm Steps Steps ArmSteps Steps Steps block_item_read statement_read arm_read branch_read co_arm_read
 
-abbrev made_statement : Scene → Statement-F BlockItem Statement Arm Branch CoArm → Statement-F (Made Block) (Made CoreStatement) (Made ArmMade) (Made Guarded) (Made CoreCoArm)
+abbrev made_statement : Scene → Statement-F BlockItem Statement Arm Branch CoArm → Statement-F (WithSites Block) (WithSites CoreStatement) (WithSites LoweredArm) (WithSites Guarded) (WithSites CoreCoArm)
 made_statement scene =
-    map-Statement BlockItem Statement Arm Branch CoArm (Made Block) (Made CoreStatement) (Made ArmMade) (Made Guarded) (Made CoreCoArm)
+    map-Statement BlockItem Statement Arm Branch CoArm (WithSites Block) (WithSites CoreStatement) (WithSites LoweredArm) (WithSites Guarded) (WithSites CoreCoArm)
     (core_block_item scene) (core_statement scene) (core_arm scene) (core_branch scene) (core_co_arm scene)
 
 abbrev bare : Statement-F I S A B C → Statement-F BlockItem Statement Arm Branch CoArm
 bare = map-Statement I S A B C BlockItem Statement Arm Branch CoArm (λ e. e.0) (λ e. e.0) (λ e. e.0) (λ e. e.0) (λ e. e.0)
 
 statement_good : (y : Statement-F I S A B C) (scene : Scene) (context : Context)
-    → Unbroken (statement_step (read_statement (bare y)) context).found
-    → IsTrue (allowed (statement_made scene (made_statement scene (bare y))).made (around_of context))
-statement_good (Statement-F.Skip span) scene context whole = act_allowed (around_of context) _ _ refl
-statement_good (Statement-F.Exit span) scene context whole = act_allowed (around_of context) _ _ (rule_met context.in_loop _ _ whole)
-statement_good (Statement-F.Next span) scene context whole = act_allowed (around_of context) _ _ (rule_met context.in_loop _ _ whole)
-statement_good (Statement-F.Return span) scene context whole = act_allowed (around_of context) _ _ refl
-statement_good (Statement-F.Reply span) scene context whole = act_allowed (around_of context) _ _ (rule_met (may_reply context.serving) _ _ whole)
-statement_good (Statement-F.Stop span status) scene context whole = act_allowed (around_of context) _ _ refl
+    → ErrorFree (statement_step (read_statement (bare y)) context).found
+    → IsTrue (allowed (statement_made scene (made_statement scene (bare y))).made (enclosing_of context))
+statement_good (Statement-F.Skip span) scene context whole = act_allowed (enclosing_of context) _ _ refl
+statement_good (Statement-F.Exit span) scene context whole = act_allowed (enclosing_of context) _ _ (rule_met context.in_loop _ _ whole)
+statement_good (Statement-F.Next span) scene context whole = act_allowed (enclosing_of context) _ _ (rule_met context.in_loop _ _ whole)
+statement_good (Statement-F.Return span) scene context whole = act_allowed (enclosing_of context) _ _ refl
+statement_good (Statement-F.Reply span) scene context whole = act_allowed (enclosing_of context) _ _ (rule_met (may_reply context.serving) _ _ whole)
+statement_good (Statement-F.Stop span status) scene context whole = act_allowed (enclosing_of context) _ _ refl
 statement_good (Statement-F.Call span with_call invocation) scene context whole =
-    invocation_allowed scene (around_of context) span invocation (function_called scene.facts invocation)
-statement_good (Statement-F.Send span invocation) scene context whole = act_allowed (around_of context) _ _ refl
+    invocation_allowed scene (enclosing_of context) span invocation (function_called scene.facts invocation)
+statement_good (Statement-F.Send span invocation) scene context whole = act_allowed (enclosing_of context) _ _ refl
 statement_good (Statement-F.Forward span invocation) scene context whole =
-    let called = judge_invocation invocation context.facts in
-    act_allowed (around_of context) _ _
+    let called = infer_invocation invocation context.facts in
+    act_allowed (enclosing_of context) _ _
     (rule_met (is_serving context.serving) BadUse span
-    (unbroken_first (broken_unless (is_serving context.serving) BadUse span) _
-    (unbroken_second (invoked_found context.facts span true called.callee.judged (judged_of called.arguments)) _ (unbroken_second (parts_found called) _ whole))))
-statement_good (Statement-F.Receive span operation places) scene context whole = receive_allowed scene (around_of context) span (meant_by scene.facts operation) places
-statement_good (Statement-F.Assign span target value) scene context whole = act_allowed (around_of context) _ _ refl
-statement_good (Statement-F.Exchange span left right) scene context whole = act_allowed (around_of context) _ _ refl
-statement_good (Statement-F.Increment span target) scene context whole = act_allowed (around_of context) _ _ refl
-statement_good (Statement-F.Decrement span target) scene context whole = act_allowed (around_of context) _ _ refl
+    (error_free_first (broken_unless (is_serving context.serving) BadUse span) _
+    (error_free_second (invoked_found context.facts span true called.callee.typed_expr (typed_exprs_of called.arguments)) _ (error_free_second (parts_found called) _ whole))))
+statement_good (Statement-F.Receive span operation places) scene context whole = receive_allowed scene (enclosing_of context) span (meant_by scene.facts operation) places
+statement_good (Statement-F.Assign span target value) scene context whole = act_allowed (enclosing_of context) _ _ refl
+statement_good (Statement-F.Exchange span left right) scene context whole = act_allowed (enclosing_of context) _ _ refl
+statement_good (Statement-F.Increment span target) scene context whole = act_allowed (enclosing_of context) _ _ refl
+statement_good (Statement-F.Decrement span target) scene context whole = act_allowed (enclosing_of context) _ _ refl
 statement_good (Statement-F.If span branches None) scene context whole =
-    rolled (around_of context) _ (Core-F.If (line_of span) (all_made (map (core_branch scene) (map (λ e. e.0) branches))) []) (core.rolls-If _ _ _)
-    (both _ true (branches_good scene context branches (unbroken_first (in_order (map branch_read (map (λ e. e.0) branches)) context).found _ whole)) refl)
+    rolled (enclosing_of context) _ (Core-F.If (line_of span) (all_made (map (core_branch scene) (map (λ e. e.0) branches))) []) (core.rolls-If _ _ _)
+    (both _ true (branches_good scene context branches (error_free_first (in_order (map branch_read (map (λ e. e.0) branches)) context).found _ whole)) refl)
 statement_good (Statement-F.If span branches (Some otherwise)) scene context whole =
     let first = in_order (map branch_read (map (λ e. e.0) branches)) context in
-    rolled (around_of context) _
+    rolled (enclosing_of context) _
     (Core-F.If (line_of span) (all_made (map (core_branch scene) (map (λ e. e.0) branches))) (block_made (map (core_block_item scene) (map (λ e. e.0) otherwise))).made) (core.rolls-If _ _ _)
-    (both _ _ (branches_good scene context branches (unbroken_first first.found _ whole)) (items_good scene (with_facts context first.facts) otherwise (unbroken_second first.found _ whole)))
+    (both _ _ (branches_good scene context branches (error_free_first first.found _ whole)) (items_good scene (with_facts context first.facts) otherwise (error_free_second first.found _ whole)))
 statement_good (Statement-F.Do span branches None) scene context whole =
-    rolled (around_of context) _ (Core-F.Do (line_of span) (all_made (map (core_branch scene) (map (λ e. e.0) branches))) None) (core.rolls-Do _ _ _)
-    (both _ true (branches_good scene (looping context) branches (unbroken_first (in_order (map branch_read (map (λ e. e.0) branches)) (looping context)).found _ whole)) refl)
+    rolled (enclosing_of context) _ (Core-F.Do (line_of span) (all_made (map (core_branch scene) (map (λ e. e.0) branches))) None) (core.rolls-Do _ _ _)
+    (both _ true (branches_good scene (looping context) branches (error_free_first (in_order (map branch_read (map (λ e. e.0) branches)) (looping context)).found _ whole)) refl)
 statement_good (Statement-F.Do span branches (Some otherwise)) scene context whole =
     let first = in_order (map branch_read (map (λ e. e.0) branches)) (looping context) in
-    rolled (around_of context) _
+    rolled (enclosing_of context) _
     (Core-F.Do (line_of span) (all_made (map (core_branch scene) (map (λ e. e.0) branches))) (Some (block_made (map (core_block_item scene) (map (λ e. e.0) otherwise))).made)) (core.rolls-Do _ _ _)
-    (both _ _ (branches_good scene (looping context) branches (unbroken_first first.found _ whole)) (items_good scene (with_facts (looping context) first.facts) otherwise (unbroken_second first.found _ whole)))
+    (both _ _ (branches_good scene (looping context) branches (error_free_first first.found _ whole)) (items_good scene (with_facts (looping context) first.facts) otherwise (error_free_second first.found _ whole)))
 statement_good (Statement-F.ForAll span quantifiers block) scene context whole =
-    rolled (around_of context) _ (Core-F.Fa (line_of span) (quantifiers_core scene quantifiers) (block_made (map (core_block_item scene) (map (λ e. e.0) block))).made) (core.rolls-Fa _ _ _)
-    (items_good scene (looping (with_facts context (quantifiers_known context.facts quantifiers))) block (unbroken_second (quantifiers_found context.facts quantifiers) _ whole))
+    rolled (enclosing_of context) _ (Core-F.Fa (line_of span) (quantifiers_core scene quantifiers) (block_made (map (core_block_item scene) (map (λ e. e.0) block))).made) (core.rolls-Fa _ _ _)
+    (items_good scene (looping (with_facts context (quantifiers_known context.facts quantifiers))) block (error_free_second (quantifiers_found context.facts quantifiers) _ whole))
 statement_good (Statement-F.In span arms None) scene context whole =
-    let behind = unbroken_second (mixture_found context.facts span (map arm_read (map (λ e. e.0) arms))) _ whole in
-    rolled (around_of context) _ (Core-F.In (line_of span) (site_number scene (spot_of span)) (blocks_of (map (core_arm scene) (map (λ e. e.0) arms))) []) (core.rolls-In _ _ _ _)
-    (both _ true (arms_good scene context span arms (unbroken_first (in_order (arms_at span (map arm_read (map (λ e. e.0) arms))) context).found _ behind)) refl)
+    let after_first = error_free_second (mixture_found context.facts span (map arm_read (map (λ e. e.0) arms))) _ whole in
+    rolled (enclosing_of context) _ (Core-F.In (line_of span) (site_number scene (spot_of span)) (blocks_of (map (core_arm scene) (map (λ e. e.0) arms))) []) (core.rolls-In _ _ _ _)
+    (both _ true (arms_good scene context span arms (error_free_first (in_order (arms_at span (map arm_read (map (λ e. e.0) arms))) context).found _ after_first)) refl)
 statement_good (Statement-F.In span arms (Some otherwise)) scene context whole =
-    let behind = unbroken_second (mixture_found context.facts span (map arm_read (map (λ e. e.0) arms))) _ whole in
+    let after_first = error_free_second (mixture_found context.facts span (map arm_read (map (λ e. e.0) arms))) _ whole in
     let first = in_order (arms_at span (map arm_read (map (λ e. e.0) arms))) context in
-    rolled (around_of context) _
+    rolled (enclosing_of context) _
     (Core-F.In (line_of span) (site_number scene (spot_of span)) (blocks_of (map (core_arm scene) (map (λ e. e.0) arms))) (block_made (map (core_block_item scene) (map (λ e. e.0) otherwise))).made) (core.rolls-In _ _ _ _)
-    (both _ _ (arms_good scene context span arms (unbroken_first first.found _ behind)) (items_good scene (with_facts context first.facts) otherwise (unbroken_second first.found _ behind)))
+    (both _ _ (arms_good scene context span arms (error_free_first first.found _ after_first)) (items_good scene (with_facts context first.facts) otherwise (error_free_second first.found _ after_first)))
 statement_good (Statement-F.Co span arms) scene context whole =
-    rolled (around_of context) _ (Core-F.Co (line_of span) (all_made (map (core_co_arm scene) (map (λ e. e.0) arms)))) (core.rolls-Co _ _) (co_arms_good scene context arms whole)
-statement_good (Statement-F.Destroy span target) scene context whole = act_allowed (around_of context) _ _ refl
-statement_good (Statement-F.Create span create) scene context whole = act_allowed (around_of context) _ _ refl
+    rolled (enclosing_of context) _ (Core-F.Co (line_of span) (all_made (map (core_co_arm scene) (map (λ e. e.0) arms)))) (core.rolls-Co _ _) (co_arms_good scene context arms whole)
+statement_good (Statement-F.Destroy span target) scene context whole = act_allowed (enclosing_of context) _ _ refl
+statement_good (Statement-F.Create span create) scene context whole = act_allowed (enclosing_of context) _ _ refl
 
 -- ---- arms, branches and items
 
 abbrev read_item : BlockItem-F BlockItem Statement Arm Branch CoArm → BlockItem-F Steps Steps ArmSteps Steps Steps
 read_item = map-BlockItem BlockItem Statement Arm Branch CoArm Steps Steps ArmSteps Steps Steps block_item_read statement_read arm_read branch_read co_arm_read
 
-abbrev made_item : Scene → BlockItem-F BlockItem Statement Arm Branch CoArm → BlockItem-F (Made Block) (Made CoreStatement) (Made ArmMade) (Made Guarded) (Made CoreCoArm)
+abbrev made_item : Scene → BlockItem-F BlockItem Statement Arm Branch CoArm → BlockItem-F (WithSites Block) (WithSites CoreStatement) (WithSites LoweredArm) (WithSites Guarded) (WithSites CoreCoArm)
 made_item scene =
-    map-BlockItem BlockItem Statement Arm Branch CoArm (Made Block) (Made CoreStatement) (Made ArmMade) (Made Guarded) (Made CoreCoArm)
+    map-BlockItem BlockItem Statement Arm Branch CoArm (WithSites Block) (WithSites CoreStatement) (WithSites LoweredArm) (WithSites Guarded) (WithSites CoreCoArm)
     (core_block_item scene) (core_statement scene) (core_arm scene) (core_branch scene) (core_co_arm scene)
 
 abbrev bare_item : BlockItem-F I S A B C → BlockItem-F BlockItem Statement Arm Branch CoArm
 bare_item = map-BlockItem I S A B C BlockItem Statement Arm Branch CoArm (λ e. e.0) (λ e. e.0) (λ e. e.0) (λ e. e.0) (λ e. e.0)
 
 -- declarations are allowed everywhere
-declared_allowed : (around : Around) (scope : Scope) (place : Place) (scene : Scene) (spot : Spot) (setup : Setup) → IsTrue (allowed (declare scene scope place spot setup) around)
-declared_allowed around scope place scene spot setup = rolled around _ (Core-F.Declare _ _) (core.rolls-Declare _ _) refl
+declared_allowed : (enclosing : Enclosing) (scope : Scope) (place : Place) (scene : Scene) (spot : Spot) (setup : Setup) → IsTrue (allowed (declare scene scope place spot setup) enclosing)
+declared_allowed enclosing scope place scene spot setup = rolled enclosing _ (Core-F.Declare _ _) (core.rolls-Declare _ _) refl
 
-typed_allowed : (around : Around) (scene : Scene) (scope : Scope) (place : Place) (ty : TypeTree) (decls : List Decl) (values : List Expr)
-    → IsTrue (block_allowed (typed_vars scene scope place ty decls values) around)
-typed_allowed around scene scope place ty [] values = refl
-typed_allowed around scene scope place ty (decl ∷ decls) values =
-    both (allowed (declare scene scope place (spot_named decl.name) (typed scene decl ty (first_of values))) around) _
-    (declared_allowed around scope place scene _ _)
-    (typed_allowed around scene scope place ty decls (behind values))
+typed_allowed : (enclosing : Enclosing) (scene : Scene) (scope : Scope) (place : Place) (ty : TypeTree) (decls : List Decl) (values : List Expr)
+    → IsTrue (block_allowed (typed_vars scene scope place ty decls values) enclosing)
+typed_allowed enclosing scene scope place ty [] values = refl
+typed_allowed enclosing scene scope place ty (decl ∷ decls) values =
+    both (allowed (declare scene scope place (spot_named decl.name) (typed scene decl ty (first_of values))) enclosing) _
+    (declared_allowed enclosing scope place scene _ _)
+    (typed_allowed enclosing scene scope place ty decls (after_first values))
 
-untyped_allowed : (around : Around) (scene : Scene) (scope : Scope) (place : Place) (decls : List Decl) (values : List Expr)
-    → IsTrue (block_allowed (untyped_vars scene scope place decls values) around)
-untyped_allowed around scene scope place [] values = refl
-untyped_allowed around scene scope place (decl ∷ decls) [] = refl
-untyped_allowed around scene scope place (decl ∷ decls) (value ∷ values) =
-    both (allowed (declare scene scope place (spot_named decl.name) (untyped scene (spot_named decl.name) value)) around) _
-    (declared_allowed around scope place scene _ _)
-    (untyped_allowed around scene scope place decls values)
+untyped_allowed : (enclosing : Enclosing) (scene : Scene) (scope : Scope) (place : Place) (decls : List Decl) (values : List Expr)
+    → IsTrue (block_allowed (untyped_vars scene scope place decls values) enclosing)
+untyped_allowed enclosing scene scope place [] values = refl
+untyped_allowed enclosing scene scope place (decl ∷ decls) [] = refl
+untyped_allowed enclosing scene scope place (decl ∷ decls) (value ∷ values) =
+    both (allowed (declare scene scope place (spot_named decl.name) (untyped scene (spot_named decl.name) value)) enclosing) _
+    (declared_allowed enclosing scope place scene _ _)
+    (untyped_allowed enclosing scene scope place decls values)
 
-pub const_allowed : (around : Around) (scene : Scene) (scope : Scope) (constant : ConstDecl) → IsTrue (block_allowed (const_core scene scope constant) around)
-const_allowed around scene scope constant = by (is_constant scene.facts (spot_named constant.name))
+pub const_allowed : (enclosing : Enclosing) (scene : Scene) (scope : Scope) (constant : ConstDecl) → IsTrue (block_allowed (const_core scene scope constant) enclosing)
+const_allowed enclosing scene scope constant = by (is_constant scene.facts (spot_named constant.name))
   where
     by : (static : Bool)
-        → IsTrue (block_allowed (if static then [] else (declare scene scope (line_of constant.span) (spot_named constant.name) (untyped scene (spot_named constant.name) constant.value) ∷ [])) around)
+        → IsTrue (block_allowed (if static then [] else (declare scene scope (line_of constant.span) (spot_named constant.name) (untyped scene (spot_named constant.name) constant.value) ∷ [])) enclosing)
     by true = refl
-    by false = both _ true (declared_allowed around scope (line_of constant.span) scene _ _) refl
+    by false = both _ true (declared_allowed enclosing scope (line_of constant.span) scene _ _) refl
 
-pub var_allowed : (around : Around) (scene : Scene) (scope : Scope) (variables : VarDecl) → IsTrue (block_allowed (var_core scene scope variables) around)
-var_allowed around scene scope variables = by variables.ty
+pub var_allowed : (enclosing : Enclosing) (scene : Scene) (scope : Scope) (variables : VarDecl) → IsTrue (block_allowed (var_core scene scope variables) enclosing)
+var_allowed enclosing scene scope variables = by variables.ty
   where
-    by : (ty : Option TypeTree) → IsTrue (block_allowed (var_core scene scope (record variables { ty = ty })) around)
-    by None = untyped_allowed around scene scope (line_of variables.span) variables.decls variables.values
-    by (Some ty) = typed_allowed around scene scope (line_of variables.span) ty variables.decls variables.values
+    by : (ty : Option TypeTree) → IsTrue (block_allowed (var_core scene scope (record variables { ty = ty })) enclosing)
+    by None = untyped_allowed enclosing scene scope (line_of variables.span) variables.decls variables.values
+    by (Some ty) = typed_allowed enclosing scene scope (line_of variables.span) ty variables.decls variables.values
 
 item_good : (y : BlockItem-F I S A B C) (scene : Scene) (context : Context)
-    → Unbroken (item_step (read_item (bare_item y)) context).found
-    → IsTrue (block_allowed (item_made scene (made_item scene (bare_item y))).made (around_of context))
-item_good (BlockItem-F.Const constant) scene context whole = const_allowed (around_of context) scene Own constant
-item_good (BlockItem-F.Var variables) scene context whole = var_allowed (around_of context) scene Own variables
+    → ErrorFree (item_step (read_item (bare_item y)) context).found
+    → IsTrue (block_allowed (item_made scene (made_item scene (bare_item y))).made (enclosing_of context))
+item_good (BlockItem-F.Const constant) scene context whole = const_allowed (enclosing_of context) scene Own constant
+item_good (BlockItem-F.Var variables) scene context whole = var_allowed (enclosing_of context) scene Own variables
 item_good (BlockItem-F.Statement statement) scene context whole =
-    both (allowed (core_statement scene statement.0).made (around_of context)) true (statement.1 scene context whole) refl
+    both (allowed (core_statement scene statement.0).made (enclosing_of context)) true (statement.1 scene context whole) refl
 
 abbrev read_arm : Arm-F BlockItem Statement Arm Branch CoArm → Arm-F Steps Steps ArmSteps Steps Steps
 read_arm = map-Arm BlockItem Statement Arm Branch CoArm Steps Steps ArmSteps Steps Steps block_item_read statement_read arm_read branch_read co_arm_read
 
-abbrev made_arm : Scene → Arm-F BlockItem Statement Arm Branch CoArm → Arm-F (Made Block) (Made CoreStatement) (Made ArmMade) (Made Guarded) (Made CoreCoArm)
+abbrev made_arm : Scene → Arm-F BlockItem Statement Arm Branch CoArm → Arm-F (WithSites Block) (WithSites CoreStatement) (WithSites LoweredArm) (WithSites Guarded) (WithSites CoreCoArm)
 made_arm scene =
-    map-Arm BlockItem Statement Arm Branch CoArm (Made Block) (Made CoreStatement) (Made ArmMade) (Made Guarded) (Made CoreCoArm)
+    map-Arm BlockItem Statement Arm Branch CoArm (WithSites Block) (WithSites CoreStatement) (WithSites LoweredArm) (WithSites Guarded) (WithSites CoreCoArm)
     (core_block_item scene) (core_statement scene) (core_arm scene) (core_branch scene) (core_co_arm scene)
 
 abbrev bare_arm : Arm-F I S A B C → Arm-F BlockItem Statement Arm Branch CoArm
@@ -351,94 +351,94 @@ bare_arm = map-Arm I S A B C BlockItem Statement Arm Branch CoArm (λ e. e.0) (�
 
 -- the service of an arm is there to be answered
 arm_good : (y : Arm-F I S A B C) (scene : Scene) (context : Context) (span : Span)
-    → Unbroken ((arm_step (read_arm (bare_arm y))).steps span context).found
-    → IsTrue (block_allowed (arm_made scene (made_arm scene (bare_arm y))).made.block (within_arm (around_of context)))
+    → ErrorFree ((arm_step (read_arm (bare_arm y))).steps span context).found
+    → IsTrue (block_allowed (arm_made scene (made_arm scene (bare_arm y))).made.block (within_arm (enclosing_of context)))
 arm_good y scene context span whole =
     items_good scene (arm_context context (spot_of y.operation.span) y.formals y.returned (operation_named context.facts y.operation)) y.block
-    (unbroken_second (guards_found (arm_context context (spot_of y.operation.span) y.formals y.returned (operation_named context.facts y.operation)).facts y.condition y.order) _
-    (unbroken_second (head_found context.facts context.procs span y.formals (is_some y.returned) (operation_named context.facts y.operation)) _ whole))
+    (error_free_second (guards_found (arm_context context (spot_of y.operation.span) y.formals y.returned (operation_named context.facts y.operation)).facts y.condition y.order) _
+    (error_free_second (head_found context.facts context.procs span y.formals (is_some y.returned) (operation_named context.facts y.operation)) _ whole))
 
 abbrev read_branch : Branch-F BlockItem Statement Arm Branch CoArm → Branch-F Steps Steps ArmSteps Steps Steps
 read_branch = map-Branch BlockItem Statement Arm Branch CoArm Steps Steps ArmSteps Steps Steps block_item_read statement_read arm_read branch_read co_arm_read
 
-abbrev made_branch : Scene → Branch-F BlockItem Statement Arm Branch CoArm → Branch-F (Made Block) (Made CoreStatement) (Made ArmMade) (Made Guarded) (Made CoreCoArm)
+abbrev made_branch : Scene → Branch-F BlockItem Statement Arm Branch CoArm → Branch-F (WithSites Block) (WithSites CoreStatement) (WithSites LoweredArm) (WithSites Guarded) (WithSites CoreCoArm)
 made_branch scene =
-    map-Branch BlockItem Statement Arm Branch CoArm (Made Block) (Made CoreStatement) (Made ArmMade) (Made Guarded) (Made CoreCoArm)
+    map-Branch BlockItem Statement Arm Branch CoArm (WithSites Block) (WithSites CoreStatement) (WithSites LoweredArm) (WithSites Guarded) (WithSites CoreCoArm)
     (core_block_item scene) (core_statement scene) (core_arm scene) (core_branch scene) (core_co_arm scene)
 
 abbrev bare_branch : Branch-F I S A B C → Branch-F BlockItem Statement Arm Branch CoArm
 bare_branch = map-Branch I S A B C BlockItem Statement Arm Branch CoArm (λ e. e.0) (λ e. e.0) (λ e. e.0) (λ e. e.0) (λ e. e.0)
 
 branch_good : (y : Branch-F I S A B C) (scene : Scene) (context : Context)
-    → Unbroken (branch_step (read_branch (bare_branch y)) context).found
-    → IsTrue (guarded_is_allowed (branch_made scene (made_branch scene (bare_branch y))).made (around_of context))
+    → ErrorFree (branch_step (read_branch (bare_branch y)) context).found
+    → IsTrue (guarded_is_allowed (branch_made scene (made_branch scene (bare_branch y))).made (enclosing_of context))
 branch_good y scene context whole =
-    subst (λ rule. IsTrue (rule (around_of context))) (sym (fold-roll-Guarded Rule Rule Rule statement_allowed co_arm_allowed guarded_allowed _))
-    (items_good scene context y.block (unbroken_second (expr_with condition_rule context.facts y.guard) _ whole))
+    subst (λ rule. IsTrue (rule (enclosing_of context))) (sym (fold-roll-Guarded Rule Rule Rule statement_allowed co_arm_allowed guarded_allowed _))
+    (items_good scene context y.block (error_free_second (expr_with condition_rule context.facts y.guard) _ whole))
 
 abbrev read_co_arm : CoArm-F BlockItem Statement Arm Branch CoArm → CoArm-F Steps Steps ArmSteps Steps Steps
 read_co_arm = map-CoArm BlockItem Statement Arm Branch CoArm Steps Steps ArmSteps Steps Steps block_item_read statement_read arm_read branch_read co_arm_read
 
-abbrev made_co_arm : Scene → CoArm-F BlockItem Statement Arm Branch CoArm → CoArm-F (Made Block) (Made CoreStatement) (Made ArmMade) (Made Guarded) (Made CoreCoArm)
+abbrev made_co_arm : Scene → CoArm-F BlockItem Statement Arm Branch CoArm → CoArm-F (WithSites Block) (WithSites CoreStatement) (WithSites LoweredArm) (WithSites Guarded) (WithSites CoreCoArm)
 made_co_arm scene =
-    map-CoArm BlockItem Statement Arm Branch CoArm (Made Block) (Made CoreStatement) (Made ArmMade) (Made Guarded) (Made CoreCoArm)
+    map-CoArm BlockItem Statement Arm Branch CoArm (WithSites Block) (WithSites CoreStatement) (WithSites LoweredArm) (WithSites Guarded) (WithSites CoreCoArm)
     (core_block_item scene) (core_statement scene) (core_arm scene) (core_branch scene) (core_co_arm scene)
 
 abbrev bare_co_arm : CoArm-F I S A B C → CoArm-F BlockItem Statement Arm Branch CoArm
 bare_co_arm = map-CoArm I S A B C BlockItem Statement Arm Branch CoArm (λ e. e.0) (λ e. e.0) (λ e. e.0) (λ e. e.0) (λ e. e.0)
 
 co_arm_parts_good : (span : Span) (quantifiers : List Quantifier) (target : Option Expr) (with_call : Bool) (invocation : Invocation) (block : Option (List I)) (scene : Scene) (context : Context)
-    → Unbroken (co_arm_step (read_co_arm (bare_co_arm (record { span = span; quantifiers = quantifiers; target = target; with_call = with_call; invocation = invocation; block = block }))) context).found
-    → IsTrue (co_arm_allowed (opened_arm (out-CoArm (co_arm_made scene (made_co_arm scene (bare_co_arm (record { span = span; quantifiers = quantifiers; target = target; with_call = with_call; invocation = invocation; block = block })))).made)) (around_of context))
+    → ErrorFree (co_arm_step (read_co_arm (bare_co_arm (record { span = span; quantifiers = quantifiers; target = target; with_call = with_call; invocation = invocation; block = block }))) context).found
+    → IsTrue (co_arm_allowed (opened_arm (out-CoArm (co_arm_made scene (made_co_arm scene (bare_co_arm (record { span = span; quantifiers = quantifiers; target = target; with_call = with_call; invocation = invocation; block = block })))).made)) (enclosing_of context))
 co_arm_parts_good span quantifiers target with_call invocation None scene context whole = refl
 co_arm_parts_good span quantifiers target with_call invocation (Some items) scene context whole =
     let known = quantifiers_known context.facts quantifiers in
     items_good scene (looping (with_facts context known)) items
-    (unbroken_second (started_found known target (judge_invocation invocation known)) _ (unbroken_second (quantifiers_found context.facts quantifiers) _ whole))
+    (error_free_second (started_found known target (infer_invocation invocation known)) _ (error_free_second (quantifiers_found context.facts quantifiers) _ whole))
 
 co_arm_good : (y : CoArm-F I S A B C) (scene : Scene) (context : Context)
-    → Unbroken (co_arm_step (read_co_arm (bare_co_arm y)) context).found
-    → IsTrue (arm_is_allowed (co_arm_made scene (made_co_arm scene (bare_co_arm y))).made (around_of context))
+    → ErrorFree (co_arm_step (read_co_arm (bare_co_arm y)) context).found
+    → IsTrue (arm_is_allowed (co_arm_made scene (made_co_arm scene (bare_co_arm y))).made (enclosing_of context))
 co_arm_good y scene context whole =
-    subst (λ rule. IsTrue (rule (around_of context))) (sym (fold_roll_core_arm Rule Rule Rule statement_allowed co_arm_allowed guarded_allowed _))
+    subst (λ rule. IsTrue (rule (enclosing_of context))) (sym (fold_roll_core_arm Rule Rule Rule statement_allowed co_arm_allowed guarded_allowed _))
     (co_arm_parts_good y.span y.quantifiers y.target y.with_call y.invocation y.block scene context whole)
 
 -- ---- all trees
 
 step_item : (x : BlockItem-F BlockItem Statement Arm Branch CoArm) (y : BlockItem-F I S A B C) → bare_item y ≡ x → ItemGood (roll-BlockItem x)
 step_item x y is = subst (λ z. ItemGood (roll-BlockItem z)) is (λ scene context whole.
-    subst (λ made. IsTrue (block_allowed made.made (around_of context)))
-    (sym (fold-roll-BlockItem (Made Block) (Made CoreStatement) (Made ArmMade) (Made Guarded) (Made CoreCoArm) (item_made scene) (statement_made scene) (arm_made scene) (branch_made scene) (co_arm_made scene) (bare_item y)))
+    subst (λ made. IsTrue (block_allowed made.made (enclosing_of context)))
+    (sym (fold-roll-BlockItem (WithSites Block) (WithSites CoreStatement) (WithSites LoweredArm) (WithSites Guarded) (WithSites CoreCoArm) (item_made scene) (statement_made scene) (arm_made scene) (branch_made scene) (co_arm_made scene) (bare_item y)))
     (item_good y scene context
-    (subst (λ steps. Unbroken (steps context).found) (fold-roll-BlockItem Steps Steps ArmSteps Steps Steps item_step statement_step arm_step branch_step co_arm_step (bare_item y)) whole)))
+    (subst (λ steps. ErrorFree (steps context).found) (fold-roll-BlockItem Steps Steps ArmSteps Steps Steps item_step statement_step arm_step branch_step co_arm_step (bare_item y)) whole)))
 
 step_statement : (x : Statement-F BlockItem Statement Arm Branch CoArm) (y : Statement-F I S A B C) → bare y ≡ x → StatementGood (roll-Statement x)
 step_statement x y is = subst (λ z. StatementGood (roll-Statement z)) is (λ scene context whole.
-    subst (λ made. IsTrue (allowed made.made (around_of context)))
-    (sym (fold-roll-Statement (Made Block) (Made CoreStatement) (Made ArmMade) (Made Guarded) (Made CoreCoArm) (item_made scene) (statement_made scene) (arm_made scene) (branch_made scene) (co_arm_made scene) (bare y)))
+    subst (λ made. IsTrue (allowed made.made (enclosing_of context)))
+    (sym (fold-roll-Statement (WithSites Block) (WithSites CoreStatement) (WithSites LoweredArm) (WithSites Guarded) (WithSites CoreCoArm) (item_made scene) (statement_made scene) (arm_made scene) (branch_made scene) (co_arm_made scene) (bare y)))
     (statement_good y scene context
-    (subst (λ steps. Unbroken (steps context).found) (fold-roll-Statement Steps Steps ArmSteps Steps Steps item_step statement_step arm_step branch_step co_arm_step (bare y)) whole)))
+    (subst (λ steps. ErrorFree (steps context).found) (fold-roll-Statement Steps Steps ArmSteps Steps Steps item_step statement_step arm_step branch_step co_arm_step (bare y)) whole)))
 
 step_arm : (x : Arm-F BlockItem Statement Arm Branch CoArm) (y : Arm-F I S A B C) → bare_arm y ≡ x → ArmGood (roll-Arm x)
 step_arm x y is = subst (λ z. ArmGood (roll-Arm z)) is (λ scene context span whole.
-    subst (λ made. IsTrue (block_allowed made.made.block (within_arm (around_of context))))
-    (sym (fold-roll-Arm (Made Block) (Made CoreStatement) (Made ArmMade) (Made Guarded) (Made CoreCoArm) (item_made scene) (statement_made scene) (arm_made scene) (branch_made scene) (co_arm_made scene) (bare_arm y)))
+    subst (λ made. IsTrue (block_allowed made.made.block (within_arm (enclosing_of context))))
+    (sym (fold-roll-Arm (WithSites Block) (WithSites CoreStatement) (WithSites LoweredArm) (WithSites Guarded) (WithSites CoreCoArm) (item_made scene) (statement_made scene) (arm_made scene) (branch_made scene) (co_arm_made scene) (bare_arm y)))
     (arm_good y scene context span
-    (subst (λ steps. Unbroken (steps.steps span context).found) (fold-roll-Arm Steps Steps ArmSteps Steps Steps item_step statement_step arm_step branch_step co_arm_step (bare_arm y)) whole)))
+    (subst (λ steps. ErrorFree (steps.steps span context).found) (fold-roll-Arm Steps Steps ArmSteps Steps Steps item_step statement_step arm_step branch_step co_arm_step (bare_arm y)) whole)))
 
 step_branch : (x : Branch-F BlockItem Statement Arm Branch CoArm) (y : Branch-F I S A B C) → bare_branch y ≡ x → BranchGood (roll-Branch x)
 step_branch x y is = subst (λ z. BranchGood (roll-Branch z)) is (λ scene context whole.
-    subst (λ made. IsTrue (guarded_is_allowed made.made (around_of context)))
-    (sym (fold-roll-Branch (Made Block) (Made CoreStatement) (Made ArmMade) (Made Guarded) (Made CoreCoArm) (item_made scene) (statement_made scene) (arm_made scene) (branch_made scene) (co_arm_made scene) (bare_branch y)))
+    subst (λ made. IsTrue (guarded_is_allowed made.made (enclosing_of context)))
+    (sym (fold-roll-Branch (WithSites Block) (WithSites CoreStatement) (WithSites LoweredArm) (WithSites Guarded) (WithSites CoreCoArm) (item_made scene) (statement_made scene) (arm_made scene) (branch_made scene) (co_arm_made scene) (bare_branch y)))
     (branch_good y scene context
-    (subst (λ steps. Unbroken (steps context).found) (fold-roll-Branch Steps Steps ArmSteps Steps Steps item_step statement_step arm_step branch_step co_arm_step (bare_branch y)) whole)))
+    (subst (λ steps. ErrorFree (steps context).found) (fold-roll-Branch Steps Steps ArmSteps Steps Steps item_step statement_step arm_step branch_step co_arm_step (bare_branch y)) whole)))
 
 step_co_arm : (x : CoArm-F BlockItem Statement Arm Branch CoArm) (y : CoArm-F I S A B C) → bare_co_arm y ≡ x → CoArmGood (roll-CoArm x)
 step_co_arm x y is = subst (λ z. CoArmGood (roll-CoArm z)) is (λ scene context whole.
-    subst (λ made. IsTrue (arm_is_allowed made.made (around_of context)))
-    (sym (fold-roll-CoArm (Made Block) (Made CoreStatement) (Made ArmMade) (Made Guarded) (Made CoreCoArm) (item_made scene) (statement_made scene) (arm_made scene) (branch_made scene) (co_arm_made scene) (bare_co_arm y)))
+    subst (λ made. IsTrue (arm_is_allowed made.made (enclosing_of context)))
+    (sym (fold-roll-CoArm (WithSites Block) (WithSites CoreStatement) (WithSites LoweredArm) (WithSites Guarded) (WithSites CoreCoArm) (item_made scene) (statement_made scene) (arm_made scene) (branch_made scene) (co_arm_made scene) (bare_co_arm y)))
     (co_arm_good y scene context
-    (subst (λ steps. Unbroken (steps context).found) (fold-roll-CoArm Steps Steps ArmSteps Steps Steps item_step statement_step arm_step branch_step co_arm_step (bare_co_arm y)) whole)))
+    (subst (λ steps. ErrorFree (steps context).found) (fold-roll-CoArm Steps Steps ArmSteps Steps Steps item_step statement_step arm_step branch_step co_arm_step (bare_co_arm y)) whole)))
 
 pub statement_is_allowed : (tree : Statement) → StatementGood tree
 statement_is_allowed = ind-Statement ItemGood StatementGood ArmGood BranchGood CoArmGood step_item step_statement step_arm step_branch step_co_arm

@@ -11,7 +11,7 @@ use Rattle.sr_names.specs.declared.spot.Spot.{Spot}
 use Rattle.sr_names.specs.Searches.{At}
 use Rattle.sr_names.specs.Spots.{same_spot, spot_of}
 use Rattle.sr_order.specs.Spans.{block_operations, component_operations, component_span, component_spans, inner_operations, item_operations, op_item_span, operation_spans, spec_operations}
-use Rattle.sr_outline.specs.Heads.{Heads, Opened, block_opened, component_opened, inner_opened, item_opened, operation_entry, operation_of, ops_opened, sems_opened, spec_item_opened}
+use Rattle.sr_outline.specs.Heads.{Heads, DeclaredOperation, block_opened, component_opened, inner_opened, item_opened, operation_entry, operation_of, ops_opened, sems_opened, spec_item_opened}
 use Rattle.sr_outline.specs.Outline.{component_entries, operations_of}
 use Rattle.sr_outline.specs.Shapes.{Shapes}
 use Rattle.sr_tables.specs.Parts.{components_in, spot_named}
@@ -47,10 +47,10 @@ own_scope Own is_local e = ap scope_of e
 own_scope Shared is_local e = ap scope_of e
 
 -- where an operation is declared, and whose it is
-abbrev owned_by : Spot → Opened → Owned
+abbrev owned_by : Spot → DeclaredOperation → Owned
 owned_by at opened = (spot_named opened.name, (at, is_own opened.scope))
 
-abbrev span_of : Opened → Span
+abbrev span_of : DeclaredOperation → Span
 span_of opened = opened.name.span
 
 module _ (facts : Facts) (shapes : Shapes) (heads : Heads) (at : Spot) where
@@ -133,7 +133,7 @@ module _ (facts : Facts) (shapes : Shapes) (heads : Heads) where
 
   -- ---- the table
 
-  entry_keys : (procs : List Spot) (number : ℕ) (opened : List Opened) → keys_of (map (operation_entry procs number) opened) ≡ map spot_of (map span_of opened)
+  entry_keys : (procs : List Spot) (number : ℕ) (opened : List DeclaredOperation) → keys_of (map (operation_entry procs number) opened) ≡ map spot_of (map span_of opened)
   entry_keys procs number [] = refl
   entry_keys procs number (one ∷ opened) = ap (λ more. spot_named one.name ∷ more) (entry_keys procs number opened)
 
@@ -211,7 +211,7 @@ module _ (facts : Facts) (shapes : Shapes) (heads : Heads) (procs : List Spot) (
   abbrev Put : List (Spot × Operation) → Spot → Spot → Bool → Type 0
   Put table spot component is_local = Entered components procs table spot component is_local
 
-  put_opened : (number : ℕ) (tree : Component) (opened : Opened) (spot component : Spot) (is_local : Bool)
+  put_opened : (number : ℕ) (tree : Component) (opened : DeclaredOperation) (spot component : Spot) (is_local : Bool)
       → At components number tree → Among (component_opened facts shapes heads tree) opened → owned_by (component_at tree) opened ≡ (spot, (component, is_local))
       → Put entries spot component is_local
   put_opened number tree opened spot component is_local there among same =

@@ -18,21 +18,21 @@ apart_flips a b apart = by (same_spot b a) refl
     by false e = e
     by true e = absurd (true≢false (sym (same_spot-refl a) ∙ ap (same_spot a) (sym (same_spot-eq b a e)) ∙ apart))
 
--- what stands behind the first of distinct spots is another
-behind_apart : (first : Spot) (spots : List Spot) (place : ℕ) (spot : Spot) → IsDistinct same_spot (first ∷ spots) → At spots place spot → same_spot spot first ≡ false
-behind_apart first spots place spot distinct h =
+-- what stands after the first of distinct spots is another
+after_apart : (first : Spot) (spots : List Spot) (place : ℕ) (spot : Spot) → IsDistinct same_spot (first ∷ spots) → At spots place spot → same_spot spot first ≡ false
+after_apart first spots place spot distinct h =
     apart_flips first spot (every_at (λ other. same_spot first other ≡ false) spots place spot (IsDistinct-head same_spot first spots distinct) h)
 
--- the same spot isn't behind the first
-not_behind : (first : Spot) (spots : List Spot) (place : ℕ) → IsDistinct same_spot (first ∷ spots) → At spots place first → ⊥
-not_behind first spots place distinct h = true≢false (sym (same_spot-refl first) ∙ behind_apart first spots place first distinct h)
+-- the same spot isn't after the first
+not_after : (first : Spot) (spots : List Spot) (place : ℕ) → IsDistinct same_spot (first ∷ spots) → At spots place first → ⊥
+not_after first spots place distinct h = true≢false (sym (same_spot-refl first) ∙ after_apart first spots place first distinct h)
 
 -- each of distinct spots has one place
 pub one_place : (spots : List Spot) (a b : ℕ) (spot : Spot) → IsDistinct same_spot spots → At spots a spot → At spots b spot → a ≡ b
 one_place [] a b spot distinct p q = absurd p
 one_place (first ∷ spots) zero zero spot distinct p q = refl
-one_place (first ∷ spots) zero (suc b) spot distinct p q = absurd (not_behind first spots b distinct (subst (At spots b) (sym p) q))
-one_place (first ∷ spots) (suc a) zero spot distinct p q = absurd (not_behind first spots a distinct (subst (At spots a) (sym q) p))
+one_place (first ∷ spots) zero (suc b) spot distinct p q = absurd (not_after first spots b distinct (subst (At spots b) (sym p) q))
+one_place (first ∷ spots) (suc a) zero spot distinct p q = absurd (not_after first spots a distinct (subst (At spots a) (sym q) p))
 one_place (first ∷ spots) (suc a) (suc b) spot distinct p q = ap suc (one_place spots a b spot (IsDistinct-tail same_spot first spots distinct) p q)
 
 -- ---- look-ups
@@ -43,7 +43,7 @@ found_there {A} (first ∷ table) zero spot thing distinct h =
     let same : same_spot spot first.0 ≡ true = ap (λ (entry : Spot × A). same_spot spot entry.0) h ∙ same_spot-refl spot in
     ap (λ b. cond b (Some first.1) (found_at table spot)) same ∙ ap (λ (entry : Spot × A). Some entry.1) h
 found_there {A} (first ∷ table) (suc place) spot thing distinct h =
-    let apart = behind_apart first.0 (keys_of table) place spot distinct (at_map (λ (entry : Spot × A). entry.0) table place (spot, thing) h) in
+    let apart = after_apart first.0 (keys_of table) place spot distinct (at_map (λ (entry : Spot × A). entry.0) table place (spot, thing) h) in
     ap (λ b. cond b (Some first.1) (found_at table spot)) apart ∙ found_there table place spot thing (IsDistinct-tail same_spot first.0 (keys_of table) distinct) h
 
 numbered_from : (spots : List Spot) (first place number : ℕ) (spot : Spot) → number ≡ first + place → IsDistinct same_spot spots → At spots place spot → position_from (same_spot spot) first spots ≡ Some number
@@ -53,7 +53,7 @@ numbered_from (one ∷ spots) first zero number spot e distinct h =
     let here : first ≡ number = omega arith in
     ap (λ b. if b then Some first else position_from (same_spot spot) (first + 1) spots) same ∙ ap Some here
 numbered_from (one ∷ spots) first (suc place) number spot e distinct h =
-    ap (λ b. if b then Some first else position_from (same_spot spot) (first + 1) spots) (behind_apart one spots place spot distinct h)
+    ap (λ b. if b then Some first else position_from (same_spot spot) (first + 1) spots) (after_apart one spots place spot distinct h)
     ∙ numbered_from spots (first + 1) place number spot (omega arith) (IsDistinct-tail same_spot one spots distinct) h
 
 -- the place of a spot is its number
@@ -65,7 +65,7 @@ number_is spots place spot distinct h = ap (λ found. unwrap_or found 0) (place_
 
 -- ---- tables of entries whose spots are distinct
 
--- the first of distinct spots is another than one that stands behind others
+-- the first of distinct spots is another than one that stands after others
 first_apart : (first : Spot) (spots more : List Spot) (spot : Spot) → AllByRecursion (λ other. same_spot first other ≡ false) (spots ++ spot ∷ more) → same_spot first spot ≡ false
 first_apart first [] more spot all = all.0
 first_apart first (one ∷ spots) more spot all = first_apart first spots more spot all.1
@@ -77,15 +77,15 @@ entry_new (first ∷ table) entry more distinct =
     (apart_flips first.0 entry.0 (first_apart first.0 (keys_of table) more entry.0 (IsDistinct-head same_spot first.0 (keys_of table ++ entry.0 ∷ more) distinct)))
     ∙ ap (λ rest. first ∷ rest) (entry_new table entry more (IsDistinct-tail same_spot first.0 (keys_of table ++ entry.0 ∷ more) distinct))
 
-entries_behind : {A : Type 0} (table entries : List (Spot × A)) → IsDistinct same_spot (keys_of table ++ keys_of entries) → with_entries table entries ≡ table ++ entries
-entries_behind table [] distinct = sym (append-nil table)
-entries_behind {A} table (entry ∷ entries) distinct =
+entries_after : {A : Type 0} (table entries : List (Spot × A)) → IsDistinct same_spot (keys_of table ++ keys_of entries) → with_entries table entries ≡ table ++ entries
+entries_after table [] distinct = sym (append-nil table)
+entries_after {A} table (entry ∷ entries) distinct =
     let keys : keys_of (table ++ entry ∷ []) ++ keys_of entries ≡ keys_of table ++ entry.0 ∷ keys_of entries =
     ap (λ spots. spots ++ keys_of entries) (map-append (λ (one : Spot × A). one.0) table (entry ∷ [])) ∙ append_assoc (keys_of table) (entry.0 ∷ []) (keys_of entries) in
     ap (λ made. with_entries made entries) (entry_new table entry (keys_of entries) distinct)
-    ∙ entries_behind (table ++ entry ∷ []) entries (subst (IsDistinct same_spot) (sym keys) distinct)
+    ∙ entries_after (table ++ entry ∷ []) entries (subst (IsDistinct same_spot) (sym keys) distinct)
     ∙ append_assoc table (entry ∷ []) entries
 
 -- a table of such entries is these
 pub entries_apart : {A : Type 0} (entries : List (Spot × A)) → IsDistinct same_spot (keys_of entries) → table_of entries ≡ entries
-entries_apart entries distinct = entries_behind [] entries distinct
+entries_apart entries distinct = entries_after [] entries distinct

@@ -6,7 +6,7 @@ use Rattle.std.specs.List.{All}
 use Rattle.std.proofs.Math.Numerals.{suc-eq-add-one}
 use Rattle.std.proofs.Math.Seq.{drop-cons}
 use Rattle.sr_text.specs.declared.refusal.Refusal.{Refusal}
-use Rattle.sr_front.specs.Phases.{AllPass, FirstRefused, none_left, one_more, here, behind}
+use Rattle.sr_front.specs.Phases.{AllPass, FirstRefused, none_left, one_more, here, after}
 
 -- what the other files lead to, all files lead to
 pub record LeadsOn {X Y A B : Type 0} (Passes : ℕ → A → B → Type 0) (Refuses : ℕ → A → Refusal → Type 0) (f : X → A) (g : Y → B)
@@ -37,7 +37,7 @@ goes_on Passes Refuses f g files at done x y number next content extended leads 
       passes = λ more p. subst (AllPass Passes 0 (map f files)) (added g done y more)
           (leads.passes (g y ∷ more) (subst (λ xs. AllPass Passes at xs (g y ∷ more)) (sym (front_of f files at x within)) (one_more here_passed p)));
       refuses = λ refusal p. leads.refuses refusal
-          (subst (λ xs. FirstRefused Passes Refuses at xs refusal) (sym (front_of f files at x within)) (behind here_passed p));
+          (subst (λ xs. FirstRefused Passes Refuses at xs refusal) (sym (front_of f files at x within)) (after here_passed p));
     } in
     subst (λ n. LeadsOn Passes Refuses f g files n extended) (suc-eq-add-one at ∙ sym counted)
     (subst (LeadsOn Passes Refuses f g files (suc at)) (sym pushed) one)
@@ -57,7 +57,7 @@ drop_all [] (suc n) within = refl
 drop_all (x ∷ xs) zero within = absurd (omega (arith, within))
 drop_all (x ∷ xs) (suc n) within = drop_all xs n (omega (arith, within))
 
--- behind the last file all have passed
+-- after the last file all have passed
 pub all_passed : {X Y A B : Type 0} (Passes : ℕ → A → B → Type 0) (Refuses : ℕ → A → Refusal → Type 0) (f : X → A) (g : Y → B) (files : List X)
     (at : ℕ) (done : List Y) → LeadsOn Passes Refuses f g files at done → length files ≤ at → AllPass Passes 0 (map f files) (map g done)
 all_passed Passes Refuses f g files at done leads past = subst (AllPass Passes 0 (map f files)) (append-nil (map g done))

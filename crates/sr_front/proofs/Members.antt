@@ -88,13 +88,13 @@ module _ {A B : Type 0} where
   -- what is among the parts of all is among those of one
   pub part_of : (parts : A → List B) (items : List A) (place : ℕ) (part : B) → At (flat_map parts items) place part → (n : ℕ) × (item : A) × At items n item × Among (parts item) part
   part_of parts [] place part h = absurd h
-  part_of parts (first ∷ items) place part h = by (at-either (parts first) (flat_map parts items) place part h) (λ behind. part_of parts items behind part)
+  part_of parts (first ∷ items) place part h = by (at-either (parts first) (flat_map parts items) place part h) (λ after. part_of parts items after part)
     where
       Found : Type 0
       Found = (n : ℕ) × (item : A) × At (first ∷ items) n item × Among (parts item) part
 
-      by : (At (parts first) place part ⊎ ((behind : ℕ) × (place ≡ length (parts first) + behind) × At (flat_map parts items) behind part))
-          → ((behind : ℕ) → At (flat_map parts items) behind part → (n : ℕ) × (item : A) × At items n item × Among (parts item) part)
+      by : (At (parts first) place part ⊎ ((after : ℕ) × (place ≡ length (parts first) + after) × At (flat_map parts items) after part))
+          → ((after : ℕ) → At (flat_map parts items) after part → (n : ℕ) × (item : A) × At items n item × Among (parts item) part)
           → Found
       by (inl here) later = (0, first, refl, (place, here))
       by (inr there) later = let found = later there.0 there.2 in (suc found.0, found.1, found.2, found.3)

@@ -19,7 +19,7 @@ at_last : (a b : Spot) (xs ys : List Spot) → AllByRecursion (λ y. same_spot a
 at_last a b [] ys h = h.0
 at_last a b (x ∷ xs) ys h = at_last a b xs ys h.1
 
--- a spot behind others is none of them
+-- a spot after others is none of them
 none_before : (there : List Spot) (spot : Spot) (spots : List Spot) → IsDistinct same_spot (there ++ spot ∷ spots) → list_any (same_spot spot) there ≡ false
 none_before [] spot spots h = refl
 none_before (first ∷ there) spot spots h =

@@ -10,7 +10,7 @@ use Rattle.sr_check_expr.specs.declared.facts.Facts.{Facts}
 use Rattle.sr_core.specs.declared.component.Core.{Core}
 use Rattle.sr_core.specs.declared.component.Operation.{Operation}
 use Rattle.sr_core.specs.WellFormed.{if_some, operation_ok}
-use Rattle.sr_desugar.specs.Core.{Whole, core_of, procs_in, whole_of, wholes_from}
+use Rattle.sr_desugar.specs.Core.{LoweredComponent, core_of, procs_in, whole_of, wholes_from}
 use Rattle.sr_names.specs.declared.spot.Spot.{Spot}
 use Rattle.sr_names.specs.Searches.{At}
 use Rattle.sr_names.specs.Spots.{same_spot}
@@ -41,7 +41,7 @@ module _ (files : List File) (facts : Facts) where
   abbrev pub imports : List (List ℕ)
   imports = map (imports_of facts tables.components) components
 
-  abbrev pub wholes : List Whole
+  abbrev pub wholes : List LoweredComponent
   wholes = wholes_from facts tables imports 0 components
 
   abbrev pub table : List (Spot × Operation)
@@ -52,7 +52,7 @@ module _ (files : List File) (facts : Facts) where
 
   pub components_count : length core.components ≡ length components
   components_count =
-      length-map wholes (λ (whole : Whole). whole.component)
+      length-map wholes (λ (whole : LoweredComponent). whole.component)
       ∙ length-map (enumerate_from 0 components) (whole_of facts tables imports)
       ∙ length-enumerate_from 0 components
 

@@ -11,7 +11,7 @@ use Rattle.sr_core.specs.declared.component.Core.{Core}
 use Rattle.sr_core.specs.declared.component.Operation.{Operation}
 use Rattle.sr_core.specs.declared.component.Proc.{Proc}
 use Rattle.sr_core.specs.WellFormed.{all_numbers_ok, numbers_ok, proc_numbers_ok}
-use Rattle.sr_desugar.specs.Core.{Whole, whole_of}
+use Rattle.sr_desugar.specs.Core.{LoweredComponent, whole_of}
 use Rattle.sr_desugar.specs.Numbered.{codes_numbered, procs_numbered}
 use Rattle.sr_names.specs.declared.spot.Spot.{Spot}
 use Rattle.sr_names.specs.Noted.{Meanings}
@@ -34,7 +34,7 @@ module _ (uses : Meanings) (files : List File) (known facts : Facts) (same : fac
   all = components files facts
 
   -- the component of the operation that a proc serves is the one in which it stands
-  served_here : (number : ℕ) (tree : Component) (whole : Whole) (proc : Proc) (spot : Spot) → At all number tree → At (wholes files facts) number whole
+  served_here : (number : ℕ) (tree : Component) (whole : LoweredComponent) (proc : Proc) (spot : Spot) → At all number tree → At (wholes files facts) number whole
       → Among (component_served facts tree) spot → ServesAt (table files facts) proc spot → IsTrue (numbers_ok (core files facts) whole.component proc.body)
       → IsTrue (proc_numbers_ok (core files facts) proc)
   served_here number tree whole proc spot there at among serving ok =
@@ -45,19 +45,19 @@ module _ (uses : Meanings) (files : List File) (known facts : Facts) (same : fac
       in_component (core files facts) proc operation.operation whole.component
       (ap (slice_get (core files facts).operations) serving.is ∙ operation.numbered)
       (ap (slice_get (core files facts).components) place
-      ∙ at_get (core files facts).components number whole.component (at_map (λ (one : Whole). one.component) (wholes files facts) number whole at))
+      ∙ at_get (core files facts).components number whole.component (at_map (λ (one : LoweredComponent). one.component) (wholes files facts) number whole at))
       ok
 
   proc_ok : IsTrue (list_all (procs_numbered (core files facts)) (wholes files facts)) → (place : ℕ) (proc : Proc) → At (core files facts).procs place proc → IsTrue (proc_numbers_ok (core files facts) proc)
   proc_ok numbered place proc h =
-      let part = part_of (λ (whole : Whole). whole.procs) (wholes files facts) place proc h in
-      let whole : Whole = part.1 in
+      let part = part_of (λ (whole : LoweredComponent). whole.procs) (wholes files facts) place proc h in
+      let whole : LoweredComponent = part.1 in
       let made = at_made (whole_of facts (tables files facts) (imports files facts)) (enumerate_from 0 all) part.0 whole part.2 in
       let there = numbered_at 0 all part.0 made.0 made.1 in
       let number : made.0.0 ≡ part.0 = omega (arith, there.0) in
       let serving = zip_at (ServesAt (table files facts)) (whole_of facts (tables files facts) (imports files facts) made.0).procs (component_served facts made.0.1) part.3.0 proc
       (component_serves facts (tables files facts) (imports files facts) made.0.0 made.0.1)
-      (subst (λ (one : Whole). At one.procs part.3.0 proc) (sym made.2) part.3.1) in
+      (subst (λ (one : LoweredComponent). At one.procs part.3.0 proc) (sym made.2) part.3.1) in
       served_here part.0 made.0.1 whole proc serving.0 there.1 part.2 (part.3.0, serving.1) serving.2
       (passes_at (λ (one : Proc). numbers_ok (core files facts) whole.component one.body) whole.procs part.3.0 proc
       (passes_at (procs_numbered (core files facts)) (wholes files facts) part.0 whole numbered part.2) part.3.1)

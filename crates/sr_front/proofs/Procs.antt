@@ -31,7 +31,7 @@ use Rattle.sr_value.specs.declared.place.Span.{Span}
 use Rattle.sr_desugar.specs.declared.scene.Scene.{Scene}
 use Rattle.sr_desugar.specs.Bodies.{all_procs, in_body, item_output, item_outputs, service}
 use Rattle.sr_desugar.specs.Core.{procs_in, scene_of, whole_of, wholes_from}
-use Rattle.sr_desugar.specs.Places.{first_var, formals_of, operation_number, own_formals, own_numbers, own_returned, returned_to, vars_behind}
+use Rattle.sr_desugar.specs.Places.{first_var, formals_of, operation_number, own_formals, own_numbers, own_returned, returned_to, vars_after}
 use Rattle.sr_front.proofs.Members.{zip_append}
 
 -- ---- formals
@@ -44,7 +44,7 @@ same_mode Res = refl
 -- variables that stand for formals name them
 vars_named : (vars : List ℕ) (parameters : List Parameter) → IsTrue (names_formals (formals_of vars parameters) parameters)
 vars_named vars [] = refl
-vars_named vars (parameter ∷ parameters) = and_from _ _ (same_mode parameter.mode) (vars_named (vars_behind vars) parameters)
+vars_named vars (parameter ∷ parameters) = and_from _ _ (same_mode parameter.mode) (vars_named (vars_after vars) parameters)
 
 var_returned : (var : ℕ) (shape : Option Shape) → IsTrue (same_there (returned_to var shape) shape)
 var_returned var None = refl

@@ -6,7 +6,7 @@ use Rattle.sr_check_expr.specs.declared.facts.Facts.{Facts}
 use Rattle.sr_core.specs.declared.component.Core.{Core}
 use Rattle.sr_core.specs.declared.component.Operation.{Operation}
 use Rattle.sr_core.specs.declared.site.Arm.{Arm as CoreArm}
-use Rattle.sr_core.specs.WellFormed.{if_some, is_quiet, is_there, names_formals, one_owner, same_there, with_operation}
+use Rattle.sr_core.specs.WellFormed.{if_some, is_effect_free, is_there, names_formals, one_owner, same_there, with_operation}
 use Rattle.sr_names.specs.declared.meaning.Decl.{Decl}
 use Rattle.sr_outline.specs.Numbers.{is_wait, wait_operation}
 use Rattle.sr_tables.specs.Lists.{lists, maybe_lists}
@@ -43,11 +43,11 @@ abbrev pub sites_serve : Core → Bool
 sites_serve core = list_all (λ site. arms_serve core site.arms) core.sites
 
 -- the guard and the order of an arm don't wait
-abbrev pub arm_quiet : CoreArm → Bool
-arm_quiet arm = if_some is_quiet arm.guard && if_some is_quiet arm.by
+abbrev pub arm_effect_free : CoreArm → Bool
+arm_effect_free arm = if_some is_effect_free arm.guard && if_some is_effect_free arm.by
 
-abbrev pub sites_quiet : Core → Bool
-sites_quiet core = list_all (λ site. list_all arm_quiet site.arms) core.sites
+abbrev pub sites_effect_free : Core → Bool
+sites_effect_free core = list_all (λ site. list_all arm_effect_free site.arms) core.sites
 
 -- ---- the invocations among statements
 

@@ -17,7 +17,7 @@ use Rattle.sr_tree.specs.declared.component.SpecItem.TheVariants as spec
 use Rattle.sr_tree.specs.Parts.{body_of, formals_of, spec_of}
 use Rattle.sr_value.specs.declared.place.Span.{Span}
 use Rattle.sr_check.proofs.Each.{Each}
-use Rattle.sr_front.proofs.QuietCode.{code_names, component_code}
+use Rattle.sr_front.proofs.EffectFreeCode.{code_names, component_code}
 use Rattle.sr_front.proofs.TypeSpots.{Elsewhere, component_types, item_types, spec_item_types}
 
 -- of the elements of a list some are in one list, others in another, and others in neither
@@ -93,18 +93,18 @@ other_way a b apart = by (same_spot-cases b a)
     by (inl same) = absurd (true≢false (sym (same_spot-refl a) ∙ ap (same_spot a) (sym same) ∙ apart))
     by (inr apart) = apart
 
-abbrev Behind : Span → List Span → Type 0
-Behind span spans = AllByRecursion (λ other. same_spot (spot_of span) other ≡ false) (map spot_of spans)
+abbrev After : Span → List Span → Type 0
+After span spans = AllByRecursion (λ other. same_spot (spot_of span) other ≡ false) (map spot_of spans)
 
 -- those of either list are among all
-first_behind : {xs ys zs : List Span} (span : Span) → Shares xs ys zs → Behind span xs → Each (Elsewhere (spot_of span)) ys
-first_behind span none apart = tt
-first_behind span (left_out x shares) apart = first_behind span shares apart.1
-first_behind span (in_first x shares) apart = (apart.0, first_behind span shares apart.1)
-first_behind span (in_second x shares) apart = first_behind span shares apart.1
+first_after : {xs ys zs : List Span} (span : Span) → Shares xs ys zs → After span xs → Each (Elsewhere (spot_of span)) ys
+first_after span none apart = tt
+first_after span (left_out x shares) apart = first_after span shares apart.1
+first_after span (in_first x shares) apart = (apart.0, first_after span shares apart.1)
+first_after span (in_second x shares) apart = first_after span shares apart.1
 
 -- one more name that stands elsewhere than each
-one_elsewhere : {xs ys zs : List Span} (span : Span) → Shares xs ys zs → Behind span xs → (types : List Span)
+one_elsewhere : {xs ys zs : List Span} (span : Span) → Shares xs ys zs → After span xs → (types : List Span)
     → Each (λ one. Each (Elsewhere (spot_of one)) types) zs → Each (λ one. Each (Elsewhere (spot_of one)) (span ∷ types)) zs
 one_elsewhere span none apart types each = tt
 one_elsewhere span (left_out x shares) apart types each = one_elsewhere span shares apart.1 types each
@@ -117,4 +117,4 @@ unfolding IsDistinct
 shares_apart none distinct = tt
 shares_apart (left_out x shares) distinct = shares_apart shares distinct.1
 shares_apart (in_first x shares) distinct = one_elsewhere x shares distinct.0 _ (shares_apart shares distinct.1)
-shares_apart (in_second x shares) distinct = (first_behind x shares distinct.0, shares_apart shares distinct.1)
+shares_apart (in_second x shares) distinct = (first_after x shares distinct.0, shares_apart shares distinct.1)

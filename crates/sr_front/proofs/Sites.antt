@@ -16,7 +16,7 @@ use Rattle.sr_core.specs.declared.site.Site.{Site}
 use Rattle.sr_core.specs.declared.statement.Scope.{Scope}
 use Rattle.sr_core.specs.declared.statement.Scope.TheVariants.{Own as own_scope, Shared as shared_scope}
 use Rattle.sr_core.specs.WellFormed.{arm_ok, arms_ok, names_formals, same_there, scope_eq, with_operation}
-use Rattle.sr_desugar.specs.Core.{Whole, standing, whole_of}
+use Rattle.sr_desugar.specs.Core.{LoweredComponent, standing, whole_of}
 use Rattle.sr_names.specs.declared.meaning.Decl.{Decl}
 use Rattle.sr_names.specs.declared.spot.Spot.{Spot}
 use Rattle.sr_names.specs.Noted.{Meanings}
@@ -32,7 +32,7 @@ use Rattle.sr_tree.specs.declared.component.Item.{Item}
 use Rattle.sr_tree.specs.declared.component.Item.TheVariants as item
 use Rattle.sr_tree.specs.Parts.{body_of}
 use Rattle.sr_value.specs.declared.place.Span.{Span}
-use Rattle.sr_front.proofs.Serviced.{IsClear, arm_quiet, arm_serves, arms_serve, component_calls, sites_quiet, sites_serve}
+use Rattle.sr_front.proofs.Serviced.{IsClear, arm_effect_free, arm_serves, arms_serve, component_calls, sites_effect_free, sites_serve}
 use Rattle.sr_front.proofs.Declared.{Apart, Entered, one_component, scope_of}
 use Rattle.sr_front.proofs.Numbered.{each_once_apart}
 use Rattle.sr_front.proofs.Members.{Among, all_at, among_parts, at_made, at_read, contained, every_at, numbered_at, part_of, passed, passes_at, zip_at}
@@ -211,12 +211,12 @@ module _ (files : List File) (known facts : Facts) (services : AllServiceOwn fac
     -- clause `sites` of `IsWellFormed`, but for guards
     pub sites_are_served : IsTrue (sites_serve (core files facts))
     sites_are_served = passed (λ site. arms_serve (core files facts) site.arms) (core files facts).sites (λ place site h.
-        let part = part_of (λ (whole : Whole). whole.sites) (wholes files facts) place site h in
+        let part = part_of (λ (whole : LoweredComponent). whole.sites) (wholes files facts) place site h in
         let made = at_made (whole_of facts (tables files facts) (imports files facts)) (enumerate_from 0 all) part.0 part.1 part.2 in
         let there = numbered_at 0 all part.0 made.0 made.1 in
         let number : made.0.0 ≡ part.0 = omega (arith, there.0) in
         component_sites made.0.0 part.3.0 made.0.1 site (subst (λ at. At all at made.0.1) (sym number) there.1)
-        (subst (λ (one : Whole). At one.sites part.3.0 site) (sym made.2) part.3.1))
+        (subst (λ (one : LoweredComponent). At one.sites part.3.0 site) (sym made.2) part.3.1))
 
 -- ---- guards
 
@@ -230,15 +230,15 @@ with_some written op test passes = by (slice_get written.operations op) refl pas
     by (Some operation) is holds = (operation, is, rw is at holds)
 
 -- where no guard waits an arm that services its operation is well formed
-arms_well : (written : Core) (arms : List CoreArm) → IsTrue (arms_serve written arms) → IsTrue (list_all arm_quiet arms) → IsTrue (arms_ok written arms)
-arms_well written [] serving quiet = refl
-arms_well written (arm ∷ arms) serving quiet =
+arms_well : (written : Core) (arms : List CoreArm) → IsTrue (arms_serve written arms) → IsTrue (list_all arm_effect_free arms) → IsTrue (arms_ok written arms)
+arms_well written [] serving effect_free = refl
+arms_well written (arm ∷ arms) serving effect_free =
     let first = with_some written arm.op (λ one. list_all (arm_serves written one) (arm ∷ arms)) serving in
     with_there written arm.op first.0 (λ one. list_all (arm_ok written one) (arm ∷ arms)) first.1
     (passed (arm_ok written first.0) (arm ∷ arms) (λ place one h.
-    and_from _ _ (passes_at (arm_serves written first.0) (arm ∷ arms) place one first.2 h) (passes_at arm_quiet (arm ∷ arms) place one quiet h)))
+    and_from _ _ (passes_at (arm_serves written first.0) (arm ∷ arms) place one first.2 h) (passes_at arm_effect_free (arm ∷ arms) place one effect_free h)))
 
 -- clause `sites` of `IsWellFormed`
-pub sites_well : (written : Core) → IsTrue (sites_serve written) → IsTrue (sites_quiet written) → IsTrue (list_all (λ site. arms_ok written site.arms) written.sites)
-sites_well written serving quiet = passed (λ site. arms_ok written site.arms) written.sites (λ place site h.
-    arms_well written site.arms (passes_at (λ one. arms_serve written one.arms) written.sites place site serving h) (passes_at (λ one. list_all arm_quiet one.arms) written.sites place site quiet h))
+pub sites_well : (written : Core) → IsTrue (sites_serve written) → IsTrue (sites_effect_free written) → IsTrue (list_all (λ site. arms_ok written site.arms) written.sites)
+sites_well written serving effect_free = passed (λ site. arms_ok written site.arms) written.sites (λ place site h.
+    arms_well written site.arms (passes_at (λ one. arms_serve written one.arms) written.sites place site serving h) (passes_at (λ one. list_all arm_effect_free one.arms) written.sites place site effect_free h))

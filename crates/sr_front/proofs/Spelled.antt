@@ -11,7 +11,7 @@ use Rattle.sr_scope.specs.Uses.{IsIn}
 use Rattle.sr_front.specs.Phases.{AllPass, none_left, one_more}
 use Rattle.sr_front.specs.Reading.{HasTree}
 use Rattle.sr_scope.proofs.Findings.{in_either}
-use Rattle.sr_front.proofs.Made.{NoFinalInGlobals}
+use Rattle.sr_front.proofs.CoreComponents.{NoFinalInGlobals}
 
 spelled_in : {may_begin : Bool} {components : List Component} {tokens : List Token} → SpellsList SpellsComponent may_begin components tokens
     → (component : Component) → IsIn component components → (u : List Token) × SpellsComponent component u

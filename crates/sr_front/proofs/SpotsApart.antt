@@ -6,7 +6,7 @@ use Rattle.sr_tree.specs.declared.component.File.{File}
 use Rattle.sr_tree.specs.declared.token.Token.{Token}
 use Rattle.sr_tree.specs.Components.{Spells}
 use Rattle.sr_order.specs.Order.{Picks, Ascend, same_place}
-use Rattle.sr_order.proofs.Ordered.{Behind, picked-ascend, ascend-behind, files-distinct}
+use Rattle.sr_order.proofs.Ordered.{After, picked-ascend, ascend-after, files-distinct}
 use Rattle.sr_lexer.specs.Tokens.{Lexes}
 use Rattle.sr_lexer.proofs.OrderLemmas.{tokens-ascend}
 use Rattle.sr_names.specs.Spots.{spot_of, same_spot}
@@ -15,7 +15,7 @@ use Rattle.sr_front.specs.Reading.{AreRead, HasTree}
 
 -- the spans of files that are numbered on from `number`: at different places, and in none of the files before
 record FromFile (number : ℕ) (spans : List Span) : Type 0 where
-  behind : (before : ℕ) → before < number → Behind before spans
+  after : (before : ℕ) → before < number → After before spans
   distinct : IsDistinct same_place spans
 
 -- the spots of spans at different places differ
@@ -34,13 +34,13 @@ module _ (spans : File → List Span) (pick : (tokens : List Token) (file : File
   from-file : {number : ℕ} {contents : List (List ℕ)} {tokens : List (List Token)} {trees : List File} → AllPass Lexes number contents tokens
       → AllPass HasTree number tokens trees → FromFile number (flat_map spans trees)
   unfolding IsDistinct
-  from-file none_left none_left = record { behind = λ before h. tt; distinct = tt }
+  from-file none_left none_left = record { after = λ before h. tt; distinct = tt }
   from-file (one_more {number = number} {file = bytes} {made = tokens} lexed others) (one_more {made = tree} {mades = trees} parsed rest) =
       let later = from-file others rest in
       let here : Ascend number 0 (spans tree) = picked-ascend number 0 (spans tree) tokens (tokens-ascend number bytes tokens lexed) (pick tokens tree parsed) in
       record {
-        behind = λ before h. ascend-behind number before 0 (spans tree) (flat_map spans trees) h here (later.behind before (omega (arith, h)));
-        distinct = files-distinct number 0 (spans tree) (flat_map spans trees) here (later.behind number (omega arith)) later.distinct;
+        after = λ before h. ascend-after number before 0 (spans tree) (flat_map spans trees) h here (later.after before (omega (arith, h)));
+        distinct = files-distinct number 0 (spans tree) (flat_map spans trees) here (later.after number (omega arith)) later.distinct;
       }
 
   pub spots-apart : (contents : List (List ℕ)) (trees : List File) → AreRead contents trees → IsDistinct same_spot (map spot_of (flat_map spans trees))

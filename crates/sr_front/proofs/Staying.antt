@@ -35,7 +35,7 @@ use Rattle.sr_check.specs.Services.{names_bound, params_of, returned_bound, retu
 use Rattle.sr_check.specs.Statements.{const_read, var_read}
 use Rattle.sr_check.proofs.Each.{Each, each-left, each-parts}
 use Rattle.sr_check.proofs.Entered.{keeps_ops, keeps_written}
-use Rattle.sr_front.proofs.QuietExprs.{Stay, StaysInfo}
+use Rattle.sr_front.proofs.EffectFreeExprs.{Stay, StaysInfo}
 
 -- no type and no component
 abbrev pub Loose : Option Info → Type 0
@@ -138,8 +138,8 @@ module _ (known : Facts) where
 
   pub same_const : (constant : ConstDecl) (facts : Facts) → AllFree (const_names constant) → Same known facts → Same known (const_read constant facts).facts
   same_const constant facts free same =
-      let behind = written_entered constant.ty facts in
-      same_with behind (spot_of constant.name.span) (info.Value (const_of false behind constant)) free.0 tt (keeps_written (Same known) same_signatures constant.ty facts same)
+      let after = written_entered constant.ty facts in
+      same_with after (spot_of constant.name.span) (info.Value (const_of false after constant)) free.0 tt (keeps_written (Same known) same_signatures constant.ty facts same)
 
   same_vars : (type : Ty) (decls : List Decl) (facts : Facts) → Each (λ decl. AllFree (decl_names decl)) decls → Same known facts → Same known (vars_declared type decls facts)
   same_vars type [] facts free same = same
@@ -148,8 +148,8 @@ module _ (known : Facts) where
 
   pub same_var : (variables : VarDecl) (facts : Facts) → AllFree (var_names variables) → Same known facts → Same known (var_read variables facts).facts
   same_var variables facts free same =
-      let behind = written_entered variables.ty facts in
-      same_vars (vars_type behind variables.ty variables.values) variables.decls behind
+      let after = written_entered variables.ty facts in
+      same_vars (vars_type after variables.ty variables.values) variables.decls after
       (each-parts Free decl_names variables.decls (each-left Free (flat_map decl_names variables.decls) _ free))
       (keeps_written (Same known) same_signatures variables.ty facts same)
 
@@ -169,9 +169,9 @@ module _ (known : Facts) where
       → Same known (sems_declared true semaphores facts)
   same_sems_in [] facts free same = same
   same_sems_in (semaphore ∷ more) facts free same =
-      let behind = entered semaphore_signature facts in
+      let after = entered semaphore_signature facts in
       same_sems_in more _ free.1
-      (same_with behind (spot_of semaphore.name.span) (operation behind true (operation_type behind semaphore_signature)) free.0.0 tt (same_signatures facts behind.signatures same))
+      (same_with after (spot_of semaphore.name.span) (operation after true (operation_type after semaphore_signature)) free.0.0 tt (same_signatures facts after.signatures same))
 
   pub same_sems : (semaphores : List Semaphore) (facts : Facts) → AllFree (flat_map semaphore_names semaphores) → Same known facts → Same known (sems_declared true semaphores facts)
   same_sems semaphores facts free same = same_sems_in semaphores facts (each-parts Free semaphore_names semaphores free) same

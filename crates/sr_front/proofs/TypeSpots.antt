@@ -173,8 +173,8 @@ module _ (spot : Spot) where
       let entering = formals_entered (formals_of tree) facts in
       let params = component_formals entering (formals_of tree) in
       let made = signed_entered (making params) entering in
-      let behind = keeps_signed Free free_signatures (making params) entering (keeps_formals Free free_signatures (formals_of tree) facts free) in
-      free_params params (component_typed (name_of tree) (making params) made) (free_elsewhere made (spot_of (name_of tree).span) _ apart behind)
+      let after = keeps_signed Free free_signatures (making params) entering (keeps_formals Free free_signatures (formals_of tree) facts free) in
+      free_params params (component_typed (name_of tree) (making params) made) (free_elsewhere made (spot_of (name_of tree).span) _ apart after)
 
   free_component : (component : Component) (tally : Tally) → Each Elsewhere (component_types component) → Free tally.facts → Free (component_declared component tally).facts
   free_component component tally apart free =

@@ -27,7 +27,7 @@ use Rattle.sr_tree.specs.declared.statement.Statement.{Statement, roll-Statement
 use Rattle.sr_tree.specs.Expressions.{expr_span}
 use Rattle.sr_value.specs.declared.place.Span.{Span}
 use Rattle.sr_desugar.specs.declared.scene.Scene.{Scene}
-use Rattle.sr_desugar.specs.Statements.{ArmMade, Block, Made, all_sites, arm_made, arms_of, branch_made, call_made, co_arm_made, core_arm, core_block_item, core_branch, core_co_arm, core_statement, item_made, receive_made, statement_made}
+use Rattle.sr_desugar.specs.Statements.{LoweredArm, Block, WithSites, all_sites, arm_made, arms_of, branch_made, call_made, co_arm_made, core_arm, core_block_item, core_branch, core_co_arm, core_statement, item_made, receive_made, statement_made}
 use Rattle.sr_front.proofs.Serviced.{Called, IsClear, WaitsFor, arm_calls, block_item_calls, branch_calls, co_arm_calls, statement_calls, item_step as item_called, statement_step as statement_called, arm_step as arm_called, branch_step as branch_called, co_arm_step as co_arm_called}
 use Rattle.sr_front.proofs.Procs.{Serves, serves}
 use Rattle.sr_front.proofs.Services.{meant_is}
@@ -75,7 +75,7 @@ module _ (P : Together → Type 0) where
   abbrev pub StatementGood : Statement → Type 0
   StatementGood tree = (scene : Scene) → Good scene (core_statement scene tree).sites (statement_waits scene.facts.uses tree) (statement_calls tree)
 
-  abbrev ArmParts : Scene → Made ArmMade → ArmWaits → List Called → Type 0
+  abbrev ArmParts : Scene → WithSites LoweredArm → ArmWaits → List Called → Type 0
   ArmParts scene made waits calls = ArmServes scene.tables.operations made.made.arm waits.0 × Good scene made.sites waits.1 calls
 
   abbrev ArmGood : Arm → Type 0
@@ -181,9 +181,9 @@ module _ (P : Together → Type 0) where
   abbrev bare : Statement-F I S A B C → Statement-F BlockItem Statement Arm Branch CoArm
   bare = map-Statement I S A B C BlockItem Statement Arm Branch CoArm (λ e. e.0) (λ e. e.0) (λ e. e.0) (λ e. e.0) (λ e. e.0)
 
-  abbrev made_statement : Scene → Statement-F BlockItem Statement Arm Branch CoArm → Statement-F (Made Block) (Made CoreStatement) (Made ArmMade) (Made Guarded) (Made CoreCoArm)
+  abbrev made_statement : Scene → Statement-F BlockItem Statement Arm Branch CoArm → Statement-F (WithSites Block) (WithSites CoreStatement) (WithSites LoweredArm) (WithSites Guarded) (WithSites CoreCoArm)
   made_statement scene =
-      map-Statement BlockItem Statement Arm Branch CoArm (Made Block) (Made CoreStatement) (Made ArmMade) (Made Guarded) (Made CoreCoArm)
+      map-Statement BlockItem Statement Arm Branch CoArm (WithSites Block) (WithSites CoreStatement) (WithSites LoweredArm) (WithSites Guarded) (WithSites CoreCoArm)
       (core_block_item scene) (core_statement scene) (core_arm scene) (core_branch scene) (core_co_arm scene)
 
   abbrev waits_statement : Scene → Statement-F BlockItem Statement Arm Branch CoArm → Statement-F Waits Waits ArmWaits Waits Waits
@@ -200,7 +200,7 @@ module _ (P : Together → Type 0) where
   StatementParts scene y =
       Good scene (statement_made scene (made_statement scene (bare y))).sites (statement_step scene.facts.uses (waits_statement scene (bare y))) (statement_called (calls_statement (bare y)))
 
-  abbrev made_items : Scene → List I → List (Made Block)
+  abbrev made_items : Scene → List I → List (WithSites Block)
   made_items scene items = map (core_block_item scene) (map (λ e. e.0) items)
 
   abbrev waits_items : Scene → List I → List Waits
@@ -209,7 +209,7 @@ module _ (P : Together → Type 0) where
   abbrev calls_items : List I → List (List Called)
   calls_items items = map block_item_calls (map (λ e. e.0) items)
 
-  -- parts, and behind them a block that may be left out
+  -- parts, and after them a block that may be left out
   with_none : (scene : Scene) (sites : List Site) (waits : Waits) (calls : List Called) → Good scene sites waits calls → Good scene (sites ++ []) (waits ++ []) (calls ++ [])
   with_none scene sites waits calls good = good_append scene sites [] waits [] calls [] good (λ hold clear. tt)
 
@@ -234,9 +234,9 @@ module _ (P : Together → Type 0) where
   abbrev bare_item : BlockItem-F I S A B C → BlockItem-F BlockItem Statement Arm Branch CoArm
   bare_item = map-BlockItem I S A B C BlockItem Statement Arm Branch CoArm (λ e. e.0) (λ e. e.0) (λ e. e.0) (λ e. e.0) (λ e. e.0)
 
-  abbrev made_item : Scene → BlockItem-F BlockItem Statement Arm Branch CoArm → BlockItem-F (Made Block) (Made CoreStatement) (Made ArmMade) (Made Guarded) (Made CoreCoArm)
+  abbrev made_item : Scene → BlockItem-F BlockItem Statement Arm Branch CoArm → BlockItem-F (WithSites Block) (WithSites CoreStatement) (WithSites LoweredArm) (WithSites Guarded) (WithSites CoreCoArm)
   made_item scene =
-      map-BlockItem BlockItem Statement Arm Branch CoArm (Made Block) (Made CoreStatement) (Made ArmMade) (Made Guarded) (Made CoreCoArm)
+      map-BlockItem BlockItem Statement Arm Branch CoArm (WithSites Block) (WithSites CoreStatement) (WithSites LoweredArm) (WithSites Guarded) (WithSites CoreCoArm)
       (core_block_item scene) (core_statement scene) (core_arm scene) (core_branch scene) (core_co_arm scene)
 
   abbrev waits_item : Scene → BlockItem-F BlockItem Statement Arm Branch CoArm → BlockItem-F Waits Waits ArmWaits Waits Waits
@@ -256,9 +256,9 @@ module _ (P : Together → Type 0) where
   abbrev bare_arm : Arm-F I S A B C → Arm-F BlockItem Statement Arm Branch CoArm
   bare_arm = map-Arm I S A B C BlockItem Statement Arm Branch CoArm (λ e. e.0) (λ e. e.0) (λ e. e.0) (λ e. e.0) (λ e. e.0)
 
-  abbrev made_arm : Scene → Arm-F BlockItem Statement Arm Branch CoArm → Arm-F (Made Block) (Made CoreStatement) (Made ArmMade) (Made Guarded) (Made CoreCoArm)
+  abbrev made_arm : Scene → Arm-F BlockItem Statement Arm Branch CoArm → Arm-F (WithSites Block) (WithSites CoreStatement) (WithSites LoweredArm) (WithSites Guarded) (WithSites CoreCoArm)
   made_arm scene =
-      map-Arm BlockItem Statement Arm Branch CoArm (Made Block) (Made CoreStatement) (Made ArmMade) (Made Guarded) (Made CoreCoArm)
+      map-Arm BlockItem Statement Arm Branch CoArm (WithSites Block) (WithSites CoreStatement) (WithSites LoweredArm) (WithSites Guarded) (WithSites CoreCoArm)
       (core_block_item scene) (core_statement scene) (core_arm scene) (core_branch scene) (core_co_arm scene)
 
   abbrev waits_arm : Scene → Arm-F BlockItem Statement Arm Branch CoArm → Arm-F Waits Waits ArmWaits Waits Waits
@@ -283,9 +283,9 @@ module _ (P : Together → Type 0) where
   abbrev bare_branch : Branch-F I S A B C → Branch-F BlockItem Statement Arm Branch CoArm
   bare_branch = map-Branch I S A B C BlockItem Statement Arm Branch CoArm (λ e. e.0) (λ e. e.0) (λ e. e.0) (λ e. e.0) (λ e. e.0)
 
-  abbrev made_branch : Scene → Branch-F BlockItem Statement Arm Branch CoArm → Branch-F (Made Block) (Made CoreStatement) (Made ArmMade) (Made Guarded) (Made CoreCoArm)
+  abbrev made_branch : Scene → Branch-F BlockItem Statement Arm Branch CoArm → Branch-F (WithSites Block) (WithSites CoreStatement) (WithSites LoweredArm) (WithSites Guarded) (WithSites CoreCoArm)
   made_branch scene =
-      map-Branch BlockItem Statement Arm Branch CoArm (Made Block) (Made CoreStatement) (Made ArmMade) (Made Guarded) (Made CoreCoArm)
+      map-Branch BlockItem Statement Arm Branch CoArm (WithSites Block) (WithSites CoreStatement) (WithSites LoweredArm) (WithSites Guarded) (WithSites CoreCoArm)
       (core_block_item scene) (core_statement scene) (core_arm scene) (core_branch scene) (core_co_arm scene)
 
   abbrev waits_branch : Scene → Branch-F BlockItem Statement Arm Branch CoArm → Branch-F Waits Waits ArmWaits Waits Waits
@@ -304,9 +304,9 @@ module _ (P : Together → Type 0) where
   abbrev bare_co_arm : CoArm-F I S A B C → CoArm-F BlockItem Statement Arm Branch CoArm
   bare_co_arm = map-CoArm I S A B C BlockItem Statement Arm Branch CoArm (λ e. e.0) (λ e. e.0) (λ e. e.0) (λ e. e.0) (λ e. e.0)
 
-  abbrev made_co_arm : Scene → CoArm-F BlockItem Statement Arm Branch CoArm → CoArm-F (Made Block) (Made CoreStatement) (Made ArmMade) (Made Guarded) (Made CoreCoArm)
+  abbrev made_co_arm : Scene → CoArm-F BlockItem Statement Arm Branch CoArm → CoArm-F (WithSites Block) (WithSites CoreStatement) (WithSites LoweredArm) (WithSites Guarded) (WithSites CoreCoArm)
   made_co_arm scene =
-      map-CoArm BlockItem Statement Arm Branch CoArm (Made Block) (Made CoreStatement) (Made ArmMade) (Made Guarded) (Made CoreCoArm)
+      map-CoArm BlockItem Statement Arm Branch CoArm (WithSites Block) (WithSites CoreStatement) (WithSites LoweredArm) (WithSites Guarded) (WithSites CoreCoArm)
       (core_block_item scene) (core_statement scene) (core_arm scene) (core_branch scene) (core_co_arm scene)
 
   abbrev waits_co_arm : Scene → CoArm-F BlockItem Statement Arm Branch CoArm → CoArm-F Waits Waits ArmWaits Waits Waits
@@ -334,35 +334,35 @@ module _ (P : Together → Type 0) where
 
   step_item : (x : BlockItem-F BlockItem Statement Arm Branch CoArm) (y : BlockItem-F I S A B C) → bare_item y ≡ x → ItemGood (roll-BlockItem x)
   step_item x y is = subst (λ z. ItemGood (roll-BlockItem z)) is (λ scene.
-      let made = fold-roll-BlockItem (Made Block) (Made CoreStatement) (Made ArmMade) (Made Guarded) (Made CoreCoArm) (item_made scene) (statement_made scene) (arm_made scene) (branch_made scene) (co_arm_made scene) (bare_item y) in
+      let made = fold-roll-BlockItem (WithSites Block) (WithSites CoreStatement) (WithSites LoweredArm) (WithSites Guarded) (WithSites CoreCoArm) (item_made scene) (statement_made scene) (arm_made scene) (branch_made scene) (co_arm_made scene) (bare_item y) in
       let waits = fold-roll-BlockItem Waits Waits ArmWaits Waits Waits item_step (statement_step scene.facts.uses) (arm_step scene.facts.uses) branch_step co_arm_step (bare_item y) in
       let calls = fold-roll-BlockItem (List Called) (List Called) (List Called) (List Called) (List Called) item_called statement_called arm_called branch_called co_arm_called (bare_item y) in
       subst (λ z. z) (λ i. Good scene (sym made i).sites (sym waits i) (sym calls i)) (item_good y scene))
 
   step_statement : (x : Statement-F BlockItem Statement Arm Branch CoArm) (y : Statement-F I S A B C) → bare y ≡ x → StatementGood (roll-Statement x)
   step_statement x y is = subst (λ z. StatementGood (roll-Statement z)) is (λ scene.
-      let made = fold-roll-Statement (Made Block) (Made CoreStatement) (Made ArmMade) (Made Guarded) (Made CoreCoArm) (item_made scene) (statement_made scene) (arm_made scene) (branch_made scene) (co_arm_made scene) (bare y) in
+      let made = fold-roll-Statement (WithSites Block) (WithSites CoreStatement) (WithSites LoweredArm) (WithSites Guarded) (WithSites CoreCoArm) (item_made scene) (statement_made scene) (arm_made scene) (branch_made scene) (co_arm_made scene) (bare y) in
       let waits = fold-roll-Statement Waits Waits ArmWaits Waits Waits item_step (statement_step scene.facts.uses) (arm_step scene.facts.uses) branch_step co_arm_step (bare y) in
       let calls = fold-roll-Statement (List Called) (List Called) (List Called) (List Called) (List Called) item_called statement_called arm_called branch_called co_arm_called (bare y) in
       subst (λ z. z) (λ i. Good scene (sym made i).sites (sym waits i) (sym calls i)) (statement_good y scene))
 
   step_arm : (x : Arm-F BlockItem Statement Arm Branch CoArm) (y : Arm-F I S A B C) → bare_arm y ≡ x → ArmGood (roll-Arm x)
   step_arm x y is = subst (λ z. ArmGood (roll-Arm z)) is (λ scene.
-      let made = fold-roll-Arm (Made Block) (Made CoreStatement) (Made ArmMade) (Made Guarded) (Made CoreCoArm) (item_made scene) (statement_made scene) (arm_made scene) (branch_made scene) (co_arm_made scene) (bare_arm y) in
+      let made = fold-roll-Arm (WithSites Block) (WithSites CoreStatement) (WithSites LoweredArm) (WithSites Guarded) (WithSites CoreCoArm) (item_made scene) (statement_made scene) (arm_made scene) (branch_made scene) (co_arm_made scene) (bare_arm y) in
       let waits = fold-roll-Arm Waits Waits ArmWaits Waits Waits item_step (statement_step scene.facts.uses) (arm_step scene.facts.uses) branch_step co_arm_step (bare_arm y) in
       let calls = fold-roll-Arm (List Called) (List Called) (List Called) (List Called) (List Called) item_called statement_called arm_called branch_called co_arm_called (bare_arm y) in
       subst (λ z. z) (λ i. ArmParts scene (sym made i) (sym waits i) (sym calls i)) (arm_good y scene))
 
   step_branch : (x : Branch-F BlockItem Statement Arm Branch CoArm) (y : Branch-F I S A B C) → bare_branch y ≡ x → BranchGood (roll-Branch x)
   step_branch x y is = subst (λ z. BranchGood (roll-Branch z)) is (λ scene.
-      let made = fold-roll-Branch (Made Block) (Made CoreStatement) (Made ArmMade) (Made Guarded) (Made CoreCoArm) (item_made scene) (statement_made scene) (arm_made scene) (branch_made scene) (co_arm_made scene) (bare_branch y) in
+      let made = fold-roll-Branch (WithSites Block) (WithSites CoreStatement) (WithSites LoweredArm) (WithSites Guarded) (WithSites CoreCoArm) (item_made scene) (statement_made scene) (arm_made scene) (branch_made scene) (co_arm_made scene) (bare_branch y) in
       let waits = fold-roll-Branch Waits Waits ArmWaits Waits Waits item_step (statement_step scene.facts.uses) (arm_step scene.facts.uses) branch_step co_arm_step (bare_branch y) in
       let calls = fold-roll-Branch (List Called) (List Called) (List Called) (List Called) (List Called) item_called statement_called arm_called branch_called co_arm_called (bare_branch y) in
       subst (λ z. z) (λ i. Good scene (sym made i).sites (sym waits i) (sym calls i)) (branch_good y scene))
 
   step_co_arm : (x : CoArm-F BlockItem Statement Arm Branch CoArm) (y : CoArm-F I S A B C) → bare_co_arm y ≡ x → CoArmGood (roll-CoArm x)
   step_co_arm x y is = subst (λ z. CoArmGood (roll-CoArm z)) is (λ scene.
-      let made = fold-roll-CoArm (Made Block) (Made CoreStatement) (Made ArmMade) (Made Guarded) (Made CoreCoArm) (item_made scene) (statement_made scene) (arm_made scene) (branch_made scene) (co_arm_made scene) (bare_co_arm y) in
+      let made = fold-roll-CoArm (WithSites Block) (WithSites CoreStatement) (WithSites LoweredArm) (WithSites Guarded) (WithSites CoreCoArm) (item_made scene) (statement_made scene) (arm_made scene) (branch_made scene) (co_arm_made scene) (bare_co_arm y) in
       let waits = fold-roll-CoArm Waits Waits ArmWaits Waits Waits item_step (statement_step scene.facts.uses) (arm_step scene.facts.uses) branch_step co_arm_step (bare_co_arm y) in
       let calls = fold-roll-CoArm (List Called) (List Called) (List Called) (List Called) (List Called) item_called statement_called arm_called branch_called co_arm_called (bare_co_arm y) in
       subst (λ z. z) (λ i. Good scene (sym made i).sites (sym waits i) (sym calls i)) (co_arm_good y scene))

@@ -27,17 +27,17 @@ use Rattle.sr_front.proofs.AllowedCode.{accepted_allowed}
 use Rattle.sr_front.proofs.Clear.{all_clear}
 use Rattle.sr_front.proofs.Declared.{Apart, all_component_keys}
 use Rattle.sr_front.proofs.Findings.{has_main}
-use Rattle.sr_front.proofs.Made.{main_is}
+use Rattle.sr_front.proofs.CoreComponents.{main_is}
 use Rattle.sr_front.proofs.Operations.{operations_ok}
 use Rattle.sr_front.proofs.ProcNumbers.{numbers_are_ok}
-use Rattle.sr_front.proofs.QuietCore.{accepted_quiet}
+use Rattle.sr_front.proofs.EffectFreeCore.{accepted_effect_free}
 use Rattle.sr_front.proofs.ServedApart.{all_serve_shared, served_apart}
 use Rattle.sr_front.proofs.Services.{procs_serve_own}
 use Rattle.sr_front.proofs.Sites.{sites_are_served, sites_well}
 use Rattle.sr_front.proofs.Spelled.{no_final_in_globals}
 use Rattle.sr_front.proofs.SpotsApart.{spots-apart}
 use Rattle.sr_front.proofs.WaitApart.{waits_apart}
-use Rattle.sr_front.proofs.Whole.{well_made}
+use Rattle.sr_front.proofs.CoreParts.{well_made}
 
 module _ (contents : List (List ℕ)) (accepted : Accepted) (is : IsAccepted contents accepted) where
   abbrev trees : List File
@@ -89,7 +89,7 @@ module _ (contents : List (List ℕ)) (accepted : Accepted) (is : IsAccepted con
     procs = procs_serve_own uses trees known facts kept services apart once;
     sites =
         sites_well (core_of trees facts) (sites_are_served trees known facts own_services apart once shared (all_clear facts (components_in trees)))
-        (accepted_quiet uses is.names.specs contents trees facts is.read is.checked);
+        (accepted_effect_free uses is.names.specs contents trees facts is.read is.checked);
     numbers = numbers_are_ok uses trees known facts kept services apart (codes trees facts) (procs trees facts);
     allowed = accepted_allowed uses is.names.specs trees facts none;
     waits = core_waits trees facts (waits_apart trees facts (spots-apart statement_spans statements-picked contents trees is.read));

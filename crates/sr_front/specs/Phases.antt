@@ -13,5 +13,5 @@ pub data FirstRefused {A B : Type 0} (Passes : ℕ → A → B → Type 0) (Refu
     : ℕ → List A → Refusal → Type 0 where
   here : {number : ℕ} {file : A} {files : List A} {refusal : Refusal} → Refuses number file refusal
       → FirstRefused Passes Refuses number (file ∷ files) refusal
-  behind : {number : ℕ} {file : A} {made : B} {files : List A} {refusal : Refusal} → Passes number file made
+  after : {number : ℕ} {file : A} {made : B} {files : List A} {refusal : Refusal} → Passes number file made
       → FirstRefused Passes Refuses (suc number) files refusal → FirstRefused Passes Refuses number (file ∷ files) refusal

@@ -27,7 +27,7 @@ pub data IsRefused (contents : List (List ℕ)) (refusal : Refusal) : Type 0 whe
       → verdict names.uses names.specs trees ≡ Err refusal → IsRefused contents refusal
 
 -- what becomes of trees with this verdict
-abbrev pub IsJudged : List File → Result Facts Refusal → Result Accepted FrontFail → Type 0
-IsJudged trees meant (Ok accepted) = (accepted.trees ≡ trees) × (meant ≡ Ok accepted.facts)
-IsJudged trees meant (Err (Refused refusal)) = meant ≡ Err refusal
-IsJudged trees meant (Err NoMemory) = Unit {0}
+abbrev pub IsChecked : List File → Result Facts Refusal → Result Accepted FrontFail → Type 0
+IsChecked trees meant (Ok accepted) = (accepted.trees ≡ trees) × (meant ≡ Ok accepted.facts)
+IsChecked trees meant (Err (Refused refusal)) = meant ≡ Err refusal
+IsChecked trees meant (Err NoMemory) = Unit {0}

@@ -70,7 +70,7 @@ pub data AreRefused (contents : List (List ℕ)) (refusal : Refusal) : Type 0 wh
   in_grammar : {tokens : List (List Token)} → AllPass HasItsSize 0 contents contents → AllPass Lexes 0 contents tokens
       → AllPass KeepsLimits 0 tokens tokens → FirstRefused HasTree HasNoTree 0 tokens refusal → AreRefused contents refusal
 
--- a failure is a refusal of which this holds, or want of memory
+-- the failure is a refusal with this property, or out of memory
 abbrev pub IsRefusal : (Refusal → Type 0) → FrontFail → Type 0
 IsRefusal holds (Refused refusal) = holds refusal
 IsRefusal holds NoMemory = Unit {0}

@@ -12,9 +12,9 @@ use sr_text::FrontFail;
 use sr_value::{NoMemory, Text};
 use std::alloc::Global;
 
-/// The core of the program that files, which are given with their names, are: each abbreviation written out, and each
-/// name a number; with it the classes of its operations. In that core each number names something, and no rule of kinds is
-/// broken. Or the refusal of the program, which is that of [`accept`].
+/// The core of the program in these files, which are given with their names, and the classes of its operations. In the
+/// core each abbreviation is written out, and each name is a number. Each number names something, and no rule of kinds
+/// is broken. A program that isn't accepted gets the refusal of [`accept`].
 pub fn core_of(alloc: Global, files: &[(Text, Text)]) -> Result<(Core, Classes), FrontFail>
     requires few { length files.now ≤ 64 }
     ensures core { IfOk result (IsCoreOf (contents_of files.now)) }

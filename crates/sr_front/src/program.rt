@@ -1,6 +1,6 @@
 ghost use Rattle.std.specs.Prelude.{◌≡◌, ◌≤◌, length, IfOk, IfErr};
 ghost use Rattle.sr_check.specs.Checked.{verdict};
-ghost use Rattle.sr_front.specs.Program.{IsAccepted, IsRefused, IsJudged};
+ghost use Rattle.sr_front.specs.Program.{IsAccepted, IsRefused, IsChecked};
 ghost use Rattle.sr_front.specs.Reading.{IsRefusal, contents_of};
 
 use crate::sources::read;
@@ -22,9 +22,10 @@ pub struct Accepted {
     pub facts: Facts,
 }
 
-/// The program that files, which are given with their names, are: their trees and what is declared in them; or the
-/// refusal of the program: that of [`read`]; where all files are read, S4, S5, S9 or S12 for the first rule of names
-/// that is broken; and where none of these is, S6, S7 or S8 for the first rule of types, of kinds of use or of guards.
+/// The program in these files, which are given with their names: their trees and their declarations. Or the refusal of
+/// the program. Where a file can't be read it is the refusal of [`read`]. Else, where a rule of names is broken, it is
+/// S4, S5, S9 or S12 for the first. Else it is S6, S7 or S8 for the first broken rule of types, of kinds of use or of
+/// guards.
 pub fn accept(alloc: Global, files: &[(Text, Text)]) -> Result<Accepted, FrontFail>
     requires few { length files.now ≤ 64 }
     ensures accepted { IfOk result (IsAccepted (contents_of files.now)) }
@@ -32,14 +33,14 @@ pub fn accept(alloc: Global, files: &[(Text, Text)]) -> Result<Accepted, FrontFa
 {
     let trees = read(alloc, files)?;
     match resolve(alloc, &trees) {
-        Ok(names) => judged(alloc, trees, names),
+        Ok(names) => checked_trees(alloc, trees, names),
         Err(fail) => Err(fail),
     }
 }
 
 /// The program of trees whose names mean this, or its refusal.
-fn judged(alloc: Global, trees: Row<File>, names: Names) -> Result<Accepted, FrontFail>
-    ensures { IsJudged trees (verdict names.uses names.specs trees) result }
+fn checked_trees(alloc: Global, trees: Row<File>, names: Names) -> Result<Accepted, FrontFail>
+    ensures { IsChecked trees (verdict names.uses names.specs trees) result }
 {
     match check(alloc, trees.as_slice(), names) {
         Ok(facts) => Ok(Accepted { trees, facts }),

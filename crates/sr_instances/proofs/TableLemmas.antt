@@ -12,13 +12,13 @@ use Rattle.sr_instances.specs.Instances.{Instance, in_state, is_global}
 use Rattle.sr_instances.specs.Tables.{IsIndexed, first_of, instance_in, instances_in, same_spot}
 use Rattle.sr_instances.specs.declared.state.State.{State}
 use Rattle.sr_instances.specs.declared.tables.Spot.{Spot}
-use Rattle.sr_instances.specs.declared.tables.Standing.{Standing}
+use Rattle.sr_instances.specs.declared.tables.InstanceInfo.{InstanceInfo}
 use Rattle.sr_instances.proofs.InstanceLemmas.{found-push, global-in_state, named}
 
 -- ---- by name
 
 -- what is read of an instance stands in its entry
-pub look-up : {A : Type 0} (f : Instance → A) (g : Standing → A) → ((e : ℕ × Standing) → f (instance_in e) ≡ g e.1) → (name : ℕ) (es : List (ℕ × Standing))
+pub look-up : {A : Type 0} (f : Instance → A) (g : InstanceInfo → A) → ((e : ℕ × InstanceInfo) → f (instance_in e) ≡ g e.1) → (name : ℕ) (es : List (ℕ × InstanceInfo))
     → option_map f (find (named name) (instances_in es)) ≡ option_map g (lookup (nat_eq name) es)
 look-up f g same name [] = refl
 look-up f g same name (e ∷ es) = by (nat_eq name e.0) (look-up f g same name es)
@@ -32,7 +32,7 @@ is_some-option_map : {A B : Type 0} (f : A → B) (o : Option A) → is_some (op
 is_some-option_map f None = refl
 is_some-option_map f (Some x) = refl
 
-pub is_some-look-up : (name : ℕ) (es : List (ℕ × Standing)) → is_some (find (named name) (instances_in es)) ≡ is_some (lookup (nat_eq name) es)
+pub is_some-look-up : (name : ℕ) (es : List (ℕ × InstanceInfo)) → is_some (find (named name) (instances_in es)) ≡ is_some (lookup (nat_eq name) es)
 is_some-look-up name es =
     sym (is_some-option_map (λ i. i.component) (find (named name) (instances_in es)))
     ∙ ap is_some (look-up (λ i. i.component) (λ s. s.component) (λ e. refl) name es)
@@ -42,29 +42,29 @@ none_from_is_some : {A : Type 0} (o : Option A) → (IsSome o → ⊥) → o ≡
 none_from_is_some None not = refl
 none_from_is_some (Some x) not = absurd (not refl)
 
-pub absent : (name : ℕ) (es : List (ℕ × Standing)) → (IsSome (find (named name) (instances_in es)) → ⊥) → lookup (nat_eq name) es ≡ None
+pub absent : (name : ℕ) (es : List (ℕ × InstanceInfo)) → (IsSome (find (named name) (instances_in es)) → ⊥) → lookup (nat_eq name) es ≡ None
 absent name es not = none_from_is_some (lookup (nat_eq name) es) (λ there. not (is_some-look-up name es ∙ there))
 
-pub names-in : (es : List (ℕ × Standing)) → keys_of es ≡ map (λ (i : Instance). i.name) (instances_in es)
+pub names-in : (es : List (ℕ × InstanceInfo)) → keys_of es ≡ map (λ (i : Instance). i.name) (instances_in es)
 names-in [] = refl
 names-in (e ∷ es) = ap (λ ns. e.0 ∷ ns) (names-in es)
 
 -- ---- a new state
 
 module _ (n : ℕ) (s : State) where
-  untouched : (es : List (ℕ × Standing)) → AllByRecursion (λ k. nat_eq n k ≡ false) (keys_of es) → map (in_state n s) (instances_in es) ≡ instances_in es
+  untouched : (es : List (ℕ × InstanceInfo)) → AllByRecursion (λ k. nat_eq n k ≡ false) (keys_of es) → map (in_state n s) (instances_in es) ≡ instances_in es
   untouched [] all = refl
   untouched (e ∷ es) all = ap (λ b. cond b (record (instance_in e) { state = s }) (instance_in e) ∷ map (in_state n s) (instances_in es)) all.0 ∙ ap (λ is. instance_in e ∷ is) (untouched es all.1)
 
-  unwrapped : (x y : Standing) → Some x ≡ Some y → x ≡ y
+  unwrapped : (x y : InstanceInfo) → Some x ≡ Some y → x ≡ y
   unwrapped x y e = ap (λ o. cond (is_some o) (from o) y) e
     where
-      from : Option Standing → Standing
+      from : Option InstanceInfo → InstanceInfo
       from None = y
       from (Some z) = z
 
   -- the entry of one instance changes as the instance does
-  pub instances-set : (es : List (ℕ × Standing)) (standing : Standing) → IsDistinct nat_eq (keys_of es) → lookup (nat_eq n) es ≡ Some standing
+  pub instances-set : (es : List (ℕ × InstanceInfo)) (standing : InstanceInfo) → IsDistinct nat_eq (keys_of es) → lookup (nat_eq n) es ≡ Some standing
       → instances_in (set_value (nat_eq n) es (record standing { state = s })) ≡ map (in_state n s) (instances_in es)
   unfolding IsDistinct
   instances-set [] standing distinct at = absurd (true≢false (sym (ap is_some at)))
@@ -78,7 +78,7 @@ module _ (n : ℕ) (s : State) where
           ∙ ap (λ is. record (instance_in e) { state = s } ∷ is) (sym (untouched es (subst (λ k. AllByRecursion (λ y. nat_eq k y ≡ false) (keys_of es)) (sym (eqb-true n e.0 is)) distinct.0)))
       by false is there more = ap (λ is. instance_in e ∷ is) (more there)
 
-  pub indexed-set : (es : List (ℕ × Standing)) (names : List ℕ) (globals : List (Spot × ℕ)) (standing : Standing) → IsDistinct nat_eq (keys_of es) → lookup (nat_eq n) es ≡ Some standing
+  pub indexed-set : (es : List (ℕ × InstanceInfo)) (names : List ℕ) (globals : List (Spot × ℕ)) (standing : InstanceInfo) → IsDistinct nat_eq (keys_of es) → lookup (nat_eq n) es ≡ Some standing
       → IsIndexed es names globals → IsIndexed (set_value (nat_eq n) es (record standing { state = s })) names globals
   indexed-set es names globals standing distinct at is = record {
     named = is.named ∙ sym (keys-set_value (nat_eq n) es (record standing { state = s }));
@@ -88,13 +88,13 @@ module _ (n : ℕ) (s : State) where
 
 -- ---- a new instance
 
-keys-push : (es : List (ℕ × Standing)) (e : ℕ × Standing) → keys_of (es ++ e ∷ []) ≡ keys_of es ++ e.0 ∷ []
-keys-push es e = map-append (λ (x : ℕ × Standing). x.0) es (e ∷ [])
+keys-push : (es : List (ℕ × InstanceInfo)) (e : ℕ × InstanceInfo) → keys_of (es ++ e ∷ []) ≡ keys_of es ++ e.0 ∷ []
+keys-push es e = map-append (λ (x : ℕ × InstanceInfo). x.0) es (e ∷ [])
 
-pub instances-push : (es : List (ℕ × Standing)) (e : ℕ × Standing) → instances_in (es ++ e ∷ []) ≡ instances_in es ++ instance_in e ∷ []
+pub instances-push : (es : List (ℕ × InstanceInfo)) (e : ℕ × InstanceInfo) → instances_in (es ++ e ∷ []) ≡ instances_in es ++ instance_in e ∷ []
 instances-push es e = map-append instance_in es (e ∷ [])
 
-pub indexed-push : (es : List (ℕ × Standing)) (names : List ℕ) (globals globals' : List (Spot × ℕ)) (e : ℕ × Standing) (spot : Spot)
+pub indexed-push : (es : List (ℕ × InstanceInfo)) (names : List ℕ) (globals globals' : List (Spot × ℕ)) (e : ℕ × InstanceInfo) (spot : Spot)
     → spot.component ≡ e.1.component → spot.machine ≡ e.1.machine
     → ((q : Spot) → lookup (same_spot q) globals' ≡ first_of (lookup (same_spot q) globals) (cond (same_spot q spot) (Some e.0) None))
     → IsIndexed es names globals → IsIndexed (es ++ e ∷ []) (names ++ e.0 ∷ []) globals'
@@ -152,5 +152,5 @@ first-put globals globals' spot name none put q =
     by true is = sym (ap (λ o. first_of o (Some name)) (ap (λ x. lookup (same_spot x) globals) (same_parts q spot is) ∙ none))
     by false is = nothing (lookup (same_spot q) globals)
 
-pub indexed-along : (es es' : List (ℕ × Standing)) (names names' : List ℕ) (globals : List (Spot × ℕ)) → es' ≡ es → names' ≡ names → IsIndexed es names globals → IsIndexed es' names' globals
+pub indexed-along : (es es' : List (ℕ × InstanceInfo)) (names names' : List ℕ) (globals : List (Spot × ℕ)) → es' ≡ es → names' ≡ names → IsIndexed es names globals → IsIndexed es' names' globals
 indexed-along es es' names names' globals entries named is = subst (λ x. IsIndexed x names' globals) (sym entries) (subst (λ ns. IsIndexed es ns globals) (sym named) is)

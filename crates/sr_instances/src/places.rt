@@ -3,7 +3,7 @@ ghost use Rattle.std.specs.List.{Contains};
 ghost use Rattle.sr_instances.specs.Instances.{IsAdded, component_of, global_in, machine_of, names_of, state_of, with_instance, with_machine, with_state};
 
 use crate::state::State;
-use crate::tables::{Spot, Standing, note_first, put};
+use crate::tables::{InstanceInfo, Spot, note_first, put};
 use indexmap::IndexMap;
 use sr_value::{Duplicate, NoMemory, Row};
 use std::alloc::Global;
@@ -13,7 +13,7 @@ use std::marker::Model;
 #[derive(Drop)]
 pub struct Places {
     /// The instances by name.
-    instances: IndexMap<u32, Standing>,
+    instances: IndexMap<u32, InstanceInfo>,
     /// Their names.
     names: Row<u32>,
     /// The first instance of each component on each machine.
@@ -61,7 +61,7 @@ impl Places {
             machine: vm,
         };
         note_first(&mut self.globals, spot, name);
-        let standing = Standing {
+        let standing = InstanceInfo {
             component,
             machine: vm,
             state: State::Starting,

@@ -10,7 +10,7 @@ use std::hash::Hash;
 
 /// What is known of an instance beside its name.
 #[derive(Clone, Copy)]
-pub struct Standing {
+pub struct InstanceInfo {
     pub component: u32,
     pub machine: u32,
     pub state: State,

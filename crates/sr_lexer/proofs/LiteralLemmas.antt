@@ -27,6 +27,6 @@ wrong_here escaped xs at h wrong =
 pub wrong_end : (escaped : Bool) (xs : List ℕ) (at : ℕ) → length xs ≤ at → list_any is_wrong_escape (marked escaped (drop at xs)) ≡ false
 wrong_end escaped xs at h = at_drop_all (λ ys. list_any is_wrong_escape (marked escaped ys)) xs at h
 
--- behind the last byte there are no characters
+-- after the last byte there are no characters
 pub characters_end : (escaped : Bool) (xs : List ℕ) (at : ℕ) → length xs ≤ at → length (filter begins_character (marked escaped (drop at xs))) ≡ 0
 characters_end escaped xs at h = at_drop_all (λ ys. length (filter begins_character (marked escaped ys))) xs at h

@@ -18,7 +18,7 @@ use Rattle.sr_lexer.proofs.PieceLemmas.{piece_fits}
 Stops : List ℕ → ℕ → Type 0
 Stops bytes at = (fault : Fault) × (piece_at (drop at bytes) ≡ Err fault)
 
--- nor behind the last byte
+-- nor after the last byte
 stops_at_end : (bytes : List ℕ) → Stops bytes (length bytes)
 unfolding Stops piece_at listed_sign
 stops_at_end bytes = (record { kind = BadByte; at = 0 }, ap piece_at (drop-length bytes))

@@ -9,22 +9,22 @@ use Rattle.sr_tree.specs.declared.token.TokenKind.{TokenKind}
 use Rattle.sr_lexer.specs.declared.piece.PieceKind.{PieceKind}
 use Rattle.sr_lexer.specs.declared.piece.PieceKind.TheVariants as pieces
 use Rattle.sr_lexer.specs.declared.reader.Reader.{Reader}
-use Rattle.sr_lexer.specs.Separators.{Placed, is_token, is_newline, open_after, open_brackets, ends_line, line_may_end, behind_last_token, separators, separators_where, token_of, tokens_at, tokens_behind, tokens_of}
+use Rattle.sr_lexer.specs.Separators.{Placed, is_token, is_newline, open_after, open_brackets, ends_line, line_may_end, after_last_token, separators, separators_where, token_of, tokens_at, tokens_after, tokens_of}
 use Rattle.sr_lexer.specs.Reading.{after_piece, Tracks}
 
--- the tokens of two lists of pieces, one behind the other
-behind-append : (before xs ys : List Placed) → tokens_behind before (xs ++ ys) ≡ tokens_behind before xs ++ tokens_behind (before ++ xs) ys
-behind-append before [] ys = ap (λ all. tokens_behind all ys) (sym (append-nil before))
-behind-append before (x ∷ xs) ys =
-    ap (λ rest. tokens_at before x.kind x.text x.span ++ rest) (behind-append (before ++ x ∷ []) xs ys)
-    ∙ ap (λ all. tokens_at before x.kind x.text x.span ++ (tokens_behind (before ++ x ∷ []) xs ++ tokens_behind all ys)) (append_assoc before (x ∷ []) xs)
-    ∙ sym (append_assoc (tokens_at before x.kind x.text x.span) (tokens_behind (before ++ x ∷ []) xs) (tokens_behind (before ++ x ∷ xs) ys))
+-- the tokens of two lists of pieces, one after the other
+after-append : (before xs ys : List Placed) → tokens_after before (xs ++ ys) ≡ tokens_after before xs ++ tokens_after (before ++ xs) ys
+after-append before [] ys = ap (λ all. tokens_after all ys) (sym (append-nil before))
+after-append before (x ∷ xs) ys =
+    ap (λ rest. tokens_at before x.kind x.text x.span ++ rest) (after-append (before ++ x ∷ []) xs ys)
+    ∙ ap (λ all. tokens_at before x.kind x.text x.span ++ (tokens_after (before ++ x ∷ []) xs ++ tokens_after all ys)) (append_assoc before (x ∷ []) xs)
+    ∙ sym (append_assoc (tokens_at before x.kind x.text x.span) (tokens_after (before ++ x ∷ []) xs) (tokens_after (before ++ x ∷ xs) ys))
 
 -- one more piece adds what it adds
 tokens_more : (before : List Placed) (p : Placed) → tokens_of (before ++ p ∷ []) ≡ tokens_of before ++ tokens_at before p.kind p.text p.span
 unfolding tokens_of
 tokens_more before p =
-    behind-append [] before (p ∷ []) ∙ ap (λ more. tokens_behind [] before ++ more) (append-nil (tokens_at before p.kind p.text p.span))
+    after-append [] before (p ∷ []) ∙ ap (λ more. tokens_after [] before ++ more) (append-nil (tokens_at before p.kind p.text p.span))
 
 open_more : (before : List Placed) (p : Placed) → open_brackets (before ++ p ∷ []) ≡ open_after (open_brackets before) p.kind
 open_more before p = fold-append (λ depth piece. open_after depth piece.kind) 0 before (p ∷ [])
@@ -36,8 +36,8 @@ reverse_more before p = reverse-append before (p ∷ [])
 line_more : (before : List Placed) (p : Placed) → line_may_end (before ++ p ∷ []) ≡ ends_line (cond (is_token p) (Some p) (find is_token (reverse before)))
 line_more before p = ap (λ all. ends_line (find is_token all)) (reverse_more before p)
 
--- the pieces behind the last token with one more
-stretch_more : (before : List Placed) (p : Placed) → behind_last_token (before ++ p ∷ []) ≡ cond (not (is_token p)) (p ∷ behind_last_token before) []
+-- the pieces after the last token with one more
+stretch_more : (before : List Placed) (p : Placed) → after_last_token (before ++ p ∷ []) ≡ cond (not (is_token p)) (p ∷ after_last_token before) []
 stretch_more before p =
     ap (λ all. take_while (λ piece. not (is_token piece)) all) (reverse_more before p)
     ∙ take_while-cons (λ piece. not (is_token piece)) p (reverse before)
@@ -70,7 +70,7 @@ tracks_more before reader pieces.Blank text span tracks =
       tokens = tracks.tokens ∙ sym (append-nil (tokens_of before)) ∙ sym (tokens_more before p);
       depth = tracks.depth ∙ sym (open_more before p);
       may_end = tracks.may_end ∙ sym (line_more before p);
-      newline = tracks.newline ∙ sym (ap spans (stretch_more before p) ∙ ap (option_map (λ piece. piece.span)) (first_more (behind_last_token before) p ∙ or_none (find is_newline (reverse (behind_last_token before)))));
+      newline = tracks.newline ∙ sym (ap spans (stretch_more before p) ∙ ap (option_map (λ piece. piece.span)) (first_more (after_last_token before) p ∙ or_none (find is_newline (reverse (after_last_token before)))));
     }
 tracks_more before reader pieces.Comment text span tracks =
     let p : Placed = record { kind = pieces.Comment; text = text; span = span } in
@@ -78,7 +78,7 @@ tracks_more before reader pieces.Comment text span tracks =
       tokens = tracks.tokens ∙ sym (append-nil (tokens_of before)) ∙ sym (tokens_more before p);
       depth = tracks.depth ∙ sym (open_more before p);
       may_end = tracks.may_end ∙ sym (line_more before p);
-      newline = tracks.newline ∙ sym (ap spans (stretch_more before p) ∙ ap (option_map (λ piece. piece.span)) (first_more (behind_last_token before) p ∙ or_none (find is_newline (reverse (behind_last_token before)))));
+      newline = tracks.newline ∙ sym (ap spans (stretch_more before p) ∙ ap (option_map (λ piece. piece.span)) (first_more (after_last_token before) p ∙ or_none (find is_newline (reverse (after_last_token before)))));
     }
 tracks_more before reader pieces.Newline text span tracks =
     let p : Placed = record { kind = pieces.Newline; text = text; span = span } in
@@ -86,7 +86,7 @@ tracks_more before reader pieces.Newline text span tracks =
       tokens = tracks.tokens ∙ sym (append-nil (tokens_of before)) ∙ sym (tokens_more before p);
       depth = tracks.depth ∙ sym (open_more before p);
       may_end = tracks.may_end ∙ sym (line_more before p);
-      newline = ap (λ o. Some (unwrap_or o span)) tracks.newline ∙ sym (ap spans (stretch_more before p) ∙ ap (option_map (λ piece. piece.span)) (first_more (behind_last_token before) p) ∙ or_some (find is_newline (reverse (behind_last_token before))) p);
+      newline = ap (λ o. Some (unwrap_or o span)) tracks.newline ∙ sym (ap spans (stretch_more before p) ∙ ap (option_map (λ piece. piece.span)) (first_more (after_last_token before) p) ∙ or_some (find is_newline (reverse (after_last_token before))) p);
     }
 tracks_more before reader (pieces.Token kind) text span tracks =
     let p : Placed = record { kind = pieces.Token kind; text = text; span = span } in

@@ -27,7 +27,7 @@ is_text_byte byte = byte == 9 || is_between 32 126 byte
 abbrev pub is_quoting_byte : ℕ → Bool
 is_quoting_byte byte = byte == 92 || byte == 39 || byte == 34
 
--- what may stand behind a backslash: n, t, r, 0, the backslash and both quotes
+-- what may stand after a backslash: n, t, r, 0, the backslash and both quotes
 abbrev pub is_escape : ℕ → Bool
 is_escape byte = byte == 110 || byte == 116 || byte == 114 || byte == 48 || is_quoting_byte byte
 

@@ -23,7 +23,7 @@ count_of test tokens = count_by (λ token. test token.kind) tokens
 abbrev pub run_of : List Token → List Token
 run_of tokens = take_while (λ token. not (breaks_run token.kind)) (reverse tokens)
 
--- why a token is refused behind so many that open and that close a level, and so many that count in its run
+-- why a token is refused after so many that open and that close a level, and so many that count in its run
 abbrev pub fault_where : ℕ → ℕ → ℕ → TokenKind → Option Kind
 fault_where openers closers run kind =
     if is_left_out kind then Some OutOfProfile

@@ -8,7 +8,7 @@ pub record Marked : Type 0 where
   pub byte : ℕ
   pub escaped : Bool
 
--- a backslash that isn't escaped itself escapes the byte behind it
+-- a backslash that isn't escaped itself escapes the byte after it
 abbrev pub escapes_next : Bool → ℕ → Bool
 escapes_next escaped byte = not escaped && byte == 92
 
@@ -21,7 +21,7 @@ marked escaped (byte ∷ bytes) = record { byte = byte; escaped = escaped } ∷ 
 abbrev pub is_inside : ℕ → Marked → Bool
 is_inside quote m = not (m.byte == 10 || m.byte == quote && not m.escaped)
 
--- how many bytes stand behind the opening quote up to the closing quote, a newline or the end of the file
+-- how many bytes stand after the opening quote up to the closing quote, a newline or the end of the file
 unfoldable pub quoted_len : ℕ → List ℕ → ℕ
 quoted_len quote bytes = prefix_len (is_inside quote) (marked false bytes)
 

@@ -26,7 +26,7 @@ a_piece kind len = record { kind = kind; len = len }
 abbrev pub found : PieceKind → ℕ → Result Piece Fault
 found kind len = Ok (a_piece kind len)
 
--- no piece begins here, as the byte `at` behind the first shows
+-- no piece begins here, as the byte `at` after the first shows
 abbrev pub broken : Kind → ℕ → Result Piece Fault
 broken kind at = Err (record { kind = kind; at = at })
 
@@ -94,11 +94,11 @@ abbrev pub quoted_piece : TokenKind → ℕ → List ℕ → List ℕ → Option
 quoted_piece kind quote inner rest (Some at) = broken BadByte (at + 1)
 quoted_piece kind quote inner rest None = if is_literal kind quote inner rest then found (Token kind) (length inner + 2) else broken BadToken 0
 
--- a literal, where `behind` are the bytes behind its opening quote
+-- a literal, where `after` are the bytes after its opening quote
 abbrev pub literal_piece : TokenKind → ℕ → List ℕ → Result Piece Fault
-literal_piece kind quote behind =
-    let len = quoted_len quote behind in
-    quoted_piece kind quote (take len behind) (drop len behind) (position (λ byte. not (is_text_byte byte)) (take len behind))
+literal_piece kind quote after =
+    let len = quoted_len quote after in
+    quoted_piece kind quote (take len after) (drop len after) (position (λ byte. not (is_text_byte byte)) (take len after))
 
 -- the longest sign, or else a byte that begins nothing
 abbrev pub signed_piece : Option Sign → Result Piece Fault

@@ -6,7 +6,7 @@ use Rattle.sr_lexer.specs.declared.piece.PieceKind.{PieceKind}
 use Rattle.sr_lexer.specs.declared.piece.PieceKind.TheVariants as pieces
 use Rattle.sr_lexer.specs.declared.reader.Reader.{Reader}
 use Rattle.sr_lexer.specs.Roles.{may_end_line}
-use Rattle.sr_lexer.specs.Separators.{Placed, open_after, open_brackets, line_may_end, newline_behind, separators_where, tokens_of, token_of}
+use Rattle.sr_lexer.specs.Separators.{Placed, open_after, open_brackets, line_may_end, newline_after, separators_where, tokens_of, token_of}
 
 -- what stands before the token and the token
 abbrev pub after_token : Reader → TokenKind → List ℕ → Span → Reader
@@ -17,7 +17,7 @@ after_token reader kind text span = record {
   newline = None;
 }
 
--- only the first newline behind a token counts
+-- only the first newline after a token counts
 abbrev pub after_newline : Reader → Span → Reader
 after_newline reader span = record reader { newline = Some (unwrap_or reader.newline span) }
 
@@ -33,4 +33,4 @@ pub record Tracks (before : List Placed) (reader : Reader) : Type 0 where
   pub tokens : reader.tokens ≡ tokens_of before
   pub depth : reader.depth ≡ open_brackets before
   pub may_end : reader.may_end ≡ line_may_end before
-  pub newline : reader.newline ≡ newline_behind before
+  pub newline : reader.newline ≡ newline_after before

@@ -5,7 +5,7 @@ use Rattle.sr_tree.specs.declared.token.Word.TheVariants as words
 use Rattle.sr_tree.specs.declared.token.TokenKind.{TokenKind}
 use Rattle.sr_tree.specs.declared.token.TokenKind.TheVariants as kinds
 
--- the tokens behind which a line may end
+-- the tokens after which a line may end
 abbrev pub may_end_line : TokenKind → Bool
 may_end_line kinds.Name = true
 may_end_line kinds.Number = true
@@ -105,7 +105,7 @@ breaks_run (kinds.Sign signs.Parallel) = true
 breaks_run (kinds.Sign signs.Assign) = true
 breaks_run _ = false
 
--- the operators, points and opening brackets, of which a run may hold so many
+-- the operators, points and opening brackets, which count towards the limit of a run
 abbrev pub counts_in_run : TokenKind → Bool
 counts_in_run (kinds.Sign signs.Plus) = true
 counts_in_run (kinds.Sign signs.Minus) = true

@@ -26,7 +26,7 @@ placed file bytes from piece = record {
 abbrev pub BeginsAt : ℕ → List ℕ → ℕ → Placed → Type 0
 BeginsAt file bytes from p = (piece : Piece) × (piece_at (drop from bytes) ≡ Ok piece) × (p ≡ placed file bytes from piece)
 
--- the pieces stand one behind the other, from the byte `from` up to the byte `to`
+-- the pieces stand one after the other, from the byte `from` up to the byte `to`
 abbrev pub Chain : ℕ → List ℕ → ℕ → List Placed → ℕ → Type 0
 Chain file bytes from [] to = from ≡ to
 Chain file bytes from (p ∷ ps) to = BeginsAt file bytes from p × Chain file bytes p.span.to ps to
@@ -37,7 +37,7 @@ pub record Lexes (file : ℕ) (bytes : List ℕ) (tokens : List Token) : Type 0 
   pub chain : Chain file bytes 0 pieces (length bytes)
   pub told : tokens ≡ tokens_of pieces
 
--- behind a chain of pieces no piece begins, for this reason and at this place
+-- after a chain of pieces no piece begins, for this reason and at this place
 pub record RefusesToLex (file : ℕ) (bytes : List ℕ) (refusal : Refusal) : Type 0 where
   pub pieces : List Placed
   pub at : ℕ
@@ -47,7 +47,7 @@ pub record RefusesToLex (file : ℕ) (bytes : List ℕ) (refusal : Refusal) : Ty
   pub none : piece_at (drop at bytes) ≡ Err fault
   pub told : refusal ≡ record { kind = fault.kind; place = record { file = file; line = line_at bytes (at + fault.at) } }
 
--- a failure is that refusal, or want of memory
+-- the failure is that refusal, or out of memory
 abbrev pub FailsToLex : ℕ → List ℕ → FrontFail → Type 0
 FailsToLex file bytes (Refused refusal) = RefusesToLex file bytes refusal
 FailsToLex file bytes NoMemory = Unit {0}

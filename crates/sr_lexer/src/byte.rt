@@ -72,7 +72,7 @@ pub(crate) fn may_be_quoted(byte: u8) -> bool
     byte == b'\t' || (b' ' <= byte && byte <= b'~')
 }
 
-/// Whether it may stand behind a backslash.
+/// Whether it may stand after a backslash.
 pub(crate) fn may_be_escaped(byte: u8) -> bool
     ensures { result ≡ is_escape byte }
 {

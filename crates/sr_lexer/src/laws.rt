@@ -7,7 +7,7 @@ ghost use Rattle.sr_order.specs.Order.{Ascend, token_spans};
 ghost use Rattle.sr_lexer.specs.Symbols.{word_of, word_spelling, sign_at, sign_spelling, begins_with_sign};
 ghost use Rattle.sr_lexer.specs.Tokens.{Lexes, RefusesToLex};
 
-/// A law of what `lex` answers by: each file has one list of tokens or one refusal, and no file has both.
+/// A law of the definition of `lex`: each file has one list of tokens or one refusal, and never both.
 pub fn one_outcome()
     ensures list { (file : ℕ) (bytes : List ℕ) (a b : List Token)
         → Lexes file bytes a → Lexes file bytes b → a ≡ b }
@@ -32,7 +32,7 @@ pub fn one_spelling()
         → sign_at bytes ≡ None → begins_with_sign bytes other ≡ false }
 {}
 
-/// A law of the tokens of a file: each has the number of the file in its span, and begins behind the beginning of the
+/// A law of the tokens of a file: each has the number of the file in its span, and begins after the beginning of the
 /// one before.
 pub fn tokens_ascend()
     ensures { (file : ℕ) (bytes : List ℕ) (tokens : List Token)

@@ -3,7 +3,7 @@ ghost use Rattle.sr_lexer.specs.Literals.{is_inside, escapes_next, quoted_len, h
 
 use crate::byte::may_be_escaped;
 
-/// Whether the byte escapes the one behind it.
+/// Whether the byte escapes the one after it.
 fn escapes(escaped: bool, byte: u8) -> bool
     ensures { result ≡ escapes_next escaped byte }
 {
@@ -17,7 +17,7 @@ fn stands_inside(quote: u8, byte: u8, escaped: bool) -> bool
     !(byte == b'\n' || (byte == quote && !escaped))
 }
 
-/// How many bytes stand behind an opening quote before the literal's end.
+/// How many bytes stand after an opening quote before the literal's end.
 #[tactic(auto, using(crate::proofs::LiteralLemmas::quoted_more, crate::proofs::LiteralLemmas::quoted_stop, crate::proofs::LiteralLemmas::quoted_end), unfolding(crate::specs::Literals::quoted_len))]
 pub(crate) fn len_of_quoted(quote: u8, rest: &[u8]) -> usize
     ensures value { result ≡ quoted_len quote rest.now }

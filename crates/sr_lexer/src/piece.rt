@@ -190,12 +190,12 @@ fn touches_word(rest: &[u8]) -> bool
     }
 }
 
-/// The char or string that goes on with these bytes behind its opening quote.
-fn literal_in_front(kind: TokenKind, quote: u8, behind: &[u8]) -> Result<Piece, Fault>
-    requires { length behind.now < 2 ^ 63 }
-    ensures { result ≡ literal_piece kind quote behind.now }
+/// The char or string that goes on with these bytes after its opening quote.
+fn literal_in_front(kind: TokenKind, quote: u8, after: &[u8]) -> Result<Piece, Fault>
+    requires { length after.now < 2 ^ 63 }
+    ensures { result ≡ literal_piece kind quote after.now }
 {
-    let (inner, rest) = behind.split_at(len_of_quoted(quote, behind));
+    let (inner, rest) = after.split_at(len_of_quoted(quote, after));
     match first_unquotable(inner) {
         Some(at) => Err(Fault {
             kind: Kind::BadByte,
@@ -213,7 +213,7 @@ fn first_unquotable(inner: &[u8]) -> Option<usize>
     inner.iter().position(|byte| !may_be_quoted(*byte))
 }
 
-/// The char or string with these bytes between its quotes, all of which may stand there.
+/// The char or string with these bytes between its quotes. Each byte is one that may stand there.
 fn whole_literal(kind: TokenKind, quote: u8, inner: &[u8], rest: &[u8]) -> Result<Piece, Fault>
     requires { length inner.now < 2 ^ 63 }
     ensures { result ≡ quoted_piece kind quote inner.now rest.now None }

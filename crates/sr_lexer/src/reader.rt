@@ -16,9 +16,9 @@ pub(crate) struct Reader {
     pub tokens: Row<Token>,
     /// How many `(` and `[` are open.
     pub depth: u32,
-    /// Whether a line may end behind the last token.
+    /// Whether a line may end after the last token.
     pub may_end: bool,
-    /// The first newline behind the last token.
+    /// The first newline after the last token.
     pub newline: Option<Span>,
 }
 
@@ -69,7 +69,7 @@ impl Reader {
         }
     }
 
-    /// Takes a token, behind the separator before it.
+    /// Takes a token, after the separator before it.
     fn take_token(
         &mut self,
         alloc: Global,
@@ -83,7 +83,7 @@ impl Reader {
         self.take_separator(alloc, kind)?;
         let text = Text::from_slice(alloc, text)?;
         self.tokens.push(Token { kind, text, span })?;
-        self.depth = open_behind(self.depth, kind);
+        self.depth = open_after(self.depth, kind);
         self.may_end = can_end_line(kind);
         self.newline = None;
         Ok(())
@@ -107,8 +107,8 @@ impl Reader {
     }
 }
 
-/// How many brackets are open behind a token, by how many were before it.
-fn open_behind(depth: u32, kind: TokenKind) -> u32
+/// How many brackets are open after a token, by how many were before it.
+fn open_after(depth: u32, kind: TokenKind) -> u32
     requires { depth < 2 ^ 32 - 1 }
     ensures { result ≡ open_after depth (pieces.Token kind) }
 {

@@ -3,7 +3,7 @@ ghost use Rattle.sr_lexer.specs.Roles.{may_end_line, continues_line, opens_brack
 
 use sr_tree::{Sign, TokenKind, Word};
 
-/// Whether a line may end behind the token.
+/// Whether a line may end after the token.
 pub(crate) fn can_end_line(kind: TokenKind) -> bool
     ensures { result ≡ may_end_line kind }
 {
@@ -74,7 +74,7 @@ pub(crate) fn goes_on_with_line(kind: TokenKind) -> bool
     )
 }
 
-/// Whether newlines behind the token are no separators until a bracket closes.
+/// Whether newlines after the token are no separators until a bracket closes.
 pub(crate) fn is_opening(kind: TokenKind) -> bool
     ensures { result ≡ opens_bracket kind }
 {
@@ -123,7 +123,7 @@ pub(crate) fn stands_between_runs(kind: TokenKind) -> bool
     )
 }
 
-/// Whether the token is one of those of which a run may hold so many.
+/// Whether the token counts towards the limit of a run.
 pub(crate) fn is_counted(kind: TokenKind) -> bool
     ensures { result ≡ counts_in_run kind }
 {

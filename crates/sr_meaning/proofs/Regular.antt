@@ -1,4 +1,4 @@
--- Work that goes on in the same way with more ticks and with more answers behind its own, and that leaves no more
+-- Work that goes on in the same way with more ticks and with more answers after its own, and that leaves no more
 -- room for ticks than there was. It is made of pieces of the same kind.
 use Rattle.std.proofs.Common.{◌≡◌, ℕ, zero, suc, ◌+◌, ◌*◌, ◌<◌, ◌≤◌, Bool, true, false, List, [], ◌∷◌, ◌++◌, length, Option, Some, None, Result, Ok, Err, ◌⊎◌, inl, inr, refl, sym, ap, subst, arith}
 use Rattle.sr_value.specs.declared.fault.Fault.{Fault}
@@ -22,11 +22,11 @@ use Rattle.sr_meaning.proofs.Forever.{forever}
 abbrev pub with_limit : ℕ → Here → Here
 with_limit limit here = record here { limit = limit }
 
--- a stage with more ticks, and more answers behind its own
+-- a stage with more ticks, and more answers after its own
 abbrev pub raised : ℕ → List Answer → Stage → Stage
 raised extra more stage = record stage { ticks = stage.ticks + extra; answers = stage.answers ++ more }
 
--- an ask that isn't changed by these answers behind the others
+-- an ask that isn't changed by these answers after the others
 abbrev pub Stays : List Answer → Ask → Type 0
 Stays more made = (more ≡ []) ⊎ (is_last made.request ≡ true)
 
@@ -46,7 +46,7 @@ pub record Regular {A : Type 0} (doing : ℕ → Doing A) : Type 0 where
   pub leaves : (limit : ℕ) (stage : Stage) → Leaves limit (doing limit stage) (room limit stage)
   pub follows : (extra limit : ℕ) (more : List Answer) (stage : Stage) → Follows extra more (doing limit stage) (doing (limit + extra) (raised extra more stage))
 
--- ---- one piece behind the other
+-- ---- one piece after the other
 
 pub fewer : {A : Type 0} (limit : ℕ) (o : Outcome A) (n m : ℕ) → n ≤ m → Leaves limit o n → Leaves limit o m
 fewer limit (Came a stage) n m less h = omega arith

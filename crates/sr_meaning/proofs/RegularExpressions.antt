@@ -23,9 +23,9 @@ use Rattle.sr_core.specs.declared.expression.Leaf.TheVariants.{Constant, Operati
 use Rattle.sr_core.specs.declared.owner.Home.TheVariants.{Mine as my_home, Imported as imported_home}
 use Rattle.sr_core.specs.declared.owner.Root.{Root}
 use Rattle.sr_core.specs.declared.owner.Root.TheVariants.{Own as own_root, Shared as shared_root}
-use Rattle.sr_core.specs.declared.owner.Whose.{Whose}
-use Rattle.sr_core.specs.declared.owner.Whose.TheVariants.{Mine, Imported, Process}
-use Rattle.sr_ask.specs.declared.environment.Aim.{Aim}
+use Rattle.sr_core.specs.declared.owner.OperationOwner.{OperationOwner}
+use Rattle.sr_core.specs.declared.owner.OperationOwner.TheVariants.{Mine, Imported, Process}
+use Rattle.sr_ask.specs.declared.environment.ReadTarget.{ReadTarget}
 use Rattle.sr_ask.specs.declared.environment.Sent.{Sent}
 use Rattle.sr_meaning.specs.Expressions.{Meaning, at_end, created, default_given, ensured, give_back, leaf_meaning, needs_of, owner_of, read_all, taken, called}
 use Rattle.sr_ask.specs.Invocations.{read_next, read_all as items_read}
@@ -33,7 +33,7 @@ use Rattle.sr_meaning.specs.Here.{Here, asker, settle}
 use Rattle.sr_meaning.specs.Places.{own_load, own_store, load_at, load_place, store_at, store_place, store_results, spot_of}
 use Rattle.sr_core.specs.Values.{cap_of}
 use Rattle.sr_meaning.proofs.Regular.{Regular, RegularMeaning, AllRegular, with_limit, regular_then, regular_give, regular_equal, regular_own, regular_by, regular_request, regular_settle, regular_in_order}
-use Rattle.sr_ask.specs.Invocations.{instance_in, value_behind, values_sent, places_back}
+use Rattle.sr_ask.specs.Invocations.{instance_in, value_after, values_sent, places_back}
 use Rattle.sr_ask.specs.Places.{own_at, own_after, declare_own, nothing}
 
 -- ---- places
@@ -76,7 +76,7 @@ same_spot (shared_root (imported_home at) var) here limit = refl
 
 -- ---- leaves
 
-same_owner : (whose : Whose) (here : Here) (limit : ℕ) → owner_of whose (with_limit limit here) ≡ owner_of whose here
+same_owner : (whose : OperationOwner) (here : Here) (limit : ℕ) → owner_of whose (with_limit limit here) ≡ owner_of whose here
 same_owner Mine here limit = refl
 same_owner (Imported at) here limit = refl
 same_owner Process here limit = refl
@@ -100,7 +100,7 @@ regular_default (Some shape) here = regular_settle here (default_value shape)
 
 pub regular_give_back : (places : List Located) (returns : Option Shape) (results : Option (List Value)) (here : Here) → Regular (λ limit. give_back places returns results (with_limit limit here))
 regular_give_back places returns None here = regular_default returns here
-regular_give_back places returns (Some results) here = regular_then (regular_store_results places results here) (λ rest. regular_give (value_behind rest))
+regular_give_back places returns (Some results) here = regular_then (regular_store_results places results here) (λ rest. regular_give (value_after rest))
 
 pub regular_taken : (id : ℕ) (here : Here) → Regular (λ limit. taken id (with_limit limit here))
 regular_taken id here = regular_then (regular_request here (took (id ∷ [])) (Take (id ∷ [])) refl) (λ reply. regular_give reply.results)
@@ -130,13 +130,13 @@ regular_at_end : (count : ℕ) (here : Here) → Regular (λ limit. at_end count
 regular_at_end zero here = regular_give _
 regular_at_end (suc n) here = regular_settle here _
 
-regular_read_next : (count : ℕ) (aim : Aim) (aims : List Aim) (item : InputItem) (here : Here) → Regular (λ limit. read_all (suc count) aims (with_limit limit here))
-    → Regular (λ limit. read_next count aim (items_read (suc count) aims) item (asker (with_limit limit here)))
-regular_read_next count aim aims (read_value value) here rest = regular_then (regular_store aim.place value here) (λ _. rest)
-regular_read_next count aim aims NotOfKind here rest = regular_settle here _
-regular_read_next count aim aims NoMore here rest = regular_at_end count here
+regular_read_next : (count : ℕ) (read_target : ReadTarget) (read_targets : List ReadTarget) (item : InputItem) (here : Here) → Regular (λ limit. read_all (suc count) read_targets (with_limit limit here))
+    → Regular (λ limit. read_next count read_target (items_read (suc count) read_targets) item (asker (with_limit limit here)))
+regular_read_next count read_target read_targets (read_value value) here rest = regular_then (regular_store read_target.place value here) (λ _. rest)
+regular_read_next count read_target read_targets NotOfKind here rest = regular_settle here _
+regular_read_next count read_target read_targets NoMore here rest = regular_at_end count here
 
-pub regular_read_all : (count : ℕ) (aims : List Aim) (here : Here) → Regular (λ limit. read_all count aims (with_limit limit here))
+pub regular_read_all : (count : ℕ) (read_targets : List ReadTarget) (here : Here) → Regular (λ limit. read_all count read_targets (with_limit limit here))
 regular_read_all count [] here = regular_settle here _
-regular_read_all count (aim ∷ aims) here =
-    regular_then (regular_request here read_item (read_request aim.kind) refl) (λ item. regular_read_next count aim aims item here (regular_read_all (suc count) aims here))
+regular_read_all count (read_target ∷ read_targets) here =
+    regular_then (regular_request here read_item (read_request read_target.kind) refl) (λ item. regular_read_next count read_target read_targets item here (regular_read_all (suc count) read_targets here))

@@ -258,7 +258,7 @@ pub regular_if : (guards : List (Meaning (Option Ending))) (otherwise : List (Me
     → Regular (λ limit. if_meaning guards otherwise (with_limit limit here))
 regular_if guards otherwise here g o = regular_then (regular_first_true guards here g) (λ end. regular_continue end (regular_block otherwise here o))
 
--- what stands behind `else`, where it is there
+-- what stands after `else`, where it is there
 abbrev pub OptionRegular : Option (List (Meaning Ending)) → Type 0
 OptionRegular None = Unit {0}
 OptionRegular (Some block) = AllRegular block
@@ -382,7 +382,7 @@ regular_start_call arm part = record {
       regular_through (regular_push_out (record { id = id; arm = arm; place = place; backs = places_back sent; turn = turn })))))));
 }
 
--- the block behind each arm is
+-- the block after each arm is
 abbrev pub PartsRegular : List CoPart → Type 0
 PartsRegular [] = Unit {0}
 PartsRegular (part ∷ parts) = RegularMeaning part.body × PartsRegular parts

@@ -17,7 +17,7 @@ use Rattle.sr_core.specs.declared.expression.Part.{Part, roll-Part}
 use Rattle.sr_core.specs.declared.expression.Reading.{Reading, roll-Reading}
 use Rattle.sr_core.specs.declared.expression.Step.{Step, roll-Step}
 use Rattle.sr_core.specs.declared.expression.PlaceExpr.{PlaceExpr, roll-PlaceExpr}
-use Rattle.sr_ask.specs.declared.environment.Aim.{Aim}
+use Rattle.sr_ask.specs.declared.environment.ReadTarget.{ReadTarget}
 use Rattle.sr_core.specs.declared.piece.Piece.{Piece}
 use Rattle.sr_ask.specs.declared.environment.Sent.{Sent}
 use Rattle.sr_core.specs.Applied.{applied}
@@ -52,7 +52,7 @@ regular_row meaning [] = tt
 regular_row meaning (e ∷ row) = (e.1, regular_row meaning row)
 
 regular_argument_node : (y : Argument-F ArgumentWith ExprWith PartWith StepWith PlaceWith ReadingWith)
-    → RegularMeaning (argument_meaning (map-Argument Argument Expr Part Step PlaceExpr Reading (Meaning Sent) (Meaning Value) (Meaning Piece) (Meaning Sel) (Meaning Located) (Meaning Aim) argument_of expr_meaning part_of_expr step_of_expr place_of_expr reading_of (map-Argument ArgumentWith ExprWith PartWith StepWith PlaceWith ReadingWith Argument Expr Part Step PlaceExpr Reading (λ e. e.0) (λ e. e.0) (λ e. e.0) (λ e. e.0) (λ e. e.0) (λ e. e.0) y)))
+    → RegularMeaning (argument_meaning (map-Argument Argument Expr Part Step PlaceExpr Reading (Meaning Sent) (Meaning Value) (Meaning Piece) (Meaning Sel) (Meaning Located) (Meaning ReadTarget) argument_of expr_meaning part_of_expr step_of_expr place_of_expr reading_of (map-Argument ArgumentWith ExprWith PartWith StepWith PlaceWith ReadingWith Argument Expr Part Step PlaceExpr Reading (λ e. e.0) (λ e. e.0) (λ e. e.0) (λ e. e.0) (λ e. e.0) (λ e. e.0) y)))
 regular_argument_node (Argument-F.Val value) = record { at = λ here. regular_then (value.1.at here) (λ x. regular_give (record { value = Some x; back = None })) }
 regular_argument_node (Argument-F.Var place) = record {
   at = λ here. regular_then (place.1.at here) (λ at. regular_then (regular_load at here) (λ x. regular_give (record { value = Some x; back = Some at })));
@@ -60,7 +60,7 @@ regular_argument_node (Argument-F.Var place) = record {
 regular_argument_node (Argument-F.Res place) = record { at = λ here. regular_then (place.1.at here) (λ at. regular_give (record { value = None; back = Some at })) }
 
 regular_node : (y : Expr-F ArgumentWith ExprWith PartWith StepWith PlaceWith ReadingWith)
-    → RegularMeaning (node_meaning (map-Expr Argument Expr Part Step PlaceExpr Reading (Meaning Sent) (Meaning Value) (Meaning Piece) (Meaning Sel) (Meaning Located) (Meaning Aim) argument_of expr_meaning part_of_expr step_of_expr place_of_expr reading_of (map-Expr ArgumentWith ExprWith PartWith StepWith PlaceWith ReadingWith Argument Expr Part Step PlaceExpr Reading (λ e. e.0) (λ e. e.0) (λ e. e.0) (λ e. e.0) (λ e. e.0) (λ e. e.0) y)))
+    → RegularMeaning (node_meaning (map-Expr Argument Expr Part Step PlaceExpr Reading (Meaning Sent) (Meaning Value) (Meaning Piece) (Meaning Sel) (Meaning Located) (Meaning ReadTarget) argument_of expr_meaning part_of_expr step_of_expr place_of_expr reading_of (map-Expr ArgumentWith ExprWith PartWith StepWith PlaceWith ReadingWith Argument Expr Part Step PlaceExpr Reading (λ e. e.0) (λ e. e.0) (λ e. e.0) (λ e. e.0) (λ e. e.0) (λ e. e.0) y)))
 regular_node (Expr-F.Leaf leaf) = record { at = regular_leaf leaf }
 regular_node (Expr-F.Load place) = record { at = λ here. regular_then (place.1.at here) (λ at. regular_load at here) }
 regular_node (Expr-F.Unary op operand) = record { at = λ here. regular_then (operand.1.at here) (λ x. regular_settle here (value_of_one op x)) }
@@ -96,11 +96,11 @@ regular_node (Expr-F.Create resource args machine) = record {
       regular_then (regular_settle here (cap_of value)) (λ vm. regular_created resource values vm here)));
 }
 regular_node (Expr-F.Read readings) = record {
-  at = λ here. regular_then (regular_in_order _ here (regular_row reading_of readings)) (λ aims. regular_read_all 0 aims here);
+  at = λ here. regular_then (regular_in_order _ here (regular_row reading_of readings)) (λ read_targets. regular_read_all 0 read_targets here);
 }
 
 regular_part_node : (y : Part-F ArgumentWith ExprWith PartWith StepWith PlaceWith ReadingWith)
-    → RegularMeaning (part_meaning (map-Part Argument Expr Part Step PlaceExpr Reading (Meaning Sent) (Meaning Value) (Meaning Piece) (Meaning Sel) (Meaning Located) (Meaning Aim) argument_of expr_meaning part_of_expr step_of_expr place_of_expr reading_of (map-Part ArgumentWith ExprWith PartWith StepWith PlaceWith ReadingWith Argument Expr Part Step PlaceExpr Reading (λ e. e.0) (λ e. e.0) (λ e. e.0) (λ e. e.0) (λ e. e.0) (λ e. e.0) y)))
+    → RegularMeaning (part_meaning (map-Part Argument Expr Part Step PlaceExpr Reading (Meaning Sent) (Meaning Value) (Meaning Piece) (Meaning Sel) (Meaning Located) (Meaning ReadTarget) argument_of expr_meaning part_of_expr step_of_expr place_of_expr reading_of (map-Part ArgumentWith ExprWith PartWith StepWith PlaceWith ReadingWith Argument Expr Part Step PlaceExpr Reading (λ e. e.0) (λ e. e.0) (λ e. e.0) (λ e. e.0) (λ e. e.0) (λ e. e.0) y)))
 regular_part_node (Part-F.One value) = record { at = λ here. regular_then (value.1.at here) (λ x. regular_give (record { count = 1; value = x })) }
 regular_part_node (Part-F.Repeated count value) = record {
   at = λ here.
@@ -109,7 +109,7 @@ regular_part_node (Part-F.Repeated count value) = record {
 }
 
 regular_step_node : (y : Step-F ArgumentWith ExprWith PartWith StepWith PlaceWith ReadingWith)
-    → RegularMeaning (step_meaning (map-Step Argument Expr Part Step PlaceExpr Reading (Meaning Sent) (Meaning Value) (Meaning Piece) (Meaning Sel) (Meaning Located) (Meaning Aim) argument_of expr_meaning part_of_expr step_of_expr place_of_expr reading_of (map-Step ArgumentWith ExprWith PartWith StepWith PlaceWith ReadingWith Argument Expr Part Step PlaceExpr Reading (λ e. e.0) (λ e. e.0) (λ e. e.0) (λ e. e.0) (λ e. e.0) (λ e. e.0) y)))
+    → RegularMeaning (step_meaning (map-Step Argument Expr Part Step PlaceExpr Reading (Meaning Sent) (Meaning Value) (Meaning Piece) (Meaning Sel) (Meaning Located) (Meaning ReadTarget) argument_of expr_meaning part_of_expr step_of_expr place_of_expr reading_of (map-Step ArgumentWith ExprWith PartWith StepWith PlaceWith ReadingWith Argument Expr Part Step PlaceExpr Reading (λ e. e.0) (λ e. e.0) (λ e. e.0) (λ e. e.0) (λ e. e.0) (λ e. e.0) y)))
 regular_step_node (Step-F.At index) = record {
   at = λ here. regular_then (index.1.at here) (λ x. regular_then (regular_settle here (number_of x)) (λ i. regular_give (at_one i)));
 }
@@ -121,7 +121,7 @@ regular_step_node (Step-F.At2 row column) = record {
 regular_step_node (Step-F.Field field) = record { at = λ here. regular_give (at_field field) }
 
 regular_place_node : (y : PlaceExpr-F ArgumentWith ExprWith PartWith StepWith PlaceWith ReadingWith)
-    → RegularMeaning (place_meaning (map-PlaceExpr Argument Expr Part Step PlaceExpr Reading (Meaning Sent) (Meaning Value) (Meaning Piece) (Meaning Sel) (Meaning Located) (Meaning Aim) argument_of expr_meaning part_of_expr step_of_expr place_of_expr reading_of (map-PlaceExpr ArgumentWith ExprWith PartWith StepWith PlaceWith ReadingWith Argument Expr Part Step PlaceExpr Reading (λ e. e.0) (λ e. e.0) (λ e. e.0) (λ e. e.0) (λ e. e.0) (λ e. e.0) y)))
+    → RegularMeaning (place_meaning (map-PlaceExpr Argument Expr Part Step PlaceExpr Reading (Meaning Sent) (Meaning Value) (Meaning Piece) (Meaning Sel) (Meaning Located) (Meaning ReadTarget) argument_of expr_meaning part_of_expr step_of_expr place_of_expr reading_of (map-PlaceExpr ArgumentWith ExprWith PartWith StepWith PlaceWith ReadingWith Argument Expr Part Step PlaceExpr Reading (λ e. e.0) (λ e. e.0) (λ e. e.0) (λ e. e.0) (λ e. e.0) (λ e. e.0) y)))
 regular_place_node y = record {
   at = λ here.
       regular_then (regular_in_order _ here (regular_row step_of_expr y.path)) (λ path.
@@ -130,44 +130,44 @@ regular_place_node y = record {
 }
 
 regular_reading_node : (y : Reading-F ArgumentWith ExprWith PartWith StepWith PlaceWith ReadingWith)
-    → RegularMeaning (reading_meaning (map-Reading Argument Expr Part Step PlaceExpr Reading (Meaning Sent) (Meaning Value) (Meaning Piece) (Meaning Sel) (Meaning Located) (Meaning Aim) argument_of expr_meaning part_of_expr step_of_expr place_of_expr reading_of (map-Reading ArgumentWith ExprWith PartWith StepWith PlaceWith ReadingWith Argument Expr Part Step PlaceExpr Reading (λ e. e.0) (λ e. e.0) (λ e. e.0) (λ e. e.0) (λ e. e.0) (λ e. e.0) y)))
+    → RegularMeaning (reading_meaning (map-Reading Argument Expr Part Step PlaceExpr Reading (Meaning Sent) (Meaning Value) (Meaning Piece) (Meaning Sel) (Meaning Located) (Meaning ReadTarget) argument_of expr_meaning part_of_expr step_of_expr place_of_expr reading_of (map-Reading ArgumentWith ExprWith PartWith StepWith PlaceWith ReadingWith Argument Expr Part Step PlaceExpr Reading (λ e. e.0) (λ e. e.0) (λ e. e.0) (λ e. e.0) (λ e. e.0) (λ e. e.0) y)))
 regular_reading_node y = record { at = λ here. regular_then (y.place.1.at here) (λ at. regular_give (record { kind = kind_of y.kind; place = at })) }
 
 step_Argument : (x : Argument-F Argument Expr Part Step PlaceExpr Reading) (y : Argument-F ArgumentWith ExprWith PartWith StepWith PlaceWith ReadingWith) → map-Argument ArgumentWith ExprWith PartWith StepWith PlaceWith ReadingWith Argument Expr Part Step PlaceExpr Reading (λ e. e.0) (λ e. e.0) (λ e. e.0) (λ e. e.0) (λ e. e.0) (λ e. e.0) y ≡ x → RegularMeaning (argument_of (roll-Argument x))
 step_Argument x y is =
     let P : Argument-F Argument Expr Part Step PlaceExpr Reading → Type 0 = λ z. RegularMeaning (argument_of (roll-Argument z)) in
     let Q : Meaning _ → Type 0 = λ m. RegularMeaning m in
-    subst P is (subst Q (sym (fold-roll-Argument (Meaning Sent) (Meaning Value) (Meaning Piece) (Meaning Sel) (Meaning Located) (Meaning Aim) argument_meaning node_meaning part_meaning step_meaning place_meaning reading_meaning _)) (regular_argument_node y))
+    subst P is (subst Q (sym (fold-roll-Argument (Meaning Sent) (Meaning Value) (Meaning Piece) (Meaning Sel) (Meaning Located) (Meaning ReadTarget) argument_meaning node_meaning part_meaning step_meaning place_meaning reading_meaning _)) (regular_argument_node y))
 
 step_Expr : (x : Expr-F Argument Expr Part Step PlaceExpr Reading) (y : Expr-F ArgumentWith ExprWith PartWith StepWith PlaceWith ReadingWith) → map-Expr ArgumentWith ExprWith PartWith StepWith PlaceWith ReadingWith Argument Expr Part Step PlaceExpr Reading (λ e. e.0) (λ e. e.0) (λ e. e.0) (λ e. e.0) (λ e. e.0) (λ e. e.0) y ≡ x → RegularMeaning (expr_meaning (roll-Expr x))
 step_Expr x y is =
     let P : Expr-F Argument Expr Part Step PlaceExpr Reading → Type 0 = λ z. RegularMeaning (expr_meaning (roll-Expr z)) in
     let Q : Meaning _ → Type 0 = λ m. RegularMeaning m in
-    subst P is (subst Q (sym (fold-roll-Expr (Meaning Sent) (Meaning Value) (Meaning Piece) (Meaning Sel) (Meaning Located) (Meaning Aim) argument_meaning node_meaning part_meaning step_meaning place_meaning reading_meaning _)) (regular_node y))
+    subst P is (subst Q (sym (fold-roll-Expr (Meaning Sent) (Meaning Value) (Meaning Piece) (Meaning Sel) (Meaning Located) (Meaning ReadTarget) argument_meaning node_meaning part_meaning step_meaning place_meaning reading_meaning _)) (regular_node y))
 
 step_Part : (x : Part-F Argument Expr Part Step PlaceExpr Reading) (y : Part-F ArgumentWith ExprWith PartWith StepWith PlaceWith ReadingWith) → map-Part ArgumentWith ExprWith PartWith StepWith PlaceWith ReadingWith Argument Expr Part Step PlaceExpr Reading (λ e. e.0) (λ e. e.0) (λ e. e.0) (λ e. e.0) (λ e. e.0) (λ e. e.0) y ≡ x → RegularMeaning (part_of_expr (roll-Part x))
 step_Part x y is =
     let P : Part-F Argument Expr Part Step PlaceExpr Reading → Type 0 = λ z. RegularMeaning (part_of_expr (roll-Part z)) in
     let Q : Meaning _ → Type 0 = λ m. RegularMeaning m in
-    subst P is (subst Q (sym (fold-roll-Part (Meaning Sent) (Meaning Value) (Meaning Piece) (Meaning Sel) (Meaning Located) (Meaning Aim) argument_meaning node_meaning part_meaning step_meaning place_meaning reading_meaning _)) (regular_part_node y))
+    subst P is (subst Q (sym (fold-roll-Part (Meaning Sent) (Meaning Value) (Meaning Piece) (Meaning Sel) (Meaning Located) (Meaning ReadTarget) argument_meaning node_meaning part_meaning step_meaning place_meaning reading_meaning _)) (regular_part_node y))
 
 step_Step : (x : Step-F Argument Expr Part Step PlaceExpr Reading) (y : Step-F ArgumentWith ExprWith PartWith StepWith PlaceWith ReadingWith) → map-Step ArgumentWith ExprWith PartWith StepWith PlaceWith ReadingWith Argument Expr Part Step PlaceExpr Reading (λ e. e.0) (λ e. e.0) (λ e. e.0) (λ e. e.0) (λ e. e.0) (λ e. e.0) y ≡ x → RegularMeaning (step_of_expr (roll-Step x))
 step_Step x y is =
     let P : Step-F Argument Expr Part Step PlaceExpr Reading → Type 0 = λ z. RegularMeaning (step_of_expr (roll-Step z)) in
     let Q : Meaning _ → Type 0 = λ m. RegularMeaning m in
-    subst P is (subst Q (sym (fold-roll-Step (Meaning Sent) (Meaning Value) (Meaning Piece) (Meaning Sel) (Meaning Located) (Meaning Aim) argument_meaning node_meaning part_meaning step_meaning place_meaning reading_meaning _)) (regular_step_node y))
+    subst P is (subst Q (sym (fold-roll-Step (Meaning Sent) (Meaning Value) (Meaning Piece) (Meaning Sel) (Meaning Located) (Meaning ReadTarget) argument_meaning node_meaning part_meaning step_meaning place_meaning reading_meaning _)) (regular_step_node y))
 
 step_PlaceExpr : (x : PlaceExpr-F Argument Expr Part Step PlaceExpr Reading) (y : PlaceExpr-F ArgumentWith ExprWith PartWith StepWith PlaceWith ReadingWith) → map-PlaceExpr ArgumentWith ExprWith PartWith StepWith PlaceWith ReadingWith Argument Expr Part Step PlaceExpr Reading (λ e. e.0) (λ e. e.0) (λ e. e.0) (λ e. e.0) (λ e. e.0) (λ e. e.0) y ≡ x → RegularMeaning (place_of_expr (roll-PlaceExpr x))
 step_PlaceExpr x y is =
     let P : PlaceExpr-F Argument Expr Part Step PlaceExpr Reading → Type 0 = λ z. RegularMeaning (place_of_expr (roll-PlaceExpr z)) in
     let Q : Meaning _ → Type 0 = λ m. RegularMeaning m in
-    subst P is (subst Q (sym (fold-roll-PlaceExpr (Meaning Sent) (Meaning Value) (Meaning Piece) (Meaning Sel) (Meaning Located) (Meaning Aim) argument_meaning node_meaning part_meaning step_meaning place_meaning reading_meaning _)) (regular_place_node y))
+    subst P is (subst Q (sym (fold-roll-PlaceExpr (Meaning Sent) (Meaning Value) (Meaning Piece) (Meaning Sel) (Meaning Located) (Meaning ReadTarget) argument_meaning node_meaning part_meaning step_meaning place_meaning reading_meaning _)) (regular_place_node y))
 
 step_Reading : (x : Reading-F Argument Expr Part Step PlaceExpr Reading) (y : Reading-F ArgumentWith ExprWith PartWith StepWith PlaceWith ReadingWith) → map-Reading ArgumentWith ExprWith PartWith StepWith PlaceWith ReadingWith Argument Expr Part Step PlaceExpr Reading (λ e. e.0) (λ e. e.0) (λ e. e.0) (λ e. e.0) (λ e. e.0) (λ e. e.0) y ≡ x → RegularMeaning (reading_of (roll-Reading x))
 step_Reading x y is =
     let P : Reading-F Argument Expr Part Step PlaceExpr Reading → Type 0 = λ z. RegularMeaning (reading_of (roll-Reading z)) in
     let Q : Meaning _ → Type 0 = λ m. RegularMeaning m in
-    subst P is (subst Q (sym (fold-roll-Reading (Meaning Sent) (Meaning Value) (Meaning Piece) (Meaning Sel) (Meaning Located) (Meaning Aim) argument_meaning node_meaning part_meaning step_meaning place_meaning reading_meaning _)) (regular_reading_node y))
+    subst P is (subst Q (sym (fold-roll-Reading (Meaning Sent) (Meaning Value) (Meaning Piece) (Meaning Sel) (Meaning Located) (Meaning ReadTarget) argument_meaning node_meaning part_meaning step_meaning place_meaning reading_meaning _)) (regular_reading_node y))
 
 pub regular_expr : (tree : Expr) → RegularMeaning (expr_meaning tree)
 regular_expr = ind-Expr (λ tree. RegularMeaning (argument_of tree)) (λ tree. RegularMeaning (expr_meaning tree)) (λ tree. RegularMeaning (part_of_expr tree)) (λ tree. RegularMeaning (step_of_expr tree)) (λ tree. RegularMeaning (place_of_expr tree)) (λ tree. RegularMeaning (reading_of tree)) step_Argument step_Expr step_Part step_Step step_PlaceExpr step_Reading

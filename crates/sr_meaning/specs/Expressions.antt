@@ -15,7 +15,7 @@ use Rattle.sr_value.specs.Parts.{part_of}
 use Rattle.sr_ask.specs.Asking.{made, number, moment}
 use Rattle.sr_ask.specs.Behaviors.{Doing, give, ◌>>=◌}
 use Rattle.sr_ask.specs.Invocations.{values_sent, places_back, default_given as default_of, give_back as results_given, taken as reply_to, ensured as globals_ensured, created as instance_created, number_read as items_counted, at_end as counted_at_end, read_all as items_read}
-use Rattle.sr_ask.specs.declared.environment.Aim.{Aim}
+use Rattle.sr_ask.specs.declared.environment.ReadTarget.{ReadTarget}
 use Rattle.sr_ask.specs.declared.environment.Located.{Located}
 use Rattle.sr_ask.specs.declared.environment.Sent.{Sent}
 use Rattle.sr_ask.specs.declared.request.ReadKind.{ReadKind}
@@ -37,8 +37,8 @@ use Rattle.sr_core.specs.declared.expression.Leaf.{Leaf}
 use Rattle.sr_core.specs.declared.expression.Leaf.TheVariants.{Constant, Operation, MyResource, MyMachine, Count as count_of_op, MakeMachine, Moment}
 use Rattle.sr_core.specs.declared.expression.Readable.{Readable}
 use Rattle.sr_core.specs.declared.expression.Readable.TheVariants.{Int as an_int, Bool as a_bool, Char as a_char, Str as a_str}
-use Rattle.sr_core.specs.declared.owner.Whose.{Whose}
-use Rattle.sr_core.specs.declared.owner.Whose.TheVariants.{Mine, Imported, Process}
+use Rattle.sr_core.specs.declared.owner.OperationOwner.{OperationOwner}
+use Rattle.sr_core.specs.declared.owner.OperationOwner.TheVariants.{Mine, Imported, Process}
 use Rattle.sr_meaning.specs.Here.{Here, asker, request, settle}
 use Rattle.sr_meaning.specs.Places.{spot_of, load_place}
 
@@ -58,7 +58,7 @@ choice false one other = other
 -- ---- leaves
 
 -- an operation's capability names its owner
-abbrev pub owner_of : Whose → Here → Owner
+abbrev pub owner_of : OperationOwner → Here → Owner
 owner_of Mine here = Inst here.start.instance
 owner_of (Imported at) here = Inst (unwrap_or (slice_get here.start.homes at) 0)
 owner_of Process here = of_process here.start.process
@@ -124,13 +124,13 @@ abbrev pub at_end : ℕ → Meaning Value
 at_end count here = counted_at_end count (asker here)
 
 -- items are read and stored one after another, up to the first that isn't there or doesn't fit
-abbrev pub read_all : ℕ → List Aim → Meaning Value
-read_all count aims here = items_read count aims (asker here)
+abbrev pub read_all : ℕ → List ReadTarget → Meaning Value
+read_all count read_targets here = items_read count read_targets (asker here)
 
 -- ---- nodes
 
 -- `and` doesn't evaluate the right side after false, nor `or` after true
-abbrev pub node_meaning : Expr-F (Meaning Sent) (Meaning Value) (Meaning Piece) (Meaning Sel) (Meaning Located) (Meaning Aim) → Meaning Value
+abbrev pub node_meaning : Expr-F (Meaning Sent) (Meaning Value) (Meaning Piece) (Meaning Sel) (Meaning Located) (Meaning ReadTarget) → Meaning Value
 node_meaning (Expr-F.Leaf leaf) here = leaf_meaning leaf here
 node_meaning (Expr-F.Load place) here = place here >>= λ at. load_place at here
 node_meaning (Expr-F.Unary op operand) here = operand here >>= λ x. settle (value_of_one op x) here
@@ -148,54 +148,54 @@ node_meaning (Expr-F.Member of op) here = of here >>= λ value. settle (cap_of v
 node_meaning (Expr-F.Call target args returns) here = called target args returns here
 node_meaning (Expr-F.Create resource args machine) here =
     in_order args here >>= λ values. machine here >>= λ value. settle (cap_of value) here >>= λ vm. created resource values vm here
-node_meaning (Expr-F.Read readings) here = in_order readings here >>= λ aims. read_all 0 aims here
+node_meaning (Expr-F.Read readings) here = in_order readings here >>= λ read_targets. read_all 0 read_targets here
 
 -- the indices of a place are evaluated once
-abbrev pub place_meaning : PlaceExpr-F (Meaning Sent) (Meaning Value) (Meaning Piece) (Meaning Sel) (Meaning Located) (Meaning Aim) → Meaning Located
+abbrev pub place_meaning : PlaceExpr-F (Meaning Sent) (Meaning Value) (Meaning Piece) (Meaning Sel) (Meaning Located) (Meaning ReadTarget) → Meaning Located
 place_meaning place here = in_order place.path here >>= λ path. give (record { spot = spot_of place.root here; path = path })
 
-abbrev pub step_meaning : Step-F (Meaning Sent) (Meaning Value) (Meaning Piece) (Meaning Sel) (Meaning Located) (Meaning Aim) → Meaning Sel
+abbrev pub step_meaning : Step-F (Meaning Sent) (Meaning Value) (Meaning Piece) (Meaning Sel) (Meaning Located) (Meaning ReadTarget) → Meaning Sel
 step_meaning (Step-F.At index) here = index here >>= λ x. settle (number_of x) here >>= λ i. give (at_one i)
 step_meaning (Step-F.At2 row column) here =
     row here >>= λ x. settle (number_of x) here >>= λ i. column here >>= λ y. settle (number_of y) here >>= λ j. give (at_two i j)
 step_meaning (Step-F.Field field) here = give (at_field field)
 
 -- `[n] e`: the count and then the value, once
-abbrev pub part_meaning : Part-F (Meaning Sent) (Meaning Value) (Meaning Piece) (Meaning Sel) (Meaning Located) (Meaning Aim) → Meaning Piece
+abbrev pub part_meaning : Part-F (Meaning Sent) (Meaning Value) (Meaning Piece) (Meaning Sel) (Meaning Located) (Meaning ReadTarget) → Meaning Piece
 part_meaning (Part-F.One value) here = value here >>= λ x. give (record { count = 1; value = x })
 part_meaning (Part-F.Repeated count value) here =
     count here >>= λ n. settle (number_of n) here >>= λ number.
     value here >>= λ x. settle (count_of number) here >>= λ times. give (record { count = times; value = x })
 
 -- a `var` argument sends what its place holds; a `res` argument sends nothing
-abbrev pub argument_meaning : Argument-F (Meaning Sent) (Meaning Value) (Meaning Piece) (Meaning Sel) (Meaning Located) (Meaning Aim) → Meaning Sent
+abbrev pub argument_meaning : Argument-F (Meaning Sent) (Meaning Value) (Meaning Piece) (Meaning Sel) (Meaning Located) (Meaning ReadTarget) → Meaning Sent
 argument_meaning (Argument-F.Val value) here = value here >>= λ x. give (record { value = Some x; back = None })
 argument_meaning (Argument-F.Var place) here = place here >>= λ at. load_place at here >>= λ x. give (record { value = Some x; back = Some at })
 argument_meaning (Argument-F.Res place) here = place here >>= λ at. give (record { value = None; back = Some at })
 
-abbrev pub reading_meaning : Reading-F (Meaning Sent) (Meaning Value) (Meaning Piece) (Meaning Sel) (Meaning Located) (Meaning Aim) → Meaning Aim
+abbrev pub reading_meaning : Reading-F (Meaning Sent) (Meaning Value) (Meaning Piece) (Meaning Sel) (Meaning Located) (Meaning ReadTarget) → Meaning ReadTarget
 reading_meaning reading here = reading.place here >>= λ at. give (record { kind = kind_of reading.kind; place = at })
 
 -- ---- trees
 
 -- what an expression asks and gives
 abbrev pub expr_meaning : Expr → Meaning Value
-expr_meaning = fold-Expr (Meaning Sent) (Meaning Value) (Meaning Piece) (Meaning Sel) (Meaning Located) (Meaning Aim) argument_meaning node_meaning part_meaning step_meaning place_meaning reading_meaning
+expr_meaning = fold-Expr (Meaning Sent) (Meaning Value) (Meaning Piece) (Meaning Sel) (Meaning Located) (Meaning ReadTarget) argument_meaning node_meaning part_meaning step_meaning place_meaning reading_meaning
 
 -- what a place asks, and the place
 abbrev pub place_of_expr : PlaceExpr → Meaning Located
-place_of_expr = fold-PlaceExpr (Meaning Sent) (Meaning Value) (Meaning Piece) (Meaning Sel) (Meaning Located) (Meaning Aim) argument_meaning node_meaning part_meaning step_meaning place_meaning reading_meaning
+place_of_expr = fold-PlaceExpr (Meaning Sent) (Meaning Value) (Meaning Piece) (Meaning Sel) (Meaning Located) (Meaning ReadTarget) argument_meaning node_meaning part_meaning step_meaning place_meaning reading_meaning
 
 -- what an argument asks, and what it sends
 abbrev pub argument_of : Argument → Meaning Sent
-argument_of = fold-Argument (Meaning Sent) (Meaning Value) (Meaning Piece) (Meaning Sel) (Meaning Located) (Meaning Aim) argument_meaning node_meaning part_meaning step_meaning place_meaning reading_meaning
+argument_of = fold-Argument (Meaning Sent) (Meaning Value) (Meaning Piece) (Meaning Sel) (Meaning Located) (Meaning ReadTarget) argument_meaning node_meaning part_meaning step_meaning place_meaning reading_meaning
 
 -- the same of one step of a place, of one part of a bracketed list, and of one place of a `read`
 abbrev pub step_of_expr : Step → Meaning Sel
-step_of_expr = fold-Step (Meaning Sent) (Meaning Value) (Meaning Piece) (Meaning Sel) (Meaning Located) (Meaning Aim) argument_meaning node_meaning part_meaning step_meaning place_meaning reading_meaning
+step_of_expr = fold-Step (Meaning Sent) (Meaning Value) (Meaning Piece) (Meaning Sel) (Meaning Located) (Meaning ReadTarget) argument_meaning node_meaning part_meaning step_meaning place_meaning reading_meaning
 
 abbrev pub part_of_expr : Part → Meaning Piece
-part_of_expr = fold-Part (Meaning Sent) (Meaning Value) (Meaning Piece) (Meaning Sel) (Meaning Located) (Meaning Aim) argument_meaning node_meaning part_meaning step_meaning place_meaning reading_meaning
+part_of_expr = fold-Part (Meaning Sent) (Meaning Value) (Meaning Piece) (Meaning Sel) (Meaning Located) (Meaning ReadTarget) argument_meaning node_meaning part_meaning step_meaning place_meaning reading_meaning
 
-abbrev pub reading_of : Reading → Meaning Aim
-reading_of = fold-Reading (Meaning Sent) (Meaning Value) (Meaning Piece) (Meaning Sel) (Meaning Located) (Meaning Aim) argument_meaning node_meaning part_meaning step_meaning place_meaning reading_meaning
+abbrev pub reading_of : Reading → Meaning ReadTarget
+reading_of = fold-Reading (Meaning Sent) (Meaning Value) (Meaning Piece) (Meaning Sel) (Meaning Located) (Meaning ReadTarget) argument_meaning node_meaning part_meaning step_meaning place_meaning reading_meaning

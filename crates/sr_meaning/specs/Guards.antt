@@ -37,8 +37,8 @@ use Rattle.sr_core.specs.declared.owner.Home.TheVariants.{Mine as my_home, Impor
 use Rattle.sr_core.specs.declared.owner.Me.{Me}
 use Rattle.sr_core.specs.declared.owner.Root.{Root}
 use Rattle.sr_core.specs.declared.owner.Root.TheVariants.{Own as own_root, Shared as shared_root}
-use Rattle.sr_core.specs.declared.owner.Whose.{Whose}
-use Rattle.sr_core.specs.declared.owner.Whose.TheVariants.{Mine, Imported, Process}
+use Rattle.sr_core.specs.declared.owner.OperationOwner.{OperationOwner}
+use Rattle.sr_core.specs.declared.owner.OperationOwner.TheVariants.{Mine, Imported, Process}
 use Rattle.sr_core.specs.declared.site.Arm.{Arm}
 use Rattle.sr_core.specs.declared.site.Named.{Named}
 use Rattle.sr_core.specs.declared.site.Named.TheVariants.{Own as named_own, Home as named_home, Machine as named_machine}
@@ -73,7 +73,7 @@ each_guard (part ∷ parts) at = with_ok (part at) (λ first. with_ok (each_guar
 
 -- ---- leaves
 
-abbrev pub guard_owner : Whose → Guard Owner
+abbrev pub guard_owner : OperationOwner → Guard Owner
 guard_owner Mine at = Ok (Inst at.me.instance)
 guard_owner (Imported import) at = with_ok (or_range (at.home import)) (λ instance. Ok (Inst instance))
 guard_owner Process at = Ok (of_process at.me.process)

@@ -16,6 +16,6 @@ guarded_of = fold-Guarded (Meaning Ending) CoPart (Meaning (Option Ending)) stat
 abbrev pub co_part_of : CoArm → CoPart
 co_part_of = fold-CoArm (Meaning Ending) CoPart (Meaning (Option Ending)) statement_meaning co_arm_meaning guarded_meaning
 
--- what the block behind `else` means, where there is one
+-- what the block after `else` means, where there is one
 abbrev pub optional_block : Option (List Statement) → Option (List (Meaning Ending))
 optional_block block = option_map (map meaning_of) block

@@ -31,7 +31,7 @@ use Rattle.sr_meaning.specs.Statements.{block_of, make_formals, make_returned, r
 abbrev pub proc_at : Core → ℕ → Option Proc
 proc_at core code = slice_get core.procs code
 
--- the component of a proc is that of its operation
+-- the component of a proc is the component of its operation
 abbrev pub component_of_proc : Core → Proc → ℕ
 component_of_proc core proc = unwrap_or (option_map (λ operation. operation.component) (slice_get core.operations proc.op)) 0
 

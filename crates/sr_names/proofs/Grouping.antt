@@ -239,7 +239,7 @@ targets-added old first new link row is-first is-row is-new spot = by (same_spot
         ∙ sym (append-nil (targets_of old spot))
         ∙ ap (λ (b : Bool). targets_of old spot ++ (if b then link.to ∷ [] else [])) (sym e)
 
--- the targets by one link and by those behind it
+-- the targets by one link and by those after it
 pub targets-step : (link : Link) (links : List Link) (spot : Spot) → targets_in (link ∷ links) spot ≡ targets_in (link ∷ []) spot ++ targets_in links spot
 targets-step link links spot = by (same_spot spot link.from)
   where

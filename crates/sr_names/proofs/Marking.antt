@@ -52,7 +52,7 @@ mark-same marks spot mark = entry-same marks spot mark
 pub mark-other : (marks : List (Spot × Mark)) (spot : Spot) (mark : Mark) (other : Spot) → same_spot other spot ≡ false → mark_of (with_mark marks spot mark) other ≡ mark_of marks other
 mark-other marks spot mark other h = entry-other marks spot mark other h
 
--- what a spot is marked as behind a marking
+-- what a spot is marked as after a marking
 pub mark-either : (marks : List (Spot × Mark)) (spot : Spot) (mark : Mark) (other : Spot) (found : Option Mark) → mark_of (with_mark marks spot mark) other ≡ found
     → ((spot ≡ other) × (found ≡ Some mark)) ⊎ (mark_of marks other ≡ found)
 mark-either marks spot mark other found h = by (same_spot-cases other spot)
@@ -111,7 +111,7 @@ settled-out marks (first ∷ spots) number spot out =
     by (inl e) = absurd (out 0 (sym e))
     by (inr e) = mark-other marks first (Settled number) spot e
 
--- what a spot is marked as behind a settling
+-- what a spot is marked as after a settling
 pub settled-either : (marks : List (Spot × Mark)) (spots : List Spot) (number : ℕ) (spot : Spot) (found : Option Mark) → mark_of (with_settled marks spots number) spot ≡ found
     → ((place : ℕ) × At spots place spot × (found ≡ Some (Settled number))) ⊎ (((place : ℕ) → At spots place spot → ⊥) × (mark_of marks spot ≡ found))
 settled-either marks spots number spot found h = by (find spots spot)

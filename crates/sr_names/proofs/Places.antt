@@ -23,22 +23,22 @@ module _ {A : Type 0} where
   at-left (first ∷ items) more zero item h = h
   at-left (first ∷ items) more (suc place) item h = at-left items more place item h
 
-  pub at-right : (items more : List A) (place behind : ℕ) (item : A) → behind ≡ length items + place → At more place item → At (items ++ more) behind item
-  at-right [] more place behind item e h = let same : place ≡ behind = omega arith in let P : ℕ → Type 0 = λ n. At more n item in subst P same h
+  pub at-right : (items more : List A) (place after : ℕ) (item : A) → after ≡ length items + place → At more place item → At (items ++ more) after item
+  at-right [] more place after item e h = let same : place ≡ after = omega arith in let P : ℕ → Type 0 = λ n. At more n item in subst P same h
   at-right (first ∷ items) more place zero item e h = absurd (omega arith)
-  at-right (first ∷ items) more place (suc behind) item e h = at-right items more place behind item (omega arith) h
+  at-right (first ∷ items) more place (suc after) item e h = at-right items more place after item (omega arith) h
 
   pub at-last : (items : List A) (item : A) → At (items ++ item ∷ []) (length items) item
   at-last items item = at-right items (item ∷ []) 0 (length items) item (omega arith) refl
 
   pub at-either : (items more : List A) (place : ℕ) (item : A) → At (items ++ more) place item
-      → At items place item ⊎ ((behind : ℕ) × (place ≡ length items + behind) × At more behind item)
+      → At items place item ⊎ ((after : ℕ) × (place ≡ length items + after) × At more after item)
   at-either [] more place item h = inr (place, omega arith, h)
   at-either (first ∷ items) more zero item h = inl h
   at-either (first ∷ items) more (suc place) item h = by (at-either items more place item h)
     where
-      by : (At items place item ⊎ ((behind : ℕ) × (place ≡ length items + behind) × At more behind item))
-          → At items place item ⊎ ((behind : ℕ) × (suc place ≡ length (first ∷ items) + behind) × At more behind item)
+      by : (At items place item ⊎ ((after : ℕ) × (place ≡ length items + after) × At more after item))
+          → At items place item ⊎ ((after : ℕ) × (suc place ≡ length (first ∷ items) + after) × At more after item)
       by (inl k) = inl k
       by (inr k) = inr (k.0, (let e : place ≡ length items + k.0 = k.1 in omega arith), k.2)
 
@@ -46,10 +46,10 @@ module _ {A : Type 0} where
   pub at-push : (items : List A) (last : A) (place : ℕ) (item : A) → At (items ++ last ∷ []) place item → At items place item ⊎ ((place ≡ length items) × (last ≡ item))
   at-push items last place item h = by (at-either items (last ∷ []) place item h)
     where
-      by : (At items place item ⊎ ((behind : ℕ) × (place ≡ length items + behind) × At (last ∷ []) behind item)) → At items place item ⊎ ((place ≡ length items) × (last ≡ item))
+      by : (At items place item ⊎ ((after : ℕ) × (place ≡ length items + after) × At (last ∷ []) after item)) → At items place item ⊎ ((place ≡ length items) × (last ≡ item))
       by (inl k) = inl k
       by (inr (zero, e, k)) = inr (omega arith, k)
-      by (inr (suc behind, e, k)) = absurd k
+      by (inr (suc after, e, k)) = absurd k
 
   pub at-take : (items : List A) (count place : ℕ) (item : A) → At (take count items) place item → (place < count) × At items place item
   at-take [] zero place item h = absurd h
@@ -64,7 +64,7 @@ module _ {A : Type 0} where
   at-taken (first ∷ items) (suc count) zero item e h = h
   at-taken (first ∷ items) (suc count) (suc place) item e h = at-taken items count place item (omega arith) h
 
-  pub at-drop : (items : List A) (count place : ℕ) (item : A) → At (drop count items) place item → (behind : ℕ) × (count ≤ behind) × At items behind item
+  pub at-drop : (items : List A) (count place : ℕ) (item : A) → At (drop count items) place item → (after : ℕ) × (count ≤ after) × At items after item
   at-drop [] zero place item h = absurd h
   at-drop [] (suc count) place item h = absurd h
   at-drop (first ∷ items) zero place item h = (place, omega arith, h)

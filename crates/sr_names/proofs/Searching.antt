@@ -77,7 +77,7 @@ module _ (pending front : List Spot) (spot : Spot) (are : pending ≡ front ++ s
   one-more : length pending ≡ length front + 1
   one-more = ap length are ∙ length-append front (spot ∷ [])
 
--- a spot goes behind the path, which leads to it
+-- a spot goes after the path, which leads to it
 module _ (links : List Link) (s : Search) (is : IsSearch links s) (targets : List (Spot × List Spot)) (spot : Spot) (front : List Spot) (true_targets : AreTargets links targets)
     (none : mark_of s.marks spot ≡ None) (are : s.pending ≡ front ++ spot ∷ []) (room : (at : ℕ) (group : Group) → At s.groups at group → group.pending ≤ length front)
     (leads : (place : ℕ) (a : Spot) → At s.path place a → connects links a spot ≡ true) where
@@ -142,7 +142,7 @@ module _ (links : List Link) (s : Search) (is : IsSearch links s) (targets : Lis
     where
       by : (At s.groups at group ⊎ ((at ≡ length s.groups) × (group.path ≡ length s.path) × (group.pending ≡ length front)))
           → (At s.path group.path a ⊎ ((group.path ≡ length s.path) × (spot ≡ a)))
-          → (At front place b ⊎ ((behind : ℕ) × (place ≡ length front + behind) × At (targets_of targets spot) behind b)) → connects links a b ≡ true
+          → (At front place b ⊎ ((further : ℕ) × (place ≡ length front + further) × At (targets_of targets spot) further b)) → connects links a b ≡ true
       by (inl x) (inl y) (inl z) = is.waiting at group a place b x y le (before-last s.pending front spot are place b z)
       by (inl x) (inl y) (inr z) = connects-trans links a spot b (leads group.path a y) (led-to z.0 b z.2)
       by (inl x) (inr y) z = absurd (omega (arith, y.0, (is.within at group x).0))
@@ -201,14 +201,14 @@ module _ (links : List Link) (s : Search) (is : IsSearch links s) (targets : Lis
       by (inl k) = absurd (settled-on number (length s.path) (some-of _ _ k.1))
       by (inr k) = is.numbered a number k
 
-  entered-rising : (before behind : ℕ) (a b : Group) → At after.groups before a → At after.groups behind b → before < behind → (a.path < b.path) × (a.pending ≤ b.pending)
-  entered-rising before behind a b x y lt = by (old_group before a x) (old_group behind b y)
+  entered-rising : (before further : ℕ) (a b : Group) → At after.groups before a → At after.groups further b → before < further → (a.path < b.path) × (a.pending ≤ b.pending)
+  entered-rising before further a b x y lt = by (old_group before a x) (old_group further b y)
     where
       by : (At s.groups before a ⊎ ((before ≡ length s.groups) × (a.path ≡ length s.path) × (a.pending ≡ length front)))
-          → (At s.groups behind b ⊎ ((behind ≡ length s.groups) × (b.path ≡ length s.path) × (b.pending ≡ length front))) → (a.path < b.path) × (a.pending ≤ b.pending)
-      by (inl k) (inl l) = is.rising before behind a b k l lt
+          → (At s.groups further b ⊎ ((further ≡ length s.groups) × (b.path ≡ length s.path) × (b.pending ≡ length front))) → (a.path < b.path) × (a.pending ≤ b.pending)
+      by (inl k) (inl l) = is.rising before further a b k l lt
       by (inl k) (inr l) = (omega (arith, l.1, (is.within before a k).0), omega (arith, l.2, room before a k))
-      by (inr k) (inl l) = absurd (omega (arith, k.0, at-within s.groups behind b l))
+      by (inr k) (inl l) = absurd (omega (arith, k.0, at-within s.groups further b l))
       by (inr k) (inr l) = absurd (omega (arith, k.0, l.0))
 
   entered-within : (at : ℕ) (group : Group) → At after.groups at group → (group.path < length after.path) × (group.pending ≤ length after.pending)
@@ -243,7 +243,7 @@ module _ (links : List Link) (s : Search) (is : IsSearch links s) (targets : Lis
   entered-ends : (place : ℕ) (a : Spot) → At after.pending place a → Ends links a
   entered-ends place a h = by (at-either front (targets_of targets spot) place a h)
     where
-      by : (At front place a ⊎ ((behind : ℕ) × (place ≡ length front + behind) × At (targets_of targets spot) behind a)) → Ends links a
+      by : (At front place a ⊎ ((further : ℕ) × (place ≡ length front + further) × At (targets_of targets spot) further a)) → Ends links a
       by (inl k) = is.ends place a (before-last s.pending front spot are place a k)
       by (inr k) = let t = target-of k.0 a k.2 in subst (λ z. Ends links z) t.3 (ends-to links t.0 t.1)
 

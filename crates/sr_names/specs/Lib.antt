@@ -7,7 +7,7 @@ pub mod Firsts
 pub mod Links
 pub mod Marks
 pub mod Noted
-pub mod Notes
+pub mod Diagnostics
 pub mod Order
 pub mod Predefined
 pub mod Readings

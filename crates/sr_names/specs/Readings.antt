@@ -27,7 +27,7 @@ reading None span = broken Name span
 abbrev pub read_found : Place → Blocks → List ℕ → Span → List Finding
 read_found place blocks name span = reading (denotes place blocks name (spot_of span)) span ∷ []
 
--- a name that is used behind a component's name and a point
+-- a name that is used after a component's name and a point
 abbrev pub member_found : Place → Decl → List ℕ → Span → List Finding
 member_found place component name span = reading (member place component name (spot_of span)) span ∷ []
 

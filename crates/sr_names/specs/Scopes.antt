@@ -39,7 +39,7 @@ abbrev pub is_within : Option Spot → Spot → Bool
 is_within None declared = false
 is_within (Some spot) declared = same_spot spot declared
 
--- a constant or type is usable behind its declaration alone
+-- a constant or type is usable after its declaration alone
 abbrev pub is_usable : Option Spot → Spot → Decl → Bool
 is_usable within at decl = not (needs_order decl.sort) || (spot_before decl.spot at && not (is_within within decl.spot))
 
@@ -88,6 +88,6 @@ denotes place blocks name at = by_blocks (in_blocks blocks name)
     by_blocks (Some decl) = Some (Declared decl)
     by_blocks None = outside place name at
 
--- what a name means behind a component's name and a point
+-- what a name means after a component's name and a point
 abbrev pub member : Place → Decl → List ℕ → Spot → Option Meaning
 member place component name at = option_and_then (ready place.within at) (shown place.specs component name)

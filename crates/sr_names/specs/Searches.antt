@@ -20,7 +20,7 @@ At (first ∷ items) (suc place) item = At items place item
 abbrev pub begun : List Link → Search
 begun links = record { marks = []; path = []; groups = []; pending = map (λ link. link.from) links; settled = [] }
 
--- a spot goes behind the path, as a group of its own
+-- a spot goes after the path, as a group of its own
 abbrev pub entered : List (Spot × List Spot) → Spot → Search → Search
 entered targets spot search = record search {
   marks = with_mark search.marks spot (OnPath (length search.path));
@@ -61,12 +61,12 @@ pub data WentToNext (targets : List (Spot × List Spot)) (old new : Search) : Ty
   enters_next : (front : List Spot) (spot : Spot) → old.pending ≡ front ++ spot ∷ [] → mark_of old.marks spot ≡ None
       → new ≡ entered targets spot (record old { pending = front }) → WentToNext targets old new
 
--- no group begins behind the one place and not behind the other
+-- no group begins after the one place and not after the other
 abbrev pub Reaches : List Group → ℕ → ℕ → Type 0
 Reaches groups from to = (at : ℕ) (group : Group) → At groups at group → group.path ≤ from → group.path ≤ to
 
 -- what becomes of the end of a link that begins at a place of the path: it is settled, or stands on the path in the
--- same group or behind it, or is pending for that group or one behind it
+-- same group or after it, or is pending for that group or one after it
 pub data Led (search : Search) (from : ℕ) (end : Spot) : Type 0 where
   to_settled : (number : ℕ) → mark_of search.marks end ≡ Some (Settled number) → Led search from end
   to_path : (place : ℕ) → At search.path place end → Reaches search.groups from place → Led search from end
@@ -98,7 +98,7 @@ pub record IsSearch (links : List Link) (search : Search) : Type 0 where
   pub led : (link : Link) → Among links link → (place : ℕ) → At search.path place link.from → Led search place link.to
   pub done : (link : Link) → Among links link → (number : ℕ) → mark_of search.marks link.from ≡ Some (Settled number) → IsClosed links search.marks link number
   pub numbered : (spot : Spot) (number : ℕ) → mark_of search.marks spot ≡ Some (Settled number) → number < length search.settled
-  pub rising : (before behind : ℕ) (a b : Group) → At search.groups before a → At search.groups behind b → before < behind → (a.path < b.path) × (a.pending ≤ b.pending)
+  pub rising : (before after : ℕ) (a b : Group) → At search.groups before a → At search.groups after b → before < after → (a.path < b.path) × (a.pending ≤ b.pending)
   pub within : (at : ℕ) (group : Group) → At search.groups at group → (group.path < length search.path) × (group.pending ≤ length search.pending)
   pub bottom : (group : Group) → At search.groups 0 group → group.path ≡ 0
   pub empty : search.groups ≡ [] → search.path ≡ []

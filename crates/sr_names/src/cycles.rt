@@ -1,11 +1,11 @@
 ghost use Rattle.std.specs.Prelude.{◌≡◌, IfOk, OnOk};
 ghost use Rattle.sr_names.specs.Cycles.{links_of, together, together_found, all_together_found, AreGrouped, cycles_found};
-ghost use Rattle.sr_names.specs.Notes.{all_noted};
+ghost use Rattle.sr_names.specs.Diagnostics.{all_noted};
 
-use crate::finding::{Finding, Rule, Wrong};
+use crate::diagnostics::Diagnostics;
+use crate::finding::{Diagnostic, Finding, Rule};
 use crate::links::Link;
 use crate::marks::{Mark, Marks};
-use crate::notes::Notes;
 use crate::search::Search;
 use crate::targets::gather;
 use sr_value::{NoMemory, Row, Span};
@@ -19,12 +19,16 @@ pub struct Import {
 }
 
 /// Notes the imports that lie on a cycle of imports. Each spot and each import is looked at a fixed number of times.
-pub fn note_cycles(alloc: Global, imports: &[Import], notes: &mut Notes) -> Result<(), NoMemory>
-    ensures { OnOk result (notes.new ≡ all_noted notes.old (cycles_found imports.now)) }
+pub fn note_cycles(
+    alloc: Global,
+    imports: &[Import],
+    diagnostics: &mut Diagnostics,
+) -> Result<(), NoMemory>
+    ensures { OnOk result (diagnostics.new ≡ all_noted diagnostics.old (cycles_found imports.now)) }
 {
     let links = links_of(alloc, imports)?;
     let groups = groups_of(alloc, links.as_slice())?;
-    note_all(&groups, imports, notes)
+    note_all(&groups, imports, diagnostics)
 }
 
 fn links_of(alloc: Global, imports: &[Import]) -> Result<Row<Link>, NoMemory>
@@ -62,23 +66,27 @@ fn are_together(groups: &Marks, link: Link) -> bool
 }
 
 /// Notes the imports whose ends are in one group.
-fn note_all(groups: &Marks, imports: &[Import], notes: &mut Notes) -> Result<(), NoMemory>
-    ensures { OnOk result (notes.new ≡ all_noted notes.old (all_together_found groups.now imports.now)) }
+fn note_all(
+    groups: &Marks,
+    imports: &[Import],
+    diagnostics: &mut Diagnostics,
+) -> Result<(), NoMemory>
+    ensures { OnOk result (diagnostics.new ≡ all_noted diagnostics.old (all_together_found groups.now imports.now)) }
 {
     for import in imports {
-        note_one(groups, *import, notes)?;
+        note_one(groups, *import, diagnostics)?;
     }
     Ok(())
 }
 
 /// Notes an import whose ends are in one group.
-fn note_one(groups: &Marks, import: Import, notes: &mut Notes) -> Result<(), NoMemory>
-    ensures { OnOk result (notes.new ≡ all_noted notes.old (together_found groups.now import)) }
+fn note_one(groups: &Marks, import: Import, diagnostics: &mut Diagnostics) -> Result<(), NoMemory>
+    ensures { OnOk result (diagnostics.new ≡ all_noted diagnostics.old (together_found groups.now import)) }
 {
     if !are_together(groups, import.link) {
         return Ok(());
     }
-    notes.note(Finding::Broken(Wrong {
+    diagnostics.note(Finding::Broken(Diagnostic {
         rule: Rule::Cycle,
         span: import.span,
     }))

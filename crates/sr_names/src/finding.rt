@@ -41,16 +41,16 @@ impl Rule {
     }
 }
 
-/// A rule that is broken, and the first token of what breaks it.
+/// A rule that is broken, and the first token of the construct that breaks it.
 #[derive(Clone, Copy, Debug, PartialEq, Eq)]
-pub struct Wrong {
+pub struct Diagnostic {
     pub rule: Rule,
     pub span: Span,
 }
 
-impl Wrong {
+impl Diagnostic {
     /// Whether this goes before another: it stands before it, or at the same token with the lesser number.
-    pub fn is_before(self, other: Wrong) -> bool
+    pub fn is_before(self, other: Diagnostic) -> bool
         ensures { result ≡ goes_before self other }
     {
         let here = Spot::of(self.span);
@@ -65,5 +65,5 @@ pub enum Finding {
     /// The name at a spot means this.
     Use { spot: Spot, meaning: Meaning },
     /// A rule is broken.
-    Broken(Wrong),
+    Broken(Diagnostic),
 }

@@ -1,18 +1,18 @@
 //! What the names of a program mean: declarations, the scopes that hold them, and what is found out about them.
 //!
 //! A declaration is known by the spot of its name. What a phase finds is a list of findings: uses of names with
-//! their meanings, and rules that are broken. [`Notes`] keeps the uses, and of the broken rules the first.
+//! their meanings, and rules that are broken. [`Diagnostics`] keeps the uses, and of the broken rules the first.
 #![tactic(auto)]
 
 mod cycles;
 mod declarers;
+mod diagnostics;
 mod finding;
 mod laws;
 mod links;
 mod marks;
 mod meaning;
 mod members;
-mod notes;
 mod place;
 mod predefined;
 mod reading;
@@ -24,12 +24,12 @@ mod targets;
 mod visible;
 
 pub use cycles::{Import, note_cycles};
-pub use finding::{Finding, Rule, Wrong};
+pub use diagnostics::{Diagnostics, Uses};
+pub use finding::{Diagnostic, Finding, Rule};
 pub use laws::keeps_first;
 pub use links::{Link, connects_along_ways};
 pub use meaning::{Decl, Meaning, Sort};
 pub use members::Members;
-pub use notes::{Notes, Uses};
 pub use place::{Blocks, Place};
 pub use predefined::Predefined;
 pub use reading::{declare, read, read_member};

@@ -40,7 +40,8 @@ impl Blocks {
         self.outer.push(around)
     }
 
-    /// Ends the innermost scope: the one around it is the innermost again. Where there is none around it nothing changes.
+    /// Ends the innermost scope: the one around it is the innermost again. Where there is none around it nothing
+    /// changes.
     pub fn close(&mut self)
         ensures unchanged { self.old.outer ≡ [] → self.new ≡ self.old }
         ensures closed { (inner : Entries) (outer : List Entries) → self.old.outer ≡ outer ++ inner ∷ [] → self.new ≡ record { inner = inner; outer = outer } }
@@ -109,7 +110,7 @@ impl Place {
         }
     }
 
-    /// What a name of a component's spec means behind the component's name and a point.
+    /// What a name of a component's spec means after the component's name and a point.
     pub fn member(&self, component: Decl, name: &[u8], spot: Spot) -> Option<Meaning>
         ensures { result ≡ member self.now component name.now spot }
     {

@@ -17,7 +17,7 @@ pub struct Group {
 }
 
 /// A search through links for the groups of spots that lead to each other. Each spot of the path leads to those
-/// behind it. A group is settled when nothing that it leads to is pending.
+/// after it. A group is settled when nothing that it leads to is pending.
 #[derive(Drop)]
 pub struct Search {
     pub marks: Marks,
@@ -100,7 +100,7 @@ impl Search {
         }
     }
 
-    /// Puts a spot behind the path, as a group of its own.
+    /// Puts a spot after the path, as a group of its own.
     fn enter(&mut self, targets: &Targets, spot: Spot) -> Result<(), NoMemory>
         ensures { OnOk result (self.new ≡ entered targets.now spot self.old) }
     {

@@ -49,7 +49,7 @@ impl Spots {
         self.spots.get_index(index).copied()
     }
 
-    /// Puts a spot behind the others, unless it is there already.
+    /// Appends a spot to the others, unless it is there already.
     pub fn add(&mut self, spot: Spot) -> Result<(), NoMemory>
         ensures added { OnOk result (self.new ≡ insert_key same_spot self.old spot) }
         ensures unchanged { OnErr result (self.new ≡ self.old) }

@@ -44,7 +44,7 @@ impl Targets {
         }
     }
 
-    /// Puts a link behind the others.
+    /// Appends a link to the others.
     pub fn add(&mut self, alloc: Global, link: Link) -> Result<(), NoMemory>
         ensures { OnOk result ((spot : SpotOf) → targets_of self.new spot ≡ targets_of self.old spot ++ targets_in (link ∷ []) spot) }
     {

@@ -63,7 +63,7 @@ impl Visible {
         Some(Decl { sort, spot })
     }
 
-    /// Puts a component behind the others, unless it is there already.
+    /// Appends a component to the others, unless it is there already.
     pub fn add(&mut self, component: Decl) -> Result<(), NoMemory>
         ensures { OnOk result (self.new ≡ with_component self.old component) }
     {

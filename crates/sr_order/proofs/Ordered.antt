@@ -20,7 +20,7 @@ picked-ascend file from spans (token ∷ tokens) (one_more s f b more) (left_out
 picked-ascend file from (span ∷ spans) (token ∷ tokens) (one_more s f b more) (picked t p) =
     one_more token.span f b (picked-ascend file (suc token.span.from) spans tokens more p)
 
--- a span is at another place than those behind it
+-- a span is at another place than those after it
 apart : (file : ℕ) (span : Span) (spans : List Span) → Ascend file (suc span.from) spans → AllByRecursion (λ other. same_place span other ≡ false) spans
 apart file span [] none_left = tt
 apart file span (other ∷ spans) (one_more s f b more) = (and_right (span.file == other.file) (span.from == other.from) (ne_eqb span.from other.from (λ same. omega (arith, b, same))), apart file span spans (ascend-lower (omega (arith, b)) more))
@@ -33,34 +33,34 @@ ascend-distinct file from (span ∷ spans) (one_more s f b more) = (apart file s
 -- ---- several files
 
 -- spans of files that all have greater numbers
-abbrev pub Behind : ℕ → List Span → Type 0
-Behind file spans = AllByRecursion (λ span. file < span.file) spans
+abbrev pub After : ℕ → List Span → Type 0
+After file spans = AllByRecursion (λ span. file < span.file) spans
 
--- those of one file stand behind any file before it
-pub ascend-behind : (file before from : ℕ) (spans others : List Span) → before < file → Ascend file from spans → Behind before others → Behind before (spans ++ others)
-ascend-behind file before from [] others h none_left behind = behind
-ascend-behind file before from (span ∷ spans) others h (one_more s f b more) behind =
-    (omega (arith, h, f), ascend-behind file before (suc span.from) spans others h more behind)
+-- those of one file stand after any file before it
+pub ascend-after : (file before from : ℕ) (spans others : List Span) → before < file → Ascend file from spans → After before others → After before (spans ++ others)
+ascend-after file before from [] others h none_left after = after
+ascend-after file before from (span ∷ spans) others h (one_more s f b more) after =
+    (omega (arith, h, f), ascend-after file before (suc span.from) spans others h more after)
 
-pub behind-lower : (low high : ℕ) (spans : List Span) → low ≤ high → Behind high spans → Behind low spans
-behind-lower low high [] h behind = tt
-behind-lower low high (span ∷ spans) h behind = (omega (arith, h, behind.0), behind-lower low high spans h behind.1)
+pub after-lower : (low high : ℕ) (spans : List Span) → low ≤ high → After high spans → After low spans
+after-lower low high [] h after = tt
+after-lower low high (span ∷ spans) h after = (omega (arith, h, after.0), after-lower low high spans h after.1)
 
 -- a span is at another place than those of later files
-apart-files : (span : Span) (others : List Span) → Behind span.file others → AllByRecursion (λ other. same_place span other ≡ false) others
-apart-files span [] behind = tt
-apart-files span (other ∷ others) behind =
-    (and_left (span.file == other.file) (span.from == other.from) (ne_eqb span.file other.file (λ same. omega (arith, behind.0, same))), apart-files span others behind.1)
+apart-files : (span : Span) (others : List Span) → After span.file others → AllByRecursion (λ other. same_place span other ≡ false) others
+apart-files span [] after = tt
+apart-files span (other ∷ others) after =
+    (and_left (span.file == other.file) (span.from == other.from) (ne_eqb span.file other.file (λ same. omega (arith, after.0, same))), apart-files span others after.1)
 
 all-append : (P : Span → Type 0) (xs ys : List Span) → AllByRecursion P xs → AllByRecursion P ys → AllByRecursion P (xs ++ ys)
 all-append P [] ys p q = q
 all-append P (x ∷ xs) ys p q = (p.0, all-append P xs ys p.1 q)
 
 -- those of a file and of later ones are at different places
-pub files-distinct : (file from : ℕ) (spans others : List Span) → Ascend file from spans → Behind file others → IsDistinct same_place others → IsDistinct same_place (spans ++ others)
+pub files-distinct : (file from : ℕ) (spans others : List Span) → Ascend file from spans → After file others → IsDistinct same_place others → IsDistinct same_place (spans ++ others)
 unfolding IsDistinct
-files-distinct file from [] others none_left behind distinct = distinct
-files-distinct file from (span ∷ spans) others (one_more s f b more) behind distinct = (
-  all-append (λ other. same_place span other ≡ false) spans others (apart file span spans more) (apart-files span others (subst (λ n. Behind n others) (sym f) behind)),
-  files-distinct file (suc span.from) spans others more behind distinct,
+files-distinct file from [] others none_left after distinct = distinct
+files-distinct file from (span ∷ spans) others (one_more s f b more) after distinct = (
+  all-append (λ other. same_place span other ≡ false) spans others (apart file span spans more) (apart-files span others (subst (λ n. After n others) (sym f) after)),
+  files-distinct file (suc span.from) spans others more after distinct,
 )

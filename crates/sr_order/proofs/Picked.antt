@@ -12,7 +12,7 @@ pub none : {u : List Token} → Picks [] u
 none {u = []} = nothing
 none {u = t ∷ u} = left_out t none
 
--- from two pieces, one behind the other
+-- from two pieces, one after the other
 pub both : {a b : List Span} {u v : List Token} → Picks a u → Picks b v → Picks (a ++ b) (u ++ v)
 both nothing q = q
 both (left_out t p) q = left_out t (both p q)

@@ -86,11 +86,11 @@ condition-picked (s.on_condition t w c h i d) = left_out t (expr-picked d)
 
 start-picked : {quantified : Bool} {e : Expr} {u : List Token} → SpellsCoStart quantified e u → Picks (expr_names e) u
 start-picked (s.begins_arm d) = named-picked d
-start-picked (s.behind_quantifiers d) = primary-picked d
+start-picked (s.after_quantifiers d) = primary-picked d
 
--- pieces that stand one behind the other, whichever two are taken together
-behind : {spans : List Span} (u v w : List Token) → Picks spans (u ++ (v ++ w)) → Picks spans ((u ++ v) ++ w)
-behind {spans = spans} u v w p = subst (Picks spans) (sym (append_assoc u v w)) p
+-- pieces that stand one after the other, whichever two are taken together
+after : {spans : List Span} (u v w : List Token) → Picks spans (u ++ (v ++ w)) → Picks spans ((u ++ v) ++ w)
+after {spans = spans} u v w p = subst (Picks spans) (sym (append_assoc u v w)) p
 
 -- what an arm of `co` stores into and invokes, and then its block
 co-call-picked : {quantified : Bool} {e : Option Expr} {with_call : Bool} {i : Invocation} {u v : List Token} {block : List Span}
@@ -99,7 +99,7 @@ co-call-picked : {quantified : Bool} {e : Option Expr} {with_call : Bool} {i : I
 co-call-picked (s.plain {i = i} d) b = both (called i (start-picked d)) b
 co-call-picked (s.called t h d) b = left_out t (both (invocation-picked d) b)
 co-call-picked {v = v} (s.stored {u = x} {v = y} {w = z} t d h c i) b =
-    behind x (t ∷ (y ++ z)) v (both (start-picked d) (left_out t (behind y z v (second y (both (invocation-picked i) b)))))
+    after x (t ∷ (y ++ z)) v (both (start-picked d) (left_out t (after y z v (second y (both (invocation-picked i) b)))))
 
 -- ---- the names of a tree are those of its parts
 

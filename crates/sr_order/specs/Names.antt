@@ -1,5 +1,6 @@
--- Where the names in a tree stand, declared or used, in the order of the text. The list of a whole is that of its first
--- part, then that of its second, and so on: `A ++ (B ++ (C ++ D))`. A name behind `end` or `body` is not kept in the tree.
+-- Where the names in a tree stand, declared or used, in the order of the text. The list of a construct is the list of
+-- its first part, then the list of its second, and so on: `A ++ (B ++ (C ++ D))`. A name after `end` or `body` is not
+-- kept in the tree.
 use Rattle.std.specs.Prelude.{List, [], ◌∷◌, ◌++◌, Option, Some, None, map, flat_map}
 use Rattle.sr_value.specs.declared.place.Span.{Span}
 use Rattle.sr_tree.specs.declared.component.Component.{Component}

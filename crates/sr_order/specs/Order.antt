@@ -9,7 +9,7 @@ pub data Picks : List Span → List Token → Type 0 where
   left_out : {spans : List Span} {tokens : List Token} (token : Token) → Picks spans tokens → Picks spans (token ∷ tokens)
   picked : {spans : List Span} {tokens : List Token} (token : Token) → Picks spans tokens → Picks (token.span ∷ spans) (token ∷ tokens)
 
--- the spans are of this file, and each begins behind the beginning of the one before; the first not before `from`
+-- the spans are of this file, and each begins after the beginning of the one before; the first not before `from`
 pub data Ascend (file : ℕ) : ℕ → List Span → Type 0 where
   none_left : {from : ℕ} → Ascend file from []
   one_more : {from : ℕ} {spans : List Span} (span : Span) → span.file ≡ file → from ≤ span.from → Ascend file (suc span.from) spans

@@ -8,15 +8,15 @@ ghost use Rattle.sr_order.specs.Order.{Picks, Ascend, token_spans, same_place};
 ghost use Rattle.sr_order.specs.Spans.{statement_spans, operation_spans, component_spans};
 ghost use Rattle.sr_order.specs.Names.{file_names};
 
-/// A law of the grammar: the spans of the statements of a file are those of some of its tokens, in their order, and so
-/// are those of its operations and of its components.
+/// A law of the grammar: each statement of a file has the span of one of the file's tokens, and the statements have
+/// them in the order of the tokens. The same holds of operations and of components.
 pub fn spans_are_picked()
     ensures statements { (tokens : List Token) (file : File) → Spells tokens file → Picks (statement_spans file) tokens }
     ensures operations { (tokens : List Token) (file : File) → Spells tokens file → Picks (operation_spans file) tokens }
     ensures components { (tokens : List Token) (file : File) → Spells tokens file → Picks (component_spans file) tokens }
 {}
 
-/// A law of spans: where each token of a file begins behind the beginning of the one before, so do spans of some of
+/// A law of spans: where each token of a file begins after the beginning of the one before, so do spans of some of
 /// them in their order, and no two of these are at one place.
 pub fn picked_in_order()
     ensures ordered { (file from : ℕ) (spans : List Span) (tokens : List Token)
@@ -24,8 +24,8 @@ pub fn picked_in_order()
     ensures distinct { (file from : ℕ) (spans : List Span) → Ascend file from spans → IsDistinct same_place spans }
 {}
 
-/// A law of the grammar: the spans of the names in the tree of a file, declared or used, are those of some of its tokens,
-/// in their order.
+/// A law of the grammar: each name in the tree of a file, declared or used, has the span of one of the file's tokens,
+/// and the names have them in the order of the tokens.
 pub fn names_are_picked()
     ensures { (tokens : List Token) (file : File) → Spells tokens file → Picks (file_names file) tokens }
 {}

@@ -1,4 +1,4 @@
--- What is put in one list after another is what is put in both, one behind the other.
+-- What is put in one list after another is what is put in both, one after the other.
 use Rattle.std.proofs.Common.{◌≡◌, ℕ, ◌+◌, List, [], ◌∷◌, ◌++◌, fold, flat_map, length, map, sym, ap, ◌∙◌, arith}
 use Rattle.std.specs.List.{enumerate_from}
 use Rattle.std.proofs.lemmas.Grind.{flat_map-append}
@@ -11,8 +11,8 @@ use Rattle.sr_tree.specs.declared.declaration.OpTypeDecl.{OpTypeDecl}
 use Rattle.sr_tree.specs.declared.declaration.TypeDecl.{TypeDecl}
 use Rattle.sr_tables.specs.Tables.{with_entries}
 use Rattle.sr_tables.proofs.Appends.{entries_append}
-use Rattle.sr_outline.specs.declared.operations.Opening.{Opening}
-use Rattle.sr_outline.specs.Heads.{Heads, Opened, head_entry, operation_entry, with_heads, with_opened}
+use Rattle.sr_outline.specs.declared.operations.OperationTable.{OperationTable}
+use Rattle.sr_outline.specs.Heads.{Heads, DeclaredOperation, head_entry, operation_entry, with_heads, with_opened}
 use Rattle.sr_outline.specs.Outline.{with_number}
 use Rattle.sr_outline.specs.Shapes.{Shapes, with_type, with_types}
 
@@ -28,9 +28,9 @@ heads_append facts shapes heads xs ys =
     entries_append heads (map (head_entry facts shapes) xs) (map (head_entry facts shapes) ys)
     ∙ ap (λ entries. with_entries heads entries) (sym (map-append (head_entry facts shapes) xs ys))
 
-pub opened_append : (opening : Opening) (xs ys : List Opened) → with_opened (with_opened opening xs) ys ≡ with_opened opening (xs ++ ys)
+pub opened_append : (opening : OperationTable) (xs ys : List DeclaredOperation) → with_opened (with_opened opening xs) ys ≡ with_opened opening (xs ++ ys)
 opened_append opening xs ys =
-    let entry : Opened → Spot × Operation = operation_entry opening.procs opening.component in
+    let entry : DeclaredOperation → Spot × Operation = operation_entry opening.procs opening.component in
     ap (λ operations. record opening { operations = operations }) (entries_append opening.operations (map entry xs) (map entry ys) ∙ ap (λ entries. with_entries opening.operations entries) (sym (map-append entry xs ys)))
 
 pub enumerate_append : {X : Type 0} (n : ℕ) (xs ys : List X) → enumerate_from n (xs ++ ys) ≡ enumerate_from n xs ++ enumerate_from (n + length xs) ys

@@ -2,5 +2,5 @@ pub mod Appends
 pub mod Files
 pub mod Making
 pub mod Needed
-pub mod Opened
+pub mod DeclaredOperation
 pub mod Together

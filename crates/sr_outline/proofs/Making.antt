@@ -16,8 +16,8 @@ use Rattle.sr_outline.specs.Outline.{imports_at, member, needs_of, with_needed, 
 member_first : (n : ℕ) (ns : List ℕ) → member n (n ∷ ns) ≡ true
 member_first n ns = or_left (eqb n n) _ (eq-eqb n n refl)
 
-member_behind : (m n : ℕ) (ns : List ℕ) → member m ns ≡ true → member m (n ∷ ns) ≡ true
-member_behind m n ns h = or_right (eqb m n) _ h
+member_after : (m n : ℕ) (ns : List ℕ) → member m ns ≡ true → member m (n ∷ ns) ≡ true
+member_after m n ns h = or_right (eqb m n) _ h
 
 member-append : (m : ℕ) (xs ys : List ℕ) → member m (xs ++ ys) ≡ (member m xs || member m ys)
 member-append m xs ys = list_any-append (λ n. eqb m n) xs ys
@@ -39,11 +39,11 @@ among_at (x ∷ xs) ys h m k = by (or_cases (eqb m x) (member m xs) k) (among_at
 
 among_from : (xs ys : List ℕ) → ((m : ℕ) → member m xs ≡ true → member m ys ≡ true) → among xs ys ≡ true
 among_from [] ys h = refl
-among_from (x ∷ xs) ys h = and_from (member x ys) (among xs ys) (h x (member_first x xs)) (among_from xs ys (λ m k. h m (member_behind m x xs k)))
+among_from (x ∷ xs) ys h = and_from (member x ys) (among xs ys) (h x (member_first x xs)) (among_from xs ys (λ m k. h m (member_after m x xs k)))
 
 -- ---- globals in order
 
--- one more behind those that it imports
+-- one more after those that it imports
 order-last : (imports : List (List ℕ)) (earlier made : List ℕ) (global : ℕ)
     → in_order imports earlier made ≡ true
     → member global earlier ≡ false
@@ -63,9 +63,9 @@ order-last imports earlier (x ∷ made) global o e n h =
     (or_parts (eqb global x) (member global made) n).1
     (λ m k. by m (eqb m x) (member m earlier) (member m made) (h m k)))
   where
-    by : (m : ℕ) (here before behind : Bool) → (before || (here || behind)) ≡ true → ((here || before) || behind) ≡ true
-    by m true before behind h = refl
-    by m false before behind h = h
+    by : (m : ℕ) (here before after : Bool) → (before || (here || after)) ≡ true → ((here || before) || after) ≡ true
+    by m true before after h = refl
+    by m false before after h = h
 
 -- ---- the search comes to an end
 
@@ -80,14 +80,14 @@ settles_all : (depth : ℕ) (imports : List (List ℕ)) (wanted : List ℕ)
     → settles (suc depth) imports wanted ≡ true
 unfolding settles
 settles_all depth imports [] h = refl
-settles_all depth imports (g ∷ wanted) h = and_from _ _ (h g (member_first g wanted)) (settles_all depth imports wanted (λ m k. h m (member_behind m g wanted k)))
+settles_all depth imports (g ∷ wanted) h = and_from _ _ (h g (member_first g wanted)) (settles_all depth imports wanted (λ m k. h m (member_after m g wanted k)))
 
 settles_none : (depth : ℕ) (imports : List (List ℕ)) → settles depth imports [] ≡ true
 unfolding settles
 settles_none zero imports = refl
 settles_none (suc depth) imports = refl
 
--- behind the last component nothing is imported
+-- after the last component nothing is imported
 imports_past : (imports : List (List ℕ)) (g : ℕ) → length imports ≤ g → imports_at imports g ≡ []
 imports_past imports g h = ap (λ (found : Option (List ℕ)). unwrap_or found []) (slice_get_past imports g h)
 
@@ -101,34 +101,34 @@ apart_from_others g [] h = tt
 apart_from_others g (n ∷ ns) h = ((or_parts (eqb g n) (member g ns) h).0, apart_from_others g ns (or_parts (eqb g n) (member g ns) h).1)
 
 -- Those that lead to all that is wanted are each one, so they are at most as many as there are components.
-settles-behind : (depth : ℕ) (imports : List (List ℕ)) (behind wanted : List ℕ)
+settles-after : (depth : ℕ) (imports : List (List ℕ)) (after wanted : List ℕ)
     → NoCycle imports
-    → IsDistinct eqb behind
-    → ((g : ℕ) → member g behind ≡ true → g < length imports)
-    → ((g m : ℕ) → member g behind ≡ true → member m wanted ≡ true → Leads imports g m)
-    → length imports < length behind + depth
+    → IsDistinct eqb after
+    → ((g : ℕ) → member g after ≡ true → g < length imports)
+    → ((g m : ℕ) → member g after ≡ true → member m wanted ≡ true → Leads imports g m)
+    → length imports < length after + depth
     → settles depth imports wanted ≡ true
-settles-behind zero imports behind wanted c d below leads n = absurd (omega (arith, length-le_from_distinct_below behind (length imports) d below))
-settles-behind (suc depth) imports behind wanted c d below leads n =
-    settles_all depth imports wanted (λ g k. by g k (λ l. settles-behind depth imports (g ∷ behind) (imports_at imports g) c (distinct g k) (under g l) (longer g k) (omega (arith, n))) (cases_lt g (length imports)))
+settles-after zero imports after wanted c d below leads n = absurd (omega (arith, length-le_from_distinct_below after (length imports) d below))
+settles-after (suc depth) imports after wanted c d below leads n =
+    settles_all depth imports wanted (λ g k. by g k (λ l. settles-after depth imports (g ∷ after) (imports_at imports g) c (distinct g k) (under g l) (longer g k) (omega (arith, n))) (cases_lt g (length imports)))
   where
-    new : (g : ℕ) → member g wanted ≡ true → member g behind ≡ true → ⊥
+    new : (g : ℕ) → member g wanted ≡ true → member g after ≡ true → ⊥
     new g k e = c g (leads g g e k)
 
-    distinct : (g : ℕ) → member g wanted ≡ true → IsDistinct eqb (g ∷ behind)
-    distinct g k = IsDistinct-cons eqb g behind (apart_from_others g behind (false_from_ne_true (member g behind) (new g k))) d
+    distinct : (g : ℕ) → member g wanted ≡ true → IsDistinct eqb (g ∷ after)
+    distinct g k = IsDistinct-cons eqb g after (apart_from_others g after (false_from_ne_true (member g after) (new g k))) d
 
-    under : (g : ℕ) → g < length imports → (m : ℕ) → member m (g ∷ behind) ≡ true → m < length imports
-    under g l m k = by (or_cases (eqb m g) (member m behind) k)
+    under : (g : ℕ) → g < length imports → (m : ℕ) → member m (g ∷ after) ≡ true → m < length imports
+    under g l m k = by (or_cases (eqb m g) (member m after) k)
       where
-        by : (eqb m g ≡ true) ⊎ (member m behind ≡ true) → m < length imports
+        by : (eqb m g ≡ true) ⊎ (member m after ≡ true) → m < length imports
         by (inl e) = subst (λ n. n < length imports) (sym (eqb-true m g e)) l
         by (inr k) = below m k
 
-    longer : (g : ℕ) → member g wanted ≡ true → (m x : ℕ) → member m (g ∷ behind) ≡ true → member x (imports_at imports g) ≡ true → Leads imports m x
-    longer g k m x e h = by (or_cases (eqb m g) (member m behind) e)
+    longer : (g : ℕ) → member g wanted ≡ true → (m x : ℕ) → member m (g ∷ after) ≡ true → member x (imports_at imports g) ≡ true → Leads imports m x
+    longer g k m x e h = by (or_cases (eqb m g) (member m after) e)
       where
-        by : (eqb m g ≡ true) ⊎ (member m behind ≡ true) → Leads imports m x
+        by : (eqb m g ≡ true) ⊎ (member m after ≡ true) → Leads imports m x
         by (inl e) = subst (λ n. Leads imports n x) (sym (eqb-true m g e)) (at_once g x h)
         by (inr e) = leads_on imports m g x (leads m g e k) h
 
@@ -153,7 +153,7 @@ settles-needs imports component c = by (cases_lt component (length imports))
 
     by : (component < length imports) ⊎ (length imports ≤ component) → settles (length imports) imports (imports_at imports component) ≡ true
     by (inl l) =
-        settles-behind (length imports) imports (component ∷ []) (imports_at imports component) c
+        settles-after (length imports) imports (component ∷ []) (imports_at imports component) c
         (IsDistinct-cons eqb component [] tt distinct_none) (λ g e. subst (λ n. n < length imports) (sym (alone g e)) l)
         (λ g m e k. subst (λ n. Leads imports n m) (sym (alone g e)) (at_once component m k)) (omega arith)
     by (inr l) = subst (λ ws. settles (length imports) imports ws ≡ true) (sym (imports_past imports component l)) (settles_none (length imports) imports)
@@ -179,7 +179,7 @@ only m n e = by (or_cases (eqb m n) false e)
     by (inl e) = eqb-true m n e
     by (inr e) = absurd (false≢true e)
 
--- a global behind those that it imports
+-- a global after those that it imports
 put : (imports : List (List ℕ)) (there made : List ℕ) (global : ℕ)
     → Grown imports there (imports_at imports global) made
     → Grown imports there (global ∷ []) (with_number made global)

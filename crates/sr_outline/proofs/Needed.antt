@@ -22,7 +22,7 @@ needed_at_suc : (depth : ℕ) (imports : List (List ℕ)) (there : List ℕ) (gl
 needed_at_suc depth imports there global h =
     ap (λ (found : Bool). if found then there else with_number (with_needed depth imports there (imports_at imports global)) global) h
 
--- another is put behind those that it imports
+-- another is put after those that it imports
 pub needed_put : (depth : ℕ) (imports : List (List ℕ)) (there : List ℕ) (global : ℕ)
     → 0 < depth
     → member global there ≡ false
@@ -37,7 +37,7 @@ needed_append zero imports there xs ys = refl
 needed_append (suc depth) imports there xs ys =
     sym (fold-append (λ made global. if member global made then made else with_number (with_needed depth imports made (imports_at imports global)) global) there xs ys)
 
--- one that is wanted, and then those behind it
+-- one that is wanted, and then those after it
 pub needed_next : (depth : ℕ) (imports : List (List ℕ)) (there wanted : List ℕ) (i otherwise : ℕ) → i < length wanted
     → with_needed depth imports (with_needed depth imports there (get_or wanted i otherwise ∷ [])) (drop (i + 1) wanted)
     ≡ with_needed depth imports there (drop i wanted)

@@ -18,8 +18,8 @@ use Rattle.sr_outline.proofs.Appends.{types_append}
 abbrev pub numbered_shared : Facts → ℕ × Component → List (Spot × SharedVariable)
 numbered_shared facts numbered = component_shared facts numbered.0 numbered.1
 
-abbrev pub tables_behind : Facts → Tables → ℕ → List Component → Tables
-tables_behind facts tables n components = record tables {
+abbrev pub tables_after : Facts → Tables → ℕ → List Component → Tables
+tables_after facts tables n components = record tables {
   components = with_spots tables.components (map component_spot components);
   procs = with_spots tables.procs (flat_map (component_served facts) components);
   sites = with_spots tables.sites (flat_map (component_sites facts) components);
@@ -41,7 +41,7 @@ same_parts tables components p p' s s' x x' h h' procs sites shared shapes =
     ∙ ap (λ (q : Shapes). with_parts tables components p' s' x' q) shapes
 
 pub together : (facts : Facts) (tables : Tables) (n : ℕ) (components : List Component)
-    → fold (with_component facts) tables (enumerate_from n components) ≡ tables_behind facts tables n components
+    → fold (with_component facts) tables (enumerate_from n components) ≡ tables_after facts tables n components
 together facts tables n [] = refl
 together facts tables n (c ∷ cs) =
     together facts (with_component facts tables (n, c)) (n + 1) cs

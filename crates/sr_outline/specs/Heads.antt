@@ -37,7 +37,7 @@ use Rattle.sr_tree.specs.declared.types.Returned.{Returned, out-Returned}
 use Rattle.sr_tree.specs.declared.types.Signature.{Signature, out-Signature}
 use Rattle.sr_value.specs.declared.shape.Shape.{Shape}
 use Rattle.sr_value.specs.declared.shape.Shape.TheVariants as shape
-use Rattle.sr_outline.specs.declared.operations.Opening.{Opening}
+use Rattle.sr_outline.specs.declared.operations.OperationTable.{OperationTable}
 use Rattle.sr_tables.specs.declared.tables.Head.{Head}
 use Rattle.sr_outline.specs.Meanings.{meant_by}
 use Rattle.sr_tables.specs.Parts.{deciding, spot_named, in_component, op_item_name}
@@ -123,34 +123,34 @@ op_head facts shapes heads (Typed span name optype) = named_head facts heads opt
 -- ---- the operations of a program, in the order of the text
 
 -- an operation that is declared
-pub record Opened : Type 0 where
+pub record DeclaredOperation : Type 0 where
   pub name : Name
   pub scope : Scope
   pub head : Head
 
-abbrev pub ops_opened : Facts → Shapes → Heads → Scope → List OpItem → List Opened
+abbrev pub ops_opened : Facts → Shapes → Heads → Scope → List OpItem → List DeclaredOperation
 ops_opened facts shapes heads scope ops = map (λ op. record { name = op_item_name op; scope = scope; head = op_head facts shapes heads op }) ops
 
 -- `sem s` is `op s() {send}`
-abbrev pub sems_opened : Scope → List Semaphore → List Opened
+abbrev pub sems_opened : Scope → List Semaphore → List DeclaredOperation
 sems_opened scope semaphores = map (λ semaphore. record { name = semaphore.name; scope = scope; head = sent_head [] }) semaphores
 
-abbrev pub spec_item_opened : Facts → Shapes → Heads → SpecItem → List Opened
+abbrev pub spec_item_opened : Facts → Shapes → Heads → SpecItem → List DeclaredOperation
 spec_item_opened facts shapes heads (spec.Op operations) = ops_opened facts shapes heads Shared operations.items
 spec_item_opened facts shapes heads (spec.Sem semaphores) = sems_opened Shared semaphores.semaphores
 spec_item_opened facts shapes heads _ = []
 
 -- an operation that a proc declares is the process's own
-abbrev pub inner_opened : Facts → Shapes → Heads → ProcItem → List Opened
+abbrev pub inner_opened : Facts → Shapes → Heads → ProcItem → List DeclaredOperation
 inner_opened facts shapes heads (inner.Op operations) = ops_opened facts shapes heads Own operations.items
 inner_opened facts shapes heads (inner.Sem semaphores) = sems_opened Own semaphores.semaphores
 inner_opened facts shapes heads _ = []
 
-abbrev pub block_opened : Facts → Shapes → Heads → List ProcItem → List Opened
+abbrev pub block_opened : Facts → Shapes → Heads → List ProcItem → List DeclaredOperation
 block_opened facts shapes heads block = flat_map (inner_opened facts shapes heads) block
 
 -- `procedure f` is `op f` with its proc
-abbrev pub procedure_opened : Facts → Shapes → Procedure → Opened
+abbrev pub procedure_opened : Facts → Shapes → Procedure → DeclaredOperation
 procedure_opened facts shapes procedure = record { name = procedure.name; scope = Shared; head = head_of facts shapes procedure.signature }
 
 -- a quantifier gives an int
@@ -158,10 +158,10 @@ abbrev pub int_parameter : Quantifier → Parameter
 int_parameter quantifier = record { mode = Val; shape = Fixed shape.Int }
 
 -- `process p` is `op p() {send}` with its proc, and an int for each quantifier
-abbrev pub process_opened : Process → Opened
+abbrev pub process_opened : Process → DeclaredOperation
 process_opened process = record { name = process.name; scope = Shared; head = sent_head (map int_parameter process.quantifiers) }
 
-abbrev pub item_opened : Facts → Shapes → Heads → Item → List Opened
+abbrev pub item_opened : Facts → Shapes → Heads → Item → List DeclaredOperation
 item_opened facts shapes heads (item.Spec inner) = spec_item_opened facts shapes heads inner
 item_opened facts shapes heads (item.Proc proc) = block_opened facts shapes heads proc.block
 item_opened facts shapes heads (item.Procedure procedure) = procedure_opened facts shapes procedure ∷ block_opened facts shapes heads procedure.block
@@ -169,12 +169,12 @@ item_opened facts shapes heads (item.Process process) = process_opened process �
 item_opened facts shapes heads (item.Final final) = block_opened facts shapes heads final.block
 item_opened facts shapes heads (item.Statement statement) = []
 
-abbrev pub component_opened : Facts → Shapes → Heads → Component → List Opened
+abbrev pub component_opened : Facts → Shapes → Heads → Component → List DeclaredOperation
 component_opened facts shapes heads component =
     flat_map (spec_item_opened facts shapes heads) (spec_of component) ++ flat_map (item_opened facts shapes heads) (body_of component)
 
 -- an operation of a component, with the proc that serves it
-abbrev pub operation_of : List Spot → ℕ → Opened → Operation
+abbrev pub operation_of : List Spot → ℕ → DeclaredOperation → Operation
 operation_of procs component opened = record {
   name = opened.name.text;
   component = component;
@@ -186,10 +186,10 @@ operation_of procs component opened = record {
   proc = position (same_spot (spot_named opened.name)) procs;
 }
 
-abbrev pub operation_entry : List Spot → ℕ → Opened → Spot × Operation
+abbrev pub operation_entry : List Spot → ℕ → DeclaredOperation → Spot × Operation
 operation_entry procs component opened = (spot_named opened.name, operation_of procs component opened)
 
--- the operations of a component behind those before it
-abbrev pub with_opened : Opening → List Opened → Opening
+-- the operations of a component after those before it
+abbrev pub with_opened : OperationTable → List DeclaredOperation → OperationTable
 with_opened opening opened =
     record opening { operations = with_entries opening.operations (map (operation_entry opening.procs opening.component) opened) }

@@ -4,8 +4,8 @@ use Rattle.std.specs.Option.{option_map, option_and_then}
 use Rattle.sr_check_expr.specs.declared.facts.Facts.{Facts}
 use Rattle.sr_check_expr.specs.declared.info.Info.{Info}
 use Rattle.sr_check_expr.specs.declared.info.Info.TheVariants as info
-use Rattle.sr_check_expr.specs.declared.judged.Judged.{Judged}
-use Rattle.sr_check_expr.specs.Exprs.{judge_expr}
+use Rattle.sr_check_expr.specs.declared.typed_expr.TypedExpr.{TypedExpr}
+use Rattle.sr_check_expr.specs.Exprs.{infer_expr}
 use Rattle.sr_check_expr.specs.Infos.{info_at, name_spot}
 use Rattle.sr_check_expr.specs.Naming.{decl_of}
 use Rattle.sr_names.specs.declared.meaning.Meaning.{Meaning}
@@ -30,11 +30,11 @@ use Rattle.sr_value.specs.declared.place.Span.{Span}
 use Rattle.sr_value.specs.declared.value.Value.{Value}
 
 -- what an expression is
-abbrev pub judged : Facts → Expr → Judged
-judged facts expr = (judge_expr expr facts).judged
+abbrev pub typed_expr : Facts → Expr → TypedExpr
+typed_expr facts expr = (infer_expr expr facts).typed_expr
 
 abbrev pub type_of : Facts → Expr → Ty
-type_of facts expr = (judged facts expr).typed.ty
+type_of facts expr = (typed_expr facts expr).typed.ty
 
 -- what declares the name that is used at a span
 abbrev pub declared_at : Facts → Span → Option Spot
@@ -107,7 +107,7 @@ layer_operation facts (Expr-F.Name name) = declared_at facts name.span
 layer_operation facts (Expr-F.Field span owner field) = declared_at facts field.span
 layer_operation facts _ = None
 
--- the operation that an expression names: a name, or one behind that of its component
+-- the operation that an expression names: a name, or a component's name, a point and a name
 abbrev pub operation_meant : Facts → Expr → Option Spot
 operation_meant facts expr = layer_operation facts (out-Expr expr)
 

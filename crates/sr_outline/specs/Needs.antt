@@ -16,7 +16,7 @@ NoCycle imports = (component : ℕ) → Leads imports component component → �
 abbrev pub among : List ℕ → List ℕ → Bool
 among numbers others = list_all (λ number. member number others) numbers
 
--- each global comes once, and stands behind those that it imports
+-- each global comes once, and stands after those that it imports
 abbrev pub in_order : List (List ℕ) → List ℕ → List ℕ → Bool
 in_order imports earlier [] = true
 in_order imports earlier (global ∷ globals) =

@@ -50,7 +50,7 @@ tables_of facts components = tables_with facts components (shapes_of facts compo
 abbrev pub no_tables : Tables
 no_tables = record { components = []; procs = []; sites = []; shared = []; shapes = []; heads = []; operations = [] }
 
--- with a component behind those before it, but for signatures that have names and operations
+-- with a component after those before it, but for signatures that have names and operations
 abbrev pub with_component : Facts → Tables → ℕ × ComponentTree → Tables
 with_component facts tables numbered = record tables {
   components = with_spots tables.components (component_spot numbered.1 ∷ []);
@@ -97,7 +97,7 @@ imports_of facts components component = fold with_number [] (in_component (item_
 abbrev pub imports_at : List (List ℕ) → ℕ → List ℕ
 imports_at imports global = unwrap_or (slice_get imports global) []
 
--- The globals that are wanted, each behind those that it imports, after those that there are. No chain of
+-- The globals that are wanted, each after those that it imports, after those that there are. No chain of
 -- imports is longer than there are components.
 abbrev pub with_needed : ℕ → List (List ℕ) → List ℕ → List ℕ → List ℕ
 with_needed zero imports there wanted = there

@@ -28,7 +28,7 @@ use Rattle.sr_value.specs.declared.shape.Shape.{Shape}
 use Rattle.sr_value.specs.declared.shape.Shape.TheVariants as shape
 use Rattle.sr_value.specs.Operands.{int_in}
 use Rattle.sr_outline.specs.declared.shapes.Ends.{Ends}
-use Rattle.sr_outline.specs.Meanings.{judged, known, meant_by}
+use Rattle.sr_outline.specs.Meanings.{typed_expr, known, meant_by}
 use Rattle.sr_tables.specs.Parts.{deciding, spot_named, in_component}
 use Rattle.sr_tables.specs.Tables.{found_at, with_entry}
 
@@ -36,7 +36,7 @@ use Rattle.sr_tables.specs.Tables.{found_at, with_entry}
 
 -- the number that a static expression is
 abbrev pub fixed_number : Facts → Expr → ℤ
-fixed_number facts expr = unwrap_or (option_and_then int_in (known (judged facts expr).typed.value)) (pos 0)
+fixed_number facts expr = unwrap_or (option_and_then int_in (known (typed_expr facts expr).typed.value)) (pos 0)
 
 abbrev pub natural : ℤ → ℕ
 natural (pos n) = n

@@ -38,7 +38,7 @@ impl Globals {
         self.numbers.contains(&number)
     }
 
-    /// Puts a global behind the others, unless it is there.
+    /// Appends a global to the others, unless it is there.
     pub fn insert(&mut self, number: u32) -> Result<(), NoMemory>
         ensures { OnOk result (self.new ≡ with_number self.old number) }
     {

@@ -12,7 +12,7 @@ use crate::shapes::{decl_shape, formal_shape, type_shape};
 use sr_check_expr::Facts;
 use sr_core::{FormalShape, Mode, Parameter};
 use sr_names::Spot;
-use sr_tables::{BySpot, Head, deciding, spot_named};
+use sr_tables::{Head, SpotMap, deciding, spot_named};
 use sr_tree::{
     Component, Formal, InvocationKind, Item, OpItem, OpTypeDecl, PassMode, QualifiedName,
     Quantifier, Returned, Signature, SpecItem,
@@ -31,12 +31,12 @@ fn mode_of(mode: Option<PassMode>) -> Mode
     }
 }
 
-/// Puts formals of one type behind others.
+/// Appends formals of one type to others.
 fn push_parameters(
     alloc: Global,
     formal: &Formal,
     facts: &Facts,
-    table: &BySpot<Shape>,
+    table: &SpotMap<Shape>,
     all: &mut Row<Parameter>,
 ) -> Result<(), NoMemory>
     ensures { OnOk result (all.new ≡ all.old ++ heads.parameters_in facts.now table.now formal.now) }
@@ -54,7 +54,7 @@ pub fn parameters_of(
     alloc: Global,
     formals: &[Formal],
     facts: &Facts,
-    table: &BySpot<Shape>,
+    table: &SpotMap<Shape>,
 ) -> Result<Row<Parameter>, NoMemory>
     ensures { IfOk result (λ parameters. parameters ≡ heads.parameters_of facts.now table.now formals.now) }
 {
@@ -69,7 +69,7 @@ fn returned_shape(
     alloc: Global,
     returned: &Option<Returned>,
     facts: &Facts,
-    table: &BySpot<Shape>,
+    table: &SpotMap<Shape>,
 ) -> Result<Option<Shape>, NoMemory>
     ensures { IfOk result (λ shape. shape ≡ option_map (heads.returned_shape facts.now table.now) returned.now) }
 {
@@ -120,7 +120,7 @@ pub fn head_of(
     alloc: Global,
     signature: &Signature,
     facts: &Facts,
-    table: &BySpot<Shape>,
+    table: &SpotMap<Shape>,
 ) -> Result<Head, NoMemory>
     ensures { IfOk result (λ head. head ≡ heads.head_of facts.now table.now signature.now) }
 {
@@ -192,7 +192,7 @@ fn copy_head(alloc: Global, head: &Head) -> Result<Head, NoMemory>
     })
 }
 
-fn head_at(alloc: Global, named: &BySpot<Head>, spot: Spot) -> Result<Head, NoMemory>
+fn head_at(alloc: Global, named: &SpotMap<Head>, spot: Spot) -> Result<Head, NoMemory>
     ensures { IfOk result (λ head. head ≡ heads.head_at named.now spot) }
 {
     match named.get(spot) {
@@ -206,7 +206,7 @@ fn named_head(
     alloc: Global,
     name: &QualifiedName,
     facts: &Facts,
-    named: &BySpot<Head>,
+    named: &SpotMap<Head>,
 ) -> Result<Head, NoMemory>
     ensures { IfOk result (λ head. head ≡ heads.named_head facts.now named.now name.now) }
 {
@@ -218,8 +218,8 @@ pub fn op_head(
     alloc: Global,
     op: &OpItem,
     facts: &Facts,
-    table: &BySpot<Shape>,
-    named: &BySpot<Head>,
+    table: &SpotMap<Shape>,
+    named: &SpotMap<Head>,
 ) -> Result<Head, NoMemory>
     ensures { IfOk result (λ head. head ≡ heads.op_head facts.now table.now named.now op.now) }
 {
@@ -233,8 +233,8 @@ fn declare_head(
     alloc: Global,
     named: &OpTypeDecl,
     facts: &Facts,
-    table: &BySpot<Shape>,
-    all: &mut BySpot<Head>,
+    table: &SpotMap<Shape>,
+    all: &mut SpotMap<Head>,
 ) -> Result<(), NoMemory>
     ensures { OnOk result (all.new ≡ heads.with_heads facts.now table.now all.old (named.now ∷ [])) }
 {
@@ -246,8 +246,8 @@ fn declare_spec(
     alloc: Global,
     items: &[SpecItem],
     facts: &Facts,
-    table: &BySpot<Shape>,
-    all: &mut BySpot<Head>,
+    table: &SpotMap<Shape>,
+    all: &mut SpotMap<Head>,
 ) -> Result<(), NoMemory>
     ensures { OnOk result (all.new ≡ heads.with_heads facts.now table.now all.old (flat_map heads.spec_item_optypes items.now)) }
 {
@@ -263,8 +263,8 @@ fn declare_body(
     alloc: Global,
     items: &[Item],
     facts: &Facts,
-    table: &BySpot<Shape>,
-    all: &mut BySpot<Head>,
+    table: &SpotMap<Shape>,
+    all: &mut SpotMap<Head>,
 ) -> Result<(), NoMemory>
     ensures { OnOk result (all.new ≡ heads.with_heads facts.now table.now all.old (flat_map (in_item heads.spec_item_optypes) items.now)) }
 {
@@ -281,8 +281,8 @@ pub fn declare_heads(
     alloc: Global,
     component: &Component,
     facts: &Facts,
-    table: &BySpot<Shape>,
-    all: &mut BySpot<Head>,
+    table: &SpotMap<Shape>,
+    all: &mut SpotMap<Head>,
 ) -> Result<(), NoMemory>
     ensures { OnOk result (all.new ≡ heads.with_heads facts.now table.now all.old (in_component heads.spec_item_optypes component.now)) }
 {

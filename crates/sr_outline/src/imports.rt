@@ -13,7 +13,7 @@ use sr_tree::{Component, File, Item, Name, SpecItem};
 use sr_value::{NoMemory, Row};
 use std::alloc::Global;
 
-/// Puts the global that a name means behind others.
+/// Appends the global that a name means to others.
 fn note_name(
     name: &Name,
     facts: &Facts,
@@ -33,7 +33,7 @@ fn note_name(
     }
 }
 
-/// Puts the globals among these names behind others.
+/// Appends the globals among these names to others.
 fn note_names(
     names: &[Name],
     facts: &Facts,
@@ -109,7 +109,7 @@ fn imports_of(
     imports.into_row(alloc)
 }
 
-/// Puts the globals that each of these components imports behind those of others.
+/// Appends the globals that each of these components imports.
 fn push_imports(
     alloc: Global,
     trees: &[Component],
@@ -157,7 +157,7 @@ pub fn imports_at(imports: &[Row<u32>], number: u32) -> &[u32]
     }
 }
 
-/// Puts a global that is wanted behind those that there are, unless it is there, and behind those that it imports.
+/// Puts a global that is wanted after those that there are, unless it is there, and after those that it imports.
 #[cycle(needed)]
 #[tactic(auto, using(crate::proofs::Needed::needed_zero, crate::proofs::Needed::needed_left, crate::proofs::Needed::needed_put))]
 fn push_global(
@@ -178,7 +178,7 @@ fn push_global(
     there.insert(global)
 }
 
-/// Puts the globals that are wanted behind those that there are, each behind those that it imports. No chain of imports
+/// Puts the globals that are wanted after those that there are, each after those that it imports. No chain of imports
 /// is longer than there are components.
 #[cycle(needed)]
 #[tactic(auto, using(crate::proofs::Needed::needed_append))]

@@ -19,9 +19,9 @@ mod waits;
 pub use heads::{copy_shape, parameters_of};
 pub use imports::{all_imports, imports_at, needs_of};
 pub use meanings::{
-    constant_at, function_called, is_constant, judge, literals_of, meant_by, type_at, type_of,
+    constant_at, function_called, infer, is_constant, literals_of, meant_by, type_at, type_of,
 };
-pub use operations::Opening;
+pub use operations::OperationTable;
 pub use operators::{binary, conversion_function, prefix_of};
 pub use outline::{enumerations_of, tables_of};
 pub use shapes::{shape_of_type, type_shape};

@@ -4,27 +4,27 @@ ghost use Rattle.sr_names.specs.Spots.{spot_of};
 ghost use Rattle.sr_names.specs.Uses.{meaning_at};
 ghost use Rattle.sr_outline.specs.Meanings as meanings;
 
-use sr_check_expr::{Facts, Info, Judged, expr, name_spot};
-use sr_names::{Meaning, Notes, Predefined, Spot};
+use sr_check_expr::{Facts, Info, TypedExpr, expr, name_spot};
+use sr_names::{Diagnostics, Meaning, Predefined, Spot};
 use sr_tree::{Expr, Invocation, Name};
 use sr_types::{Static, Ty};
 use sr_value::{Duplicate, NoMemory, Span, Value};
 use std::alloc::Global;
 
 /// What an expression is.
-pub fn judge(alloc: Global, tree: &Expr, facts: &Facts) -> Result<Judged, NoMemory>
-    ensures { IfOk result (λ judged. judged ≡ meanings.judged facts.now tree.now) }
+pub fn infer(alloc: Global, tree: &Expr, facts: &Facts) -> Result<TypedExpr, NoMemory>
+    ensures { IfOk result (λ typed_expr. typed_expr ≡ meanings.typed_expr facts.now tree.now) }
 {
-    let mut notes = Notes::new(alloc);
-    expr(alloc, tree, facts, &mut notes)
+    let mut diagnostics = Diagnostics::new(alloc);
+    expr(alloc, tree, facts, &mut diagnostics)
 }
 
 /// The type of an expression.
 pub fn type_of(alloc: Global, tree: &Expr, facts: &Facts) -> Result<Ty, NoMemory>
     ensures { IfOk result (λ ty. ty ≡ meanings.type_of facts.now tree.now) }
 {
-    let judged = judge(alloc, tree, facts)?;
-    Ok(judged.typed.ty)
+    let typed_expr = infer(alloc, tree, facts)?;
+    Ok(typed_expr.typed.ty)
 }
 
 /// What declares the name that is used at a span.
@@ -109,7 +109,7 @@ pub fn literals_of(facts: &Facts, ty: &Ty) -> u32
     }
 }
 
-/// The operation that an expression names: a name, or one behind that of its component.
+/// The operation that an expression names: a name, or a component's name, a point and a name.
 pub fn operation_meant(tree: &Expr, facts: &Facts) -> Option<Spot>
     ensures { result ≡ meanings.operation_meant facts.now tree.now }
 {

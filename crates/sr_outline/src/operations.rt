@@ -9,22 +9,22 @@ use crate::heads::{head_of, int_parameters, op_head, sent_head};
 use sr_check_expr::Facts;
 use sr_core::{Operation, Scope};
 use sr_names::Spot;
-use sr_tables::{BySpot, Head, Spots, number_of, op_item_name, spot_named};
+use sr_tables::{Head, SpotMap, Spots, number_of, op_item_name, spot_named};
 use sr_tree::{Component, Item, Name, OpItem, ProcItem, Procedure, Process, Semaphore, SpecItem};
 use sr_value::{Duplicate, NoMemory, Row, Shape};
 use std::alloc::Global;
 
-/// What the operations of a component are made with.
+/// The operations of a component so far, and the tables that they are made with.
 #[derive(Drop)]
-pub struct Opening {
-    pub shapes: BySpot<Shape>,
-    pub heads: BySpot<Head>,
+pub struct OperationTable {
+    pub shapes: SpotMap<Shape>,
+    pub heads: SpotMap<Head>,
     /// The procs, each by the operation that it serves.
     pub procs: Spots,
     /// The number of the component.
     pub component: u32,
     /// The operations so far.
-    pub operations: BySpot<Operation>,
+    pub operations: SpotMap<Operation>,
 }
 
 /// The proc that serves an operation, where one does.
@@ -40,7 +40,7 @@ fn proc_of(procs: &Spots, spot: Spot) -> Result<Option<u32>, NoMemory>
 /// Puts in an operation that is declared.
 fn open(
     alloc: Global,
-    opening: &mut Opening,
+    opening: &mut OperationTable,
     name: &Name,
     scope: Scope,
     head: Head,
@@ -71,7 +71,7 @@ fn open(
 
 fn open_ops(
     alloc: Global,
-    opening: &mut Opening,
+    opening: &mut OperationTable,
     scope: Scope,
     ops: &[OpItem],
     facts: &Facts,
@@ -88,7 +88,7 @@ fn open_ops(
 /// `sem s` is `op s() {send}`.
 fn open_sems(
     alloc: Global,
-    opening: &mut Opening,
+    opening: &mut OperationTable,
     scope: Scope,
     semaphores: &[Semaphore],
 ) -> Result<(), NoMemory>
@@ -108,7 +108,7 @@ fn open_sems(
 
 fn open_spec_item(
     alloc: Global,
-    opening: &mut Opening,
+    opening: &mut OperationTable,
     item: &SpecItem,
     facts: &Facts,
 ) -> Result<(), NoMemory>
@@ -139,7 +139,7 @@ fn open_spec_item(
 /// An operation that a proc declares is the process's own.
 fn open_inner(
     alloc: Global,
-    opening: &mut Opening,
+    opening: &mut OperationTable,
     item: &ProcItem,
     facts: &Facts,
 ) -> Result<(), NoMemory>
@@ -158,7 +158,7 @@ fn open_inner(
 
 fn open_block(
     alloc: Global,
-    opening: &mut Opening,
+    opening: &mut OperationTable,
     block: &[ProcItem],
     facts: &Facts,
 ) -> Result<(), NoMemory>
@@ -173,7 +173,7 @@ fn open_block(
 /// `procedure f` is `op f` with its proc.
 fn open_procedure(
     alloc: Global,
-    opening: &mut Opening,
+    opening: &mut OperationTable,
     procedure: &Procedure,
     facts: &Facts,
 ) -> Result<(), NoMemory>
@@ -187,7 +187,7 @@ fn open_procedure(
 /// `process p` is `op p() {send}` with its proc, and an int for each quantifier.
 fn open_process(
     alloc: Global,
-    opening: &mut Opening,
+    opening: &mut OperationTable,
     process: &Process,
     facts: &Facts,
 ) -> Result<(), NoMemory>
@@ -206,7 +206,7 @@ fn open_process(
 
 fn open_item(
     alloc: Global,
-    opening: &mut Opening,
+    opening: &mut OperationTable,
     item: &Item,
     facts: &Facts,
 ) -> Result<(), NoMemory>
@@ -224,7 +224,7 @@ fn open_item(
 
 fn open_spec(
     alloc: Global,
-    opening: &mut Opening,
+    opening: &mut OperationTable,
     items: &[SpecItem],
     facts: &Facts,
 ) -> Result<(), NoMemory>
@@ -238,7 +238,7 @@ fn open_spec(
 
 fn open_body(
     alloc: Global,
-    opening: &mut Opening,
+    opening: &mut OperationTable,
     items: &[Item],
     facts: &Facts,
 ) -> Result<(), NoMemory>
@@ -253,7 +253,7 @@ fn open_body(
 /// Puts in the operations that a component declares.
 pub fn open_component(
     alloc: Global,
-    opening: &mut Opening,
+    opening: &mut OperationTable,
     component: &Component,
     facts: &Facts,
 ) -> Result<(), NoMemory>

@@ -7,12 +7,12 @@ ghost use Rattle.sr_outline.specs.Heads.{with_heads};
 ghost use Rattle.sr_tables.specs.Tables.{with_entries};
 
 use crate::heads::declare_heads;
-use crate::operations::{Opening, open_component};
+use crate::operations::{OperationTable, open_component};
 use crate::shapes::declare_types;
 use crate::variables::note_shared;
 use crate::waits::{note_procs, note_sites};
 use sr_check_expr::Facts;
-use sr_tables::{BySpot, Head, Spots, Tables, number_of, spot_named};
+use sr_tables::{Head, SpotMap, Spots, Tables, number_of, spot_named};
 use sr_tree::{File, Name, SpecItem, TypeTree};
 use sr_value::{Duplicate, EnumNames, NoMemory, Row, Shape, Text};
 use std::alloc::Global;
@@ -25,10 +25,10 @@ fn empty_tables(alloc: Global) -> Tables
         components: Spots::new(alloc),
         procs: Spots::new(alloc),
         sites: Spots::new(alloc),
-        shared: BySpot::new(alloc),
-        shapes: BySpot::new(alloc),
-        heads: BySpot::new(alloc),
-        operations: BySpot::new(alloc),
+        shared: SpotMap::new(alloc),
+        shapes: SpotMap::new(alloc),
+        heads: SpotMap::new(alloc),
+        operations: SpotMap::new(alloc),
     }
 }
 
@@ -49,7 +49,7 @@ fn note_component(
     declare_types(alloc, component, facts, &mut tables.shapes)
 }
 
-/// Puts in what stands in these components, the first of which has this number. Hands out the number behind the last.
+/// Puts in the declarations of these components, numbered from this number on. Returns the number after the last.
 fn note_components(
     alloc: Global,
     components: &[sr_tree::Component],
@@ -89,8 +89,8 @@ fn declare_components(
     alloc: Global,
     components: &[sr_tree::Component],
     facts: &Facts,
-    table: &BySpot<Shape>,
-    all: &mut BySpot<Head>,
+    table: &SpotMap<Shape>,
+    all: &mut SpotMap<Head>,
 ) -> Result<(), NoMemory>
     ensures { OnOk result (all.new ≡ with_heads facts.now table.now all.old (outline.all_optypes components.now)) }
 {
@@ -105,8 +105,8 @@ fn declare_all(
     alloc: Global,
     files: &[File],
     facts: &Facts,
-    table: &BySpot<Shape>,
-    all: &mut BySpot<Head>,
+    table: &SpotMap<Shape>,
+    all: &mut SpotMap<Head>,
 ) -> Result<(), NoMemory>
     ensures { OnOk result (all.new ≡ with_heads facts.now table.now all.old (outline.all_optypes (components_in files.now))) }
 {
@@ -116,13 +116,13 @@ fn declare_all(
     Ok(())
 }
 
-/// Puts in the operations of these components, the first of which has this number. Hands out the number behind the last.
+/// Puts in the operations of these components, numbered from this number on. Returns the number after the last.
 fn open_components(
     alloc: Global,
     components: &[sr_tree::Component],
     facts: &Facts,
     first: usize,
-    opening: &mut Opening,
+    opening: &mut OperationTable,
 ) -> Result<usize, NoMemory>
     ensures operations { OnOk result (opening.new.operations ≡ with_entries opening.old.operations (flat_map (outline.component_entries facts.now opening.old.shapes opening.old.heads opening.old.procs) (enumerate_from first components.now))) }
     ensures shapes { OnOk result (opening.new.shapes ≡ opening.old.shapes) }
@@ -145,7 +145,7 @@ fn open_all(
     alloc: Global,
     files: &[File],
     facts: &Facts,
-    opening: &mut Opening,
+    opening: &mut OperationTable,
 ) -> Result<(), NoMemory>
     ensures operations { OnOk result (opening.new.operations ≡ with_entries opening.old.operations (flat_map (outline.component_entries facts.now opening.old.shapes opening.old.heads opening.old.procs) (enumerate_from 0 (components_in files.now)))) }
     ensures shapes { OnOk result (opening.new.shapes ≡ opening.old.shapes) }
@@ -160,24 +160,24 @@ fn open_all(
 }
 
 /// What operations are made with, taken out of the tables.
-fn take_opening(alloc: Global, tables: &mut Tables) -> Opening
+fn take_opening(alloc: Global, tables: &mut Tables) -> OperationTable
     ensures opening { result ≡ record { shapes = tables.old.shapes; heads = tables.old.heads; procs = tables.old.procs; component = 0; operations = tables.old.operations } }
     ensures tables { tables.new ≡ record tables.old { shapes = []; heads = []; procs = []; operations = [] } }
 {
-    Opening {
-        shapes: mem::replace(&mut tables.shapes, BySpot::new(alloc)),
-        heads: mem::replace(&mut tables.heads, BySpot::new(alloc)),
+    OperationTable {
+        shapes: mem::replace(&mut tables.shapes, SpotMap::new(alloc)),
+        heads: mem::replace(&mut tables.heads, SpotMap::new(alloc)),
         procs: mem::replace(&mut tables.procs, Spots::new(alloc)),
         component: 0,
-        operations: mem::replace(&mut tables.operations, BySpot::new(alloc)),
+        operations: mem::replace(&mut tables.operations, SpotMap::new(alloc)),
     }
 }
 
 /// Puts what operations were made with back into the tables.
-fn put_back(opening: Opening, tables: &mut Tables)
+fn put_back(opening: OperationTable, tables: &mut Tables)
     ensures { tables.new ≡ record tables.old { shapes = opening.shapes; heads = opening.heads; procs = opening.procs; operations = opening.operations } }
 {
-    let Opening {
+    let OperationTable {
         shapes,
         heads,
         procs,

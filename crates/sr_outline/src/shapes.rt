@@ -10,11 +10,11 @@ ghost use Rattle.sr_tables.specs.Lists.{lists};
 ghost use Rattle.sr_tables.specs.Parts.{in_item, in_component};
 ghost use Rattle.sr_value.specs.Operands.{int_in};
 
-use crate::meanings::{judge, meant_by};
+use crate::meanings::{infer, meant_by};
 use sr_check_expr::{Facts, Info, name_spot};
 use sr_core::FormalShape;
 use sr_names::Spot;
-use sr_tables::{BySpot, deciding, spot_named};
+use sr_tables::{SpotMap, deciding, spot_named};
 use sr_tree::{
     Component, Decl, DimsTree, Expr, Formal, Item, QualifiedName, RangeTree, SpecItem, TypeDecl,
     TypeTree,
@@ -40,8 +40,8 @@ fn known_number(value: &Static) -> i32
 fn fixed_number(alloc: Global, tree: &Expr, facts: &Facts) -> Result<i32, NoMemory>
     ensures { IfOk result (λ number. number ≡ shapes.fixed_number facts.now tree.now) }
 {
-    let judged = judge(alloc, tree, facts)?;
-    Ok(known_number(&judged.typed.value))
+    let typed_expr = infer(alloc, tree, facts)?;
+    Ok(known_number(&typed_expr.typed.value))
 }
 
 /// The number as a length; 0 below 0.
@@ -165,7 +165,7 @@ fn array_formal(
     dims: &DimsTree,
     ty: &TypeTree,
     facts: &Facts,
-    table: &BySpot<Shape>,
+    table: &SpotMap<Shape>,
 ) -> Result<FormalShape, NoMemory>
     ensures { IfOk result (λ shape. shape ≡ shapes.array_formal facts.now dims.now (shapes.type_shape facts.now table.now ty.now)) }
 {
@@ -208,7 +208,7 @@ fn dims_of(rows: Ends, columns: Option<Ends>) -> Dims
     }
 }
 
-/// The shape of what is declared with or without dims of its own.
+/// The shape of a declared name, with or without dims of its own.
 pub fn decl_shape(
     alloc: Global,
     dims: &Option<DimsTree>,
@@ -228,7 +228,7 @@ pub fn decl_shape(
 }
 
 /// The shape of a declared type.
-fn shape_at(alloc: Global, table: &BySpot<Shape>, spot: Spot) -> Result<Shape, NoMemory>
+fn shape_at(alloc: Global, table: &SpotMap<Shape>, spot: Spot) -> Result<Shape, NoMemory>
     ensures { IfOk result (λ shape. shape ≡ shapes.shape_at table.now spot) }
 {
     match table.get(spot) {
@@ -242,14 +242,14 @@ fn named_shape(
     alloc: Global,
     name: &QualifiedName,
     facts: &Facts,
-    table: &BySpot<Shape>,
+    table: &SpotMap<Shape>,
 ) -> Result<Shape, NoMemory>
     ensures { IfOk result (λ shape. shape ≡ shapes.named_shape facts.now table.now name.now) }
 {
     shape_at(alloc, table, meant_by(facts, deciding(name)))
 }
 
-/// Puts the shapes of what is declared with items of one shape behind others.
+/// Appends the shapes of what is declared with items of one shape to others.
 fn push_decls(
     alloc: Global,
     decls: &[Decl],
@@ -266,13 +266,13 @@ fn push_decls(
     Ok(())
 }
 
-/// Puts the shapes of fields of one type behind others.
+/// Appends the shapes of fields of one type to others.
 #[cycle(type_shapes)]
 fn push_fields(
     alloc: Global,
     fields: &Formal,
     facts: &Facts,
-    table: &BySpot<Shape>,
+    table: &SpotMap<Shape>,
     all: &mut Row<Shape>,
 ) -> Result<(), NoMemory>
     ensures { OnOk result (all.new ≡ all.old ++ shapes.fields_in facts.now table.now fields.now) }
@@ -287,7 +287,7 @@ fn field_shapes(
     alloc: Global,
     fields: &[Formal],
     facts: &Facts,
-    table: &BySpot<Shape>,
+    table: &SpotMap<Shape>,
 ) -> Result<Row<Shape>, NoMemory>
     ensures { IfOk result (λ all. all ≡ lists (map (shapes.fields_in facts.now table.now) fields.now)) }
 {
@@ -298,13 +298,13 @@ fn field_shapes(
     Ok(all)
 }
 
-/// The shape of a type as it is written, by those of the types that are declared before.
+/// The shape of a type as it is written, by the shapes of the types declared before it.
 #[cycle(type_shapes)]
 pub fn type_shape(
     alloc: Global,
     tree: &TypeTree,
     facts: &Facts,
-    table: &BySpot<Shape>,
+    table: &SpotMap<Shape>,
 ) -> Result<Shape, NoMemory>
     ensures { IfOk result (λ shape. shape ≡ shapes.type_shape facts.now table.now tree.now) }
 {
@@ -333,7 +333,7 @@ fn written_formal(
     alloc: Global,
     ty: &TypeTree,
     facts: &Facts,
-    table: &BySpot<Shape>,
+    table: &SpotMap<Shape>,
 ) -> Result<FormalShape, NoMemory>
     ensures { IfOk result (λ shape. shape ≡ shapes.formal_shape facts.now table.now None ty.now) }
 {
@@ -351,7 +351,7 @@ pub fn formal_shape(
     dims: &Option<DimsTree>,
     ty: &TypeTree,
     facts: &Facts,
-    table: &BySpot<Shape>,
+    table: &SpotMap<Shape>,
 ) -> Result<FormalShape, NoMemory>
     ensures { IfOk result (λ shape. shape ≡ shapes.formal_shape facts.now table.now dims.now ty.now) }
 {
@@ -379,7 +379,7 @@ fn declare_type(
     alloc: Global,
     named: &TypeDecl,
     facts: &Facts,
-    table: &mut BySpot<Shape>,
+    table: &mut SpotMap<Shape>,
 ) -> Result<(), NoMemory>
     ensures { OnOk result (table.new ≡ shapes.with_type facts.now table.old named.now) }
 {
@@ -395,7 +395,7 @@ fn declare_spec_item(
     alloc: Global,
     item: &SpecItem,
     facts: &Facts,
-    table: &mut BySpot<Shape>,
+    table: &mut SpotMap<Shape>,
 ) -> Result<(), NoMemory>
     ensures { OnOk result (table.new ≡ shapes.with_types facts.now table.old (shapes.spec_item_types item.now)) }
 {
@@ -409,7 +409,7 @@ fn declare_spec(
     alloc: Global,
     items: &[SpecItem],
     facts: &Facts,
-    table: &mut BySpot<Shape>,
+    table: &mut SpotMap<Shape>,
 ) -> Result<(), NoMemory>
     ensures { OnOk result (table.new ≡ shapes.with_types facts.now table.old (flat_map shapes.spec_item_types items.now)) }
 {
@@ -423,7 +423,7 @@ fn declare_body(
     alloc: Global,
     items: &[Item],
     facts: &Facts,
-    table: &mut BySpot<Shape>,
+    table: &mut SpotMap<Shape>,
 ) -> Result<(), NoMemory>
     ensures { OnOk result (table.new ≡ shapes.with_types facts.now table.old (flat_map (in_item shapes.spec_item_types) items.now)) }
 {
@@ -440,7 +440,7 @@ pub fn declare_types(
     alloc: Global,
     component: &Component,
     facts: &Facts,
-    table: &mut BySpot<Shape>,
+    table: &mut SpotMap<Shape>,
 ) -> Result<(), NoMemory>
     ensures { OnOk result (table.new ≡ shapes.with_types facts.now table.old (in_component shapes.spec_item_types component.now)) }
 {
@@ -449,7 +449,7 @@ pub fn declare_types(
 }
 
 /// The shape of a type. It has no bounds: its strings have 65,535 bytes, and its arrays no items.
-pub fn shape_of_type(alloc: Global, ty: &Ty, table: &BySpot<Shape>) -> Result<Shape, NoMemory>
+pub fn shape_of_type(alloc: Global, ty: &Ty, table: &SpotMap<Shape>) -> Result<Shape, NoMemory>
     ensures { IfOk result (λ shape. shape ≡ shapes.shape_of_type table.now ty.now) }
 {
     match ty {

@@ -12,7 +12,7 @@ use crate::meanings::{is_constant, meant_by, returns_something};
 use crate::waits::{is_wait, wait_operation};
 use sr_check_expr::Facts;
 use sr_names::Spot;
-use sr_tables::{BySpot, SharedVariable, Spots, number_of, spot_named};
+use sr_tables::{SharedVariable, SpotMap, Spots, number_of, spot_named};
 use sr_tree::{
     Arm, BlockItem, Branch, CoArm, Component, ConstDecl, Expr, Formal, Invocation, Item, Name,
     ProcItem, Quantifier, Semaphore, Signature, SpecItem, Statement, VarDecl,
@@ -467,7 +467,7 @@ fn shared_spots(alloc: Global, component: &Component, facts: &Facts) -> Result<S
 fn note_numbered(
     spots: &[Spot],
     component: u32,
-    shared: &mut BySpot<SharedVariable>,
+    shared: &mut SpotMap<SharedVariable>,
 ) -> Result<(), NoMemory>
     ensures { OnOk result (shared.new ≡ with_entries shared.old (numbers.shared_entries component (enumerate_from 0 spots.now))) }
 {
@@ -486,7 +486,7 @@ pub fn note_shared(
     component: &Component,
     number: u32,
     facts: &Facts,
-    shared: &mut BySpot<SharedVariable>,
+    shared: &mut SpotMap<SharedVariable>,
 ) -> Result<(), NoMemory>
     ensures { OnOk result (shared.new ≡ with_entries shared.old (numbers.component_shared facts.now number component.now)) }
 {

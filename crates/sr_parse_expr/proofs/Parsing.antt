@@ -45,8 +45,8 @@ take_all [] = refl
 take_all (x ∷ s) = ap (λ w. x ∷ w) (take_all s)
 
 -- a slice up to the end
-all_behind : {A : Type 0} (items : List A) (at : ℕ) → take (length items - at) (drop at items) ≡ drop at items
-all_behind items at = ap (λ n. take n (drop at items)) (sym (length-drop at items)) ∙ take_all (drop at items)
+all_after : {A : Type 0} (items : List A) (at : ℕ) → take (length items - at) (drop at items) ≡ drop at items
+all_after items at = ap (λ n. take n (drop at items)) (sym (length-drop at items)) ∙ take_all (drop at items)
 
 by_token : (x : Option Token) (t : Token) → x ≡ Some t → (P : FrontFail → Type 0) → P (refused_at (Some t)) → P (refused_at x)
 by_token x t e P h = subst (λ y. P (refused_at y)) (sym e) h
@@ -92,19 +92,19 @@ module _ {A : Type 0} {Spells : A → List Token → Type 0} {reading : ℕ → 
   none_of laws fail.NoMemory reads = tt
 
   -- the same of a slice from a place on
-  pub front_behind : Longest Spells reading → (a : A) (q : List Token) → length q ≤ length (take (length items - at) (drop at items))
+  pub front_after : Longest Spells reading → (a : A) (q : List Token) → length q ≤ length (take (length items - at) (drop at items))
       → ((k : ℕ) → length (take (length items - at) (drop at items)) ≤ k → reading k (take (length items - at) (drop at items)) ≡ Ok (a, q))
       → (count : ℕ) × (length items - length q ≡ at + count) × IsLongest Spells (drop at items) a count
-  front_behind laws a q h reads =
+  front_after laws a q h reads =
       let n : length (drop at items) ≡ length items - at = length-drop at items in
-      let m : length (take (length items - at) (drop at items)) ≡ length (drop at items) = ap length (all_behind items at) in (
+      let m : length (take (length items - at) (drop at items)) ≡ length (drop at items) = ap length (all_after items at) in (
         length (drop at items) - length q,
         omega (arith, n, m, h, inside),
-        laws.longest (drop at items) a q (subst (λ s. (k : ℕ) → length s ≤ k → reading k s ≡ Ok (a, q)) (all_behind items at) reads),
+        laws.longest (drop at items) a q (subst (λ s. (k : ℕ) → length s ≤ k → reading k s ≡ Ok (a, q)) (all_after items at) reads),
       )
 
-  pub none_behind : Longest Spells reading → (e : ReadFail) → Refuses reading (take (length items - at) (drop at items)) e → HasNoTree Spells (drop at items) (refusal_of items e)
-  none_behind laws e reads = none_of laws e (subst (λ s. Refuses reading s e) (all_behind items at) reads)
+  pub none_after : Longest Spells reading → (e : ReadFail) → Refuses reading (take (length items - at) (drop at items)) e → HasNoTree Spells (drop at items) (refusal_of items e)
+  none_after laws e reads = none_of laws e (subst (λ s. Refuses reading s e) (all_after items at) reads)
 
-  pub dead_behind : Stops Spells reading → (e : ReadFail) → Refuses reading (take (length items - at) (drop at items)) e → IsRefusedIn Spells items at (refusal_of items e)
-  dead_behind stops e reads = dead_of stops e (subst (λ s. Refuses reading s e) (all_behind items at) reads)
+  pub dead_after : Stops Spells reading → (e : ReadFail) → Refuses reading (take (length items - at) (drop at items)) e → IsRefusedIn Spells items at (refusal_of items e)
+  dead_after stops e reads = dead_of stops e (subst (λ s. Refuses reading s e) (all_after items at) reads)

@@ -3,7 +3,7 @@ ghost use Rattle.sr_parse_expr.specs.Reads.{ReadsUpTo};
 ghost use Rattle.sr_expr_reader.specs.TypeReaders.{decl_at, decls_at, dims_at, more_decls_at, more_names_at, names_at, next_decl_at, next_name_at, range_at, second_range_at, upper_bound_at};
 
 use crate::expression::{LOOSEST, expression, operand};
-use sr_parse_tokens::{ReadFail, name, next_is_sign, sign, sign_behind};
+use sr_parse_tokens::{ReadFail, name, next_is_sign, sign, sign_after};
 use sr_tree::{Decl, DimsTree, Expr, Name, RangeTree, Sign, Token};
 use sr_value::{Boxed, Row};
 use std::alloc::Global;
@@ -20,7 +20,7 @@ pub fn names(alloc: Global, tokens: &[Token]) -> Result<(Row<Name>, &[Token]), R
     more_names(alloc, names, rest)
 }
 
-/// Reads further names, each behind a comma.
+/// Reads further names, each after a comma.
 #[tactic(auto, unfolding(sr_expr_reader::specs::TypeReaders::more_names_at))]
 fn more_names(
     alloc: Global,
@@ -33,14 +33,14 @@ fn more_names(
     let mut names = first;
     let mut rest = tokens;
     'more: while next_is_sign(rest, Sign::Comma) {
-        let (more, behind) = next_name(alloc, names, rest)?;
+        let (more, after) = next_name(alloc, names, rest)?;
         names = more;
-        rest = behind;
+        rest = after;
     }
     Ok((names, rest))
 }
 
-/// Reads a comma and a name, and puts it behind the others.
+/// Reads a comma and a name, and appends it.
 #[tactic(auto, unfolding(sr_expr_reader::specs::TypeReaders::next_name_at))]
 fn next_name(
     alloc: Global,
@@ -57,7 +57,7 @@ fn next_name(
     Ok((names, rest))
 }
 
-/// Reads `:` and an upper bound, or `*`, behind a lower bound.
+/// Reads `:` and an upper bound, or `*`, after a lower bound.
 #[tactic(auto, unfolding(sr_expr_reader::specs::TypeReaders::upper_bound_at))]
 fn upper_bound(
     alloc: Global,
@@ -68,9 +68,9 @@ fn upper_bound(
     ensures shorter { IfOk result (λ x. length x.1.now < length tokens.now) }
 {
     let span = low.span();
-    let (_, low, rest) = sign_behind(low, tokens, Sign::Colon)?;
+    let (_, low, rest) = sign_after(low, tokens, Sign::Colon)?;
     if next_is_sign(rest, Sign::Star) {
-        let (_, low, rest) = sign_behind(low, rest, Sign::Star)?;
+        let (_, low, rest) = sign_after(low, rest, Sign::Star)?;
         Ok((RangeTree::From { span, low }, rest))
     } else {
         let (high, rest) = expression(alloc, rest)?;
@@ -126,7 +126,7 @@ pub fn dims(alloc: Global, tokens: &[Token]) -> Result<(DimsTree, &[Token]), Rea
     let (span, rest) = sign(tokens, Sign::OpenBracket)?;
     let (first, rest) = range(alloc, rest)?;
     let (first, second, rest) = second_range(alloc, first, rest)?;
-    let (_, (first, second), rest) = sign_behind((first, second), rest, Sign::CloseBracket)?;
+    let (_, (first, second), rest) = sign_after((first, second), rest, Sign::CloseBracket)?;
     Ok((
         DimsTree {
             span,
@@ -137,7 +137,7 @@ pub fn dims(alloc: Global, tokens: &[Token]) -> Result<(DimsTree, &[Token]), Rea
     ))
 }
 
-/// Reads the dimensions of an array into a place of their own, where they may wait for what stands behind them.
+/// Reads the dimensions of an array into a place of their own, where they may wait for what stands after them.
 pub fn boxed_dims(alloc: Global, tokens: &[Token]) -> Result<(Boxed<DimsTree>, &[Token]), ReadFail>
     ensures reads { ReadsUpTo (λ x. (x.0, x.1.now)) tokens.now result (λ r. dims_at r) }
     ensures shorter { IfOk result (λ x. length x.1.now < length tokens.now) }
@@ -164,7 +164,7 @@ pub fn decl(alloc: Global, tokens: &[Token]) -> Result<(Decl, &[Token]), ReadFai
     }
 }
 
-/// Reads a name that is declared into a place of its own, where it may wait for what stands behind it.
+/// Reads a name that is declared into a place of its own, where it may wait for what stands after it.
 pub fn boxed_decl(alloc: Global, tokens: &[Token]) -> Result<(Boxed<Decl>, &[Token]), ReadFail>
     ensures reads { ReadsUpTo (λ x. (x.0, x.1.now)) tokens.now result (λ r. decl_at r) }
     ensures shorter { IfOk result (λ x. length x.1.now < length tokens.now) }
@@ -185,7 +185,7 @@ pub fn decls(alloc: Global, tokens: &[Token]) -> Result<(Row<Decl>, &[Token]), R
     more_decls(alloc, decls, rest)
 }
 
-/// Reads further declared names, each behind a comma.
+/// Reads further declared names, each after a comma.
 #[tactic(auto, unfolding(sr_expr_reader::specs::TypeReaders::more_decls_at))]
 fn more_decls(
     alloc: Global,
@@ -198,14 +198,14 @@ fn more_decls(
     let mut decls = first;
     let mut rest = tokens;
     'more: while next_is_sign(rest, Sign::Comma) {
-        let (more, behind) = next_decl(alloc, decls, rest)?;
+        let (more, after) = next_decl(alloc, decls, rest)?;
         decls = more;
-        rest = behind;
+        rest = after;
     }
     Ok((decls, rest))
 }
 
-/// Reads a comma and a declared name, and puts it behind the others.
+/// Reads a comma and a declared name, and appends it.
 #[tactic(auto, unfolding(sr_expr_reader::specs::TypeReaders::next_decl_at))]
 fn next_decl(
     alloc: Global,

@@ -11,7 +11,7 @@ use crate::pieces::{
     basic_word, field, next_is_call, next_is_suffix, pending, qualified_name, single_part,
 };
 use sr_parse_tokens::{
-    ReadFail, name, next_is_name, next_is_sign, next_is_word, sign, sign_behind, word,
+    ReadFail, name, next_is_name, next_is_sign, next_is_word, sign, sign_after, word,
 };
 use sr_tree::{BasicType, BinaryOperator, Create, Expr, Invocation, Part, Sign, Token, Word};
 use sr_value::{Boxed, Row, Span};
@@ -20,7 +20,7 @@ use std::alloc::Global;
 /// The level of the loosest expressions.
 pub const LOOSEST: u8 = 5;
 
-/// Reads an expression behind a token.
+/// Reads an expression after a token.
 #[cycle(expressions)]
 pub fn expression(alloc: Global, tokens: &[Token]) -> Result<(Expr, &[Token]), ReadFail>
     ensures reads { ReadsBelow (λ x. (x.0, x.1.now)) tokens.now result (λ r. r.operand 5) }
@@ -42,7 +42,7 @@ fn right_operand(
     operand(alloc, level_to_the_right(operator), tokens)
 }
 
-/// Reads the factor behind a sign.
+/// Reads the factor after a sign.
 #[cycle(expressions)]
 fn signed_factor(alloc: Global, tokens: &[Token]) -> Result<(Expr, &[Token]), ReadFail>
     ensures reads { ReadsBelow (λ x. (x.0, x.1.now)) tokens.now result (λ r. r.factor) }
@@ -71,7 +71,7 @@ pub fn operand(alloc: Global, limit: u8, tokens: &[Token]) -> Result<(Expr, &[To
     operators(alloc, limit, first, rest)
 }
 
-/// Reads operators within a level, each with its right operand, behind an expression.
+/// Reads operators within a level, each with its right operand, after an expression.
 #[cycle(expressions)]
 #[tactic(auto, unfolding(sr_expr_reader::specs::Readers::operators_at))]
 fn operators(
@@ -86,14 +86,14 @@ fn operators(
     let mut left = first;
     let mut rest = tokens;
     'more: while next_is_operator(limit, &left, rest) {
-        let (whole, behind) = operation(alloc, left, rest)?;
+        let (whole, after) = operation(alloc, left, rest)?;
         left = whole;
-        rest = behind;
+        rest = after;
     }
     Ok((left, rest))
 }
 
-/// Reads an operator and its right operand behind the left one.
+/// Reads an operator and its right operand after the left one.
 #[cycle(expressions)]
 #[tactic(auto, unfolding(sr_expr_reader::specs::Readers::operation_at))]
 fn operation(alloc: Global, left: Expr, tokens: &[Token]) -> Result<(Expr, &[Token]), ReadFail>
@@ -264,7 +264,7 @@ fn converted(alloc: Global, tokens: &[Token]) -> Result<(Expr, &[Token]), ReadFa
     }
 }
 
-/// Reads an expression in parentheses; the span is that of the opening one.
+/// Reads an expression in parentheses. It has the span of the opening parenthesis.
 #[cycle(expressions)]
 #[tactic(auto, unfolding(sr_expr_reader::specs::Readers::enclosed_at))]
 pub fn enclosed(alloc: Global, tokens: &[Token]) -> Result<((Span, Expr), &[Token]), ReadFail>
@@ -273,7 +273,7 @@ pub fn enclosed(alloc: Global, tokens: &[Token]) -> Result<((Span, Expr), &[Toke
 {
     let (span, rest) = sign(tokens, Sign::OpenParen)?;
     let (inner, rest) = expression(alloc, rest)?;
-    let (_, inner, rest) = sign_behind(inner, rest, Sign::CloseParen)?;
+    let (_, inner, rest) = sign_after(inner, rest, Sign::CloseParen)?;
     Ok(((span, inner), rest))
 }
 
@@ -303,7 +303,7 @@ fn bracketed(alloc: Global, tokens: &[Token]) -> Result<(Expr, &[Token]), ReadFa
     Ok((Expr::Group { span, inner }, rest))
 }
 
-/// Reads the rest of an array behind its first parts.
+/// Reads the rest of an array after its first parts.
 #[cycle(expressions)]
 #[tactic(auto, unfolding(sr_expr_reader::specs::Readers::array_at))]
 fn array(
@@ -352,7 +352,7 @@ fn repeated_part(alloc: Global, tokens: &[Token]) -> Result<(Part, &[Token]), Re
     Ok((Part { span, count, value }, rest))
 }
 
-/// Reads further parts, each behind a comma.
+/// Reads further parts, each after a comma.
 #[cycle(expressions)]
 #[tactic(auto, unfolding(sr_expr_reader::specs::Readers::more_parts_at))]
 fn more_parts(
@@ -366,14 +366,14 @@ fn more_parts(
     let mut parts = first;
     let mut rest = tokens;
     'more: while next_is_sign(rest, Sign::Comma) {
-        let (more, behind) = next_part(alloc, parts, rest)?;
+        let (more, after) = next_part(alloc, parts, rest)?;
         parts = more;
-        rest = behind;
+        rest = after;
     }
     Ok((parts, rest))
 }
 
-/// Reads a comma and a part, and puts it behind the others.
+/// Reads a comma and a part, and appends it.
 #[cycle(expressions)]
 #[tactic(auto, unfolding(sr_expr_reader::specs::Readers::next_part_at))]
 fn next_part(
@@ -391,7 +391,7 @@ fn next_part(
     Ok((parts, rest))
 }
 
-/// Reads fields, indices and calls behind a start.
+/// Reads fields, indices and calls after a start.
 #[cycle(expressions)]
 #[tactic(auto, unfolding(sr_expr_reader::specs::Readers::suffixes_at))]
 fn suffixes(alloc: Global, start: Expr, tokens: &[Token]) -> Result<(Expr, &[Token]), ReadFail>
@@ -401,14 +401,14 @@ fn suffixes(alloc: Global, start: Expr, tokens: &[Token]) -> Result<(Expr, &[Tok
     let mut primary = start;
     let mut rest = tokens;
     'more: while next_is_suffix(&primary, rest) {
-        let (whole, behind) = suffix(alloc, primary, rest)?;
+        let (whole, after) = suffix(alloc, primary, rest)?;
         primary = whole;
-        rest = behind;
+        rest = after;
     }
     Ok((primary, rest))
 }
 
-/// Reads a field, an index or a call behind a primary.
+/// Reads a field, an index or a call after a primary.
 #[cycle(expressions)]
 #[tactic(auto, unfolding(sr_expr_reader::specs::Readers::suffix_at))]
 fn suffix(alloc: Global, primary: Expr, tokens: &[Token]) -> Result<(Expr, &[Token]), ReadFail>
@@ -427,7 +427,7 @@ fn suffix(alloc: Global, primary: Expr, tokens: &[Token]) -> Result<(Expr, &[Tok
     }
 }
 
-/// Reads one or two indices in brackets behind a primary.
+/// Reads one or two indices in brackets after a primary.
 #[cycle(expressions)]
 #[tactic(auto, unfolding(sr_expr_reader::specs::Readers::index_at))]
 fn index(alloc: Global, array: Boxed<Expr>, tokens: &[Token]) -> Result<(Expr, &[Token]), ReadFail>
@@ -439,7 +439,7 @@ fn index(alloc: Global, array: Boxed<Expr>, tokens: &[Token]) -> Result<(Expr, &
     let (first, rest) = expression(alloc, rest)?;
     let first = Boxed::new(alloc, first)?;
     let (second, rest) = second_index(alloc, rest)?;
-    let (_, second, rest) = sign_behind(second, rest, Sign::CloseBracket)?;
+    let (_, second, rest) = sign_after(second, rest, Sign::CloseBracket)?;
     Ok((
         Expr::Index {
             span,
@@ -470,7 +470,7 @@ fn second_index(
     }
 }
 
-/// Reads arguments in parentheses behind a primary.
+/// Reads arguments in parentheses after a primary.
 #[cycle(expressions)]
 #[tactic(auto, unfolding(sr_expr_reader::specs::Readers::call_at))]
 fn call(alloc: Global, callee: Boxed<Expr>, tokens: &[Token]) -> Result<(Expr, &[Token]), ReadFail>
@@ -509,7 +509,7 @@ pub fn arguments(alloc: Global, tokens: &[Token]) -> Result<(Row<Expr>, &[Token]
     Ok((arguments, rest))
 }
 
-/// Reads further arguments, each behind a comma.
+/// Reads further arguments, each after a comma.
 #[cycle(expressions)]
 #[tactic(auto, unfolding(sr_expr_reader::specs::Readers::more_arguments_at))]
 pub fn more_arguments(
@@ -523,14 +523,14 @@ pub fn more_arguments(
     let mut arguments = first;
     let mut rest = tokens;
     'more: while next_is_sign(rest, Sign::Comma) {
-        let (more, behind) = next_argument(alloc, arguments, rest)?;
+        let (more, after) = next_argument(alloc, arguments, rest)?;
         arguments = more;
-        rest = behind;
+        rest = after;
     }
     Ok((arguments, rest))
 }
 
-/// Reads a comma and an argument, and puts it behind the others.
+/// Reads a comma and an argument, and appends it.
 #[cycle(expressions)]
 #[tactic(auto, unfolding(sr_expr_reader::specs::Readers::next_argument_at))]
 pub fn next_argument(

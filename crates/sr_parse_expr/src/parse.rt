@@ -12,11 +12,11 @@ use sr_tree::{Expr, Token, Tokens, TypeTree};
 use sr_value::Place;
 use std::alloc::Global;
 
-/// Reads an expression from the token `at`, and gives its tree and the place behind it: the longest piece of the
+/// Reads an expression from the token `at`, and gives its tree and the place after it: the longest piece of the
 /// tokens that spells one, where no longer piece is the beginning of a list that does.
 ///
-/// Refused as `Syntax` exactly where there is no such piece. Unless the place is that of the last token, no list of
-/// tokens with a tree begins with the tokens from `at` up to that place and with it.
+/// Refused as `Syntax` exactly where there is no such piece. Unless it is refused at the last token, no list of tokens
+/// that has a tree begins with the tokens from `at` through the refused one.
 pub fn parse_expr(alloc: Global, tokens: &Tokens, at: u32) -> Result<(Expr, u32), FrontFail>
     requires within { at < length tokens.now.items }
     requires few { length tokens.now.items < 2 ^ 32 }
@@ -32,11 +32,11 @@ pub fn parse_expr(alloc: Global, tokens: &Tokens, at: u32) -> Result<(Expr, u32)
 }
 
 /// Reads a type from the token `at`, where an enumeration or a record may be declared too, and gives its tree and the
-/// place behind it: the longest piece of the tokens that spells one, where no longer piece is the beginning of a list
+/// place after it: the longest piece of the tokens that spells one, where no longer piece is the beginning of a list
 /// that does.
 ///
-/// Refused as `Syntax` exactly where there is no such piece. Unless the place is that of the last token, no list of
-/// tokens with a tree begins with the tokens from `at` up to that place and with it.
+/// Refused as `Syntax` exactly where there is no such piece. Unless it is refused at the last token, no list of tokens
+/// that has a tree begins with the tokens from `at` through the refused one.
 pub fn parse_type(alloc: Global, tokens: &Tokens, at: u32) -> Result<(TypeTree, u32), FrontFail>
     requires within { at < length tokens.now.items }
     requires few { length tokens.now.items < 2 ^ 32 }

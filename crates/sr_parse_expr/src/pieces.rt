@@ -56,7 +56,7 @@ pub fn pending(alloc: Global, tokens: &[Token]) -> Result<(Expr, &[Token]), Read
     Ok((Expr::Pending { span, operation }, rest))
 }
 
-/// Reads a point and a name behind a primary.
+/// Reads a point and a name after a primary.
 #[tactic(auto, unfolding(sr_expr_reader::specs::Readers::field_at))]
 pub fn field(
     alloc: Global,
@@ -121,7 +121,7 @@ pub fn single_part(alloc: Global, value: Expr) -> Result<Part, NoMemory>
     })
 }
 
-/// Whether a bracket behind this expression is a conversion's: it is the word `int` or `char`.
+/// Whether a bracket after this expression is a conversion's: it is the word `int` or `char`.
 fn is_conversion_word(primary: &Expr) -> bool
     ensures { result ≡ is_conversion_word primary.now }
 {

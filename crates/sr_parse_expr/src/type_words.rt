@@ -136,7 +136,7 @@ fn kind(tokens: &[Token]) -> Result<(InvocationKind, &[Token]), ReadFail>
     }
 }
 
-/// Reads the rest of the kinds of an operation, behind the first one.
+/// Reads the rest of the kinds of an operation, after the first one.
 #[tactic(auto, unfolding(sr_expr_reader::specs::TypeReaders::more_kinds_at))]
 fn more_kinds(alloc: Global, tokens: &[Token]) -> Result<(Row<InvocationKind>, &[Token]), ReadFail>
     ensures reads { Gives (λ x. (x.0, x.1.now)) result (more_kinds_at tokens.now) }
@@ -155,7 +155,7 @@ fn more_kinds(alloc: Global, tokens: &[Token]) -> Result<(Row<InvocationKind>, &
     }
 }
 
-/// Reads how an operation may be invoked, where braces stand behind what it returns, and hands that back.
+/// Reads how an operation may be invoked, where braces stand after what it returns, and hands that back.
 #[tactic(auto, unfolding(sr_expr_reader::specs::TypeReaders::kinds_at))]
 fn kinds<T: Drop>(
     alloc: Global,
@@ -179,7 +179,7 @@ fn kinds<T: Drop>(
     }
 }
 
-/// Whether braces behind a type are those of a signature that it ends in.
+/// Whether braces after a type belong to a signature at its end.
 #[cycle(open_types)]
 #[tactic(auto, unfolding(sr_expr_reader::specs::TypeReaders::ends_open))]
 fn ends_open(ty: &TypeTree) -> bool
@@ -192,7 +192,7 @@ fn ends_open(ty: &TypeTree) -> bool
     }
 }
 
-/// Whether braces behind what an operation returns are those of a signature that its type ends in.
+/// Whether braces after the result of an operation belong to a signature at the end of its type.
 fn returns_open(returned: &Option<Returned>) -> bool
     ensures { result ≡ returns_open returned.now }
 {

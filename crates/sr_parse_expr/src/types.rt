@@ -1,19 +1,19 @@
 ghost use Rattle.std.specs.Prelude.{◌≡◌, ◌<◌, ◌≤◌, length, None, IfOk, option_map};
 ghost use Rattle.sr_parse_expr.specs.Reads.{ReadsTypeBelow, ReadsTypeUpTo, ReadsUpTo};
-ghost use Rattle.sr_expr_reader.specs.TypeReaders.{array_type_at, cap_at, enum_at, formal_at, formal_behind_at, formal_start, formals_at, formals_behind_at, more_fields_at, more_formals_at, next_field_at, next_formal_at, plain_type_at, record_type_at, returned_at, signature_at, string_at, type_at};
+ghost use Rattle.sr_expr_reader.specs.TypeReaders.{array_type_at, cap_at, enum_at, formal_at, formal_after_at, formal_start, formals_at, formals_after_at, more_fields_at, more_formals_at, next_field_at, next_formal_at, plain_type_at, record_type_at, returned_at, signature_at, string_at, type_at};
 
 use crate::declared::{boxed_decl, boxed_dims, decls, names};
 use crate::expression::expression;
 use crate::pieces::qualified_name;
 use crate::type_words::{mode, next_is_basic, own_kinds, read_basic};
 use sr_parse_tokens::{
-    ReadFail, next_is_separator, next_is_sign, next_is_word, separator, sign, sign_behind, word,
+    ReadFail, next_is_separator, next_is_sign, next_is_word, separator, sign, sign_after, word,
 };
 use sr_tree::{Decl, Formal, PassMode, Returned, Sign, Signature, Token, TypeTree, Word};
 use sr_value::{Boxed, Row, Span};
 use std::alloc::Global;
 
-/// Reads a type behind a token.
+/// Reads a type after a token.
 #[cycle(types)]
 fn nested_type(alloc: Global, tokens: &[Token]) -> Result<(TypeTree, &[Token]), ReadFail>
     ensures reads { ReadsTypeBelow (λ x. (x.0, x.1.now)) tokens.now result (λ r. r.nested) }
@@ -59,13 +59,13 @@ fn string_type(alloc: Global, tokens: &[Token]) -> Result<(TypeTree, &[Token]), 
         Ok((TypeTree::Str { span, length }, rest))
     } else {
         let (length, rest) = expression(alloc, rest)?;
-        let (_, length, rest) = sign_behind(length, rest, Sign::CloseBracket)?;
+        let (_, length, rest) = sign_after(length, rest, Sign::CloseBracket)?;
         let length = Some(length);
         Ok((TypeTree::Str { span, length }, rest))
     }
 }
 
-/// Reads the type of capabilities of a machine, of an operation, or of what a name says.
+/// Reads the type of capabilities of a machine, of an operation, or of a named type.
 #[cycle(types)]
 #[tactic(auto, unfolding(sr_expr_reader::specs::TypeReaders::cap_at))]
 fn cap_type(alloc: Global, tokens: &[Token]) -> Result<(TypeTree, &[Token]), ReadFail>
@@ -85,7 +85,7 @@ fn cap_type(alloc: Global, tokens: &[Token]) -> Result<(TypeTree, &[Token]), Rea
     }
 }
 
-/// Reads dimensions and the type of the items behind them.
+/// Reads dimensions and the type of the items after them.
 #[cycle(types)]
 #[tactic(auto, unfolding(sr_expr_reader::specs::TypeReaders::array_type_at))]
 fn array_type(alloc: Global, tokens: &[Token]) -> Result<(TypeTree, &[Token]), ReadFail>
@@ -108,7 +108,7 @@ pub fn signature(alloc: Global, tokens: &[Token]) -> Result<(Signature, &[Token]
     ensures shorter { IfOk result (λ x. length x.1.now < length tokens.now) }
 {
     let (span, rest) = sign(tokens, Sign::OpenParen)?;
-    let (formals, rest) = formals_behind(alloc, rest)?;
+    let (formals, rest) = formals_after(alloc, rest)?;
     let (returned, rest) = returned(alloc, rest)?;
     let (returned, kinds, rest) = own_kinds(alloc, returned, rest)?;
     Ok((
@@ -129,14 +129,14 @@ pub fn formals(alloc: Global, tokens: &[Token]) -> Result<(Row<Formal>, &[Token]
     ensures shorter { IfOk result (λ x. length x.1.now < length tokens.now) }
 {
     let (_, rest) = sign(tokens, Sign::OpenParen)?;
-    formals_behind(alloc, rest)
+    formals_after(alloc, rest)
 }
 
-/// Reads formals and the closing parenthesis, behind the opening one.
+/// Reads formals and the closing parenthesis, after the opening one.
 #[cycle(types)]
-#[tactic(auto, unfolding(sr_expr_reader::specs::TypeReaders::formals_behind_at))]
-fn formals_behind(alloc: Global, tokens: &[Token]) -> Result<(Row<Formal>, &[Token]), ReadFail>
-    ensures reads { ReadsTypeUpTo (λ x. (x.0, x.1.now)) tokens.now result (λ r. formals_behind_at r) }
+#[tactic(auto, unfolding(sr_expr_reader::specs::TypeReaders::formals_after_at))]
+fn formals_after(alloc: Global, tokens: &[Token]) -> Result<(Row<Formal>, &[Token]), ReadFail>
+    ensures reads { ReadsTypeUpTo (λ x. (x.0, x.1.now)) tokens.now result (λ r. formals_after_at r) }
     ensures shorter { IfOk result (λ x. length x.1.now < length tokens.now) }
 {
     let mut first = Row::new(alloc);
@@ -151,7 +151,7 @@ fn formals_behind(alloc: Global, tokens: &[Token]) -> Result<(Row<Formal>, &[Tok
     Ok((formals, rest))
 }
 
-/// Reads further formals, each behind a separator.
+/// Reads further formals, each after a separator.
 #[cycle(types)]
 #[tactic(auto, unfolding(sr_expr_reader::specs::TypeReaders::more_formals_at))]
 fn more_formals(
@@ -165,14 +165,14 @@ fn more_formals(
     let mut formals = first;
     let mut rest = tokens;
     'more: while next_is_separator(rest) {
-        let (more, behind) = next_formal(alloc, formals, rest)?;
+        let (more, after) = next_formal(alloc, formals, rest)?;
         formals = more;
-        rest = behind;
+        rest = after;
     }
     Ok((formals, rest))
 }
 
-/// Reads a separator and a formal, and puts it behind the others.
+/// Reads a separator and a formal, and appends it.
 #[cycle(types)]
 #[tactic(auto, unfolding(sr_expr_reader::specs::TypeReaders::next_formal_at))]
 fn next_formal(
@@ -198,18 +198,18 @@ pub fn formal(alloc: Global, tokens: &[Token]) -> Result<(Formal, &[Token]), Rea
     ensures shorter { IfOk result (λ x. length x.1.now < length tokens.now) }
 {
     let (mode, rest) = mode(tokens)?;
-    formal_behind(alloc, mode, rest)
+    formal_after(alloc, mode, rest)
 }
 
-/// Reads formals of one type, behind the word for how they are passed where one stands.
+/// Reads formals of one type, after the word for how they are passed where one stands.
 #[cycle(types)]
-#[tactic(auto, unfolding(sr_expr_reader::specs::TypeReaders::formal_behind_at))]
-fn formal_behind(
+#[tactic(auto, unfolding(sr_expr_reader::specs::TypeReaders::formal_after_at))]
+fn formal_after(
     alloc: Global,
     mode: Option<(Span, PassMode)>,
     tokens: &[Token],
 ) -> Result<(Formal, &[Token]), ReadFail>
-    ensures reads { ReadsTypeUpTo (λ x. (x.0, x.1.now)) tokens.now result (λ r. formal_behind_at r mode) }
+    ensures reads { ReadsTypeUpTo (λ x. (x.0, x.1.now)) tokens.now result (λ r. formal_after_at r mode) }
     ensures shorter { IfOk result (λ x. length x.1.now < length tokens.now) }
 {
     let (decls, rest) = decls(alloc, tokens)?;
@@ -312,7 +312,7 @@ fn record_type(alloc: Global, tokens: &[Token]) -> Result<(TypeTree, &[Token]), 
 {
     let (span, rest) = word(tokens, Word::Rec)?;
     let (_, rest) = sign(rest, Sign::OpenParen)?;
-    let (first, rest) = formal_behind(alloc, None, rest)?;
+    let (first, rest) = formal_after(alloc, None, rest)?;
     let mut fields = Row::new(alloc);
     fields.push(first)?;
     let (fields, rest) = more_fields(alloc, fields, rest)?;
@@ -320,7 +320,7 @@ fn record_type(alloc: Global, tokens: &[Token]) -> Result<(TypeTree, &[Token]), 
     Ok((TypeTree::Rec { span, fields }, rest))
 }
 
-/// Reads further fields of a record, each behind a separator.
+/// Reads further fields of a record, each after a separator.
 #[tactic(auto, unfolding(sr_expr_reader::specs::TypeReaders::more_fields_at))]
 fn more_fields(
     alloc: Global,
@@ -333,14 +333,14 @@ fn more_fields(
     let mut fields = first;
     let mut rest = tokens;
     'more: while next_is_separator(rest) {
-        let (more, behind) = next_field(alloc, fields, rest)?;
+        let (more, after) = next_field(alloc, fields, rest)?;
         fields = more;
-        rest = behind;
+        rest = after;
     }
     Ok((fields, rest))
 }
 
-/// Reads a separator and a field, and puts it behind the others.
+/// Reads a separator and a field, and appends it.
 #[tactic(auto, unfolding(sr_expr_reader::specs::TypeReaders::next_field_at))]
 fn next_field(
     alloc: Global,
@@ -352,7 +352,7 @@ fn next_field(
 {
     let mut fields = fields;
     let (_, rest) = separator(tokens)?;
-    let (next, rest) = formal_behind(alloc, None, rest)?;
+    let (next, rest) = formal_after(alloc, None, rest)?;
     fields.push(next)?;
     Ok((fields, rest))
 }

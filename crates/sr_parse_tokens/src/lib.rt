@@ -7,5 +7,5 @@ mod reading;
 
 pub use reading::{
     ReadFail, arm_may_follow, name, next_is_name, next_is_separator, next_is_sign, next_is_word,
-    separator, sign, sign_behind, word,
+    separator, sign, sign_after, word,
 };

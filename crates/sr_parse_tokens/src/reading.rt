@@ -13,7 +13,7 @@ use std::alloc::Global;
 /// Why nothing was read.
 #[derive(Clone, Copy, Debug, PartialEq, Eq)]
 pub enum ReadFail {
-    /// A token doesn't fit, or the tokens end too early; so many tokens are left there, with that one.
+    /// A token doesn't fit, or the tokens end too early. This many tokens are left, counting that one.
     Unexpected { left: usize },
     NoMemory,
 }
@@ -90,8 +90,8 @@ pub fn sign(tokens: &[Token], wanted: Sign) -> Result<(Span, &[Token]), ReadFail
     }
 }
 
-/// Reads this sign behind a tree, and hands the tree back; its type is left open, so that no failure looks into it.
-pub fn sign_behind<T: Drop>(
+/// Reads this sign after a tree, and hands the tree back; its type is left open, so that no failure looks into it.
+pub fn sign_after<T: Drop>(
     tree: T,
     tokens: &[Token],
     wanted: Sign,

@@ -13,7 +13,7 @@ use Rattle.sr_tree.specs.declared.token.Word.TheVariants as word
 use Rattle.sr_tree.specs.Expressions.{expr_span}
 use Rattle.sr_tree.specs.Tests.{is_sign, is_word}
 use Rattle.sr_tree.specs.Tokens.{sign_at, word_at, name_at}
-use Rattle.sr_program_reader.specs.StatementReaders.{StatementReaders, arm_at, arrow_block_at, behind_invocation_at, behind_quantifiers_at, behind_target_at, by_at, co_arm_at, co_block_at, co_called_at, co_primary_at, co_start_at, condition_at, enclosed_names_at, enclosed_quantifiers_at, first_of, invocation_at, invocation_of, invoked_at, returned_name_at}
+use Rattle.sr_program_reader.specs.StatementReaders.{StatementReaders, arm_at, arrow_block_at, after_invocation_at, after_quantifiers_at, after_target_at, by_at, co_arm_at, co_block_at, co_called_at, co_primary_at, co_start_at, condition_at, enclosed_names_at, enclosed_quantifiers_at, first_of, invocation_at, invocation_of, invoked_at, returned_name_at}
 use Rattle.sr_parser.specs.declared.heads.ArmHead.{ArmHead}
 use Rattle.sr_parser.specs.declared.heads.CoHead.{CoHead}
 use Rattle.sr_parser.specs.ArmReaders.{arm_head_at, arm_of, called_head_at, co_arm_of, co_head_at, primary_head_at, quantified_head_at, split_arm_at, split_co_arm_at, target_head_at}
@@ -39,19 +39,19 @@ module _ (r : StatementReaders) where
 
   called-splits : (start : Option Span) (qs : List Quantifier) (target : Option Expr) (s : List Token)
       → continued (called_head_at r.types.expressions start qs target s) with_block ≡ co_called_at r start qs target s
-  unfolding called_head_at co_called_at behind_invocation_at co_block_at with_block
+  unfolding called_head_at co_called_at after_invocation_at co_block_at with_block
   called-splits start qs target s = then-then with_block (word_at word.Call s) _ _ (λ called q. then-then with_block (invocation_at r.types.expressions q) _ _ (λ i z. refl))
 
   target-splits : (span : Span) (qs : List Quantifier) (target : Expr) (s : List Token)
-      → continued (target_head_at r.types.expressions span qs target s) with_block ≡ behind_target_at r span qs target s
-  unfolding target_head_at behind_target_at behind_invocation_at co_block_at with_block
+      → continued (target_head_at r.types.expressions span qs target s) with_block ≡ after_target_at r span qs target s
+  unfolding target_head_at after_target_at after_invocation_at co_block_at with_block
   target-splits span qs target s =
       branch-then with_block (next_is (λ t. is_word word.Call t.kind) s) _ _ _ _ (called-splits (Some span) qs (Some target) s)
       (then-then with_block (invocation_at r.types.expressions s) _ _ (λ i z. refl))
 
   primary-splits : (start : Option Span) (qs : List Quantifier) (s : List Token)
       → continued (primary_head_at r.types.expressions start qs s) with_block ≡ co_primary_at r start qs s
-  unfolding primary_head_at co_primary_at behind_invocation_at behind_target_at co_block_at with_block
+  unfolding primary_head_at co_primary_at after_invocation_at after_target_at co_block_at with_block
   primary-splits start qs s =
       then-then with_block (co_start_at start r.types.expressions s) _ _
       (λ e q. branch-then with_block (next_is (λ t. is_sign sign.Assign t.kind) q) _ _ _ _
@@ -59,13 +59,13 @@ module _ (r : StatementReaders) where
       (then-then with_block (invoked_at (invocation_of e) q) _ _ (λ i z. refl)))
 
   quantified-splits : (start : Option Span) (qs : List Quantifier) (s : List Token)
-      → continued (quantified_head_at r.types.expressions start qs s) with_block ≡ behind_quantifiers_at r start qs s
-  unfolding quantified_head_at behind_quantifiers_at
+      → continued (quantified_head_at r.types.expressions start qs s) with_block ≡ after_quantifiers_at r start qs s
+  unfolding quantified_head_at after_quantifiers_at
   quantified-splits start qs s =
       branch-then with_block (next_is (λ t. is_word word.Call t.kind) s) _ _ _ _ (called-splits start qs None s) (primary-splits start qs s)
 
   pub co-splits : (s : List Token) → split_co_arm_at r s ≡ co_arm_at r s
-  unfolding split_co_arm_at co_head_at co_arm_at with_block behind_quantifiers_at
+  unfolding split_co_arm_at co_head_at co_arm_at with_block after_quantifiers_at
   co-splits s =
       branch-then with_block (next_is (λ t. is_sign sign.OpenParen t.kind) s) _ _ _ _
       (then-then with_block (enclosed_quantifiers_at r.types.expressions s) _ _ (λ qs z. quantified-splits (Some qs.0) qs.1 z))

@@ -1,4 +1,4 @@
--- Readers of what stands before the block of an arm: they read no block, so what reads them stands in no cycle.
+-- Readers of the part of an arm before its block. They read no block, so their functions are in no cycle of calls.
 use Rattle.std.specs.Prelude.{true, false, List, [], Option, Some, None}
 use Rattle.sr_reader.specs.Reader.{Reader, returned, ◌>>=◌, branch}
 use Rattle.sr_value.specs.declared.place.Span.{Span}
@@ -29,9 +29,9 @@ arm_head_at r = do
   order ← by_at r
   returned (record { operation = n; formals = formals; returned = named; condition = condition; order = order })
 
--- ["returns" name] [("and" | "st") expr] ["by" expr] behind the formals of an arm
-unfoldable pub arm_head_behind_at : Readers → Name → List Name → Reader Token ArmHead
-arm_head_behind_at r n formals = do
+-- ["returns" name] [("and" | "st") expr] ["by" expr] after the formals of an arm
+unfoldable pub arm_head_after_at : Readers → Name → List Name → Reader Token ArmHead
+arm_head_after_at r n formals = do
   named ← returned_name_at
   condition ← condition_at r
   order ← by_at r
@@ -56,7 +56,7 @@ called_head_at r start qs target = do
   i ← invocation_at r
   returned (record { span = first_of start called; quantifiers = qs; target = target; with_call = true; invocation = i })
 
--- behind its target and `:=`
+-- after its target and `:=`
 unfoldable pub target_head_at : Readers → Span → List Quantifier → Expr → Reader Token CoHead
 target_head_at r span qs target = branch (λ t. is_word word.Call t.kind) (called_head_at r (Some span) qs (Some target))
     (do
@@ -75,7 +75,7 @@ primary_head_at r start qs = do
         i ← invoked_at (invocation_of e)
         returned (record { span = first_of start (expr_span e); quantifiers = qs; target = None; with_call = false; invocation = i }))
 
--- behind its quantifiers
+-- after its quantifiers
 unfoldable pub quantified_head_at : Readers → Option Span → List Quantifier → Reader Token CoHead
 quantified_head_at r start qs = branch (λ t. is_word word.Call t.kind) (called_head_at r start qs None) (primary_head_at r start qs)
 

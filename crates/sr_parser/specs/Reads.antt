@@ -1,4 +1,4 @@
--- What a function that reads statements promises: its answer is that of a reader, for every bound that suffices.
+-- What a function that reads statements promises: its answer is the reader's answer, for every bound that suffices.
 use Rattle.std.specs.Prelude.{ℕ, ◌<◌, ◌≤◌, List, Result, length}
 use Rattle.sr_reader.specs.Reader.{Reader}
 use Rattle.sr_tree.specs.declared.token.Token.{Token}

@@ -5,9 +5,9 @@ ghost use Rattle.sr_parser.specs.Reads.{ReadsStatementUpTo};
 ghost use Rattle.sr_program_reader.specs.ComponentReaders.{begins_proc_item, final_at, proc_at, proc_block_at, proc_item_at, procedure_at, process_at};
 ghost use Rattle.sr_program_reader.specs.DeclarationReaders.{items_at, next_item_at};
 
-use crate::behind::{let_go, pushed, separator_behind, word_behind};
+use crate::after::{let_go, pushed, separator_after, word_after};
 use crate::declaration::{const_decl, op_decl, sem_decl, var_decl};
-use crate::ends::end_behind;
+use crate::ends::end_after;
 use crate::parts::{enclosed_names, returned_name};
 use crate::quantifier::optional_quantifiers;
 use crate::statement::statement;
@@ -63,8 +63,8 @@ fn proc_block(alloc: Global, tokens: &[Token]) -> Result<(Row<ProcItem>, &[Token
     Ok((block, rest))
 }
 
-/// Reads such a block behind a tree.
-fn proc_block_behind<T: Drop>(
+/// Reads such a block after a tree.
+fn proc_block_after<T: Drop>(
     alloc: Global,
     tree: T,
     tokens: &[Token],
@@ -77,7 +77,7 @@ fn proc_block_behind<T: Drop>(
     Ok((tree, block, rest))
 }
 
-/// Reads items of a block as long as they go on, behind others; the flag says whether one may begin here.
+/// Reads items of a block as long as they go on, after others; the flag says whether one may begin here.
 #[tactic(auto, unfolding(sr_program_reader::specs::DeclarationReaders::items_at))]
 fn proc_items(
     alloc: Global,
@@ -90,14 +90,14 @@ fn proc_items(
     let mut state = first;
     let mut rest = tokens;
     'more: while block_goes_on(state.1, rest) {
-        let (more, behind) = next_proc_item(alloc, state, rest)?;
+        let (more, after) = next_proc_item(alloc, state, rest)?;
         state = more;
-        rest = behind;
+        rest = after;
     }
     Ok((state, rest))
 }
 
-/// Reads a separator, behind which another may begin, or an item, behind which none may.
+/// Reads a separator, after which another may begin, or an item, after which none may.
 #[tactic(auto, unfolding(sr_program_reader::specs::DeclarationReaders::next_item_at))]
 fn next_proc_item(
     alloc: Global,
@@ -109,7 +109,7 @@ fn next_proc_item(
 {
     let (items, _) = state;
     if next_is_separator(tokens) {
-        let (_, items, rest) = separator_behind(items, tokens)?;
+        let (_, items, rest) = separator_after(items, tokens)?;
         Ok(((items, true), rest))
     } else {
         match proc_item(alloc, tokens) {
@@ -139,8 +139,8 @@ pub fn proc_decl(alloc: Global, tokens: &[Token]) -> Result<(Proc, &[Token]), Re
     let (name, rest) = name(alloc, rest)?;
     let (formals, rest) = enclosed_names(alloc, rest)?;
     let (returned, rest) = returned_name(alloc, rest)?;
-    let (before, block, rest) = proc_block_behind(alloc, (formals, returned), rest)?;
-    let (_, (before, block), rest) = end_behind((before, block), &name, rest)?;
+    let (before, block, rest) = proc_block_after(alloc, (formals, returned), rest)?;
+    let (_, (before, block), rest) = end_after((before, block), &name, rest)?;
     let (formals, returned) = before;
     Ok((
         Proc {
@@ -163,8 +163,8 @@ pub fn procedure_decl(alloc: Global, tokens: &[Token]) -> Result<(Procedure, &[T
     let (span, rest) = word(tokens, Word::Procedure)?;
     let (name, rest) = name(alloc, rest)?;
     let (signature, rest) = signature(alloc, rest)?;
-    let (signature, block, rest) = proc_block_behind(alloc, signature, rest)?;
-    let (_, (signature, block), rest) = end_behind((signature, block), &name, rest)?;
+    let (signature, block, rest) = proc_block_after(alloc, signature, rest)?;
+    let (_, (signature, block), rest) = end_after((signature, block), &name, rest)?;
     Ok((
         Procedure {
             span,
@@ -185,8 +185,8 @@ pub fn process_decl(alloc: Global, tokens: &[Token]) -> Result<(Process, &[Token
     let (span, rest) = word(tokens, Word::Process)?;
     let (name, rest) = name(alloc, rest)?;
     let (quantifiers, rest) = optional_quantifiers(alloc, rest)?;
-    let (quantifiers, block, rest) = proc_block_behind(alloc, quantifiers, rest)?;
-    let (_, (quantifiers, block), rest) = end_behind((quantifiers, block), &name, rest)?;
+    let (quantifiers, block, rest) = proc_block_after(alloc, quantifiers, rest)?;
+    let (_, (quantifiers, block), rest) = end_after((quantifiers, block), &name, rest)?;
     Ok((
         Process {
             span,
@@ -206,6 +206,6 @@ pub fn final_code(alloc: Global, tokens: &[Token]) -> Result<(FinalCode, &[Token
 {
     let (span, rest) = word(tokens, Word::Final)?;
     let (block, rest) = proc_block(alloc, rest)?;
-    let (_, block, rest) = word_behind(block, rest, Word::End)?;
+    let (_, block, rest) = word_after(block, rest, Word::End)?;
     Ok((FinalCode { span, block }, rest))
 }

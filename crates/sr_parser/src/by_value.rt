@@ -3,9 +3,9 @@ ghost use Rattle.sr_reader.specs.Reader.{next_is};
 ghost use Rattle.sr_parse_expr.specs.Reads.{ReadsTypeUpTo};
 ghost use Rattle.sr_program_reader.specs.ComponentReaders.{is_mode_by_place, more_value_formals_at, next_value_formal_at, optional_value_formals_at, value_formal_at, value_formals_at};
 
-use crate::behind::{let_go, pushed, row_of, separator_behind};
+use crate::after::{let_go, pushed, row_of, separator_after};
 use sr_parse_expr::types::formal;
-use sr_parse_tokens::{ReadFail, next_is_separator, next_is_sign, next_is_word, sign, sign_behind};
+use sr_parse_tokens::{ReadFail, next_is_separator, next_is_sign, next_is_word, sign, sign_after};
 use sr_tree::{Formal, Sign, Token, Word};
 use sr_value::Row;
 use std::alloc::Global;
@@ -30,7 +30,7 @@ fn value_formal(alloc: Global, tokens: &[Token]) -> Result<(Formal, &[Token]), R
     }
 }
 
-/// Reads further such formals, each behind a separator.
+/// Reads further such formals, each after a separator.
 #[tactic(auto, unfolding(sr_program_reader::specs::ComponentReaders::more_value_formals_at))]
 fn more_value_formals(
     alloc: Global,
@@ -43,14 +43,14 @@ fn more_value_formals(
     let mut formals = first;
     let mut rest = tokens;
     'more: while next_is_separator(rest) {
-        let (more, behind) = next_value_formal(alloc, formals, rest)?;
+        let (more, after) = next_value_formal(alloc, formals, rest)?;
         formals = more;
-        rest = behind;
+        rest = after;
     }
     Ok((formals, rest))
 }
 
-/// Reads a separator and such formals, and puts them behind the others.
+/// Reads a separator and such formals, and appends them.
 #[tactic(auto, unfolding(sr_program_reader::specs::ComponentReaders::next_value_formal_at))]
 fn next_value_formal(
     alloc: Global,
@@ -60,7 +60,7 @@ fn next_value_formal(
     ensures reads { ReadsTypeUpTo (λ x. (x.0, x.1.now)) tokens.now result (λ r. next_value_formal_at r formals) }
     ensures shorter { IfOk result (λ x. length x.1.now < length tokens.now) }
 {
-    let (_, formals, rest) = separator_behind(formals, tokens)?;
+    let (_, formals, rest) = separator_after(formals, tokens)?;
     match value_formal(alloc, rest) {
         Ok((next, rest)) => Ok((pushed(formals, next)?, rest)),
         Err(fail) => {
@@ -84,7 +84,7 @@ pub fn value_formals(alloc: Global, tokens: &[Token]) -> Result<(Row<Formal>, &[
     let (formal, rest) = value_formal(alloc, rest)?;
     let first = row_of(alloc, formal)?;
     let (formals, rest) = more_value_formals(alloc, first, rest)?;
-    let (_, formals, rest) = sign_behind(formals, rest, Sign::CloseParen)?;
+    let (_, formals, rest) = sign_after(formals, rest, Sign::CloseParen)?;
     Ok((formals, rest))
 }
 
@@ -104,8 +104,8 @@ fn optional_value_formals(
     }
 }
 
-/// Reads such formals behind a tree, where they stand.
-pub fn optional_value_formals_behind<T: Drop>(
+/// Reads such formals after a tree, where they stand.
+pub fn optional_value_formals_after<T: Drop>(
     alloc: Global,
     tree: T,
     tokens: &[Token],

@@ -5,17 +5,17 @@ ghost use Rattle.sr_parser.specs.Reads.{ReadsStatementUpTo};
 ghost use Rattle.sr_program_reader.specs.ComponentReaders.{begins_component, component_at, file_at, global_at, global_body_at, resource_at, split_resource_at, whole_resource_at};
 ghost use Rattle.sr_program_reader.specs.DeclarationReaders.{items_at, list_at, next_item_at};
 
-use crate::behind::{let_go, pushed, separator_behind, word_behind};
-use crate::by_value::{optional_value_formals_behind, value_formals};
-use crate::ends::{end_behind, nothing_more, this_name, this_name_behind};
-use crate::items::{global_items, resource_items_behind};
+use crate::after::{let_go, pushed, separator_after, word_after};
+use crate::by_value::{optional_value_formals_after, value_formals};
+use crate::ends::{end_after, nothing_more, this_name, this_name_after};
+use crate::items::{global_items, resource_items_after};
 use crate::spec::{global_spec, resource_spec};
 use sr_parse_tokens::{ReadFail, name, next_is_separator, next_is_sign, next_is_word, word};
 use sr_tree::{Component, File, Item, Name, Sign, Token, Word};
 use sr_value::{Row, Span};
 use std::alloc::Global;
 
-/// Reads what stands behind the name of a resource that isn't split.
+/// Reads what stands after the name of a resource that isn't split.
 #[tactic(auto, unfolding(sr_program_reader::specs::ComponentReaders::whole_resource_at))]
 fn whole_resource(
     alloc: Global,
@@ -27,8 +27,8 @@ fn whole_resource(
     ensures shorter { IfOk result (λ x. length x.1.now < length tokens.now) }
 {
     let (formals, rest) = value_formals(alloc, tokens)?;
-    let (formals, items, rest) = resource_items_behind(alloc, formals, rest)?;
-    let (_, (formals, items), rest) = end_behind((formals, items), &name, rest)?;
+    let (formals, items, rest) = resource_items_after(alloc, formals, rest)?;
+    let (_, (formals, items), rest) = end_after((formals, items), &name, rest)?;
     Ok((
         Component::Resource {
             span,
@@ -40,7 +40,7 @@ fn whole_resource(
     ))
 }
 
-/// Reads what stands behind the name of a resource that is split.
+/// Reads what stands after the name of a resource that is split.
 #[tactic(auto, unfolding(sr_program_reader::specs::ComponentReaders::split_resource_at))]
 fn split_resource(
     alloc: Global,
@@ -52,11 +52,11 @@ fn split_resource(
     ensures shorter { IfOk result (λ x. length x.1.now < length tokens.now) }
 {
     let (spec, rest) = resource_spec(alloc, tokens)?;
-    let (_, spec, rest) = word_behind(spec, rest, Word::Body)?;
-    let (_, spec, rest) = this_name_behind(spec, &name, rest)?;
-    let (spec, formals, rest) = optional_value_formals_behind(alloc, spec, rest)?;
-    let (before, items, rest) = resource_items_behind(alloc, (spec, formals), rest)?;
-    let (_, (before, items), rest) = end_behind((before, items), &name, rest)?;
+    let (_, spec, rest) = word_after(spec, rest, Word::Body)?;
+    let (_, spec, rest) = this_name_after(spec, &name, rest)?;
+    let (spec, formals, rest) = optional_value_formals_after(alloc, spec, rest)?;
+    let (before, items, rest) = resource_items_after(alloc, (spec, formals), rest)?;
+    let (_, (before, items), rest) = end_after((before, items), &name, rest)?;
     let (spec, formals) = before;
     Ok((
         Component::SplitResource {
@@ -105,8 +105,8 @@ fn global_body<'a>(
     }
 }
 
-/// Reads the body of a global behind a tree, where one stands.
-fn global_body_behind<'a, T: Drop>(
+/// Reads the body of a global after a tree, where one stands.
+fn global_body_after<'a, T: Drop>(
     alloc: Global,
     tree: T,
     name: &Name,
@@ -129,8 +129,8 @@ fn global(alloc: Global, tokens: &[Token]) -> Result<(Component, &[Token]), Read
     let (span, rest) = word(tokens, Word::Global)?;
     let (name, rest) = name(alloc, rest)?;
     let (spec, rest) = global_spec(alloc, rest)?;
-    let (spec, body, rest) = global_body_behind(alloc, spec, &name, rest)?;
-    let (_, (spec, body), rest) = end_behind((spec, body), &name, rest)?;
+    let (spec, body, rest) = global_body_after(alloc, spec, &name, rest)?;
+    let (_, (spec, body), rest) = end_after((spec, body), &name, rest)?;
     Ok((
         Component::Global {
             span,
@@ -168,7 +168,7 @@ fn component_list(alloc: Global, tokens: &[Token]) -> Result<(Row<Component>, &[
     ensures reads { ReadsStatementUpTo (λ x. (x.0, x.1.now)) tokens.now result (λ r. list_at (λ t. begins_component t.kind) (component_at r) r.types.expressions.steps) }
     ensures shorter { IfOk result (λ x. length x.1.now ≤ length tokens.now) }
 {
-    let ((components, _), rest) = components_behind(alloc, (Row::new(alloc), true), tokens)?;
+    let ((components, _), rest) = components_after(alloc, (Row::new(alloc), true), tokens)?;
     Ok((components, rest))
 }
 
@@ -187,9 +187,9 @@ pub fn file(alloc: Global, tokens: &[Token]) -> Result<(File, &[Token]), ReadFai
     }
 }
 
-/// Reads components as long as they go on, behind others; the flag says whether one may begin here.
+/// Reads components as long as they go on, after others; the flag says whether one may begin here.
 #[tactic(auto, unfolding(sr_program_reader::specs::DeclarationReaders::items_at))]
-fn components_behind(
+fn components_after(
     alloc: Global,
     first: (Row<Component>, bool),
     tokens: &[Token],
@@ -200,14 +200,14 @@ fn components_behind(
     let mut state = first;
     let mut rest = tokens;
     'more: while components_go_on(state.1, rest) {
-        let (more, behind) = next_component(alloc, state, rest)?;
+        let (more, after) = next_component(alloc, state, rest)?;
         state = more;
-        rest = behind;
+        rest = after;
     }
     Ok((state, rest))
 }
 
-/// Reads a separator, behind which another may begin, or a component, behind which none may.
+/// Reads a separator, after which another may begin, or a component, after which none may.
 #[tactic(auto, unfolding(sr_program_reader::specs::DeclarationReaders::next_item_at))]
 fn next_component(
     alloc: Global,
@@ -219,7 +219,7 @@ fn next_component(
 {
     let (items, _) = state;
     if next_is_separator(tokens) {
-        let (_, items, rest) = separator_behind(items, tokens)?;
+        let (_, items, rest) = separator_after(items, tokens)?;
         Ok(((items, true), rest))
     } else {
         match component(alloc, tokens) {

@@ -2,12 +2,12 @@ ghost use Rattle.std.specs.Prelude.{◌≡◌, ◌<◌, ◌≤◌, length, IfOk}
 ghost use Rattle.sr_parse_expr.specs.Reads.{ReadsTypeUpTo, ReadsUpTo};
 ghost use Rattle.sr_program_reader.specs.DeclarationReaders.{const_at, import_at, initial_at, more_op_items_at, more_semaphores_at, next_op_item_at, next_semaphore_at, op_at, op_item_at, optional_type_at, optype_at, sem_at, semaphore_at, type_decl_at, values_at, var_at};
 
-use crate::behind::{expression_behind, let_go, pushed, row_of};
+use crate::after::{expression_after, let_go, pushed, row_of};
 use sr_parse_expr::declared::{decls, names};
 use sr_parse_expr::expression::{LOOSEST, more_arguments, operand};
 use sr_parse_expr::pieces::qualified_name;
 use sr_parse_expr::types::{plain_type, signature, type_tree};
-use sr_parse_tokens::{ReadFail, name, next_is_sign, sign, sign_behind, word};
+use sr_parse_tokens::{ReadFail, name, next_is_sign, sign, sign_after, word};
 use sr_tree::{
     ConstDecl, Expr, Import, OpDecl, OpItem, OpTypeDecl, SemDecl, Semaphore, Sign, Token, TypeDecl,
     TypeTree, VarDecl, Word,
@@ -50,8 +50,8 @@ pub fn const_decl(alloc: Global, tokens: &[Token]) -> Result<(ConstDecl, &[Token
     let (span, rest) = word(tokens, Word::Const)?;
     let (name, rest) = name(alloc, rest)?;
     let (ty, rest) = optional_type(alloc, rest)?;
-    let (_, ty, rest) = sign_behind(ty, rest, Sign::Assign)?;
-    let (ty, value, rest) = expression_behind(alloc, ty, rest)?;
+    let (_, ty, rest) = sign_after(ty, rest, Sign::Assign)?;
+    let (ty, value, rest) = expression_after(alloc, ty, rest)?;
     Ok((
         ConstDecl {
             span,
@@ -121,7 +121,7 @@ fn op_item(alloc: Global, tokens: &[Token]) -> Result<(OpItem, &[Token]), ReadFa
     }
 }
 
-/// Reads further operations, each behind a comma.
+/// Reads further operations, each after a comma.
 #[tactic(auto, unfolding(sr_program_reader::specs::DeclarationReaders::more_op_items_at))]
 fn more_op_items(
     alloc: Global,
@@ -134,14 +134,14 @@ fn more_op_items(
     let mut items = first;
     let mut rest = tokens;
     'more: while next_is_sign(rest, Sign::Comma) {
-        let (more, behind) = next_op_item(alloc, items, rest)?;
+        let (more, after) = next_op_item(alloc, items, rest)?;
         items = more;
-        rest = behind;
+        rest = after;
     }
     Ok((items, rest))
 }
 
-/// Reads a comma and an operation, and puts it behind the others.
+/// Reads a comma and an operation, and appends it.
 #[tactic(auto, unfolding(sr_program_reader::specs::DeclarationReaders::next_op_item_at))]
 fn next_op_item(
     alloc: Global,
@@ -151,7 +151,7 @@ fn next_op_item(
     ensures reads { ReadsTypeUpTo (λ x. (x.0, x.1.now)) tokens.now result (λ r. next_op_item_at r items) }
     ensures shorter { IfOk result (λ x. length x.1.now < length tokens.now) }
 {
-    let (_, items, rest) = sign_behind(items, tokens, Sign::Comma)?;
+    let (_, items, rest) = sign_after(items, tokens, Sign::Comma)?;
     match op_item(alloc, rest) {
         Ok((next, rest)) => Ok((pushed(items, next)?, rest)),
         Err(fail) => {
@@ -174,7 +174,7 @@ pub fn op_decl(alloc: Global, tokens: &[Token]) -> Result<(OpDecl, &[Token]), Re
     Ok((OpDecl { span, items }, rest))
 }
 
-/// Reads `:=` and values behind a type, where they stand, and hands the type back.
+/// Reads `:=` and values after a type, where they stand, and hands the type back.
 #[tactic(auto, unfolding(sr_program_reader::specs::DeclarationReaders::values_at))]
 fn values<T: Drop>(
     alloc: Global,
@@ -244,7 +244,7 @@ fn semaphore(alloc: Global, tokens: &[Token]) -> Result<(Semaphore, &[Token]), R
     Ok((Semaphore { span, name, value }, rest))
 }
 
-/// Reads further semaphores, each behind a comma.
+/// Reads further semaphores, each after a comma.
 #[tactic(auto, unfolding(sr_program_reader::specs::DeclarationReaders::more_semaphores_at))]
 fn more_semaphores(
     alloc: Global,
@@ -257,14 +257,14 @@ fn more_semaphores(
     let mut semaphores = first;
     let mut rest = tokens;
     'more: while next_is_sign(rest, Sign::Comma) {
-        let (more, behind) = next_semaphore(alloc, semaphores, rest)?;
+        let (more, after) = next_semaphore(alloc, semaphores, rest)?;
         semaphores = more;
-        rest = behind;
+        rest = after;
     }
     Ok((semaphores, rest))
 }
 
-/// Reads a comma and a semaphore, and puts it behind the others.
+/// Reads a comma and a semaphore, and appends it.
 #[tactic(auto, unfolding(sr_program_reader::specs::DeclarationReaders::next_semaphore_at))]
 fn next_semaphore(
     alloc: Global,
@@ -274,7 +274,7 @@ fn next_semaphore(
     ensures reads { ReadsUpTo (λ x. (x.0, x.1.now)) tokens.now result (λ r. next_semaphore_at r semaphores) }
     ensures shorter { IfOk result (λ x. length x.1.now < length tokens.now) }
 {
-    let (_, semaphores, rest) = sign_behind(semaphores, tokens, Sign::Comma)?;
+    let (_, semaphores, rest) = sign_after(semaphores, tokens, Sign::Comma)?;
     match semaphore(alloc, rest) {
         Ok((next, rest)) => Ok((pushed(semaphores, next)?, rest)),
         Err(fail) => {

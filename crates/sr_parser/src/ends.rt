@@ -31,7 +31,7 @@ pub fn this_name<'a>(wanted: &Name, tokens: &'a [Token]) -> Result<(Span, &'a [T
     }
 }
 
-/// Reads `end`, and the name of what ends where one is written.
+/// Reads `end`, and the name after it where one is written.
 #[tactic(auto, unfolding(sr_program_reader::specs::ComponentReaders::end_at))]
 fn end<'a>(name: &Name, tokens: &'a [Token]) -> Result<(Span, &'a [Token]), ReadFail>
     ensures reads { Gives (λ x. (x.0, x.1.now)) result (end_at name.now tokens.now) }
@@ -45,8 +45,8 @@ fn end<'a>(name: &Name, tokens: &'a [Token]) -> Result<(Span, &'a [Token]), Read
     }
 }
 
-/// Reads a name of the same text behind a tree.
-pub fn this_name_behind<'a, T: Drop>(
+/// Reads a name of the same text after a tree.
+pub fn this_name_after<'a, T: Drop>(
     tree: T,
     wanted: &Name,
     tokens: &'a [Token],
@@ -59,8 +59,8 @@ pub fn this_name_behind<'a, T: Drop>(
     Ok((span, tree, rest))
 }
 
-/// Reads `end`, and the name of what ends where one is written, behind a tree.
-pub fn end_behind<'a, T: Drop>(
+/// Reads `end`, and the name after it where one is written, after a tree.
+pub fn end_after<'a, T: Drop>(
     tree: T,
     name: &Name,
     tokens: &'a [Token],

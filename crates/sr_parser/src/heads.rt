@@ -1,13 +1,13 @@
 ghost use Rattle.std.specs.Prelude.{◌≡◌, ◌<◌, ◌≤◌, length, None, IfOk};
 ghost use Rattle.sr_parse_expr.specs.Reads.{ReadsUpTo};
-ghost use Rattle.sr_parser.specs.ArmReaders.{arm_head_at, arm_head_behind_at, called_head_at, co_head_at, primary_head_at, quantified_head_at, target_head_at};
+ghost use Rattle.sr_parser.specs.ArmReaders.{arm_head_at, arm_head_after_at, called_head_at, co_head_at, primary_head_at, quantified_head_at, target_head_at};
 ghost use Rattle.sr_program_reader.specs.StatementReaders.{co_start_at, first_of};
 
-use crate::behind::{invocation_behind, let_go, word_behind};
+use crate::after::{invocation_after, let_go, word_after};
 use crate::parts::{by, condition, enclosed_names, invoked, named, returned_name};
 use crate::quantifier::enclosed_quantifiers;
 use sr_parse_expr::expression::primary;
-use sr_parse_tokens::{ReadFail, name, next_is_sign, next_is_word, sign_behind};
+use sr_parse_tokens::{ReadFail, name, next_is_sign, next_is_word, sign_after};
 use sr_tree::{ArmCondition, Expr, Invocation, Name, Quantifier, Sign, Token, Word};
 use sr_value::{Row, Span};
 use std::alloc::Global;
@@ -33,25 +33,25 @@ pub struct CoHead {
 }
 
 /// Reads an arm of `in` up to its block.
-#[tactic(auto, unfolding(crate::specs::ArmReaders::arm_head_at, crate::specs::ArmReaders::arm_head_behind_at))]
+#[tactic(auto, unfolding(crate::specs::ArmReaders::arm_head_at, crate::specs::ArmReaders::arm_head_after_at))]
 pub fn arm_head(alloc: Global, tokens: &[Token]) -> Result<(ArmHead, &[Token]), ReadFail>
     ensures reads { ReadsUpTo (λ x. (x.0, x.1.now)) tokens.now result (λ r. arm_head_at r) }
     ensures shorter { IfOk result (λ x. length x.1.now < length tokens.now) }
 {
     let (operation, rest) = name(alloc, tokens)?;
     let (formals, rest) = enclosed_names(alloc, rest)?;
-    arm_head_behind(alloc, operation, formals, rest)
+    arm_head_after(alloc, operation, formals, rest)
 }
 
-/// Reads an arm of `in` from behind its formals up to its block.
-#[tactic(auto, unfolding(crate::specs::ArmReaders::arm_head_behind_at))]
-fn arm_head_behind(
+/// Reads an arm of `in` from after its formals up to its block.
+#[tactic(auto, unfolding(crate::specs::ArmReaders::arm_head_after_at))]
+fn arm_head_after(
     alloc: Global,
     operation: Name,
     formals: Row<Name>,
     tokens: &[Token],
 ) -> Result<(ArmHead, &[Token]), ReadFail>
-    ensures reads { ReadsUpTo (λ x. (x.0, x.1.now)) tokens.now result (λ r. arm_head_behind_at r operation formals) }
+    ensures reads { ReadsUpTo (λ x. (x.0, x.1.now)) tokens.now result (λ r. arm_head_after_at r operation formals) }
     ensures shorter { IfOk result (λ x. length x.1.now ≤ length tokens.now) }
 {
     let (returned, rest) = returned_name(alloc, tokens)?;
@@ -85,8 +85,8 @@ fn called_head(
     ensures reads { ReadsUpTo (λ x. (x.0, x.1.now)) tokens.now result (λ r. called_head_at r start quantifiers target) }
     ensures shorter { IfOk result (λ x. length x.1.now < length tokens.now) }
 {
-    let (span, before, rest) = word_behind((quantifiers, target), tokens, Word::Call)?;
-    let ((quantifiers, target), invocation, rest) = invocation_behind(alloc, before, rest)?;
+    let (span, before, rest) = word_after((quantifiers, target), tokens, Word::Call)?;
+    let ((quantifiers, target), invocation, rest) = invocation_after(alloc, before, rest)?;
     let span = first_of(start, span);
     let with_call = true;
     Ok((
@@ -101,7 +101,7 @@ fn called_head(
     ))
 }
 
-/// Reads an arm of `co` from behind its target and `:=` up to its block.
+/// Reads an arm of `co` from after its target and `:=` up to its block.
 #[tactic(auto, unfolding(crate::specs::ArmReaders::target_head_at))]
 fn target_head(
     alloc: Global,
@@ -116,7 +116,7 @@ fn target_head(
     if next_is_word(tokens, Word::Call) {
         called_head(alloc, Some(span), quantifiers, Some(target), tokens)
     } else {
-        let ((quantifiers, target), invocation, rest) = invocation_behind(
+        let ((quantifiers, target), invocation, rest) = invocation_after(
             alloc,
             (quantifiers, target),
             tokens,
@@ -136,7 +136,7 @@ fn target_head(
     }
 }
 
-/// Reads the first primary of an arm of `co`: any behind what stands before, and else one that begins with a name.
+/// Reads the first primary of an arm of `co`: any after what stands before, and else one that begins with a name.
 #[tactic(auto, unfolding(sr_program_reader::specs::StatementReaders::co_start_at))]
 fn first_primary(
     alloc: Global,
@@ -166,7 +166,7 @@ fn primary_head(
     let (primary, rest) = first_primary(alloc, start, tokens)?;
     let span = first_of(start, primary.span());
     if next_is_sign(rest, Sign::Assign) {
-        let (_, (quantifiers, target), rest) = sign_behind(
+        let (_, (quantifiers, target), rest) = sign_after(
             (quantifiers, primary),
             rest,
             Sign::Assign,
@@ -196,7 +196,7 @@ fn primary_head(
     }
 }
 
-/// Reads an arm of `co` from behind its quantifiers up to its block.
+/// Reads an arm of `co` from after its quantifiers up to its block.
 #[tactic(auto, unfolding(crate::specs::ArmReaders::quantified_head_at))]
 fn quantified_head(
     alloc: Global,
@@ -228,7 +228,7 @@ pub fn co_head(alloc: Global, tokens: &[Token]) -> Result<(CoHead, &[Token]), Re
     }
 }
 
-/// The span of what begins before, or else here.
+/// The given span, or else the span here.
 fn first_of(before: Option<Span>, here: Span) -> Span
     ensures { result ≡ first_of before here }
 {

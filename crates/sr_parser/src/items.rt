@@ -5,7 +5,7 @@ ghost use Rattle.sr_parser.specs.Reads.{ReadsStatementUpTo};
 ghost use Rattle.sr_program_reader.specs.ComponentReaders.{begins_item, final_and_items_at, final_at, global_items_at, is_final_code, item_at, plain_items_at, resource_items_at};
 ghost use Rattle.sr_program_reader.specs.DeclarationReaders.{items_at, next_item_at};
 
-use crate::behind::{let_go, pushed, separator_behind};
+use crate::after::{let_go, pushed, separator_after};
 use crate::block::{final_code, proc_decl, procedure_decl, process_decl};
 use crate::spec::{next_is_spec, spec_item};
 use crate::statement::statement;
@@ -50,7 +50,7 @@ fn item(alloc: Global, tokens: &[Token]) -> Result<(Item, &[Token]), ReadFail>
     }
 }
 
-/// Reads items other than final code, behind others; the flag says whether one may begin here.
+/// Reads items other than final code, after others; the flag says whether one may begin here.
 #[tactic(auto, unfolding(sr_program_reader::specs::ComponentReaders::plain_items_at))]
 fn plain_items(
     alloc: Global,
@@ -60,7 +60,7 @@ fn plain_items(
     ensures reads { ReadsStatementUpTo (λ x. (x.0, x.1.now)) tokens.now result (λ r. plain_items_at r first) }
     ensures shorter { IfOk result (λ x. length x.1.now ≤ length tokens.now) }
 {
-    items_behind(alloc, first, tokens)
+    items_after(alloc, first, tokens)
 }
 
 /// Whether final code stands next where an item may begin.
@@ -70,8 +70,8 @@ fn next_is_final(state: &(Row<Item>, bool), tokens: &[Token]) -> bool
     state.1 && next_is_word(tokens, Word::Final)
 }
 
-/// Reads final code behind a tree.
-fn final_code_behind<T: Drop>(
+/// Reads final code after a tree.
+fn final_code_after<T: Drop>(
     alloc: Global,
     tree: T,
     tokens: &[Token],
@@ -84,7 +84,7 @@ fn final_code_behind<T: Drop>(
     Ok((tree, code, rest))
 }
 
-/// Reads final code and the items behind it, behind others.
+/// Reads final code and the items after it, after others.
 #[tactic(auto, unfolding(sr_program_reader::specs::ComponentReaders::final_and_items_at))]
 fn final_and_items(
     alloc: Global,
@@ -94,7 +94,7 @@ fn final_and_items(
     ensures reads { ReadsStatementUpTo (λ x. (x.0, x.1.now)) tokens.now result (λ r. final_and_items_at r before) }
     ensures shorter { IfOk result (λ x. length x.1.now < length tokens.now) }
 {
-    let (before, code, rest) = final_code_behind(alloc, before, tokens)?;
+    let (before, code, rest) = final_code_after(alloc, before, tokens)?;
     let items = pushed(before, Item::Final(code))?;
     let ((items, _), rest) = plain_items(alloc, (items, false), rest)?;
     Ok((items, rest))
@@ -114,8 +114,8 @@ fn resource_items(alloc: Global, tokens: &[Token]) -> Result<(Row<Item>, &[Token
     }
 }
 
-/// Reads the items of a resource behind a tree.
-pub fn resource_items_behind<T: Drop>(
+/// Reads the items of a resource after a tree.
+pub fn resource_items_after<T: Drop>(
     alloc: Global,
     tree: T,
     tokens: &[Token],
@@ -134,13 +134,13 @@ pub fn global_items(alloc: Global, tokens: &[Token]) -> Result<(Row<Item>, &[Tok
     ensures reads { ReadsStatementUpTo (λ x. (x.0, x.1.now)) tokens.now result (λ r. global_items_at r) }
     ensures shorter { IfOk result (λ x. length x.1.now ≤ length tokens.now) }
 {
-    let ((items, _), rest) = items_behind(alloc, (Row::new(alloc), true), tokens)?;
+    let ((items, _), rest) = items_after(alloc, (Row::new(alloc), true), tokens)?;
     Ok((items, rest))
 }
 
-/// Reads items other than final code as long as they go on, behind others; the flag says whether one may begin here.
+/// Reads items other than final code as long as they go on, after others; the flag says whether one may begin here.
 #[tactic(auto, unfolding(sr_program_reader::specs::DeclarationReaders::items_at))]
-fn items_behind(
+fn items_after(
     alloc: Global,
     first: (Row<Item>, bool),
     tokens: &[Token],
@@ -151,14 +151,14 @@ fn items_behind(
     let mut state = first;
     let mut rest = tokens;
     'more: while items_go_on(state.1, rest) {
-        let (more, behind) = next_item(alloc, state, rest)?;
+        let (more, after) = next_item(alloc, state, rest)?;
         state = more;
-        rest = behind;
+        rest = after;
     }
     Ok((state, rest))
 }
 
-/// Reads a separator, behind which another may begin, or an item, behind which none may.
+/// Reads a separator, after which another may begin, or an item, after which none may.
 #[tactic(auto, unfolding(sr_program_reader::specs::DeclarationReaders::next_item_at))]
 fn next_item(
     alloc: Global,
@@ -170,7 +170,7 @@ fn next_item(
 {
     let (items, _) = state;
     if next_is_separator(tokens) {
-        let (_, items, rest) = separator_behind(items, tokens)?;
+        let (_, items, rest) = separator_after(items, tokens)?;
         Ok(((items, true), rest))
     } else {
         match item(alloc, tokens) {

@@ -3,7 +3,7 @@
 //! Each function is proved to answer what a reader of `sr_program_reader` does.
 #![tactic(auto)]
 
-mod behind;
+mod after;
 mod block;
 mod by_value;
 mod components;

@@ -3,12 +3,12 @@ ghost use Rattle.sr_parse_tokens.specs.Gives.{Gives};
 ghost use Rattle.sr_parse_expr.specs.Reads.{ReadsUpTo};
 ghost use Rattle.sr_program_reader.specs.StatementReaders.{by_at, condition_at, enclosed_names_at, invocation_at, invocation_of, invoked_at, more_places_at, named_at, next_place_at, optional_names_at, places_at, returned_name_at, status_at, such_that_at};
 
-use crate::behind::{let_go, pushed, row_of};
+use crate::after::{let_go, pushed, row_of};
 use crate::words::{next_is_condition, read_condition_word};
 use sr_parse_expr::declared::names;
 use sr_parse_expr::expression::{LOOSEST, operand, primary};
 use sr_parse_tokens::{
-    ReadFail, name, next_is_name, next_is_sign, next_is_word, sign, sign_behind, word,
+    ReadFail, name, next_is_name, next_is_sign, next_is_word, sign, sign_after, word,
 };
 use sr_tree::{ArmCondition, Expr, Invocation, Name, Sign, Token, Word};
 use sr_value::Row;
@@ -27,7 +27,7 @@ pub fn named(alloc: Global, tokens: &[Token]) -> Result<(Expr, &[Token]), ReadFa
     }
 }
 
-/// The invocation that a primary is; refused at what stands behind it where it is none.
+/// The invocation that a primary is; refused at what stands after it where it is none.
 #[tactic(auto, unfolding(sr_program_reader::specs::StatementReaders::invoked_at))]
 pub fn invoked(primary: Expr, tokens: &[Token]) -> Result<(Invocation, &[Token]), ReadFail>
     ensures reads { Gives (λ x. (x.0, x.1.now)) result (invoked_at (invocation_of primary) tokens.now) }
@@ -58,7 +58,7 @@ pub fn status(alloc: Global, tokens: &[Token]) -> Result<(Option<Expr>, &[Token]
     if next_is_sign(tokens, Sign::OpenParen) {
         let (_, rest) = sign(tokens, Sign::OpenParen)?;
         let (status, rest) = operand(alloc, LOOSEST, rest)?;
-        let (_, status, rest) = sign_behind(status, rest, Sign::CloseParen)?;
+        let (_, status, rest) = sign_after(status, rest, Sign::CloseParen)?;
         Ok((Some(status), rest))
     } else {
         Ok((None, tokens))
@@ -79,11 +79,11 @@ pub fn places(alloc: Global, tokens: &[Token]) -> Result<(Row<Expr>, &[Token]), 
     let (place, rest) = primary(alloc, rest)?;
     let first = row_of(alloc, place)?;
     let (places, rest) = more_places(alloc, first, rest)?;
-    let (_, places, rest) = sign_behind(places, rest, Sign::CloseParen)?;
+    let (_, places, rest) = sign_after(places, rest, Sign::CloseParen)?;
     Ok((places, rest))
 }
 
-/// Reads further places, each behind a comma.
+/// Reads further places, each after a comma.
 #[tactic(auto, unfolding(sr_program_reader::specs::StatementReaders::more_places_at))]
 fn more_places(
     alloc: Global,
@@ -96,14 +96,14 @@ fn more_places(
     let mut places = first;
     let mut rest = tokens;
     'more: while next_is_sign(rest, Sign::Comma) {
-        let (more, behind) = next_place(alloc, places, rest)?;
+        let (more, after) = next_place(alloc, places, rest)?;
         places = more;
-        rest = behind;
+        rest = after;
     }
     Ok((places, rest))
 }
 
-/// Reads a comma and a place, and puts it behind the others.
+/// Reads a comma and a place, and appends it.
 #[tactic(auto, unfolding(sr_program_reader::specs::StatementReaders::next_place_at))]
 fn next_place(
     alloc: Global,
@@ -113,7 +113,7 @@ fn next_place(
     ensures reads { ReadsUpTo (λ x. (x.0, x.1.now)) tokens.now result (λ r. next_place_at r places) }
     ensures shorter { IfOk result (λ x. length x.1.now < length tokens.now) }
 {
-    let (_, places, rest) = sign_behind(places, tokens, Sign::Comma)?;
+    let (_, places, rest) = sign_after(places, tokens, Sign::Comma)?;
     match primary(alloc, rest) {
         Ok((next, rest)) => Ok((pushed(places, next)?, rest)),
         Err(fail) => {
@@ -123,7 +123,7 @@ fn next_place(
     }
 }
 
-/// Reads `by` and an expression behind a tree, where they stand, and hands the tree back.
+/// Reads `by` and an expression after a tree, where they stand, and hands the tree back.
 #[tactic(auto, unfolding(sr_program_reader::specs::StatementReaders::by_at))]
 pub fn by<T: Drop>(
     alloc: Global,
@@ -143,7 +143,7 @@ pub fn by<T: Drop>(
     }
 }
 
-/// Reads `st` and an expression behind a tree, where they stand, and hands the tree back.
+/// Reads `st` and an expression after a tree, where they stand, and hands the tree back.
 #[tactic(auto, unfolding(sr_program_reader::specs::StatementReaders::such_that_at))]
 pub fn such_that<T: Drop>(
     alloc: Global,

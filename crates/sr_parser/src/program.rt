@@ -12,8 +12,8 @@ use std::alloc::Global;
 
 /// Reads a source file from all its tokens.
 ///
-/// Refused as `Syntax` exactly where the tokens spell no file. Unless the place is that of the last token, no list of
-/// tokens that spells a file begins with the tokens up to that place and with it.
+/// Refused as `Syntax` exactly where the tokens spell no file. Unless it is refused at the last token, no list of
+/// tokens that spells a file begins with the tokens through the refused one.
 pub fn parse(alloc: Global, tokens: &Tokens) -> Result<File, FrontFail>
     ensures tree { IfOk result (λ f. Spells tokens.now.items f) }
     ensures none { IfErr result (λ e. SpellsNoFile tokens.now.items e) }

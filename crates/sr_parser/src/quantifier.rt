@@ -2,11 +2,11 @@ ghost use Rattle.std.specs.Prelude.{◌≡◌, ◌<◌, ◌≤◌, length, IfOk}
 ghost use Rattle.sr_parse_expr.specs.Reads.{ReadsUpTo};
 ghost use Rattle.sr_program_reader.specs.StatementReaders.{enclosed_quantifiers_at, more_quantifiers_at, next_quantifier_at, optional_quantifiers_at, quantifier_at, quantifiers_at};
 
-use crate::behind::{expression_behind, let_go, pushed, row_of};
+use crate::after::{expression_after, let_go, pushed, row_of};
 use crate::parts::{by, such_that};
 use crate::words::read_direction;
 use sr_parse_expr::expression::{LOOSEST, operand};
-use sr_parse_tokens::{ReadFail, name, next_is_sign, sign, sign_behind};
+use sr_parse_tokens::{ReadFail, name, next_is_sign, sign, sign_after};
 use sr_tree::{Quantifier, Sign, Token};
 use sr_value::{Row, Span};
 use std::alloc::Global;
@@ -22,7 +22,7 @@ fn quantifier(alloc: Global, tokens: &[Token]) -> Result<(Quantifier, &[Token]),
     let (_, rest) = sign(rest, Sign::Assign)?;
     let (first, rest) = operand(alloc, LOOSEST, rest)?;
     let (before, direction, rest) = read_direction((name, first), rest)?;
-    let (before, last, rest) = expression_behind(alloc, before, rest)?;
+    let (before, last, rest) = expression_after(alloc, before, rest)?;
     let (before, step, rest) = by(alloc, (before, last), rest)?;
     let ((before, step), such_that, rest) = such_that(alloc, (before, step), rest)?;
     let ((name, first), last) = before;
@@ -51,7 +51,7 @@ pub fn quantifiers(alloc: Global, tokens: &[Token]) -> Result<(Row<Quantifier>, 
     more_quantifiers(alloc, quantifiers, rest)
 }
 
-/// Reads further quantifiers, each behind a comma.
+/// Reads further quantifiers, each after a comma.
 #[tactic(auto, unfolding(sr_program_reader::specs::StatementReaders::more_quantifiers_at))]
 fn more_quantifiers(
     alloc: Global,
@@ -64,14 +64,14 @@ fn more_quantifiers(
     let mut quantifiers = first;
     let mut rest = tokens;
     'more: while next_is_sign(rest, Sign::Comma) {
-        let (more, behind) = next_quantifier(alloc, quantifiers, rest)?;
+        let (more, after) = next_quantifier(alloc, quantifiers, rest)?;
         quantifiers = more;
-        rest = behind;
+        rest = after;
     }
     Ok((quantifiers, rest))
 }
 
-/// Reads a comma and a quantifier, and puts it behind the others.
+/// Reads a comma and a quantifier, and appends it.
 #[tactic(auto, unfolding(sr_program_reader::specs::StatementReaders::next_quantifier_at))]
 fn next_quantifier(
     alloc: Global,
@@ -81,7 +81,7 @@ fn next_quantifier(
     ensures reads { ReadsUpTo (λ x. (x.0, x.1.now)) tokens.now result (λ r. next_quantifier_at r quantifiers) }
     ensures shorter { IfOk result (λ x. length x.1.now < length tokens.now) }
 {
-    let (_, quantifiers, rest) = sign_behind(quantifiers, tokens, Sign::Comma)?;
+    let (_, quantifiers, rest) = sign_after(quantifiers, tokens, Sign::Comma)?;
     match quantifier(alloc, rest) {
         Ok((next, rest)) => Ok((pushed(quantifiers, next)?, rest)),
         Err(fail) => {
@@ -102,7 +102,7 @@ pub fn enclosed_quantifiers(
 {
     let (span, rest) = sign(tokens, Sign::OpenParen)?;
     let (quantifiers, rest) = quantifiers(alloc, rest)?;
-    let (_, quantifiers, rest) = sign_behind(quantifiers, rest, Sign::CloseParen)?;
+    let (_, quantifiers, rest) = sign_after(quantifiers, rest, Sign::CloseParen)?;
     Ok(((span, quantifiers), rest))
 }
 

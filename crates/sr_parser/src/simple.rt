@@ -3,12 +3,12 @@ ghost use Rattle.sr_parse_tokens.specs.Gives.{Gives};
 ghost use Rattle.sr_parse_expr.specs.Reads.{ReadsUpTo};
 ghost use Rattle.sr_tree.specs.declared.statement.Statement.TheVariants as statement;
 ghost use Rattle.sr_tree.specs.declared.token.Word.TheVariants as words;
-ghost use Rattle.sr_program_reader.specs.StatementReaders.{assign_at, behind_primary_at, call_statement_at, create_statement_at, decrement_at, destroy_at, exchange_at, forward_at, increment_at, named_statement_at, plain_call_at, receive_at, send_at, single_at, stop_at};
+ghost use Rattle.sr_program_reader.specs.StatementReaders.{assign_at, after_primary_at, call_statement_at, create_statement_at, decrement_at, destroy_at, exchange_at, forward_at, increment_at, named_statement_at, plain_call_at, receive_at, send_at, single_at, stop_at};
 
-use crate::behind::{expression_behind, primary_behind};
+use crate::after::{expression_after, primary_after};
 use crate::parts::{invocation, invoked, places, status};
 use sr_parse_expr::expression::{create, primary};
-use sr_parse_tokens::{ReadFail, name, next_is_sign, sign_behind, word};
+use sr_parse_tokens::{ReadFail, name, next_is_sign, sign_after, word};
 use sr_tree::{Expr, Sign, Statement, Token, Word};
 use std::alloc::Global;
 
@@ -155,49 +155,49 @@ pub fn create_statement(alloc: Global, tokens: &[Token]) -> Result<(Statement, &
     Ok((Statement::Create { span, create }, rest))
 }
 
-/// Reads `:=` and a value behind a place.
+/// Reads `:=` and a value after a place.
 #[tactic(auto, unfolding(sr_program_reader::specs::StatementReaders::assign_at))]
 fn assign(alloc: Global, place: Expr, tokens: &[Token]) -> Result<(Statement, &[Token]), ReadFail>
     ensures reads { ReadsUpTo (λ x. (x.0, x.1.now)) tokens.now result (λ r. assign_at r place) }
     ensures shorter { IfOk result (λ x. length x.1.now < length tokens.now) }
 {
     let span = place.span();
-    let (_, place, rest) = sign_behind(place, tokens, Sign::Assign)?;
-    let (place, value, rest) = expression_behind(alloc, place, rest)?;
+    let (_, place, rest) = sign_after(place, tokens, Sign::Assign)?;
+    let (place, value, rest) = expression_after(alloc, place, rest)?;
     Ok((Statement::Assign { span, place, value }, rest))
 }
 
-/// Reads `:=:` and a place behind another.
+/// Reads `:=:` and a place after another.
 #[tactic(auto, unfolding(sr_program_reader::specs::StatementReaders::exchange_at))]
 fn exchange(alloc: Global, left: Expr, tokens: &[Token]) -> Result<(Statement, &[Token]), ReadFail>
     ensures reads { ReadsUpTo (λ x. (x.0, x.1.now)) tokens.now result (λ r. exchange_at r left) }
     ensures shorter { IfOk result (λ x. length x.1.now < length tokens.now) }
 {
     let span = left.span();
-    let (_, left, rest) = sign_behind(left, tokens, Sign::Exchange)?;
-    let (left, right, rest) = primary_behind(alloc, left, rest)?;
+    let (_, left, rest) = sign_after(left, tokens, Sign::Exchange)?;
+    let (left, right, rest) = primary_after(alloc, left, rest)?;
     Ok((Statement::Exchange { span, left, right }, rest))
 }
 
-/// Reads `++` behind a place.
+/// Reads `++` after a place.
 #[tactic(auto, unfolding(sr_program_reader::specs::StatementReaders::increment_at))]
 fn increment(place: Expr, tokens: &[Token]) -> Result<(Statement, &[Token]), ReadFail>
     ensures reads { Gives (λ x. (x.0, x.1.now)) result (increment_at place tokens.now) }
     ensures shorter { IfOk result (λ x. length x.1.now < length tokens.now) }
 {
     let span = place.span();
-    let (_, place, rest) = sign_behind(place, tokens, Sign::Increment)?;
+    let (_, place, rest) = sign_after(place, tokens, Sign::Increment)?;
     Ok((Statement::Increment { span, place }, rest))
 }
 
-/// Reads `--` behind a place.
+/// Reads `--` after a place.
 #[tactic(auto, unfolding(sr_program_reader::specs::StatementReaders::decrement_at))]
 fn decrement(place: Expr, tokens: &[Token]) -> Result<(Statement, &[Token]), ReadFail>
     ensures reads { Gives (λ x. (x.0, x.1.now)) result (decrement_at place tokens.now) }
     ensures shorter { IfOk result (λ x. length x.1.now < length tokens.now) }
 {
     let span = place.span();
-    let (_, place, rest) = sign_behind(place, tokens, Sign::Decrement)?;
+    let (_, place, rest) = sign_after(place, tokens, Sign::Decrement)?;
     Ok((Statement::Decrement { span, place }, rest))
 }
 
@@ -220,14 +220,14 @@ fn plain_call(primary: Expr, tokens: &[Token]) -> Result<(Statement, &[Token]), 
     ))
 }
 
-/// Reads what stands behind the primary that a statement begins with.
-#[tactic(auto, unfolding(sr_program_reader::specs::StatementReaders::behind_primary_at))]
-fn behind_primary(
+/// Reads what stands after the primary that a statement begins with.
+#[tactic(auto, unfolding(sr_program_reader::specs::StatementReaders::after_primary_at))]
+fn after_primary(
     alloc: Global,
     primary: Expr,
     tokens: &[Token],
 ) -> Result<(Statement, &[Token]), ReadFail>
-    ensures reads { ReadsUpTo (λ x. (x.0, x.1.now)) tokens.now result (λ r. behind_primary_at r primary) }
+    ensures reads { ReadsUpTo (λ x. (x.0, x.1.now)) tokens.now result (λ r. after_primary_at r primary) }
     ensures shorter { IfOk result (λ x. length x.1.now ≤ length tokens.now) }
 {
     if next_is_sign(tokens, Sign::Assign) {
@@ -250,5 +250,5 @@ pub fn named_statement(alloc: Global, tokens: &[Token]) -> Result<(Statement, &[
     ensures shorter { IfOk result (λ x. length x.1.now < length tokens.now) }
 {
     let (primary, rest) = primary(alloc, tokens)?;
-    behind_primary(alloc, primary, rest)
+    after_primary(alloc, primary, rest)
 }

@@ -5,7 +5,7 @@ ghost use Rattle.sr_parse_expr.specs.Reads.{ReadsTypeUpTo};
 ghost use Rattle.sr_program_reader.specs.ComponentReaders.{begins_resource_spec, begins_spec, global_spec_at, resource_spec_at, resource_spec_item_at, spec_item_at};
 ghost use Rattle.sr_program_reader.specs.DeclarationReaders.{items_at, next_item_at};
 
-use crate::behind::{let_go, pushed, separator_behind};
+use crate::after::{let_go, pushed, separator_after};
 use crate::declaration::{
     const_decl, import_decl, op_decl, optype_decl, sem_decl, type_decl, var_decl,
 };
@@ -95,7 +95,7 @@ pub fn global_spec(alloc: Global, tokens: &[Token]) -> Result<(Row<SpecItem>, &[
     Ok((spec, rest))
 }
 
-/// Reads declarations of a resource as long as they go on, behind others; the flag says whether one may begin here.
+/// Reads declarations of a resource as long as they go on, after others; the flag says whether one may begin here.
 #[tactic(auto, unfolding(sr_program_reader::specs::DeclarationReaders::items_at))]
 fn resource_spec_items(
     alloc: Global,
@@ -108,14 +108,14 @@ fn resource_spec_items(
     let mut state = first;
     let mut rest = tokens;
     'more: while resource_spec_goes_on(state.1, rest) {
-        let (more, behind) = next_resource_spec_item(alloc, state, rest)?;
+        let (more, after) = next_resource_spec_item(alloc, state, rest)?;
         state = more;
-        rest = behind;
+        rest = after;
     }
     Ok((state, rest))
 }
 
-/// Reads a separator, behind which another may begin, or a declaration, behind which none may.
+/// Reads a separator, after which another may begin, or a declaration, after which none may.
 #[tactic(auto, unfolding(sr_program_reader::specs::DeclarationReaders::next_item_at))]
 fn next_resource_spec_item(
     alloc: Global,
@@ -127,7 +127,7 @@ fn next_resource_spec_item(
 {
     let (items, _) = state;
     if next_is_separator(tokens) {
-        let (_, items, rest) = separator_behind(items, tokens)?;
+        let (_, items, rest) = separator_after(items, tokens)?;
         Ok(((items, true), rest))
     } else {
         match resource_spec_item(alloc, tokens) {
@@ -147,7 +147,7 @@ fn resource_spec_goes_on(may_begin: bool, tokens: &[Token]) -> bool
     next_is_separator(tokens) || (may_begin && next_is_resource_spec(tokens))
 }
 
-/// Reads declarations of a global as long as they go on, behind others; the flag says whether one may begin here.
+/// Reads declarations of a global as long as they go on, after others; the flag says whether one may begin here.
 #[tactic(auto, unfolding(sr_program_reader::specs::DeclarationReaders::items_at))]
 fn global_spec_items(
     alloc: Global,
@@ -160,14 +160,14 @@ fn global_spec_items(
     let mut state = first;
     let mut rest = tokens;
     'more: while spec_goes_on(state.1, rest) {
-        let (more, behind) = next_spec_item(alloc, state, rest)?;
+        let (more, after) = next_spec_item(alloc, state, rest)?;
         state = more;
-        rest = behind;
+        rest = after;
     }
     Ok((state, rest))
 }
 
-/// Reads a separator, behind which another may begin, or a declaration, behind which none may.
+/// Reads a separator, after which another may begin, or a declaration, after which none may.
 #[tactic(auto, unfolding(sr_program_reader::specs::DeclarationReaders::next_item_at))]
 fn next_spec_item(
     alloc: Global,
@@ -179,7 +179,7 @@ fn next_spec_item(
 {
     let (items, _) = state;
     if next_is_separator(tokens) {
-        let (_, items, rest) = separator_behind(items, tokens)?;
+        let (_, items, rest) = separator_after(items, tokens)?;
         Ok(((items, true), rest))
     } else {
         match spec_item(alloc, tokens) {

@@ -8,7 +8,7 @@ ghost use Rattle.sr_parser.specs.Reads.{ReadsStatementBelow, ReadsStatementUpTo}
 ghost use Rattle.sr_program_reader.specs.DeclarationReaders.{items_at, next_item_at};
 ghost use Rattle.sr_program_reader.specs.StatementReaders.{arm_at, arms_at, arrow_block_at, begins_block_item, block_at, block_item_at, branch_at, branches_at, closed_statement_at, co_arm_at, co_at, co_block_at, do_at, for_all_at, if_at, in_at, is_alternative, more_co_arms_at, next_alternative_at, next_co_arm_at, operating_statement_at, otherwise_at, statement_at, worded_statement_at};
 
-use crate::behind::{let_go, pushed, row_of, separator_behind, word_behind};
+use crate::after::{let_go, pushed, row_of, separator_after, word_after};
 use crate::declaration::{const_decl, var_decl};
 use crate::heads::{ArmHead, CoHead, arm_head, co_head};
 use crate::quantifier::quantifiers;
@@ -21,15 +21,15 @@ use crate::words::next_is_block_item;
 use sr_parse_expr::expression::{LOOSEST, operand};
 use sr_parse_tokens::{
     ReadFail, arm_may_follow, next_is_name, next_is_separator, next_is_sign, next_is_word, sign,
-    sign_behind, word,
+    sign_after, word,
 };
 use sr_tree::{Arm, BlockItem, Branch, CoArm, Sign, Statement, Token, Word};
 use sr_value::Row;
 use std::alloc::Global;
 
-/// Reads a block behind a token.
+/// Reads a block after a token.
 #[cycle(statements)]
-fn block_behind(alloc: Global, tokens: &[Token]) -> Result<(Row<BlockItem>, &[Token]), ReadFail>
+fn block_after(alloc: Global, tokens: &[Token]) -> Result<(Row<BlockItem>, &[Token]), ReadFail>
     ensures reads { ReadsStatementBelow (λ x. (x.0, x.1.now)) tokens.now result (λ r. r.block) }
     ensures shorter { IfOk result (λ x. length x.1.now ≤ length tokens.now) }
 {
@@ -44,7 +44,7 @@ fn arrow_block(alloc: Global, tokens: &[Token]) -> Result<(Row<BlockItem>, &[Tok
     ensures shorter { IfOk result (λ x. length x.1.now < length tokens.now) }
 {
     let (_, rest) = sign(tokens, Sign::Arrow)?;
-    block_behind(alloc, rest)
+    block_after(alloc, rest)
 }
 
 /// Reads `else`, `->` and a block.
@@ -78,7 +78,7 @@ fn branch(alloc: Global, tokens: &[Token]) -> Result<(Branch, &[Token]), ReadFai
     }
 }
 
-/// Reads branches with `[]` between, and what stands behind `else`.
+/// Reads branches with `[]` between, and what stands after `else`.
 #[cycle(statements)]
 #[tactic(auto, unfolding(sr_program_reader::specs::StatementReaders::branches_at, sr_program_reader::specs::StatementReaders::alternatives_at))]
 fn branches(
@@ -93,7 +93,7 @@ fn branches(
     more_branches(alloc, (branches, None), rest)
 }
 
-/// Reads further branches, each behind `[]`, up to what stands behind `else`.
+/// Reads further branches, each after `[]`, up to what stands after `else`.
 #[cycle(statements)]
 fn more_branches(
     alloc: Global,
@@ -106,14 +106,14 @@ fn more_branches(
     let mut state = first;
     let mut rest = tokens;
     'more: while next_is_alternative(&state.1, rest) {
-        let (more, behind) = next_branch(alloc, state, rest)?;
+        let (more, after) = next_branch(alloc, state, rest)?;
         state = more;
-        rest = behind;
+        rest = after;
     }
     Ok((state, rest))
 }
 
-/// Reads `[]` and a branch, or what stands behind `else`.
+/// Reads `[]` and a branch, or what stands after `else`.
 #[cycle(statements)]
 #[tactic(auto, unfolding(sr_program_reader::specs::StatementReaders::next_alternative_at))]
 fn next_branch(
@@ -125,7 +125,7 @@ fn next_branch(
     ensures shorter { IfOk result (λ x. length x.1.now < length tokens.now) }
 {
     let branches = without_block(state);
-    let (_, branches, rest) = sign_behind(branches, tokens, Sign::Alternative)?;
+    let (_, branches, rest) = sign_after(branches, tokens, Sign::Alternative)?;
     if next_is_word(rest, Word::Else) {
         match otherwise(alloc, rest) {
             Ok((block, rest)) => Ok(((branches, Some(block)), rest)),
@@ -171,7 +171,7 @@ fn split_arm(alloc: Global, tokens: &[Token]) -> Result<(Arm, &[Token]), ReadFai
     }
 }
 
-/// Reads arms of `in` with `[]` between, and what stands behind `else`.
+/// Reads arms of `in` with `[]` between, and what stands after `else`.
 #[cycle(statements)]
 #[tactic(auto, unfolding(sr_program_reader::specs::StatementReaders::arms_at, sr_program_reader::specs::StatementReaders::alternatives_at))]
 fn arms(
@@ -186,7 +186,7 @@ fn arms(
     more_arms(alloc, (arms, None), rest)
 }
 
-/// Reads further arms of `in`, each behind `[]`, up to what stands behind `else`.
+/// Reads further arms of `in`, each after `[]`, up to what stands after `else`.
 #[cycle(statements)]
 fn more_arms(
     alloc: Global,
@@ -199,14 +199,14 @@ fn more_arms(
     let mut state = first;
     let mut rest = tokens;
     'more: while next_is_alternative(&state.1, rest) {
-        let (more, behind) = next_arm(alloc, state, rest)?;
+        let (more, after) = next_arm(alloc, state, rest)?;
         state = more;
-        rest = behind;
+        rest = after;
     }
     Ok((state, rest))
 }
 
-/// Reads `[]` and an arm, or what stands behind `else`.
+/// Reads `[]` and an arm, or what stands after `else`.
 #[cycle(statements)]
 #[tactic(auto, unfolding(sr_program_reader::specs::StatementReaders::next_alternative_at))]
 fn next_arm(
@@ -218,7 +218,7 @@ fn next_arm(
     ensures shorter { IfOk result (λ x. length x.1.now < length tokens.now) }
 {
     let arms = without_block(state);
-    let (_, arms, rest) = sign_behind(arms, tokens, Sign::Alternative)?;
+    let (_, arms, rest) = sign_after(arms, tokens, Sign::Alternative)?;
     if next_is_word(rest, Word::Else) {
         match otherwise(alloc, rest) {
             Ok((block, rest)) => Ok(((arms, Some(block)), rest)),
@@ -279,7 +279,7 @@ fn split_co_arm(alloc: Global, tokens: &[Token]) -> Result<(CoArm, &[Token]), Re
     }
 }
 
-/// Reads further arms of `co`, each behind `//`.
+/// Reads further arms of `co`, each after `//`.
 #[cycle(statements)]
 #[tactic(auto, unfolding(sr_program_reader::specs::StatementReaders::more_co_arms_at))]
 fn more_co_arms(
@@ -293,14 +293,14 @@ fn more_co_arms(
     let mut arms = first;
     let mut rest = tokens;
     'more: while next_is_sign(rest, Sign::Parallel) {
-        let (more, behind) = next_co_arm(alloc, arms, rest)?;
+        let (more, after) = next_co_arm(alloc, arms, rest)?;
         arms = more;
-        rest = behind;
+        rest = after;
     }
     Ok((arms, rest))
 }
 
-/// Reads `//` and an arm of `co`, and puts it behind the others.
+/// Reads `//` and an arm of `co`, and appends it.
 #[cycle(statements)]
 #[tactic(auto, unfolding(sr_program_reader::specs::StatementReaders::next_co_arm_at))]
 fn next_co_arm(
@@ -311,7 +311,7 @@ fn next_co_arm(
     ensures reads { ReadsStatementUpTo (λ x. (x.0, x.1.now)) tokens.now result (λ r. next_co_arm_at r arms) }
     ensures shorter { IfOk result (λ x. length x.1.now < length tokens.now) }
 {
-    let (_, arms, rest) = sign_behind(arms, tokens, Sign::Parallel)?;
+    let (_, arms, rest) = sign_after(arms, tokens, Sign::Parallel)?;
     match co_arm(alloc, rest) {
         Ok((next, rest)) => Ok((pushed(arms, next)?, rest)),
         Err(fail) => {
@@ -330,7 +330,7 @@ fn if_statement(alloc: Global, tokens: &[Token]) -> Result<(Statement, &[Token])
 {
     let (span, rest) = word(tokens, Word::If)?;
     let (branches, rest) = branches(alloc, rest)?;
-    let (_, (branches, otherwise), rest) = word_behind(branches, rest, Word::Fi)?;
+    let (_, (branches, otherwise), rest) = word_after(branches, rest, Word::Fi)?;
     Ok((
         Statement::If {
             span,
@@ -350,7 +350,7 @@ fn do_statement(alloc: Global, tokens: &[Token]) -> Result<(Statement, &[Token])
 {
     let (span, rest) = word(tokens, Word::Do)?;
     let (branches, rest) = branches(alloc, rest)?;
-    let (_, (branches, otherwise), rest) = word_behind(branches, rest, Word::Od)?;
+    let (_, (branches, otherwise), rest) = word_after(branches, rest, Word::Od)?;
     Ok((
         Statement::Do {
             span,
@@ -372,11 +372,7 @@ fn for_all_statement(alloc: Global, tokens: &[Token]) -> Result<(Statement, &[To
     let (quantifiers, rest) = quantifiers(alloc, rest)?;
     match arrow_block(alloc, rest) {
         Ok((block, rest)) => {
-            let (_, (quantifiers, block), rest) = word_behind(
-                (quantifiers, block),
-                rest,
-                Word::Af,
-            )?;
+            let (_, (quantifiers, block), rest) = word_after((quantifiers, block), rest, Word::Af)?;
             Ok((
                 Statement::ForAll {
                     span,
@@ -402,7 +398,7 @@ fn in_statement(alloc: Global, tokens: &[Token]) -> Result<(Statement, &[Token])
 {
     let (span, rest) = word(tokens, Word::In)?;
     let (arms, rest) = arms(alloc, rest)?;
-    let (_, (arms, otherwise), rest) = word_behind(arms, rest, Word::Ni)?;
+    let (_, (arms, otherwise), rest) = word_after(arms, rest, Word::Ni)?;
     Ok((
         Statement::In {
             span,
@@ -424,7 +420,7 @@ fn co_statement(alloc: Global, tokens: &[Token]) -> Result<(Statement, &[Token])
     let (first, rest) = co_arm(alloc, rest)?;
     let arms = row_of(alloc, first)?;
     let (arms, rest) = more_co_arms(alloc, arms, rest)?;
-    let (_, arms, rest) = word_behind(arms, rest, Word::Oc)?;
+    let (_, arms, rest) = word_after(arms, rest, Word::Oc)?;
     Ok((Statement::Co { span, arms }, rest))
 }
 
@@ -448,7 +444,7 @@ fn closed_statement(alloc: Global, tokens: &[Token]) -> Result<(Statement, &[Tok
     }
 }
 
-/// Reads a statement that begins with the word for what it does, or one that ends in a word of its own.
+/// Reads a statement that begins with a word of its own, or one that ends in a word of its own.
 #[cycle(statements)]
 #[tactic(auto, unfolding(sr_program_reader::specs::StatementReaders::operating_statement_at))]
 fn operating_statement(alloc: Global, tokens: &[Token]) -> Result<(Statement, &[Token]), ReadFail>
@@ -540,7 +536,7 @@ pub fn block(alloc: Global, tokens: &[Token]) -> Result<(Row<BlockItem>, &[Token
     Ok((block, rest))
 }
 
-/// Reads items of a block as long as they go on, behind others; the flag says whether one may begin here.
+/// Reads items of a block as long as they go on, after others; the flag says whether one may begin here.
 #[cycle(statements)]
 #[tactic(auto, unfolding(sr_program_reader::specs::DeclarationReaders::items_at))]
 fn items(
@@ -554,14 +550,14 @@ fn items(
     let mut state = first;
     let mut rest = tokens;
     'more: while next_goes_on(state.1, rest) {
-        let (more, behind) = next_item(alloc, state, rest)?;
+        let (more, after) = next_item(alloc, state, rest)?;
         state = more;
-        rest = behind;
+        rest = after;
     }
     Ok((state, rest))
 }
 
-/// Reads a separator, behind which an item may begin, or an item, behind which none may.
+/// Reads a separator, after which an item may begin, or an item, after which none may.
 #[cycle(statements)]
 #[tactic(auto, unfolding(sr_program_reader::specs::DeclarationReaders::next_item_at))]
 fn next_item(
@@ -574,7 +570,7 @@ fn next_item(
 {
     let (items, _) = state;
     if next_is_separator(tokens) {
-        let (_, items, rest) = separator_behind(items, tokens)?;
+        let (_, items, rest) = separator_after(items, tokens)?;
         Ok(((items, true), rest))
     } else {
         match block_item(alloc, tokens) {
@@ -594,14 +590,14 @@ fn next_goes_on(may_begin: bool, tokens: &[Token]) -> bool
     next_is_separator(tokens) || (may_begin && next_is_block_item(tokens))
 }
 
-/// Whether `[]` stands next where nothing has stood behind `else` yet.
+/// Whether `[]` stands next where nothing has stood after `else` yet.
 fn next_is_alternative(otherwise: &Option<Row<BlockItem>>, tokens: &[Token]) -> bool
     ensures { result ≡ next_is (λ t. if is_some otherwise.now then false else is_sign sign.Alternative t.kind) tokens.now }
 {
     arm_may_follow(otherwise.is_some(), tokens)
 }
 
-/// What has stood between `[]` so far, without what stands behind `else`.
+/// What has stood between `[]` so far, without what stands after `else`.
 fn without_block<A, B: Drop>(state: (A, B)) -> A
     ensures { result ≡ state.0 }
 {

@@ -18,7 +18,7 @@ fn direction(kind: TokenKind) -> Option<Direction>
     }
 }
 
-/// Reads the word for whether a quantifier counts up or down behind a tree, and hands the tree back.
+/// Reads the word for whether a quantifier counts up or down after a tree, and hands the tree back.
 #[tactic(auto, unfolding(sr_program_reader::specs::StatementReaders::direction_at))]
 pub fn read_direction<T: Drop>(
     tree: T,

@@ -2,7 +2,7 @@
 use Rattle.std.proofs.Common.{◌≡◌, ℕ, ◌+◌, ◌≤◌, List, ◌++◌, length, take, drop, sym, ap, ◌∙◌, arith, take-append-drop}
 use Rattle.std.proofs.lemmas.List.{drop-drop, take_all, take-append-le, length-take}
 
--- the bytes from `at` on are those copied to the front of the room and those that are left behind them
+-- the bytes from `at` on are those copied to the front of the room and those that are left after them
 pub taken_front : (bytes left room new : List ℕ) (at count : ℕ) → left ≡ drop at bytes → count ≤ length left
     → new ≡ take count left ++ room → drop at bytes ≡ take count new ++ drop (at + count) bytes
 taken_front bytes left room new at count is_left fits copied =

@@ -27,7 +27,7 @@ pub struct FileSink<'a, R: rt::Files> {
 }
 
 impl<'a, R: rt::Files> HostFiles<'a, R> {
-    /// The files that `rt` reaches, of which no read has failed.
+    /// The files that `rt` reaches. No read of them has failed yet.
     pub fn new(rt: &'a R) -> Self
         ensures { ⟦<HostFiles<'a, R> as Files>⟧.faults result ≡ 0 }
     {
@@ -65,7 +65,7 @@ fn read_start<R: rt::Files>(rt: &R, alloc: Global, name: &str, most: usize) -> i
 }
 
 impl<'a, R: rt::Files> FileSink<'a, R> {
-    /// A sink into the file of this name, of which no put has failed. It makes no file yet.
+    /// A sink into the file of this name. No put has failed, and no file is made yet.
     pub fn new(rt: &'a R, name: &'a str) -> Self
         ensures name { result.name.now ≡ name.now }
         ensures faults { ⟦<FileSink<'a, R> as Sink>⟧.faults result ≡ 0 }

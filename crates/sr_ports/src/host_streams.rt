@@ -22,7 +22,7 @@ pub struct HostSink<O> {
 }
 
 impl<I: Read> HostSource<I> {
-    /// The source over this reader, of which no take has failed.
+    /// The source over this reader. No take has failed yet.
     pub fn new(reader: I) -> Self
         ensures { ⟦<HostSource<I> as Source>⟧.faults result ≡ 0 }
     {
@@ -47,7 +47,7 @@ impl<I: Read> Source for HostSource<I> {
 }
 
 impl<O: Write> HostSink<O> {
-    /// The sink over this writer, of which no put has failed.
+    /// The sink over this writer. No put has failed yet.
     pub fn new(writer: O) -> Self
         ensures { ⟦<HostSink<O> as Sink>⟧.faults result ≡ 0 }
     {

@@ -6,7 +6,7 @@ ghost use Rattle.sr_ports.specs.Streams.{Puts, PutInPart};
 use crate::fault::PortFail;
 use crate::slices::rest_of;
 
-/// What bytes are put into, one behind the other.
+/// What bytes are put into, one after the other.
 pub trait Sink {
     /// The bytes that it holds, where they are told.
     ghost held: { Self → Option (List ℕ) };
@@ -14,16 +14,16 @@ pub trait Sink {
     /// How often a put failed.
     ghost faults: { Self → ℕ };
 
-    /// Appends the first bytes of `piece`, which isn't empty, and says how many: at least one. After a fault or
-    /// want of memory nothing was appended.
+    /// Appends the first bytes of `piece`, which isn't empty, and says how many: at least one. After a fault, or where
+    /// memory ran out, nothing was appended.
     fn put(&mut self, piece: &[u8]) -> Result<usize, PortFail>
         requires { 0 < length piece.now }
         ensures bytes { Puts (held self.old) (held self.new) result piece.now }
         ensures cause { Counts (faults self.old) (faults self.new) result };
 }
 
-/// Puts all of `bytes`, in as many puts as it takes; each is handed all bytes that are still to go. After a
-/// fault or want of memory the sink holds some first bytes of them, and not all.
+/// Puts all of `bytes`, in as many puts as it takes; each is handed all bytes that are still to go. After a fault, or
+/// where memory ran out, the sink holds some of the first bytes, and not all.
 pub fn put_all<S: Sink>(sink: &mut S, bytes: &[u8]) -> Result<(), PortFail>
     ensures whole { OnOk result (S.held sink.new ≡ append_known (S.held sink.old) bytes.now) }
     ensures part { OnErr result (PutInPart (S.held sink.old) (S.held sink.new) bytes.now) }

@@ -8,7 +8,7 @@ pub fn rest_of(bytes: &[u8], at: usize) -> &[u8]
     &bytes[at..]
 }
 
-/// Copies the first `count` bytes of `from` over those of `room`.
+/// Copies the first `count` bytes of `from` to the front of `room`.
 pub fn copy_front(room: &mut [u8], from: &[u8], count: usize)
     requires room { count ≤ length room.old }
     requires from { count ≤ length from.now }

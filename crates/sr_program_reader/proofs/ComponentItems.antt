@@ -1,4 +1,4 @@
--- What is spelled as a part of a component is read, where the token behind it continues nothing.
+-- What is spelled as a part of a component is read, where the token after it continues nothing.
 use Rattle.std.proofs.Common.{◌≡◌, refl, sym, ◌∙◌, ap, subst, ℕ, Bool, true, false, List, [], ◌∷◌, ◌++◌, length, Some, None, Result, Ok, append_assoc}
 use Rattle.std.specs.Prelude.{if◌then◌else◌, ◌&&◌, nat_eq}
 use Rattle.std.specs.Cmp.Lexicographic.{pointwise}
@@ -29,22 +29,22 @@ use Rattle.sr_tree.specs.Tests.{is_sign, is_word, is_name}
 use Rattle.sr_tree.specs.Tokens.{word_at, name_at, is_separator}
 use Rattle.sr_expr_reader.specs.TypeReaders.{TypeReaders, type_readers, signature_at}
 use Rattle.sr_expr_reader.proofs.Families.{YieldsIn, BelowIn, below, token_then, below_token, below_then, below_seq, yields_then, below_returned, yields_returned, yields_met, yields_unmet, below_met, below_unmet, yields_part, below_part}
-use Rattle.sr_expr_reader.proofs.TokensLocal.{kind_of_sign, kind_of_word}
-use Rattle.sr_expr_reader.proofs.TokensWhole.{word-reads, name-reads}
+use Rattle.sr_expr_reader.proofs.TokensSound.{kind_of_sign, kind_of_word}
+use Rattle.sr_expr_reader.proofs.TokensComplete.{word-reads, name-reads}
 use Rattle.sr_expr_reader.proofs.TypesQuiet.{TypeStops, stops-quiet-signature}
-use Rattle.sr_expr_reader.proofs.TypesWhole.{whole-signature}
+use Rattle.sr_expr_reader.proofs.TypesComplete.{complete-signature}
 use Rattle.sr_expr_reader.proofs.Yields.{steps-readers}
 use Rattle.sr_program_reader.specs.ComponentReaders.{is_this_name, this_name_at, end_at, begins_resource_spec, begins_spec, resource_spec_item_at, spec_item_at, begins_proc_item, proc_item_at, proc_block_at, proc_at, procedure_at, process_at, final_at, begins_item, item_at, resource_spec_at, global_spec_at}
 use Rattle.sr_program_reader.specs.DeclarationReaders.{import_at, const_at, type_decl_at, optype_at, op_at, var_at, sem_at}
 use Rattle.sr_program_reader.specs.StatementReaders.{statement_readers, begins_statement, statement_at, enclosed_names_at, returned_name_at, optional_quantifiers_at}
 use Rattle.sr_program_reader.proofs.ComponentStarts.{OfResource, PlainItem, IsPlain, resource-spec-begins, spec-begins, proc-item-begins, plain-item-begins, begins-other, proc-begins, procedure-begins, process-begins}
 use Rattle.sr_program_reader.proofs.DeclarationStarts.{Begins, begins, begins-test, import-begins, const-begins, type-begins, optype-begins, op-begins, var-begins, sem-begins}
-use Rattle.sr_program_reader.proofs.DeclarationsWhole.{Rests, whole-import, whole-const, whole-type-decl, whole-optype, whole-op, whole-var, whole-sem}
-use Rattle.sr_program_reader.proofs.Lists.{IsItem, ClosesList, list-whole}
+use Rattle.sr_program_reader.proofs.DeclarationsComplete.{Rests, complete-import, complete-const, complete-type-decl, complete-optype, complete-op, complete-var, complete-sem}
+use Rattle.sr_program_reader.proofs.Lists.{IsItem, ClosesList, list-complete}
 use Rattle.sr_program_reader.proofs.StatementEnds.{Ends, closes, separator-ends, closing-ends}
-use Rattle.sr_program_reader.proofs.StatementPartsWhole.{whole-optional-quantifiers, whole-enclosed-names, whole-returned-name}
+use Rattle.sr_program_reader.proofs.StatementPartsComplete.{complete-optional-quantifiers, complete-enclosed-names, complete-returned-name}
 use Rattle.sr_program_reader.proofs.StatementStarts.{statement-begins}
-use Rattle.sr_program_reader.proofs.StatementsWhole.{whole-statement}
+use Rattle.sr_program_reader.proofs.StatementsComplete.{complete-statement}
 
 -- ---- tests
 
@@ -72,7 +72,7 @@ pub refuted : (f h : TokenKind → Bool) → ((k : TokenKind) → f k ≡ true �
 refuted f h i [] e = refl
 refuted f h i (t ∷ s) e = i t.kind e
 
--- a test that separators, items and what stands behind the list fail
+-- a test that separators, items and what stands after the list fail
 pub list-fails : {A : Type 0} {Spells : A → List Token → Type 0} (test : TokenKind → Bool) → test kind.Separator ≡ false
     → ((i : A) (u : List Token) → Spells i u → (q : List Token) → next_is (λ t. test t.kind) (u ++ q) ≡ false)
     → {b : Bool} {is : List A} {v : List Token} → SpellsList Spells b is v → (q : List Token) → next_is (λ t. test t.kind) q ≡ false
@@ -97,7 +97,7 @@ ends-rest e = record {
   assign = e.assign;
 }
 
--- a word behind which no list goes on
+-- a word after which no list goes on
 pub word-ends : {w : Word} {u : List Token} → Begins w u → closes (kind.Word w) ≡ true → (q : List Token) → Ends (u ++ q)
 word-ends (begins {u = u} t h) e q = closing-ends t (u ++ q) (ap closes h ∙ e)
 
@@ -105,7 +105,7 @@ pub word-closes : {w : Word} {u : List Token} (begun : TokenKind → Bool) → B
     → ClosesList (λ t. begun t.kind) Ends (u ++ q)
 word-closes begun b e n q = record { ends = word-ends b e q; separator = begins-test b is_separator false refl q; item = begins-test b begun false n q }
 
--- ---- names behind `body` and `end`
+-- ---- names after `body` and `end`
 
 this-is : (name : Name) (t : Token) → IsName t → t.text ≡ name.text → is_this_name name t ≡ true
 this-is name t h e = both (is_name t.kind) (pointwise nat_eq t.text name.text) (ap is_name h) ((slice_eq-Decides Decides-eqb t.text name.text _ refl).1 e)
@@ -155,28 +155,28 @@ resource-spec-yields : {i : SpecItem} {u : List Token} → SpellsSpecItem i u �
 unfolding resource_spec_item_at
 resource-spec-yields (g.imports {d = d} {u = u} x) p q e =
     yields_met _ _ _ (u ++ q) _ (begins-test (import-begins x) (is_word word.Import) true refl q)
-    (yields_then (λ r. import_at r.expressions) _ u q d _ (yields_part (λ r. r.expressions) (λ k. refl) import_at (u ++ q) _ (whole-import x q e)) (yields_returned _ q))
+    (yields_then (λ r. import_at r.expressions) _ u q d _ (yields_part (λ r. r.expressions) (λ k. refl) import_at (u ++ q) _ (complete-import x q e)) (yields_returned _ q))
 resource-spec-yields (g.constant {d = d} {u = u} x) p q e =
     yields_unmet _ _ _ (u ++ q) _ (begins-test (const-begins x) (is_word word.Import) false refl q)
     (yields_met _ _ _ (u ++ q) _ (begins-test (const-begins x) (is_word word.Const) true refl q)
-    (yields_then const_at _ u q d _ (whole-const x q e) (yields_returned _ q)))
+    (yields_then const_at _ u q d _ (complete-const x q e) (yields_returned _ q)))
 resource-spec-yields (g.type_decl {d = d} {u = u} x) p q e =
     yields_unmet _ _ _ (u ++ q) _ (begins-test (type-begins x) (is_word word.Import) false refl q)
     (yields_unmet _ _ _ (u ++ q) _ (begins-test (type-begins x) (is_word word.Const) false refl q)
     (yields_met _ _ _ (u ++ q) _ (begins-test (type-begins x) (is_word word.Type) true refl q)
-    (yields_then type_decl_at _ u q d _ (whole-type-decl x q e) (yields_returned _ q))))
+    (yields_then type_decl_at _ u q d _ (complete-type-decl x q e) (yields_returned _ q))))
 resource-spec-yields (g.optype {d = d} {u = u} x) p q e =
     yields_unmet _ _ _ (u ++ q) _ (begins-test (optype-begins x) (is_word word.Import) false refl q)
     (yields_unmet _ _ _ (u ++ q) _ (begins-test (optype-begins x) (is_word word.Const) false refl q)
     (yields_unmet _ _ _ (u ++ q) _ (begins-test (optype-begins x) (is_word word.Type) false refl q)
     (yields_met _ _ _ (u ++ q) _ (begins-test (optype-begins x) (is_word word.OpType) true refl q)
-    (yields_then optype_at _ u q d _ (whole-optype x q e) (yields_returned _ q)))))
+    (yields_then optype_at _ u q d _ (complete-optype x q e) (yields_returned _ q)))))
 resource-spec-yields (g.op {d = d} {u = u} x) p q e =
     yields_unmet _ _ _ (u ++ q) _ (begins-test (op-begins x) (is_word word.Import) false refl q)
     (yields_unmet _ _ _ (u ++ q) _ (begins-test (op-begins x) (is_word word.Const) false refl q)
     (yields_unmet _ _ _ (u ++ q) _ (begins-test (op-begins x) (is_word word.Type) false refl q)
     (yields_unmet _ _ _ (u ++ q) _ (begins-test (op-begins x) (is_word word.OpType) false refl q)
-    (yields_then op_at _ u q d _ (whole-op x q e) (yields_returned _ q)))))
+    (yields_then op_at _ u q d _ (complete-op x q e) (yields_returned _ q)))))
 resource-spec-yields (g.variables x) p q e = absurd p
 resource-spec-yields (g.semaphores x) p q e = absurd p
 
@@ -192,11 +192,11 @@ pub spec-yields : {i : SpecItem} {u : List Token} → SpellsSpecItem i u → (q 
 unfolding spec_item_at
 spec-yields (g.variables {d = d} {u = u} x) q e =
     yields_met _ _ _ (u ++ q) _ (begins-test (var-begins x) (is_word word.Var) true refl q)
-    (yields_then var_at _ u q d _ (whole-var x q e) (yields_returned _ q))
+    (yields_then var_at _ u q d _ (complete-var x q e) (yields_returned _ q))
 spec-yields (g.semaphores {d = d} {u = u} x) q e =
     yields_unmet _ _ _ (u ++ q) _ (begins-test (sem-begins x) (is_word word.Var) false refl q)
     (yields_met _ _ _ (u ++ q) _ (begins-test (sem-begins x) (is_word word.Sem) true refl q)
-    (yields_then (λ r. sem_at r.expressions) _ u q d _ (yields_part (λ r. r.expressions) (λ k. refl) sem_at (u ++ q) _ (whole-sem x q e)) (yields_returned _ q)))
+    (yields_then (λ r. sem_at r.expressions) _ u q d _ (yields_part (λ r. r.expressions) (λ k. refl) sem_at (u ++ q) _ (complete-sem x q e)) (yields_returned _ q)))
 spec-yields (g.imports x) q e = also-resource (g.imports x) tt q e
 spec-yields (g.constant x) q e = also-resource (g.constant x) tt q e
 spec-yields (g.type_decl x) q e = also-resource (g.type_decl x) tt q e
@@ -218,14 +218,14 @@ pub resource-specs-yield : {is : List SpecItem} {u : List Token} → SpellsList 
     → ClosesList (λ t. begins_resource_spec t.kind) Ends q → YieldsIn type_readers resource_spec_at (u ++ q) (Ok (is, q))
 unfolding resource_spec_at
 resource-specs-yield l a q c =
-    list-whole type_readers (λ t. begins_resource_spec t.kind) resource_spec_item_at Ends separator-ends (λ t h. begins-other begins_resource_spec refl t.kind h)
+    list-complete type_readers (λ t. begins_resource_spec t.kind) resource_spec_item_at Ends separator-ends (λ t h. begins-other begins_resource_spec refl t.kind h)
     (λ r. r.expressions.steps) steps-readers (list-map resource-spec-item (all-of-resource l a)) q c
 
 pub global-specs-yield : {is : List SpecItem} {u : List Token} → SpellsList SpellsSpecItem true is u → (q : List Token) → ClosesList (λ t. begins_spec t.kind) Ends q
     → YieldsIn type_readers global_spec_at (u ++ q) (Ok (is, q))
 unfolding global_spec_at
 global-specs-yield l q c =
-    list-whole type_readers (λ t. begins_spec t.kind) spec_item_at Ends separator-ends (λ t h. begins-other begins_spec refl t.kind h)
+    list-complete type_readers (λ t. begins_spec t.kind) spec_item_at Ends separator-ends (λ t h. begins-other begins_spec refl t.kind h)
     (λ r. r.expressions.steps) steps-readers (list-map spec-item l) q c
 
 -- ---- procs, procedures, processes and final code
@@ -239,29 +239,29 @@ proc-item-yields : {i : ProcItem} {u : List Token} → SpellsProcItem i u → (q
 unfolding proc_item_at
 proc-item-yields (g.constant {d = d} {u = u} x) q e =
     yields_met _ _ _ (u ++ q) _ (begins-test (const-begins x) (is_word word.Const) true refl q)
-    (yields_then (λ r. const_at r.types) _ u q d _ (in-types (whole-const x q (ends-rest e))) (yields_returned _ q))
+    (yields_then (λ r. const_at r.types) _ u q d _ (in-types (complete-const x q (ends-rest e))) (yields_returned _ q))
 proc-item-yields (g.variables {d = d} {u = u} x) q e =
     yields_unmet _ _ _ (u ++ q) _ (begins-test (var-begins x) (is_word word.Const) false refl q)
     (yields_met _ _ _ (u ++ q) _ (begins-test (var-begins x) (is_word word.Var) true refl q)
-    (yields_then (λ r. var_at r.types) _ u q d _ (in-types (whole-var x q (ends-rest e))) (yields_returned _ q)))
+    (yields_then (λ r. var_at r.types) _ u q d _ (in-types (complete-var x q (ends-rest e))) (yields_returned _ q)))
 proc-item-yields (g.op {d = d} {u = u} x) q e =
     yields_unmet _ _ _ (u ++ q) _ (begins-test (op-begins x) (is_word word.Const) false refl q)
     (yields_unmet _ _ _ (u ++ q) _ (begins-test (op-begins x) (is_word word.Var) false refl q)
     (yields_met _ _ _ (u ++ q) _ (begins-test (op-begins x) (is_word word.Op) true refl q)
-    (yields_then (λ r. op_at r.types) _ u q d _ (in-types (whole-op x q (ends-rest e))) (yields_returned _ q))))
+    (yields_then (λ r. op_at r.types) _ u q d _ (in-types (complete-op x q (ends-rest e))) (yields_returned _ q))))
 proc-item-yields (g.semaphores {d = d} {u = u} x) q e =
     yields_unmet _ _ _ (u ++ q) _ (begins-test (sem-begins x) (is_word word.Const) false refl q)
     (yields_unmet _ _ _ (u ++ q) _ (begins-test (sem-begins x) (is_word word.Var) false refl q)
     (yields_unmet _ _ _ (u ++ q) _ (begins-test (sem-begins x) (is_word word.Op) false refl q)
     (yields_met _ _ _ (u ++ q) _ (begins-test (sem-begins x) (is_word word.Sem) true refl q)
-    (yields_then (λ r. sem_at r.types.expressions) _ u q d _ (yields_part (λ r. r.types.expressions) (λ k. refl) sem_at (u ++ q) _ (whole-sem x q (ends-rest e)))
+    (yields_then (λ r. sem_at r.types.expressions) _ u q d _ (yields_part (λ r. r.types.expressions) (λ k. refl) sem_at (u ++ q) _ (complete-sem x q (ends-rest e)))
     (yields_returned _ q)))))
 proc-item-yields (g.a_statement {s = s} {u = u} x) q e =
     yields_unmet _ _ _ (u ++ q) _ (statement-no-word x word.Const refl q)
     (yields_unmet _ _ _ (u ++ q) _ (statement-no-word x word.Var refl q)
     (yields_unmet _ _ _ (u ++ q) _ (statement-no-word x word.Op refl q)
     (yields_unmet _ _ _ (u ++ q) _ (statement-no-word x word.Sem refl q)
-    (yields_then statement_at _ u q s _ (whole-statement x q e) (yields_returned _ q)))))
+    (yields_then statement_at _ u q s _ (complete-statement x q e) (yields_returned _ q)))))
 
 proc-item : (i : ProcItem) (u : List Token) → SpellsProcItem i u → IsItem statement_readers (λ t. begins_proc_item t.kind) proc_item_at Ends i u
 proc-item i u d = record { starts = proc-item-begins d; yields = proc-item-yields d }
@@ -270,7 +270,7 @@ proc-block-yields : {is : List ProcItem} {u : List Token} → SpellsList SpellsP
     → YieldsIn statement_readers proc_block_at (u ++ (v ++ q)) (Ok (is, v ++ q))
 unfolding proc_block_at
 proc-block-yields l {v = v} b q =
-    list-whole statement_readers (λ t. begins_proc_item t.kind) proc_item_at Ends separator-ends (λ t h. begins-other begins_proc_item refl t.kind h)
+    list-complete statement_readers (λ t. begins_proc_item t.kind) proc_item_at Ends separator-ends (λ t h. begins-other begins_proc_item refl t.kind h)
     (λ r. r.types.expressions.steps) steps-readers (list-map proc-item l) (v ++ q) (word-closes begins_proc_item b refl refl q)
 
 -- a sign or word that begins no proc item begins no block with its end
@@ -306,8 +306,8 @@ proc-yields (g.proc {ns = ns} {r = r} {is = is} {u = u} {v = v} {x = x} {y = y} 
     (below_seq (λ r. enclosed_names_at r.types.expressions) _ (o ∷ (u ++ c ∷ (v ++ (x ++ (y ++ q))))) (o ∷ (u ++ c ∷ [])) (v ++ (x ++ (y ++ q))) ns _
     (ap (λ z. o ∷ z) (sym (append_assoc u (c ∷ []) (v ++ (x ++ (y ++ q))))))
     (below_part (λ r. r.types.expressions) (λ k. refl) enclosed_names_at (o ∷ (u ++ c ∷ (v ++ (x ++ (y ++ q))))) _
-    (below enclosed_names_at _ _ (whole-enclosed-names names o c (v ++ (x ++ (y ++ q))) j k)))
-    (below_then (λ r. returned_name_at) _ v (x ++ (y ++ q)) r _ (below (λ r. returned_name_at) _ _ (whole-returned-name re (x ++ (y ++ q)) (block-no-returns b (end-begins e) q)))
+    (below enclosed_names_at _ _ (complete-enclosed-names names o c (v ++ (x ++ (y ++ q))) j k)))
+    (below_then (λ r. returned_name_at) _ v (x ++ (y ++ q)) r _ (below (λ r. returned_name_at) _ _ (complete-returned-name re (x ++ (y ++ q)) (block-no-returns b (end-begins e) q)))
     (block-end b e (λ is. record { span = t.span; name = name_of n; formals = ns; returned = r; block = is }) q other)))))
 
 procedure-yields : {p : Procedure} {u : List Token} → SpellsProcedure p u → (q : List Token) → NoName q → YieldsIn statement_readers procedure_at (u ++ q) (Ok (p, q))
@@ -321,7 +321,7 @@ procedure-yields (g.procedure {s = s} {is = is} {u = u} {v = v} {x = x} t n h i 
     (token_then (word_at word.Procedure) _ t (n ∷ (u ++ (v ++ (x ++ q)))) t.span _ (word-reads word.Procedure t (n ∷ (u ++ (v ++ (x ++ q)))) h)
     (below_token name_at _ n (u ++ (v ++ (x ++ q))) (name_of n) _ (name-reads n (u ++ (v ++ (x ++ q))) i)
     (below_then (λ r. signature_at r.types) _ u (v ++ (x ++ q)) s _
-    (below (λ r. signature_at r.types) _ _ (in-types (whole-signature d (v ++ (x ++ q)) (stops-quiet-signature d (v ++ (x ++ q)) st))))
+    (below (λ r. signature_at r.types) _ _ (in-types (complete-signature d (v ++ (x ++ q)) (stops-quiet-signature d (v ++ (x ++ q)) st))))
     (block-end b e (λ is. record { span = t.span; name = name_of n; signature = s; block = is }) q other))))
 
 process-yields : {p : Process} {u : List Token} → SpellsProcess p u → (q : List Token) → NoName q → YieldsIn statement_readers process_at (u ++ q) (Ok (p, q))
@@ -334,7 +334,7 @@ process-yields (g.process {qs = qs} {is = is} {u = u} {v = v} {x = x} t n h i d 
     (below_token name_at _ n (u ++ (v ++ (x ++ q))) (name_of n) _ (name-reads n (u ++ (v ++ (x ++ q))) i)
     (below_then (λ r. optional_quantifiers_at r.types.expressions) _ u (v ++ (x ++ q)) qs _
     (below_part (λ r. r.types.expressions) (λ k. refl) optional_quantifiers_at (u ++ (v ++ (x ++ q))) _
-    (below optional_quantifiers_at _ _ (whole-optional-quantifiers d (v ++ (x ++ q)) (block-no-sign b (end-begins e) sign.OpenParen refl q))))
+    (below optional_quantifiers_at _ _ (complete-optional-quantifiers d (v ++ (x ++ q)) (block-no-sign b (end-begins e) sign.OpenParen refl q))))
     (block-end b e (λ is. record { span = t.span; name = name_of n; quantifiers = qs; block = is }) q other))))
 
 pub final-yields : {f : FinalCode} {u : List Token} → SpellsFinal f u → (q : List Token) → YieldsIn statement_readers final_at (u ++ q) (Ok (f, q))
@@ -399,7 +399,7 @@ item-yields (g.a_statement {s = s} {u = u} d) p q e =
     (yields_unmet _ _ _ (u ++ q) _ (statement-no-word d word.Proc refl q)
     (yields_unmet _ _ _ (u ++ q) _ (statement-no-word d word.Procedure refl q)
     (yields_unmet _ _ _ (u ++ q) _ (statement-no-word d word.Process refl q)
-    (yields_then statement_at _ u q s _ (whole-statement d q e.ends) (yields_returned _ q)))))
+    (yields_then statement_at _ u q s _ (complete-statement d q e.ends) (yields_returned _ q)))))
 
 pub plain-item : (i : Item) (u : List Token) → PlainItem i u → IsItem statement_readers (λ t. begins_item t.kind) item_at ItemEnds i u
 plain-item i u d = record { starts = plain-item-begins d.0 d.1; yields = item-yields d.0 d.1 }

@@ -3,7 +3,7 @@ use Rattle.std.proofs.Common.{◌≡◌, sym, ◌∙◌, ap, subst, ℕ, ◌-◌
 use Rattle.sr_reader.specs.Pieces.{IsDead}
 use Rattle.sr_reader.specs.Reader.{Reader, returned, continued, ◌>>=◌}
 use Rattle.sr_reader.proofs.Laws as laws
-use Rattle.sr_reader.proofs.Locality.{Local, Outcome, IsRead, append-nil}
+use Rattle.sr_reader.proofs.Soundness.{Sound, Outcome, IsRead, append-nil}
 use Rattle.sr_tree.specs.declared.component.Component.{Component}
 use Rattle.sr_tree.specs.declared.component.File.{File}
 use Rattle.sr_tree.specs.declared.token.Token.{Token}
@@ -11,26 +11,26 @@ use Rattle.sr_program_reader.specs.ComponentReaders.{begins_component, component
 use Rattle.sr_program_reader.specs.DeclarationReaders.{list_at}
 use Rattle.sr_program_reader.specs.Files.{SpellsFile, ReadsFile}
 use Rattle.sr_program_reader.specs.StatementReaders.{StatementReaders, statement_readers}
-use Rattle.sr_program_reader.proofs.ComponentsLocal.{file-local}
-use Rattle.sr_program_reader.proofs.ComponentsWhole.{whole-file}
-use Rattle.sr_program_reader.proofs.StatementsLocal.{statement_readers-local}
+use Rattle.sr_program_reader.proofs.ComponentsSound.{file-sound}
+use Rattle.sr_program_reader.proofs.ComponentsComplete.{complete-file}
+use Rattle.sr_program_reader.proofs.StatementsSound.{statement_readers-sound}
 
 reading : ℕ → Reader Token File
 reading k = file_at (statement_readers k)
 
-local : (k : ℕ) → Local SpellsFile (reading k)
+local : (k : ℕ) → Sound SpellsFile (reading k)
 unfolding reading
-local k = file-local (statement_readers k) (statement_readers-local k)
+local k = file-sound (statement_readers k) (statement_readers-sound k)
 
 whole : (f : File) (u : List Token) → SpellsFile f u → (k : ℕ) → length u ≤ k → reading k u ≡ Ok (f, [])
 unfolding reading
-whole f u d k h = (whole-file f u d).gives k h
+whole f u d k h = (complete-file f u d).gives k h
 
 -- one list of tokens has at most one file
 pub one-file : (a b : File) (u : List Token) → SpellsFile a u → SpellsFile b u → a ≡ b
 one-file a b u d e = laws.one-tree SpellsFile reading local whole a b u d e
 
--- nothing stands behind a file that is read
+-- nothing stands after a file that is read
 rest-of : {A : Type 0} → List Token → Result (A × List Token) ℕ → List Token
 rest-of s (Ok x) = x.1
 rest-of s (Err n) = s
@@ -42,9 +42,9 @@ read-to-end (Ok (cs, [])) f q e = sym (ap (rest-of []) e)
 read-to-end (Ok (cs, t ∷ s)) f q e = sym (ap (rest-of []) e)
 read-to-end (Err n) f q e = sym (ap (rest-of []) e)
 
-pub nothing-behind : (r : StatementReaders) (s : List Token) (f : File) (q : List Token) → file_at r s ≡ Ok (f, q) → q ≡ []
+pub nothing-after : (r : StatementReaders) (s : List Token) (f : File) (q : List Token) → file_at r s ≡ Ok (f, q) → q ≡ []
 unfolding file_at
-nothing-behind r s f q e = read-to-end (list_at (λ t. begins_component t.kind) (component_at r) r.types.expressions.steps s) f q e
+nothing-after r s f q e = read-to-end (list_at (λ t. begins_component t.kind) (component_at r) r.types.expressions.steps s) f q e
 
 -- what is read is spelled by the tokens
 pub spelled : (s : List Token) (f : File) (q : List Token) → ReadsFile s (Ok (f, q)) → SpellsFile f s
@@ -52,7 +52,7 @@ unfolding reading
 spelled s f q reads =
     let k = length s in
     let o : IsRead SpellsFile (reading k) s f q = subst (Outcome SpellsFile (reading k) s) (reads k (omega arith)) ((local k).at s) in
-    let n : q ≡ [] = nothing-behind (statement_readers k) s f q (reads k (omega arith)) in
+    let n : q ≡ [] = nothing-after (statement_readers k) s f q (reads k (omega arith)) in
     let same : o.front ≡ s = sym (append-nil o.front) ∙ ap (λ w. o.front ++ w) (sym n) ∙ sym o.splits in
     subst (SpellsFile f) same o.holds
 

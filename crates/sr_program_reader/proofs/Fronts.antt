@@ -1,22 +1,22 @@
--- Fronts of lists of items, with whether another item may begin behind them.
+-- Fronts of lists of items, with whether another item may begin after them.
 use Rattle.std.proofs.Common.{◌≡◌, refl, sym, ◌∙◌, ap, subst, ℕ, Bool, true, false, List, [], ◌∷◌, ◌++◌, length, Some, None, Result, Ok, Err, append_assoc}
 use Rattle.std.specs.Prelude.{if◌then◌else◌}
 use Rattle.sr_reader.specs.Reader.{Reader, given, next_is}
-use Rattle.sr_reader.proofs.Locality.{Local, LocalWhere, Outcome, Then, joined, Returns, returns, returned-local, weaker, then-local, branch-local, append-nil}
-use Rattle.sr_reader.proofs.Loops.{while-local}
+use Rattle.sr_reader.proofs.Soundness.{Sound, SoundWhere, Outcome, Then, joined, Returns, returns, returned-sound, weaker, then-sound, branch-sound, append-nil}
+use Rattle.sr_reader.proofs.Loops.{while-sound}
 use Rattle.sr_tree.specs.declared.token.Token.{Token}
 use Rattle.sr_tree.specs.Components as g
 use Rattle.sr_tree.specs.Components.{SpellsList}
 use Rattle.sr_tree.specs.Tables.{IsSeparator}
 use Rattle.sr_tree.specs.Tokens.{separator_at, is_separator}
 use Rattle.sr_expr_reader.proofs.Families.{LoopsIn, token_then, yields_then, below_returned, yields_returned, yields_met, yields_unmet, loop_stops, loop_goes}
-use Rattle.sr_expr_reader.proofs.TokensLocal.{ASeparator, a_separator, separator-local}
+use Rattle.sr_expr_reader.proofs.TokensSound.{ASeparator, a_separator, separator-sound}
 use Rattle.sr_program_reader.specs.DeclarationReaders.{may_go_on, next_item_at, items_at}
 use Rattle.sr_program_reader.proofs.Lists.{IsItem}
 
 -- a property that needs what the next symbol passes
 pub strengthened : {T A : Type 0} {test : T → Bool} {P Q : A → List T → Type 0} {r : Reader T A}
-    → ((a : A) (u q : List T) → next_is test (u ++ q) ≡ true → P a u → Q a u) → Local P r → LocalWhere test Q r
+    → ((a : A) (u q : List T) → next_is test (u ++ q) ≡ true → P a u → Q a u) → Sound P r → SoundWhere test Q r
 strengthened {T = T} {A = A} {test = test} {P = P} {Q = Q} {r = r} f l = record { at = λ s h. go s h (r s) (l.at s) }
   where
     go : (s : List T) → next_is test s ≡ true → (x : Result (A × List T) ℕ) → Outcome P r s x → Outcome Q r s x
@@ -29,7 +29,7 @@ strengthened {T = T} {A = A} {test = test} {P = P} {Q = Q} {r = r} f l = record 
         }
     go s h (Err left) o = o
 
--- the front of a list: whether an item may begin there, and whether one may begin behind it
+-- the front of a list: whether an item may begin there, and whether one may begin after it
 pub data SpellsFront {A : Type 0} (Spells : A → List Token → Type 0) : Bool → List A → Bool → List Token → Type 0 where
   empty_front : {b : Bool} → SpellsFront Spells b [] b []
   separator_front : {b c : Bool} {is : List A} {u : List Token} (t : Token) → IsSeparator t → SpellsFront Spells true is c u
@@ -67,7 +67,7 @@ pub record FrontBetween {A : Type 0} (Spells : A → List Token → Type 0) (bef
 
 module _ {A : Type 0} (begins : Token → Bool) (Spells : A → List Token → Type 0)
     (other : (i : A) (u : List Token) → Spells i u → (q : List Token) → next_is (λ t. is_separator t.kind) (u ++ q) ≡ false)
-    (read : Reader Token A) (local : Local Spells read) where
+    (read : Reader Token A) (local : Sound Spells read) where
   nothing-between : (l : List A × Bool) → FrontBetween Spells l l []
   nothing-between l = record { added = []; items = sym (append-nil l.0); spelled = empty_front }
 
@@ -92,11 +92,11 @@ module _ {A : Type 0} (begins : Token → Bool) (Spells : A → List Token → T
       go : (m : List A × Bool) (z : List Token) → Returns (l.0 ++ i ∷ [], false) m z → Step l m (u ++ z)
       go m z returns = subst (Step l (l.0 ++ i ∷ [], false)) (sym (append-nil u)) (by_item d)
 
-  step-local : (l : List A × Bool) → Local (Step l) (next_item_at read l)
+  step-sound : (l : List A × Bool) → Sound (Step l) (next_item_at read l)
   unfolding next_item_at
-  step-local l = branch-local
-      (weaker (separator-step l) (then-local separator-local (λ t. returned-local (l.0, true))))
-      (weaker (item-step l) (then-local local (λ i. returned-local (l.0 ++ i ∷ [], false))))
+  step-sound l = branch-sound
+      (weaker (separator-step l) (then-sound separator-sound (λ t. returned-sound (l.0, true))))
+      (weaker (item-step l) (then-sound local (λ i. returned-sound (l.0 ++ i ∷ [], false))))
 
   may-begin : (x b y : Bool) → (if x then true else if b then y else false) ≡ true → x ≡ false → b ≡ true
   may-begin true b y h e = sym (ap (λ x. if x then true else b) e)
@@ -117,10 +117,10 @@ module _ {A : Type 0} (begins : Token → Bool) (Spells : A → List Token → T
             (subst (SpellsFront Spells true (i ∷ []) false) (append-nil u) (item_front d empty_front));
       }
 
-  pub fronts-local : (n : ℕ) (before : List A × Bool) → Local (FrontBetween Spells before) (items_at begins read n before)
+  pub fronts-sound : (n : ℕ) (before : List A × Bool) → Sound (FrontBetween Spells before) (items_at begins read n before)
   unfolding items_at
-  fronts-local n before = while-local (may_go_on begins) (next_item_at read) (FrontBetween Spells) (FrontBetween Spells) nothing-between both-between
-      (λ l. strengthened (step-between l) (step-local l)) n before
+  fronts-sound n before = while-sound (may_go_on begins) (next_item_at read) (FrontBetween Spells) (FrontBetween Spells) nothing-between both-between
+      (λ l. strengthened (step-between l) (step-sound l)) n before
 
 -- ---- a front is read
 
@@ -137,29 +137,29 @@ module _ {R A : Type 0} (family : ℕ → R) (begins : Token → Bool) (item : R
   goes-on : (before : List A) (t : Token) → begins t ≡ true → may_go_on begins (before, true) t ≡ true
   goes-on before t h = ap (λ x. if x then true else begins t) (other t h) ∙ h
 
-  -- where the list ends behind it
-  pub front-whole : {b c : Bool} {is : List A} {v : List Token} → SpellsFront (IsItem family begins item End) b is c v → (before : List A) (q : List Token)
+  -- where the list ends after it
+  pub front-complete : {b c : Bool} {is : List A} {v : List Token} → SpellsFront (IsItem family begins item End) b is c v → (before : List A) (q : List Token)
       → End q → next_is (may_go_on begins (before, c)) q ≡ false
       → LoopsIn family (may_go_on begins) (λ r. next_item_at (item r)) (before, b) (v ++ q) (Ok ((before ++ is, c), q))
   unfolding next_item_at
-  front-whole {b = b} empty_front before q e n =
+  front-complete {b = b} empty_front before q e n =
       subst (λ x. LoopsIn family (may_go_on begins) (λ r. next_item_at (item r)) (before, b) q (Ok ((x, b), q))) (sym (append-nil before))
       (loop_stops (may_go_on begins) (λ r. next_item_at (item r)) (before, b) q n)
-  front-whole {b = b} (separator_front {u = u} t h m) before q e n =
+  front-complete {b = b} (separator_front {u = u} t h m) before q e n =
       loop_goes (may_go_on begins) (λ r. next_item_at (item r)) (before, b) (before, true) t (u ++ q) [] (u ++ q) _ refl
       (ap (λ k. if is_separator k then true else if b then begins t else false) h)
       (yields_met _ _ _ (t ∷ (u ++ q)) _ (ap is_separator h)
       (token_then separator_at _ t (u ++ q) t.span _ (separator-reads t (u ++ q) h) (below_returned _ (u ++ q))))
-      (front-whole m before q e n)
-  front-whole (item_front {u = []} d m) before q e n = absurd (nothing (d.starts []))
+      (front-complete m before q e n)
+  front-complete (item_front {u = []} d m) before q e n = absurd (nothing (d.starts []))
     where
       nothing : false ≡ true → ⊥
       nothing h = cc
-  front-whole {c = c} (item_front {i = i} {is = is} {u = t ∷ u} {v = v} d m) before q e n =
+  front-complete {c = c} (item_front {i = i} {is = is} {u = t ∷ u} {v = v} d m) before q e n =
       subst (λ w. LoopsIn family (may_go_on begins) (λ r. next_item_at (item r)) (before, true) (t ∷ w) (Ok ((before ++ i ∷ is, c), q))) (sym (append_assoc u v q))
       (loop_goes (may_go_on begins) (λ r. next_item_at (item r)) (before, true) (before ++ i ∷ [], false) t (u ++ (v ++ q)) u (v ++ q) _ refl
       (goes-on before t (d.starts []))
       (yields_unmet _ _ _ (t ∷ (u ++ (v ++ q))) _ (other t (d.starts []))
       (yields_then item _ (t ∷ u) (v ++ q) i _ (d.yields (v ++ q) (item-end m q e)) (yields_returned _ (v ++ q))))
       (subst (λ x. LoopsIn family (may_go_on begins) (λ r. next_item_at (item r)) (before ++ i ∷ [], false) (v ++ q) (Ok ((x, c), q))) (append_assoc before (i ∷ []) is)
-      (front-whole m (before ++ i ∷ []) q e n)))
+      (front-complete m (before ++ i ∷ []) q e n)))

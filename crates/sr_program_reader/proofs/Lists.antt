@@ -2,15 +2,15 @@
 use Rattle.std.proofs.Common.{◌≡◌, refl, sym, ◌∙◌, ap, subst, ℕ, Bool, true, false, List, [], ◌∷◌, ◌++◌, Ok, append_assoc}
 use Rattle.std.specs.Prelude.{if◌then◌else◌}
 use Rattle.sr_reader.specs.Reader.{Reader, returned, next_is}
-use Rattle.sr_reader.proofs.Locality.{Local, anywhere, Then, joined, Returns, returns, returned-local, weaker, weaker-where, weaker-unless, where-first, unless-first, then-local, branch-by, append-nil, ended, into}
-use Rattle.sr_reader.proofs.Loops.{while-local}
+use Rattle.sr_reader.proofs.Soundness.{Sound, anywhere, Then, joined, Returns, returns, returned-sound, weaker, weaker-where, weaker-unless, where-first, unless-first, then-sound, branch-by, append-nil, ended, into}
+use Rattle.sr_reader.proofs.Loops.{while-sound}
 use Rattle.sr_tree.specs.declared.token.Token.{Token}
 use Rattle.sr_tree.specs.Components as c
 use Rattle.sr_tree.specs.Components.{SpellsList}
 use Rattle.sr_tree.specs.Tables.{IsSeparator}
 use Rattle.sr_tree.specs.Tokens.{separator_at, is_separator}
 use Rattle.sr_expr_reader.proofs.Families.{YieldsIn, LoopsIn, token_then, yields_then, below_returned, yields_returned, yields_met, yields_unmet, loop_stops, loop_goes, loop_within}
-use Rattle.sr_expr_reader.proofs.TokensLocal.{ASeparator, a_separator, separator-local}
+use Rattle.sr_expr_reader.proofs.TokensSound.{ASeparator, a_separator, separator-sound}
 use Rattle.sr_expr_reader.proofs.TypePieces.{separator-reads}
 use Rattle.sr_program_reader.specs.DeclarationReaders.{may_go_on, next_item_at, items_at, list_at}
 
@@ -21,12 +21,12 @@ data Stepped {A : Type 0} (Spells : A → List Token → Type 0) (before : List 
   separated : (t : Token) → IsSeparator t → Stepped Spells before (before.0, true) (t ∷ [])
   an_item : {i : A} {u : List Token} → before.1 ≡ true → Spells i u → Stepped Spells before (before.0 ++ i ∷ [], false) u
 
--- items that stand behind those before
+-- items that stand after those before
 pub data Listed {A : Type 0} (Spells : A → List Token → Type 0) (before : List A × Bool) : List A × Bool → List Token → Type 0 where
   listed : {more : List A} {begins : Bool} {u : List Token} → SpellsList Spells before.1 more u → Listed Spells before (before.0 ++ more, begins) u
 
 module _ {A : Type 0} (begins : Token → Bool) (Spells : A → List Token → Type 0) (some : (i : A) → Spells i [] → ⊥) (item : Reader Token A)
-    (l : Local Spells item) where
+    (l : Sound Spells item) where
   nothing-listed : (before : List A × Bool) → Listed Spells before before []
   nothing-listed (is, b) = subst (λ x. Listed Spells (is, b) (x, b) []) (append-nil is) (listed c.stop_here)
 
@@ -63,12 +63,12 @@ module _ {A : Type 0} (begins : Token → Bool) (Spells : A → List Token → T
       go : (after : List A × Bool) (w : List Token) → w ≡ [] → Then Spells (λ i. Returns (before.0 ++ i ∷ [], false)) after w → ⊥
       go after w e (joined {a = i} {u = u} {v = v} d end) = nothing after i u v e d
 
-  step-local : (before : List A × Bool) → Local (Read before) (next_item_at item before)
+  step-sound : (before : List A × Bool) → Sound (Read before) (next_item_at item before)
   unfolding next_item_at
-  step-local before = branch-by
-      (anywhere (λ t. is_separator t.kind) (weaker (separator-read before) (then-local separator-local (λ t. returned-local (before.0, true)))))
+  step-sound before = branch-by
+      (anywhere (λ t. is_separator t.kind) (weaker (separator-read before) (then-sound separator-sound (λ t. returned-sound (before.0, true)))))
       (weaker-unless (item-read before) (unless-first (λ t. is_separator t.kind) _ _ (some-item before)
-      (record { at = λ s e. (then-local l (λ i. returned-local (before.0 ++ i ∷ [], false))).at s })))
+      (record { at = λ s e. (then-sound l (λ i. returned-sound (before.0 ++ i ∷ [], false))).at s })))
 
   may-begin : (b : Bool) (t : Token) → (if is_separator t.kind then true else if b then begins t else false) ≡ true → is_separator t.kind ≡ false → b ≡ true
   may-begin true t h e = refl
@@ -79,21 +79,21 @@ module _ {A : Type 0} (begins : Token → Bool) (Spells : A → List Token → T
   stepped before after [] (read_item {i = i} d h, e) = absurd (some i d)
   stepped before after (t ∷ u) (read_item d h, e) = an_item (may-begin before.1 t e h) d
 
-  pub items-local : (n : ℕ) (before : List A × Bool) → Local (Listed Spells before) (items_at begins item n before)
+  pub items-sound : (n : ℕ) (before : List A × Bool) → Sound (Listed Spells before) (items_at begins item n before)
   unfolding items_at
-  items-local n before = while-local (may_go_on begins) (next_item_at item) (Stepped Spells) (Listed Spells) nothing-listed lists-on
-      (λ x. weaker-where (stepped x) (where-first (may_go_on begins x) (Read x) (next_item_at item x) (some-read x) (anywhere (may_go_on begins x) (step-local x)))) n before
+  items-sound n before = while-sound (may_go_on begins) (next_item_at item) (Stepped Spells) (Listed Spells) nothing-listed lists-on
+      (λ x. weaker-where (stepped x) (where-first (may_go_on begins x) (Read x) (next_item_at item x) (some-read x) (anywhere (may_go_on begins x) (step-sound x)))) n before
 
   list-found : (is : List A) (u : List Token) → Then (Listed Spells ([], true)) (λ x. Returns x.0) is u → SpellsList Spells true is u
   list-found is w (joined {u = u} (listed {more = more} m) returns) = subst (SpellsList Spells true more) (sym (append-nil u)) m
 
-  pub list-local : (n : ℕ) → Local (SpellsList Spells true) (list_at begins item n)
+  pub list-sound : (n : ℕ) → Sound (SpellsList Spells true) (list_at begins item n)
   unfolding list_at
-  list-local n = weaker list-found (then-local (items-local n ([], true)) (λ x. returned-local x.0))
+  list-sound n = weaker list-found (then-sound (items-sound n ([], true)) (λ x. returned-sound x.0))
 
 -- ---- a list is read
 
--- an item that begins with one of some tokens, and is read where an end stands behind it
+-- an item that begins with one of some tokens, and is read where an end stands after it
 pub record IsItem {R A : Type 0} (family : ℕ → R) (begins : Token → Bool) (item : R → Reader Token A) (End : List Token → Type 0) (i : A) (u : List Token) : Type 0 where
   pub starts : (q : List Token) → next_is begins (u ++ q) ≡ true
   pub yields : (q : List Token) → End q → YieldsIn family item (u ++ q) (Ok (i, q))
@@ -128,35 +128,35 @@ module _ {R A : Type 0} (family : ℕ → R) (begins : Token → Bool) (item : R
   may_end (c.separator t h m) = may_end m
   may_end (c.one d m) = may_end m
 
-  pub items-whole : {b : Bool} {is : List A} {v : List Token} (d : SpellsList (IsItem family begins item End) b is v) (before : List A) (q : List Token)
+  pub items-complete : {b : Bool} {is : List A} {v : List Token} (d : SpellsList (IsItem family begins item End) b is v) (before : List A) (q : List Token)
       → ClosesList begins End q
       → LoopsIn family (may_go_on begins) (λ r. next_item_at (item r)) (before, b) (v ++ q) (Ok ((before ++ is, may_end d), q))
   unfolding next_item_at may_end
-  items-whole {b = b} c.stop_here before q e =
+  items-complete {b = b} c.stop_here before q e =
       subst (λ x. LoopsIn family (may_go_on begins) (λ r. next_item_at (item r)) (before, b) q (Ok ((x, b), q))) (sym (append-nil before))
       (loop_stops (may_go_on begins) (λ r. next_item_at (item r)) (before, b) q (stops-here before b q e))
-  items-whole {b = b} (c.separator {u = u} t h m) before q e =
+  items-complete {b = b} (c.separator {u = u} t h m) before q e =
       loop_goes (may_go_on begins) (λ r. next_item_at (item r)) (before, b) (before, true) t (u ++ q) [] (u ++ q) _ refl
       (ap (λ k. if is_separator k then true else if b then begins t else false) h)
       (yields_met _ _ _ (t ∷ (u ++ q)) _ (ap is_separator h)
       (token_then separator_at _ t (u ++ q) t.span _ (separator-reads t (u ++ q) h) (below_returned _ (u ++ q))))
-      (items-whole m before q e)
-  items-whole (c.one {u = []} d m) before q e = absurd (nothing (d.starts []))
+      (items-complete m before q e)
+  items-complete (c.one {u = []} d m) before q e = absurd (nothing (d.starts []))
     where
       nothing : false ≡ true → ⊥
       nothing h = cc
-  items-whole (c.one {i = i} {is = is} {u = t ∷ u} {v = v} d m) before q e =
+  items-complete (c.one {i = i} {is = is} {u = t ∷ u} {v = v} d m) before q e =
       subst (λ w. LoopsIn family (may_go_on begins) (λ r. next_item_at (item r)) (before, true) (t ∷ w) (Ok ((before ++ i ∷ is, may_end m), q))) (sym (append_assoc u v q))
       (loop_goes (may_go_on begins) (λ r. next_item_at (item r)) (before, true) (before ++ i ∷ [], false) t (u ++ (v ++ q)) u (v ++ q) _ refl
       (goes-on before t (d.starts []))
       (yields_unmet _ _ _ (t ∷ (u ++ (v ++ q))) _ (other t (d.starts []))
       (yields_then item _ (t ∷ u) (v ++ q) i _ (d.yields (v ++ q) (item-end m q e.ends)) (yields_returned _ (v ++ q))))
       (subst (λ x. LoopsIn family (may_go_on begins) (λ r. next_item_at (item r)) (before ++ i ∷ [], false) (v ++ q) (Ok ((x, may_end m), q))) (append_assoc before (i ∷ []) is)
-      (items-whole m (before ++ i ∷ []) q e)))
+      (items-complete m (before ++ i ∷ []) q e)))
 
-  pub list-whole : (steps : R → ℕ) → ((k : ℕ) → steps (family k) ≡ k) → {is : List A} {v : List Token} → SpellsList (IsItem family begins item End) true is v
+  pub list-complete : (steps : R → ℕ) → ((k : ℕ) → steps (family k) ≡ k) → {is : List A} {v : List Token} → SpellsList (IsItem family begins item End) true is v
       → (q : List Token) → ClosesList begins End q → YieldsIn family (λ r. list_at begins (item r) (steps r)) (v ++ q) (Ok (is, q))
   unfolding list_at items_at
-  list-whole steps same {is = is} {v = v} d q e =
+  list-complete steps same {is = is} {v = v} d q e =
       yields_then _ (λ r x. returned x.0) v q (is, may_end d) _
-      (loop_within (may_go_on begins) (λ r. next_item_at (item r)) steps same ([], true) (v ++ q) _ (items-whole d [] q e)) (yields_returned is q)
+      (loop_within (may_go_on begins) (λ r. next_item_at (item r)) steps same ([], true) (v ++ q) _ (items-complete d [] q e)) (yields_returned is q)

@@ -1,4 +1,4 @@
--- What may stand behind expressions, declarations and statements.
+-- What may stand after expressions, declarations and statements.
 use Rattle.std.proofs.Common.{◌≡◌, refl, ap, Bool, true, false, List, [], ◌∷◌, Some}
 use Rattle.std.specs.Prelude.{if◌then◌else◌}
 use Rattle.sr_reader.specs.Reader.{next_is}
@@ -15,12 +15,12 @@ use Rattle.sr_tree.specs.Tables.{IsSign, IsWord, IsSeparator}
 use Rattle.sr_tree.specs.Tests.{is_sign, is_word}
 use Rattle.sr_tree.specs.Tokens.{is_separator}
 use Rattle.sr_expr_reader.proofs.ExpressionEdges.{continues_expr, token-stops, end-stops}
-use Rattle.sr_expr_reader.proofs.TokensLocal.{none_some}
-use Rattle.sr_expr_reader.proofs.TokensWhole.{Stops}
+use Rattle.sr_expr_reader.proofs.TokensSound.{none_some}
+use Rattle.sr_expr_reader.proofs.TokensComplete.{Stops}
 use Rattle.sr_expr_reader.proofs.TypesQuiet.{continues_type, token-stops-type}
 use Rattle.sr_program_reader.specs.StatementReaders.{begins_block_item}
 
--- ---- behind expressions
+-- ---- after expressions
 
 pub arrow-stops : (t : Token) (q : List Token) → IsSign sign.Arrow t → Stops (t ∷ q)
 arrow-stops t q h = token-stops t q (ap continues_expr h)
@@ -30,7 +30,7 @@ direction-stops t q word.To d h e = token-stops t q (ap continues_expr h)
 direction-stops t q word.Downto d h e = token-stops t q (ap continues_expr h)
 direction-stops t q _ d h e = absurd (none_some d e)
 
--- ---- behind declarations and statements
+-- ---- after declarations and statements
 
 -- nothing, or a token that continues no declaration and no statement
 pub record Ends (q : List Token) : Type 0 where
@@ -98,7 +98,7 @@ nothing-ends = record {
 pub separator-ends : (t : Token) (q : List Token) → IsSeparator t → Ends (t ∷ q)
 separator-ends t q h = token-ends t q (ap continues_item h)
 
--- tokens behind which no list of items goes on
+-- tokens after which no list of items goes on
 abbrev pub word_closes : Word → Bool
 word_closes word.Fi = true
 word_closes word.Od = true

@@ -2,7 +2,7 @@
 use Rattle.std.proofs.Common.{◌≡◌, refl, sym, ◌∙◌, ap, subst, ℕ, zero, suc, ◌<◌, Bool, true, false, List, [], ◌∷◌, ◌++◌, length, Option, Some, None, Result, Ok, append_assoc, arith}
 use Rattle.std.specs.Prelude.{is_some}
 use Rattle.sr_reader.specs.Reader.{Reader, returned, ◌>>=◌, next_is}
-use Rattle.sr_reader.proofs.Locality.{append-nil}
+use Rattle.sr_reader.proofs.Soundness.{append-nil}
 use Rattle.sr_value.specs.declared.place.Span.{Span}
 use Rattle.sr_tree.specs.declared.expr.Expr.{Expr}
 use Rattle.sr_tree.specs.declared.expr.Expr.TheVariants as expr
@@ -28,17 +28,17 @@ use Rattle.sr_expr_reader.specs.Readers.{Readers, primary_at, operand_at}
 use Rattle.sr_tree.specs.Tokens.{sign_at, word_at, name_at}
 use Rattle.sr_expr_reader.specs.TypeReaders.{TypeReaders, type_readers}
 use Rattle.sr_expr_reader.proofs.ExpressionEdges.{begins_expr, primary-begins, begins-no-word, continues_expr, token-stops}
-use Rattle.sr_expr_reader.proofs.ExpressionsWhole.{whole-operand}
+use Rattle.sr_expr_reader.proofs.ExpressionsComplete.{complete-operand}
 use Rattle.sr_expr_reader.proofs.Families.{YieldsIn, BelowIn, LoopsIn, below, token_then, below_token, below_then, below_seq, yields_then, below_returned, yields_returned, yields_met, yields_unmet, below_met, below_unmet, loop_stops, loop_goes, loop_within, yields_part}
-use Rattle.sr_expr_reader.proofs.TokensLocal.{kind_of_word}
-use Rattle.sr_expr_reader.proofs.TokensWhole.{Stops, is_that_sign, is_that_word, sign-reads, word-reads, name-reads, continues, stops-continued}
+use Rattle.sr_expr_reader.proofs.TokensSound.{kind_of_word}
+use Rattle.sr_expr_reader.proofs.TokensComplete.{Stops, is_that_sign, is_that_word, sign-reads, word-reads, name-reads, continues, stops-continued}
 use Rattle.sr_expr_reader.proofs.Yields.{Yields, steps-readers}
-use Rattle.sr_program_reader.specs.StatementReaders.{StatementReaders, statement_readers, blocks, begins_block_item, token_condition, invocation_of, invoked_at, invocation_at, by_at, enclosed_names_at, returned_name_at, condition_at, arrow_block_at, otherwise_at, is_alternative, next_alternative_at, alternatives_at, branch_at, arm_at, co_block_at, behind_invocation_at, first_of, co_start_at, co_called_at, behind_target_at, co_primary_at, behind_quantifiers_at, single_at, assign_at, exchange_at, increment_at, decrement_at, plain_call_at, behind_primary_at, named_statement_at, closed_statement_at, operating_statement_at, worded_statement_at, statement_at, block_at}
+use Rattle.sr_program_reader.specs.StatementReaders.{StatementReaders, statement_readers, blocks, begins_block_item, token_condition, invocation_of, invoked_at, invocation_at, by_at, enclosed_names_at, returned_name_at, condition_at, arrow_block_at, otherwise_at, is_alternative, next_alternative_at, alternatives_at, branch_at, arm_at, co_block_at, after_invocation_at, first_of, co_start_at, co_called_at, after_target_at, co_primary_at, after_quantifiers_at, single_at, assign_at, exchange_at, increment_at, decrement_at, plain_call_at, after_primary_at, named_statement_at, closed_statement_at, operating_statement_at, worded_statement_at, statement_at, block_at}
 use Rattle.sr_program_reader.proofs.Lists.{ClosesList}
-use Rattle.sr_program_reader.proofs.Separated.{Separated, none_behind, one_behind}
+use Rattle.sr_program_reader.proofs.Separated.{Separated, none_after, one_after}
 use Rattle.sr_program_reader.proofs.StatementEnds.{Ends, closes, closing-ends, closing-separator, closing-item, arrow-stops}
-use Rattle.sr_program_reader.proofs.StatementPartsWhole.{primary-yields, start-yields, invoked-yields, invocation-yields, by-first, by-stops, by-yields, condition-first, condition-yields, whole-enclosed-names, whole-returned-name}
-use Rattle.sr_program_reader.proofs.StatementsLocal.{branch_of, arm_of, co_arm_of, three, stored-tokens}
+use Rattle.sr_program_reader.proofs.StatementPartsComplete.{primary-yields, start-yields, invoked-yields, invocation-yields, by-first, by-stops, by-yields, condition-first, condition-yields, complete-enclosed-names, complete-returned-name}
+use Rattle.sr_program_reader.proofs.StatementsSound.{branch_of, arm_of, co_arm_of, three, stored-tokens}
 use Rattle.sr_program_reader.proofs.StatementStarts.{start-span, start-alone}
 
 -- what the readers of expressions give
@@ -50,7 +50,7 @@ pub of-types : {A : Type 0} (f : TypeReaders → Reader Token A) (w : List Token
     → YieldsIn statement_readers (λ r. f r.types) w z
 of-types f w z y = yields_part (λ r. r.types) (λ k. refl) f w z y
 
--- ---- blocks behind an arrow
+-- ---- blocks after an arrow
 
 -- what ends a block
 abbrev pub BlockEnds : List Token → Type 0
@@ -75,26 +75,26 @@ arrow-yields t is v q h y =
 
 -- ---- alternatives
 
--- an alternative that is read, and is none behind `else`
-pub record WholeAlternative {A : Type 0} (alternative : StatementReaders → Reader Token A) (a : A) (u : List Token) : Type 0 where
+-- an alternative that is read, and is none after `else`
+pub record CompleteAlternative {A : Type 0} (alternative : StatementReaders → Reader Token A) (a : A) (u : List Token) : Type 0 where
   pub yields : (q : List Token) → BlockEnds q → YieldsIn statement_readers alternative (u ++ q) (Ok (a, q))
   pub other : (q : List Token) → next_is (λ t. is_word word.Else t.kind) (u ++ q) ≡ false
 
--- what stands behind `else`, where it does
-pub data WholeOtherwise : Option (List BlockItem) → List Token → Type 0 where
-  nothing_otherwise : WholeOtherwise None []
+-- what stands after `else`, where it does
+pub data CompleteOtherwise : Option (List BlockItem) → List Token → Type 0 where
+  nothing_otherwise : CompleteOtherwise None []
   block_otherwise : {is : List BlockItem} {u : List Token} (t otherwise arrow : Token) → IsSign sign.Alternative t → IsWord word.Else otherwise
       → IsSign sign.Arrow arrow → ((q : List Token) → BlockEnds q → YieldsIn statement_readers block_at (u ++ q) (Ok (is, q)))
-      → WholeOtherwise (Some is) (t ∷ otherwise ∷ arrow ∷ u)
+      → CompleteOtherwise (Some is) (t ∷ otherwise ∷ arrow ∷ u)
 
-otherwise-ends : {o : Option (List BlockItem)} {x : List Token} → WholeOtherwise o x → (q : List Token) → BlockEnds q → BlockEnds (x ++ q)
+otherwise-ends : {o : Option (List BlockItem)} {x : List Token} → CompleteOtherwise o x → (q : List Token) → BlockEnds q → BlockEnds (x ++ q)
 otherwise-ends nothing_otherwise q e = e
 otherwise-ends (block_otherwise {u = u} t w a h i j y) q e = closing-block t (w ∷ a ∷ (u ++ q)) (ap closes h)
 
 module _ {A : Type 0} (alternative : StatementReaders → Reader Token A) where
-  alternatives-end : {bs : List A} {v : List Token} → Separated sign.Alternative (WholeAlternative alternative) bs v → (q : List Token) → BlockEnds q → BlockEnds (v ++ q)
-  alternatives-end none_behind q e = e
-  alternatives-end (one_behind {u = u} {v = v} t h d m) q e = closing-block t ((u ++ v) ++ q) (ap closes h)
+  alternatives-end : {bs : List A} {v : List Token} → Separated sign.Alternative (CompleteAlternative alternative) bs v → (q : List Token) → BlockEnds q → BlockEnds (v ++ q)
+  alternatives-end none_after q e = e
+  alternatives-end (one_after {u = u} {v = v} t h d m) q e = closing-block t ((u ++ v) ++ q) (ap closes h)
 
   abbrev step : StatementReaders → List A × Option (List BlockItem) → Reader Token (List A × Option (List BlockItem))
   step r = next_alternative_at r (alternative r)
@@ -107,8 +107,8 @@ module _ {A : Type 0} (alternative : StatementReaders → Reader Token A) where
   nothing-more xs is [] = refl
   nothing-more xs is (t ∷ q) = refl
 
-  -- behind the last alternative
-  otherwise-follows : {o : Option (List BlockItem)} {x : List Token} → WholeOtherwise o x → (xs : List A) (q : List Token) → BlockEnds q
+  -- after the last alternative
+  otherwise-follows : {o : Option (List BlockItem)} {x : List Token} → CompleteOtherwise o x → (xs : List A) (q : List Token) → BlockEnds q
       → next_is (λ t. is_sign sign.Alternative t.kind) q ≡ false → LoopsIn statement_readers is_alternative step (xs, None) (x ++ q) (Ok ((xs, o), q))
   unfolding next_alternative_at otherwise_at
   otherwise-follows nothing_otherwise xs q e n = loop_stops is_alternative step (xs, None) q (no-alternative xs q n)
@@ -123,14 +123,14 @@ module _ {A : Type 0} (alternative : StatementReaders → Reader Token A) where
       (below_returned (xs, Some is) q))))
       (loop_stops is_alternative step (xs, Some is) q (nothing-more xs is q))
 
-  alternatives-follow : {bs : List A} {v : List Token} → Separated sign.Alternative (WholeAlternative alternative) bs v
-      → {o : Option (List BlockItem)} {x : List Token} → WholeOtherwise o x → (xs : List A) (q : List Token) → BlockEnds q
+  alternatives-follow : {bs : List A} {v : List Token} → Separated sign.Alternative (CompleteAlternative alternative) bs v
+      → {o : Option (List BlockItem)} {x : List Token} → CompleteOtherwise o x → (xs : List A) (q : List Token) → BlockEnds q
       → next_is (λ t. is_sign sign.Alternative t.kind) q ≡ false
       → LoopsIn statement_readers is_alternative step (xs, None) (v ++ (x ++ q)) (Ok ((xs ++ bs, o), q))
   unfolding next_alternative_at
-  alternatives-follow none_behind {o = o} {x = x} other xs q e n =
+  alternatives-follow none_after {o = o} {x = x} other xs q e n =
       subst (λ ys. LoopsIn statement_readers is_alternative step (xs, None) (x ++ q) (Ok ((ys, o), q))) (sym (append-nil xs)) (otherwise-follows other xs q e n)
-  alternatives-follow (one_behind {a = b} {more = bs} {u = u} {v = v} t h d m) {o = o} {x = x} other xs q e n =
+  alternatives-follow (one_after {a = b} {more = bs} {u = u} {v = v} t h d m) {o = o} {x = x} other xs q e n =
       let w = v ++ (x ++ q) in
       subst (λ y. LoopsIn statement_readers is_alternative step (xs, None) (t ∷ y) (Ok ((xs ++ b ∷ bs, o), q))) (sym (append_assoc u v (x ++ q)))
       (loop_goes is_alternative step (xs, None) (xs ++ b ∷ [], None) t (u ++ (v ++ (x ++ q))) u (v ++ (x ++ q)) _ refl (is_that_sign sign.Alternative t h)
@@ -142,8 +142,8 @@ module _ {A : Type 0} (alternative : StatementReaders → Reader Token A) where
       (subst (λ ys. LoopsIn statement_readers is_alternative step (xs ++ b ∷ [], None) (v ++ (x ++ q)) (Ok ((ys, o), q))) (append_assoc xs (b ∷ []) bs)
       (alternatives-follow m other (xs ++ b ∷ []) q e n)))
 
-  pub alternatives-yields : {b : A} {bs : List A} {o : Option (List BlockItem)} {u v x : List Token} → WholeAlternative alternative b u
-      → Separated sign.Alternative (WholeAlternative alternative) bs v → WholeOtherwise o x → (q : List Token) → BlockEnds q
+  pub alternatives-yields : {b : A} {bs : List A} {o : Option (List BlockItem)} {u v x : List Token} → CompleteAlternative alternative b u
+      → Separated sign.Alternative (CompleteAlternative alternative) bs v → CompleteOtherwise o x → (q : List Token) → BlockEnds q
       → next_is (λ t. is_sign sign.Alternative t.kind) q ≡ false
       → YieldsIn statement_readers (λ r. alternatives_at r (alternative r)) ((u ++ (v ++ x)) ++ q) (Ok ((b ∷ bs, o), q))
   unfolding alternatives_at
@@ -160,7 +160,7 @@ unfolding branch_at
 branch-yields {e = e} {is = is} t u v q d h y =
     subst (λ w. YieldsIn statement_readers branch_at w (Ok (branch_of e is, q))) (sym (append_assoc u (t ∷ v) q))
     (yields_then (λ r. operand_at r.types.expressions 5) _ u (t ∷ (v ++ q)) e _
-    (of-expressions (λ r. operand_at r 5) (u ++ t ∷ (v ++ q)) _ (whole-operand d (t ∷ (v ++ q)) (arrow-stops t (v ++ q) h)))
+    (of-expressions (λ r. operand_at r 5) (u ++ t ∷ (v ++ q)) _ (complete-operand d (t ∷ (v ++ q)) (arrow-stops t (v ++ q) h)))
     (yields_then arrow_block_at _ (t ∷ v) q is _ (arrow-yields t is v q h y) (yields_returned (branch_of e is) q)))
 
 -- the tokens of an arm, grouped to the right
@@ -183,9 +183,9 @@ arm-yields {ns = ns} {m = m} {c = c} {order = order} {is = is} n o k a u v x y z
     (below_seq (λ r. enclosed_names_at r.types.expressions) _ (o ∷ (u ++ k ∷ (v ++ (x ++ (y ++ a ∷ (z ++ q)))))) (o ∷ (u ++ k ∷ [])) (v ++ (x ++ (y ++ a ∷ (z ++ q)))) ns _
     (ap (λ w. o ∷ w) (sym (append_assoc u (k ∷ []) (v ++ (x ++ (y ++ a ∷ (z ++ q)))))))
     (below _ (o ∷ (u ++ k ∷ (v ++ (x ++ (y ++ a ∷ (z ++ q)))))) _ (of-expressions enclosed_names_at (o ∷ (u ++ k ∷ (v ++ (x ++ (y ++ a ∷ (z ++ q)))))) _
-    (whole-enclosed-names d o k (v ++ (x ++ (y ++ a ∷ (z ++ q)))) i j)))
+    (complete-enclosed-names d o k (v ++ (x ++ (y ++ a ∷ (z ++ q)))) i j)))
     (below_then (λ r. returned_name_at) _ v (x ++ (y ++ a ∷ (z ++ q))) m _
-    (below _ (v ++ (x ++ (y ++ a ∷ (z ++ q)))) _ (whole-returned-name e (x ++ (y ++ a ∷ (z ++ q)))
+    (below _ (v ++ (x ++ (y ++ a ∷ (z ++ q)))) _ (complete-returned-name e (x ++ (y ++ a ∷ (z ++ q)))
     (condition-first f (is_word word.Returns) false refl refl (y ++ a ∷ (z ++ q)) (by-first g (is_word word.Returns) false refl (a ∷ (z ++ q)) (ap (is_word word.Returns) p)))))
     (below_then (λ r. condition_at r.types.expressions) _ x (y ++ a ∷ (z ++ q)) c _
     (below _ (x ++ (y ++ a ∷ (z ++ q))) _ (of-expressions condition_at (x ++ (y ++ a ∷ (z ++ q))) _ (condition-yields f (y ++ a ∷ (z ++ q)) stops
@@ -207,26 +207,26 @@ co-block-yields {is = is} t u q h y =
     yields_met _ _ _ (t ∷ (u ++ q)) _ (is_that_sign sign.Arrow t h)
     (yields_then arrow_block_at _ (t ∷ u) q is _ (arrow-yields t is u q h y) (yields_returned (Some is) q))
 
--- what may stand behind an invocation of `co`
-pub record BehindInvocation (q : List Token) : Type 0 where
+-- what may stand after an invocation of `co`
+pub record AfterInvocation (q : List Token) : Type 0 where
   stops : Stops q
   assign : next_is (λ t. is_sign sign.Assign t.kind) q ≡ false
 
-pub co-block-behind : {m : Option (List BlockItem)} {z : List Token} → SpellsCoBlock m z → (q : List Token) → Ends q → BehindInvocation (z ++ q)
-co-block-behind s.no_co_block q e = record { stops = e.stops; assign = e.assign }
-co-block-behind (s.co_block {u = u} t h d) q e = record { stops = arrow-stops t (u ++ q) h; assign = ap (is_sign sign.Assign) h }
+pub co-block-after : {m : Option (List BlockItem)} {z : List Token} → SpellsCoBlock m z → (q : List Token) → Ends q → AfterInvocation (z ++ q)
+co-block-after s.no_co_block q e = record { stops = e.stops; assign = e.assign }
+co-block-after (s.co_block {u = u} t h d) q e = record { stops = arrow-stops t (u ++ q) h; assign = ap (is_sign sign.Assign) h }
 
 start-begins : {quantified : Bool} {e : Expr} {u : List Token} → SpellsCoStart quantified e u → (q : List Token) → next_is (λ t. begins_expr t.kind) (u ++ q) ≡ true
 start-begins (s.begins_arm (s.named n h d)) q = primary-begins d q
-start-begins (s.behind_quantifiers d) q = primary-begins d q
+start-begins (s.after_quantifiers d) q = primary-begins d q
 
 named-is-no : {e : Expr} {u : List Token} → SpellsNamed e u → (f : TokenKind → Bool) (q : List Token) → next_is (λ t. f t.kind) (u ++ q) ≡ f kind.Name
 named-is-no (s.named n h d) f q = ap f h
 
-module _ {block : Option (List BlockItem)} (z q : List Token) (b : YieldsIn statement_readers co_block_at (z ++ q) (Ok (block, q))) (behind : BehindInvocation (z ++ q)) where
+module _ {block : Option (List BlockItem)} (z q : List Token) (b : YieldsIn statement_readers co_block_at (z ++ q) (Ok (block, q))) (after : AfterInvocation (z ++ q)) where
   rest-yields : (span : Span) (qs : List Quantifier) (place : Option Expr) (with_call : Bool) (i : Invocation)
-      → YieldsIn statement_readers (λ r. behind_invocation_at r span qs place with_call i) (z ++ q) (Ok (co_arm_of span qs place with_call i block, q))
-  unfolding behind_invocation_at
+      → YieldsIn statement_readers (λ r. after_invocation_at r span qs place with_call i) (z ++ q) (Ok (co_arm_of span qs place with_call i block, q))
+  unfolding after_invocation_at
   rest-yields span qs place with_call i = yields_then co_block_at _ z q block _ b (yields_returned (co_arm_of span qs place with_call i block) q)
 
   called-yields : {i : Invocation} (start : Option Span) (qs : List Quantifier) (place : Option Expr) (t : Token) (y : List Token) → IsWord word.Call t → SpellsInvocation i y
@@ -235,18 +235,18 @@ module _ {block : Option (List BlockItem)} (z q : List Token) (b : YieldsIn stat
   called-yields {i = i} start qs place t y h d =
       token_then (word_at word.Call) _ t (y ++ (z ++ q)) t.span _ (word-reads word.Call t (y ++ (z ++ q)) h)
       (below_then (λ r. invocation_at r.types.expressions) _ y (z ++ q) i _
-      (below _ (y ++ (z ++ q)) _ (of-expressions invocation_at (y ++ (z ++ q)) _ (invocation-yields d (z ++ q) (stops-continued (z ++ q) behind.stops))))
+      (below _ (y ++ (z ++ q)) _ (of-expressions invocation_at (y ++ (z ++ q)) _ (invocation-yields d (z ++ q) (stops-continued (z ++ q) after.stops))))
       (below _ (z ++ q) _ (rest-yields (first_of start t.span) qs place true i)))
 
   target-yields : {with_call : Bool} {i : Invocation} (span : Span) (qs : List Quantifier) (place : Expr) (x y : List Token) → SpellsCallWord with_call x → SpellsInvocation i y
-      → YieldsIn statement_readers (λ r. behind_target_at r span qs place) (x ++ (y ++ (z ++ q))) (Ok (co_arm_of span qs (Some place) with_call i block, q))
-  unfolding behind_target_at
+      → YieldsIn statement_readers (λ r. after_target_at r span qs place) (x ++ (y ++ (z ++ q))) (Ok (co_arm_of span qs (Some place) with_call i block, q))
+  unfolding after_target_at
   target-yields span qs place x y (s.call_word t h) d =
       yields_met _ _ _ (t ∷ (y ++ (z ++ q))) _ (is_that_word word.Call t h) (called-yields (Some span) qs (Some place) t y h d)
   target-yields {i = i} span qs place x y s.no_call_word (s.invocation d) =
       yields_unmet _ _ _ (y ++ (z ++ q)) _ (begins-no-word word.Call (y ++ (z ++ q)) refl (primary-begins d (z ++ q)))
       (yields_then (λ r. invocation_at r.types.expressions) _ y (z ++ q) i _
-      (of-expressions invocation_at (y ++ (z ++ q)) _ (invocation-yields (s.invocation d) (z ++ q) (stops-continued (z ++ q) behind.stops)))
+      (of-expressions invocation_at (y ++ (z ++ q)) _ (invocation-yields (s.invocation d) (z ++ q) (stops-continued (z ++ q) after.stops)))
       (rest-yields span qs (Some place) false i))
 
   plain-yields : {i : Invocation} (start : Option Span) (qs : List Quantifier) (u : List Token) → SpellsCoStart (is_some start) (expr.Call i) u
@@ -254,8 +254,8 @@ module _ {block : Option (List BlockItem)} (z q : List Token) (b : YieldsIn stat
   unfolding co_primary_at
   plain-yields {i = i} start qs u d =
       yields_then (λ r. co_start_at start r.types.expressions) _ u (z ++ q) (expr.Call i) _
-      (of-expressions (co_start_at start) (u ++ (z ++ q)) _ (start-yields start d (z ++ q) (stops-continued (z ++ q) behind.stops)))
-      (yields_unmet _ _ _ (z ++ q) _ behind.assign
+      (of-expressions (co_start_at start) (u ++ (z ++ q)) _ (start-yields start d (z ++ q) (stops-continued (z ++ q) after.stops)))
+      (yields_unmet _ _ _ (z ++ q) _ after.assign
       (yields_then (λ r. invoked_at (invocation_of (expr.Call i))) _ [] (z ++ q) i _ (invoked-yields i (z ++ q))
       (rest-yields (first_of start (expr_span (expr.Call i))) qs None false i)))
 
@@ -272,20 +272,20 @@ module _ {block : Option (List BlockItem)} (z q : List Token) (b : YieldsIn stat
       (token_then (sign_at sign.Assign) _ a (x ++ (y ++ (z ++ q))) a.span _ (sign-reads sign.Assign a (x ++ (y ++ (z ++ q))) h)
       (below _ (x ++ (y ++ (z ++ q))) _ (target-yields (first_of start (expr_span e)) qs e x y called j))))
 
-  pub behind-quantifiers-yields : {place : Option Expr} {with_call : Bool} {i : Invocation} {u : List Token} (start : Option Span) (qs : List Quantifier)
+  pub after-quantifiers-yields : {place : Option Expr} {with_call : Bool} {i : Invocation} {u : List Token} (start : Option Span) (qs : List Quantifier)
       → SpellsCoCall (is_some start) place with_call i u
-      → YieldsIn statement_readers (λ r. behind_quantifiers_at r start qs) (u ++ (z ++ q))
+      → YieldsIn statement_readers (λ r. after_quantifiers_at r start qs) (u ++ (z ++ q))
       (Ok (co_arm_of (first_of start (first_span u)) qs place with_call i block, q))
-  unfolding behind_quantifiers_at
-  behind-quantifiers-yields start qs (s.called {u = y} t h d) =
+  unfolding after_quantifiers_at
+  after-quantifiers-yields start qs (s.called {u = y} t h d) =
       yields_met _ _ _ (t ∷ (y ++ (z ++ q))) _ (is_that_word word.Call t h) (called-yields start qs None t y h d)
-  behind-quantifiers-yields start qs (s.plain {i = i} {u = u} d) =
-      subst (λ span. YieldsIn statement_readers (λ r. behind_quantifiers_at r start qs) (u ++ (z ++ q)) (Ok (co_arm_of (first_of start span) qs None false i block, q))) (start-alone d)
+  after-quantifiers-yields start qs (s.plain {i = i} {u = u} d) =
+      subst (λ span. YieldsIn statement_readers (λ r. after_quantifiers_at r start qs) (u ++ (z ++ q)) (Ok (co_arm_of (first_of start span) qs None false i block, q))) (start-alone d)
       (yields_unmet _ _ _ (u ++ (z ++ q)) _ (begins-no-word word.Call (u ++ (z ++ q)) refl (start-begins d (z ++ q))) (plain-yields start qs u d))
-  behind-quantifiers-yields start qs (s.stored {e = e} {with_call = c} {i = i} {u = u} {v = x} {w = y} a d h called j) =
-      subst (λ w. YieldsIn statement_readers (λ r. behind_quantifiers_at r start qs) w
+  after-quantifiers-yields start qs (s.stored {e = e} {with_call = c} {i = i} {u = u} {v = x} {w = y} a d h called j) =
+      subst (λ w. YieldsIn statement_readers (λ r. after_quantifiers_at r start qs) w
       (Ok (co_arm_of (first_of start (first_span (u ++ a ∷ (x ++ y)))) qs (Some e) c i block, q))) (sym (stored-tokens u a x y (z ++ q)))
-      (subst (λ span. YieldsIn statement_readers (λ r. behind_quantifiers_at r start qs) (u ++ a ∷ (x ++ (y ++ (z ++ q))))
+      (subst (λ span. YieldsIn statement_readers (λ r. after_quantifiers_at r start qs) (u ++ a ∷ (x ++ (y ++ (z ++ q))))
       (Ok (co_arm_of (first_of start span) qs (Some e) c i block, q))) (start-span d (a ∷ (x ++ y)))
       (yields_unmet _ _ _ (u ++ a ∷ (x ++ (y ++ (z ++ q)))) _
       (begins-no-word word.Call (u ++ a ∷ (x ++ (y ++ (z ++ q)))) refl (start-begins d (a ∷ (x ++ (y ++ (z ++ q))))))
@@ -382,54 +382,54 @@ word-between w v f make a t c u q h i y =
 
 -- a statement that begins with a name
 pub primary-then : {a : Expr} {u : List Token} → SpellsNamed a u → (q : List Token) (z : Result (Statement × List Token) ℕ) → next_is continues q ≡ false
-    → YieldsIn statement_readers (λ r. behind_primary_at r.types.expressions a) q z → YieldsIn statement_readers statement_at (u ++ q) z
+    → YieldsIn statement_readers (λ r. after_primary_at r.types.expressions a) q z → YieldsIn statement_readers statement_at (u ++ q) z
 unfolding statement_at named_statement_at
 primary-then {a = a} (s.named {u = u} n h d) q z c y =
     yields_met (λ t. is_name t.kind) (λ r. named_statement_at r.types.expressions) worded_statement_at (n ∷ (u ++ q)) z (ap is_name h)
     (yields_then (λ r. primary_at r.types.expressions) _ (n ∷ u) q a z (of-expressions primary_at (n ∷ (u ++ q)) _ (primary-yields d q c)) y)
 
-pub assign-behind : {e : Expr} (a : Expr) (t : Token) (v q : List Token) → IsSign sign.Assign t → SpellsExpr 5 e v → Stops q
-    → YieldsIn statement_readers (λ r. behind_primary_at r.types.expressions a) (t ∷ (v ++ q)) (Ok (statement.Assign (expr_span a) a e, q))
-unfolding behind_primary_at assign_at
-assign-behind {e = e} a t v q h d st =
+pub assign-after : {e : Expr} (a : Expr) (t : Token) (v q : List Token) → IsSign sign.Assign t → SpellsExpr 5 e v → Stops q
+    → YieldsIn statement_readers (λ r. after_primary_at r.types.expressions a) (t ∷ (v ++ q)) (Ok (statement.Assign (expr_span a) a e, q))
+unfolding after_primary_at assign_at
+assign-after {e = e} a t v q h d st =
     yields_met _ _ _ (t ∷ (v ++ q)) _ (is_that_sign sign.Assign t h)
     (token_then (sign_at sign.Assign) _ t (v ++ q) t.span _ (sign-reads sign.Assign t (v ++ q) h)
-    (below_then (λ r. operand_at r.types.expressions 5) _ v q e _ (below _ (v ++ q) _ (of-expressions (λ r. operand_at r 5) (v ++ q) _ (whole-operand d q st)))
+    (below_then (λ r. operand_at r.types.expressions 5) _ v q e _ (below _ (v ++ q) _ (of-expressions (λ r. operand_at r 5) (v ++ q) _ (complete-operand d q st)))
     (below_returned (statement.Assign (expr_span a) a e) q)))
 
-pub exchange-behind : {e : Expr} (a : Expr) (t : Token) (v q : List Token) → IsSign sign.Exchange t → SpellsPrimary e v → next_is continues q ≡ false
-    → YieldsIn statement_readers (λ r. behind_primary_at r.types.expressions a) (t ∷ (v ++ q)) (Ok (statement.Exchange (expr_span a) a e, q))
-unfolding behind_primary_at exchange_at
-exchange-behind {e = e} a t v q h d c =
+pub exchange-after : {e : Expr} (a : Expr) (t : Token) (v q : List Token) → IsSign sign.Exchange t → SpellsPrimary e v → next_is continues q ≡ false
+    → YieldsIn statement_readers (λ r. after_primary_at r.types.expressions a) (t ∷ (v ++ q)) (Ok (statement.Exchange (expr_span a) a e, q))
+unfolding after_primary_at exchange_at
+exchange-after {e = e} a t v q h d c =
     yields_unmet _ _ _ (t ∷ (v ++ q)) _ (ap (is_sign sign.Assign) h)
     (yields_met _ _ _ (t ∷ (v ++ q)) _ (is_that_sign sign.Exchange t h)
     (token_then (sign_at sign.Exchange) _ t (v ++ q) t.span _ (sign-reads sign.Exchange t (v ++ q) h)
     (below_then (λ r. primary_at r.types.expressions) _ v q e _ (below _ (v ++ q) _ (of-expressions primary_at (v ++ q) _ (primary-yields d q c)))
     (below_returned (statement.Exchange (expr_span a) a e) q))))
 
-pub increment-behind : (a : Expr) (t : Token) (q : List Token) → IsSign sign.Increment t
-    → YieldsIn statement_readers (λ r. behind_primary_at r.types.expressions a) (t ∷ q) (Ok (statement.Increment (expr_span a) a, q))
-unfolding behind_primary_at increment_at
-increment-behind a t q h =
+pub increment-after : (a : Expr) (t : Token) (q : List Token) → IsSign sign.Increment t
+    → YieldsIn statement_readers (λ r. after_primary_at r.types.expressions a) (t ∷ q) (Ok (statement.Increment (expr_span a) a, q))
+unfolding after_primary_at increment_at
+increment-after a t q h =
     yields_unmet _ _ _ (t ∷ q) _ (ap (is_sign sign.Assign) h)
     (yields_unmet _ _ _ (t ∷ q) _ (ap (is_sign sign.Exchange) h)
     (yields_met _ (λ r. _) (λ r. _) (t ∷ q) _ (is_that_sign sign.Increment t h)
     (token_then (sign_at sign.Increment) _ t q t.span _ (sign-reads sign.Increment t q h) (below_returned (statement.Increment (expr_span a) a) q))))
 
-pub decrement-behind : (a : Expr) (t : Token) (q : List Token) → IsSign sign.Decrement t
-    → YieldsIn statement_readers (λ r. behind_primary_at r.types.expressions a) (t ∷ q) (Ok (statement.Decrement (expr_span a) a, q))
-unfolding behind_primary_at decrement_at
-decrement-behind a t q h =
+pub decrement-after : (a : Expr) (t : Token) (q : List Token) → IsSign sign.Decrement t
+    → YieldsIn statement_readers (λ r. after_primary_at r.types.expressions a) (t ∷ q) (Ok (statement.Decrement (expr_span a) a, q))
+unfolding after_primary_at decrement_at
+decrement-after a t q h =
     yields_unmet _ _ _ (t ∷ q) _ (ap (is_sign sign.Assign) h)
     (yields_unmet _ _ _ (t ∷ q) _ (ap (is_sign sign.Exchange) h)
     (yields_unmet _ (λ r. _) (λ r. _) (t ∷ q) _ (ap (is_sign sign.Increment) h)
     (yields_met _ (λ r. _) (λ r. _) (t ∷ q) _ (is_that_sign sign.Decrement t h)
     (token_then (sign_at sign.Decrement) _ t q t.span _ (sign-reads sign.Decrement t q h) (below_returned (statement.Decrement (expr_span a) a) q)))))
 
-pub call-behind : (i : Invocation) (q : List Token) → Ends q
-    → YieldsIn statement_readers (λ r. behind_primary_at r.types.expressions (expr.Call i)) q (Ok (statement.Call (expr_span (expr.Call i)) false i, q))
-unfolding behind_primary_at plain_call_at
-call-behind i q e =
+pub call-after : (i : Invocation) (q : List Token) → Ends q
+    → YieldsIn statement_readers (λ r. after_primary_at r.types.expressions (expr.Call i)) q (Ok (statement.Call (expr_span (expr.Call i)) false i, q))
+unfolding after_primary_at plain_call_at
+call-after i q e =
     yields_unmet _ _ _ q _ e.assign
     (yields_unmet _ _ _ q _ e.exchange
     (yields_unmet _ (λ r. _) (λ r. _) q _ e.increment

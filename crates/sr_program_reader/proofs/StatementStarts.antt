@@ -2,7 +2,7 @@
 use Rattle.std.specs.Prelude.{if◌then◌else◌}
 use Rattle.std.proofs.Common.{◌≡◌, refl, sym, ◌∙◌, ap, Bool, true, false, List, [], ◌∷◌, ◌++◌, Some, None, append_assoc}
 use Rattle.sr_reader.specs.Reader.{next_is}
-use Rattle.sr_reader.proofs.Locality.{append-nil}
+use Rattle.sr_reader.proofs.Soundness.{append-nil}
 use Rattle.sr_tree.specs.declared.expr.Create.TheOpen.{Expr-F}
 use Rattle.sr_tree.specs.declared.expr.Expr.{Expr, out-Expr, out-roll-Expr}
 use Rattle.sr_tree.specs.declared.expr.Expr.TheVariants as expr
@@ -17,7 +17,7 @@ use Rattle.sr_tree.specs.Expressions as g
 use Rattle.sr_tree.specs.Expressions.{SpellsPrimary, expr_span}
 use Rattle.sr_tree.specs.Statements as s
 use Rattle.sr_tree.specs.Statements.{SpellsNamed, SpellsCoStart, SpellsStatement, SpellsBlockItem, first_span}
-use Rattle.sr_expr_reader.proofs.TokensLocal.{some_some}
+use Rattle.sr_expr_reader.proofs.TokensSound.{some_some}
 use Rattle.sr_program_reader.specs.StatementReaders.{begins_statement, begins_block_item, invocation_of}
 
 -- a primary begins with a token, whose span is the primary's
@@ -27,8 +27,8 @@ pub record FirstToken (e : Expr) (u : List Token) : Type 0 where
   pub splits : u ≡ token ∷ rest
   pub span : expr_span e ≡ token.span
 
-more-behind : {p e : Expr} {u : List Token} (v : List Token) → expr_span e ≡ expr_span p → FirstToken p u → FirstToken e (u ++ v)
-more-behind v h f = record { token = f.token; rest = f.rest ++ v; splits = ap (λ x. x ++ v) f.splits; span = h ∙ f.span }
+more-after : {p e : Expr} {u : List Token} (v : List Token) → expr_span e ≡ expr_span p → FirstToken p u → FirstToken e (u ++ v)
+more-after v h f = record { token = f.token; rest = f.rest ++ v; splits = ap (λ x. x ++ v) f.splits; span = h ∙ f.span }
 
 pub primary-first : {e : Expr} {u : List Token} → SpellsPrimary e u → FirstToken e u
 unfolding out-Expr denote.Hole.Carrier.out
@@ -38,9 +38,9 @@ primary-first (g.basic_type t b h) = record { token = t; rest = []; splits = ref
 primary-first (g.conversion {u = u} t o k c h i d j) = record { token = t; rest = o ∷ (u ++ k ∷ []); splits = refl; span = refl }
 primary-first (g.group {u = u} o k h d i) = record { token = o; rest = u ++ k ∷ []; splits = refl; span = refl }
 primary-first (g.parts {u = u} {v = v} o k h d m a i) = record { token = o; rest = u ++ (v ++ k ∷ []); splits = refl; span = refl }
-primary-first (g.field p n d h i) = more-behind (p ∷ n ∷ []) refl (primary-first d)
-primary-first (g.index {v = v} {w = w} o k d h f s i) = more-behind (o ∷ (v ++ (w ++ k ∷ []))) refl (primary-first d)
-primary-first (g.call {v = v} o k d n h a i) = more-behind (o ∷ (v ++ k ∷ [])) refl (primary-first d)
+primary-first (g.field p n d h i) = more-after (p ∷ n ∷ []) refl (primary-first d)
+primary-first (g.index {v = v} {w = w} o k d h f s i) = more-after (o ∷ (v ++ (w ++ k ∷ []))) refl (primary-first d)
+primary-first (g.call {v = v} o k d n h a i) = more-after (o ∷ (v ++ k ∷ [])) refl (primary-first d)
 
 pub primary-some : (e : Expr) → SpellsPrimary e [] → ⊥
 primary-some e d = go (primary-first d).splits
@@ -55,7 +55,7 @@ first-span d q = let f = primary-first d in f.span ∙ ap (λ x. first_span (x +
 -- the span of the first primary of an arm
 pub start-span : {quantified : Bool} {e : Expr} {u : List Token} → SpellsCoStart quantified e u → (q : List Token) → expr_span e ≡ first_span (u ++ q)
 start-span (s.begins_arm (s.named n h d)) q = first-span d q
-start-span (s.behind_quantifiers d) q = first-span d q
+start-span (s.after_quantifiers d) q = first-span d q
 
 pub start-alone : {quantified : Bool} {e : Expr} {u : List Token} → SpellsCoStart quantified e u → expr_span e ≡ first_span u
 start-alone {u = u} d = start-span d [] ∙ ap first_span (append-nil u)
@@ -86,8 +86,8 @@ call-only (g.call {p = p} {es = es} o k d n h a j) i e = call-same (g.invocation
 named-begins : {e : Expr} {u : List Token} → SpellsNamed e u → (q : List Token) → next_is (λ t. begins_statement t.kind) (u ++ q) ≡ true
 named-begins (s.named n h d) q = ap begins_statement h
 
-behind-named : {e : Expr} {u : List Token} → SpellsNamed e u → (v q : List Token) → next_is (λ t. begins_statement t.kind) ((u ++ v) ++ q) ≡ true
-behind-named {u = u} d v q = ap (next_is (λ t. begins_statement t.kind)) (append_assoc u v q) ∙ named-begins d (v ++ q)
+after-named : {e : Expr} {u : List Token} → SpellsNamed e u → (v q : List Token) → next_is (λ t. begins_statement t.kind) ((u ++ v) ++ q) ≡ true
+after-named {u = u} d v q = ap (next_is (λ t. begins_statement t.kind)) (append_assoc u v q) ∙ named-begins d (v ++ q)
 
 pub statement-begins : {a : Statement} {u : List Token} → SpellsStatement a u → (q : List Token) → next_is (λ t. begins_statement t.kind) (u ++ q) ≡ true
 statement-begins (s.skip t h) q = ap begins_statement h
@@ -101,10 +101,10 @@ statement-begins (s.invoke d) q = named-begins d q
 statement-begins (s.send t h d) q = ap begins_statement h
 statement-begins (s.forward t h d) q = ap begins_statement h
 statement-begins (s.receive t n o k h i j d l) q = ap begins_statement h
-statement-begins (s.assign {v = v} becomes d h e) q = behind-named d (becomes ∷ v) q
-statement-begins (s.exchange {v = v} t d h e) q = behind-named d (t ∷ v) q
-statement-begins (s.increment t d h) q = behind-named d (t ∷ []) q
-statement-begins (s.decrement t d h) q = behind-named d (t ∷ []) q
+statement-begins (s.assign {v = v} becomes d h e) q = after-named d (becomes ∷ v) q
+statement-begins (s.exchange {v = v} t d h e) q = after-named d (t ∷ v) q
+statement-begins (s.increment t d h) q = after-named d (t ∷ []) q
+statement-begins (s.decrement t d h) q = after-named d (t ∷ []) q
 statement-begins (s.if t k h d o i) q = ap begins_statement h
 statement-begins (s.do_ t k h d o i) q = ap begins_statement h
 statement-begins (s.for_all t arrow k h d i b j) q = ap begins_statement h

@@ -28,7 +28,7 @@ use Rattle.sr_expr_reader.specs.TypeReaders.{TypeReaders, is_separated, formal_a
 use Rattle.sr_program_reader.specs.DeclarationReaders.{items_at, list_at, import_at, const_at, type_decl_at, optype_at, op_at, var_at, sem_at}
 use Rattle.sr_program_reader.specs.StatementReaders.{StatementReaders, begins_statement, statement_at, enclosed_names_at, returned_name_at, optional_quantifiers_at}
 
--- ---- names behind `body` and `end`
+-- ---- names after `body` and `end`
 
 -- whether a token is this name
 abbrev pub is_this_name : Name → Token → Bool
@@ -180,7 +180,7 @@ item_at r = branch (λ t. begins_spec t.kind)
       s ← statement_at r
       returned (item.Statement s)))))
 
--- items other than final code, behind those that were read
+-- items other than final code, after those that were read
 unfoldable pub plain_items_at : StatementReaders → List Item × Bool → Reader Token (List Item × Bool)
 plain_items_at r state = items_at (λ t. begins_item t.kind) (item_at r) r.types.expressions.steps state
 
@@ -188,7 +188,7 @@ plain_items_at r state = items_at (λ t. begins_item t.kind) (item_at r) r.types
 abbrev pub is_final_code : List Item × Bool → Token → Bool
 is_final_code state t = state.1 && is_word word.Final t.kind
 
--- final code and the items behind it
+-- final code and the items after it
 unfoldable pub final_and_items_at : StatementReaders → List Item → Reader Token (List Item)
 final_and_items_at r before = do
   f ← final_at r
@@ -241,7 +241,7 @@ value_formals_at r = do
 unfoldable pub optional_value_formals_at : TypeReaders → Reader Token (List Formal)
 optional_value_formals_at r = branch (λ t. is_sign sign.OpenParen t.kind) (value_formals_at r) (returned [])
 
--- what stands behind the name of a resource that isn't split
+-- what stands after the name of a resource that isn't split
 unfoldable pub whole_resource_at : StatementReaders → Span → Name → Reader Token Component
 whole_resource_at r span name = do
   formals ← value_formals_at r.types
@@ -255,7 +255,7 @@ resource_spec_at r = list_at (λ t. begins_resource_spec t.kind) (resource_spec_
 unfoldable pub global_spec_at : TypeReaders → Reader Token (List SpecItem)
 global_spec_at r = list_at (λ t. begins_spec t.kind) (spec_item_at r) r.expressions.steps
 
--- what stands behind the name of a resource that is split
+-- what stands after the name of a resource that is split
 unfoldable pub split_resource_at : StatementReaders → Span → Name → Reader Token Component
 split_resource_at r span name = do
   spec ← resource_spec_at r.types

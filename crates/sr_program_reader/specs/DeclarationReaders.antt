@@ -27,7 +27,7 @@ use Rattle.sr_expr_reader.specs.TypeReaders.{TypeReaders, names_at, decls_at, si
 abbrev pub may_go_on : {A : Type 0} → (Token → Bool) → List A × Bool → Token → Bool
 may_go_on begins state t = if is_separator t.kind then true else if state.1 then begins t else false
 
--- a separator, behind which an item may begin, or an item, behind which none may
+-- a separator, after which an item may begin, or an item, after which none may
 unfoldable pub next_item_at : {A : Type 0} → Reader Token A → List A × Bool → Reader Token (List A × Bool)
 next_item_at item state = branch (λ t. is_separator t.kind)
     (do

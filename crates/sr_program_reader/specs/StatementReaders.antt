@@ -1,4 +1,4 @@
--- Readers of statements and blocks. What reads a block from behind a token is a field of a record, so that they are
+-- Readers of statements and blocks. What reads a block from after a token is a field of a record, so that they are
 -- defined by recursion on a number that bounds the tokens.
 use Rattle.std.specs.Prelude.{ℕ, zero, suc, Bool, true, false, List, [], ◌∷◌, ◌++◌, Option, Some, None, is_some, option_map, if◌then◌else◌}
 use Rattle.sr_reader.specs.Reader.{Reader, returned, unfit, ◌>>=◌, one, branch, while}
@@ -229,7 +229,7 @@ condition_at r = branch (λ t. is_some (token_condition t.kind))
       returned (Some (record { span = c.0; word = c.1; condition = e })))
     (returned None)
 
--- ---- blocks that stand behind a token
+-- ---- blocks that stand after a token
 
 -- "->" block
 unfoldable pub arrow_block_at : StatementReaders → Reader Token (List BlockItem)
@@ -243,7 +243,7 @@ otherwise_at r = do
   otherwise ← word_at word.Else
   arrow_block_at r
 
--- what has stood between `[]` so far, and what stands behind `else`, behind which nothing more may stand
+-- what has stood between `[]` so far, and what stands after `else`, after which nothing more may stand
 abbrev pub is_alternative : {A : Type 0} → List A × Option (List BlockItem) → Token → Bool
 is_alternative state t = if is_some state.1 then false else is_sign sign.Alternative t.kind
 
@@ -299,9 +299,9 @@ co_block_at r = branch (λ t. is_sign sign.Arrow t.kind)
       returned (Some block))
     (returned None)
 
--- what stands behind the invocation of an arm
-unfoldable pub behind_invocation_at : StatementReaders → Span → List Quantifier → Option Expr → Bool → Invocation → Reader Token CoArm
-behind_invocation_at r span qs target with_call i = do
+-- what stands after the invocation of an arm
+unfoldable pub after_invocation_at : StatementReaders → Span → List Quantifier → Option Expr → Bool → Invocation → Reader Token CoArm
+after_invocation_at r span qs target with_call i = do
   block ← co_block_at r
   returned (roll-CoArm (record { span = span; quantifiers = qs; target = target; with_call = with_call; invocation = i; block = block }))
 
@@ -310,7 +310,7 @@ abbrev pub first_of : Option Span → Span → Span
 first_of None here = here
 first_of (Some before) here = before
 
--- the first primary of an arm: any behind what stands before, and else one that begins with a name
+-- the first primary of an arm: any after what stands before, and else one that begins with a name
 unfoldable pub co_start_at : Option Span → Readers → Reader Token Expr
 co_start_at None = named_at
 co_start_at (Some before) = primary_at
@@ -320,14 +320,14 @@ unfoldable pub co_called_at : StatementReaders → Option Span → List Quantifi
 co_called_at r start qs target = do
   called ← word_at word.Call
   i ← invocation_at r.types.expressions
-  behind_invocation_at r (first_of start called) qs target true i
+  after_invocation_at r (first_of start called) qs target true i
 
--- an arm behind its target and `:=`
-unfoldable pub behind_target_at : StatementReaders → Span → List Quantifier → Expr → Reader Token CoArm
-behind_target_at r span qs target = branch (λ t. is_word word.Call t.kind) (co_called_at r (Some span) qs (Some target))
+-- an arm after its target and `:=`
+unfoldable pub after_target_at : StatementReaders → Span → List Quantifier → Expr → Reader Token CoArm
+after_target_at r span qs target = branch (λ t. is_word word.Call t.kind) (co_called_at r (Some span) qs (Some target))
     (do
       i ← invocation_at r.types.expressions
-      behind_invocation_at r span qs (Some target) false i)
+      after_invocation_at r span qs (Some target) false i)
 
 -- an arm from its first primary on, which is its target or its invocation
 unfoldable pub co_primary_at : StatementReaders → Option Span → List Quantifier → Reader Token CoArm
@@ -336,22 +336,22 @@ co_primary_at r start qs = do
   branch (λ t. is_sign sign.Assign t.kind)
       (do
         becomes ← sign_at sign.Assign
-        behind_target_at r (first_of start (expr_span e)) qs e)
+        after_target_at r (first_of start (expr_span e)) qs e)
       (do
         i ← invoked_at (invocation_of e)
-        behind_invocation_at r (first_of start (expr_span e)) qs None false i)
+        after_invocation_at r (first_of start (expr_span e)) qs None false i)
 
--- an arm behind its quantifiers
-unfoldable pub behind_quantifiers_at : StatementReaders → Option Span → List Quantifier → Reader Token CoArm
-behind_quantifiers_at r start qs = branch (λ t. is_word word.Call t.kind) (co_called_at r start qs None) (co_primary_at r start qs)
+-- an arm after its quantifiers
+unfoldable pub after_quantifiers_at : StatementReaders → Option Span → List Quantifier → Reader Token CoArm
+after_quantifiers_at r start qs = branch (λ t. is_word word.Call t.kind) (co_called_at r start qs None) (co_primary_at r start qs)
 
 -- ["(" quants ")"] [primary ":="] ["call"] invocation ["->" block]
 unfoldable pub co_arm_at : StatementReaders → Reader Token CoArm
 co_arm_at r = branch (λ t. is_sign sign.OpenParen t.kind)
     (do
       qs ← enclosed_quantifiers_at r.types.expressions
-      behind_quantifiers_at r (Some qs.0) qs.1)
-    (behind_quantifiers_at r None [])
+      after_quantifiers_at r (Some qs.0) qs.1)
+    (after_quantifiers_at r None [])
 
 -- {"//" coarm}
 unfoldable pub next_co_arm_at : StatementReaders → List CoArm → Reader Token (List CoArm)
@@ -453,7 +453,7 @@ co_at r = do
   closing ← word_at word.Oc
   returned (statement.Co span arms)
 
--- what may stand behind the primary that a statement begins with
+-- what may stand after the primary that a statement begins with
 unfoldable pub assign_at : Readers → Expr → Reader Token Statement
 assign_at r a = do
   becomes ← sign_at sign.Assign
@@ -481,8 +481,8 @@ plain_call_at a = do
   i ← invoked_at (invocation_of a)
   returned (statement.Call (expr_span a) false i)
 
-unfoldable pub behind_primary_at : Readers → Expr → Reader Token Statement
-behind_primary_at r a = branch (λ t. is_sign sign.Assign t.kind) (assign_at r a)
+unfoldable pub after_primary_at : Readers → Expr → Reader Token Statement
+after_primary_at r a = branch (λ t. is_sign sign.Assign t.kind) (assign_at r a)
     (branch (λ t. is_sign sign.Exchange t.kind) (exchange_at r a)
     (branch (λ t. is_sign sign.Increment t.kind) (increment_at a)
     (branch (λ t. is_sign sign.Decrement t.kind) (decrement_at a) (plain_call_at a))))
@@ -490,7 +490,7 @@ behind_primary_at r a = branch (λ t. is_sign sign.Assign t.kind) (assign_at r a
 unfoldable pub named_statement_at : Readers → Reader Token Statement
 named_statement_at r = do
   a ← primary_at r
-  behind_primary_at r a
+  after_primary_at r a
 
 -- statements that end in a word of their own
 unfoldable pub closed_statement_at : StatementReaders → Reader Token Statement
@@ -499,7 +499,7 @@ closed_statement_at r = branch (λ t. is_word word.If t.kind) (if_at r)
     (branch (λ t. is_word word.Fa t.kind) (for_all_at r)
     (branch (λ t. is_word word.In t.kind) (in_at r) (co_at r))))
 
--- statements that begin with the name of what they do to an operation or a resource, and those behind
+-- statements that begin with the name of what they do to an operation or a resource, and those after
 unfoldable pub operating_statement_at : StatementReaders → Reader Token Statement
 operating_statement_at r = branch (λ t. is_word word.Call t.kind) (call_statement_at r.types.expressions)
     (branch (λ t. is_word word.Send t.kind) (send_at r.types.expressions)
@@ -508,7 +508,7 @@ operating_statement_at r = branch (λ t. is_word word.Call t.kind) (call_stateme
     (branch (λ t. is_word word.Destroy t.kind) (destroy_at r.types.expressions)
     (branch (λ t. is_word word.Create t.kind) (create_statement_at r.types.expressions) (closed_statement_at r))))))
 
--- statements that are a word, `stop`, and those behind
+-- statements that are a word, `stop`, and those after
 unfoldable pub worded_statement_at : StatementReaders → Reader Token Statement
 worded_statement_at r = branch (λ t. is_word word.Skip t.kind) (single_at word.Skip statement.Skip)
     (branch (λ t. is_word word.Exit t.kind) (single_at word.Exit statement.Exit)

@@ -10,7 +10,7 @@ pub fn one_file()
 {}
 
 /// A law of the readers, where they have enough turns: a file that is read is spelled by the tokens, all of them;
-/// where reading fails they spell none, and unless the place is behind the last token no list of tokens with a file
+/// where reading fails they spell none, and unless the place is after the last token no list of tokens with a file
 /// begins with those up to and with the place.
 pub fn reads_file()
     ensures spelled { (s : List Token) (f : File) (q : List Token) → ReadsFile s (Ok (f, q)) → SpellsFile f s }

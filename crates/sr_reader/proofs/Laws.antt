@@ -2,7 +2,7 @@
 use Rattle.std.proofs.Common.{◌≡◌, refl, sym, ◌∙◌, ap, subst, ℕ, zero, suc, ◌+◌, ◌-◌, ◌<◌, ◌≤◌, List, [], ◌∷◌, ◌++◌, length, take, drop, Option, Some, None, Result, Ok, Err, ◌⊎◌, inl, inr, append_assoc, length-append, arith}
 use Rattle.sr_reader.specs.Pieces.{GoesOn, IsLongest, IsDead}
 use Rattle.sr_reader.specs.Reader.{Reader}
-use Rattle.sr_reader.proofs.Locality.{Local, Outcome, IsRead, IsStopped, first, append-nil}
+use Rattle.sr_reader.proofs.Soundness.{Sound, Outcome, IsRead, IsStopped, first, append-nil}
 
 -- the front of a list, by the length of its rest
 take-front : {T : Type 0} (u q : List T) → take (length u) (u ++ q) ≡ u
@@ -56,7 +56,7 @@ same-tree : {T A : Type 0} (a b : A) (q r : List T) → ◌≡◌ {A = Result (A
 unfolding tree-of
 same-tree {T = T} a b q r e = ap (tree-of {T = T} a) e
 
-module _ {T A : Type 0} (Spells : A → List T → Type 0) (f : ℕ → Reader T A) (local : (k : ℕ) → Local Spells (f k))
+module _ {T A : Type 0} (Spells : A → List T → Type 0) (f : ℕ → Reader T A) (local : (k : ℕ) → Sound Spells (f k))
     (whole : (a : A) (u : List T) → Spells a u → (k : ℕ) → length u ≤ k → f k u ≡ Ok (a, [])) where
   read-at : (s : List T) (a : A) (q : List T) (k : ℕ) → f k s ≡ Ok (a, q) → IsRead Spells (f k) s a q
   read-at s a q k e = subst (Outcome Spells (f k) s) e ((local k).at s)

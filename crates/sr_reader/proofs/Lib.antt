@@ -1,3 +1,3 @@
 pub mod Laws
-pub mod Locality
+pub mod Soundness
 pub mod Loops

@@ -1,18 +1,18 @@
 -- Loops of readers.
 use Rattle.std.proofs.Common.{◌≡◌, refl, sym, ◌∙◌, ap, ℕ, zero, suc, ◌<◌, ◌≤◌, Bool, true, false, cond, List, [], ◌∷◌, ◌++◌, length, Result, Ok, Err, arith}
 use Rattle.sr_reader.specs.Reader.{Reader, returned, continued, ◌>>=◌, next_is, branch, while}
-use Rattle.sr_reader.proofs.Locality.{Local, LocalWhere, Then, joined, Returns, returns, returned-local, weaker, weaker-where, then-where, branch-where}
+use Rattle.sr_reader.proofs.Soundness.{Sound, SoundWhere, Then, joined, Returns, returns, returned-sound, weaker, weaker-where, then-where, branch-where}
 
 -- if each step is local, so is the loop
-pub while-local : {T A : Type 0} (test : A → T → Bool) (step : A → Reader T A) (Q P : A → A → List T → Type 0)
+pub while-sound : {T A : Type 0} (test : A → T → Bool) (step : A → Reader T A) (Q P : A → A → List T → Type 0)
     → ((a : A) → P a a []) → ((a b c : A) (u v : List T) → Q a b u → P b c v → P a c (u ++ v))
-    → ((a : A) → LocalWhere (test a) (Q a) (step a)) → (n : ℕ) (a : A) → Local (P a) (while test step n a)
-while-local {T = T} test step Q P none more local zero a = weaker (ended a) (returned-local a)
+    → ((a : A) → SoundWhere (test a) (Q a) (step a)) → (n : ℕ) (a : A) → Sound (P a) (while test step n a)
+while-sound {T = T} test step Q P none more local zero a = weaker (ended a) (returned-sound a)
   where
     ended : (a b : _) (u : List T) → Returns a b u → P a b u
     ended a b u returns = none a
-while-local {T = T} test step Q P none more local (suc n) a =
-    branch-where (weaker-where (onward a) (then-where (local a) (while-local test step Q P none more local n))) (weaker (ended a) (returned-local a))
+while-sound {T = T} test step Q P none more local (suc n) a =
+    branch-where (weaker-where (onward a) (then-where (local a) (while-sound test step Q P none more local n))) (weaker (ended a) (returned-sound a))
   where
     ended : (a b : _) (u : List T) → Returns a b u → P a b u
     ended a b u returns = none a
@@ -32,7 +32,7 @@ module _ {T A : Type 0} (test : A → T → Bool) (step : A → Reader T A) wher
   while-fail zero a (t ∷ s) left h e f = absurd (omega arith)
   while-fail (suc n) a (t ∷ s) left h e f = ap (λ b. cond b ((step a >>= while test step n) (t ∷ s)) (returned a (t ∷ s))) e ∙ ap (λ x. continued x (while test step n)) f
 
-  -- otherwise it goes on behind the step
+  -- otherwise it goes on after the step
   pub while-go : (n : ℕ) (a b : A) (s q : List T) → length s ≤ n → next_is (test a) s ≡ true → step a s ≡ Ok (b, q) → length q < length s
       → (m : ℕ) × (length q ≤ m) × (while test step n a s ≡ while test step m b q)
   while-go n a b [] q h e f l = cc

@@ -7,8 +7,8 @@ pub record GoesOn {T A : Type 0} (Spells : A → List T → Type 0) (u : List T)
   pub more : List T
   pub spelled : Spells tree (u ++ t ∷ more)
 
--- the first symbols, so many, spell the tree, and with the one behind them they begin no list that has a tree:
--- no longer piece has one or is the beginning of a list that has one
+-- the first symbols, this many, spell the tree, and with the next symbol they begin no list that has a tree: no longer
+-- piece has one or is the beginning of a list that has one
 pub record IsLongest {T A : Type 0} (Spells : A → List T → Type 0) (s : List T) (tree : A) (count : ℕ) : Type 0 where
   pub within : count ≤ length s
   pub spelled : Spells tree (take count s)

@@ -1,7 +1,7 @@
 -- Readers: what a parser reads from the front of a list of symbols.
 use Rattle.std.specs.Prelude.{ℕ, zero, suc, Bool, true, false, List, [], ◌∷◌, length, Option, Some, None, Result, Ok, Err, if◌then◌else◌}
 
--- what is read and what stands behind it, or how many symbols are left where nothing fits
+-- what is read and what stands after it, or how many symbols are left where nothing fits
 abbrev pub Reader : Type 0 → Type 0 → Type 0
 Reader T A = List T → Result (A × List T) ℕ
 

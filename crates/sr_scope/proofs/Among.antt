@@ -6,7 +6,7 @@ use Rattle.sr_names.proofs.LinkLemmas.{same_spot-refl}
 use Rattle.sr_names.proofs.Marking.{same_spot-cases}
 use Rattle.sr_names.specs.declared.finding.Finding.{Finding}
 use Rattle.sr_names.specs.declared.finding.Finding.TheVariants.{Use, Broken}
-use Rattle.sr_names.specs.declared.finding.Wrong.{Wrong}
+use Rattle.sr_names.specs.declared.finding.Diagnostic.{Diagnostic}
 use Rattle.sr_names.specs.declared.meaning.Meaning.{Meaning}
 use Rattle.sr_names.specs.declared.spot.Spot.{Spot}
 use Rattle.sr_names.specs.Spots.{same_spot, spot_of}
@@ -20,7 +20,7 @@ one_if false = 0
 abbrev pub uses_at : Spot → List Finding → ℕ
 uses_at spot [] = 0
 uses_at spot (Use at meaning ∷ found) = one_if (same_spot spot at) + uses_at spot found
-uses_at spot (Broken wrong ∷ found) = uses_at spot found
+uses_at spot (Broken diagnostic ∷ found) = uses_at spot found
 
 -- how many of these names stand at a spot
 abbrev pub names_at : Spot → List Span → ℕ
@@ -34,7 +34,7 @@ pub record Among (found : List Finding) (spans : List Span) : Type 0 where
 pub uses_both : (spot : Spot) (f g : List Finding) → uses_at spot (f ++ g) ≡ uses_at spot f + uses_at spot g
 uses_both spot [] g = omega arith
 uses_both spot (Use at meaning ∷ f) g = omega (arith, uses_both spot f g)
-uses_both spot (Broken wrong ∷ f) g = uses_both spot f g
+uses_both spot (Broken diagnostic ∷ f) g = uses_both spot f g
 
 pub names_both : (spot : Spot) (s t : List Span) → names_at spot (s ++ t) ≡ names_at spot s + names_at spot t
 names_both spot [] t = omega arith
@@ -53,15 +53,15 @@ both {f = f} {g = g} {s = s} {t = t} a b = record {
 pub one_use : (meaning : Meaning) (span : Span) → Among (Use (spot_of span) meaning ∷ []) (span ∷ [])
 one_use meaning span = record { at = λ spot. omega arith }
 
-pub one_broken : (wrong : Wrong) (s : List Span) → Among (Broken wrong ∷ []) s
-one_broken wrong s = record { at = λ spot. omega arith }
+pub one_broken : (diagnostic : Diagnostic) (s : List Span) → Among (Broken diagnostic ∷ []) s
+one_broken diagnostic s = record { at = λ spot. omega arith }
 
 -- names that aren't used
-pub behind_one : {f : List Finding} {s : List Span} (span : Span) → Among f s → Among f (span ∷ s)
-behind_one {f = f} {s = s} span a = record { at = λ spot. omega (arith, a.at spot) }
+pub after_one : {f : List Finding} {s : List Span} (span : Span) → Among f s → Among f (span ∷ s)
+after_one {f = f} {s = s} span a = record { at = λ spot. omega (arith, a.at spot) }
 
-pub behind : {f : List Finding} {s : List Span} (t : List Span) → Among f s → Among f (t ++ s)
-behind {f = f} {s = s} t a = record { at = λ spot. omega (arith, names_both spot t s, a.at spot) }
+pub after : {f : List Finding} {s : List Span} (t : List Span) → Among f s → Among f (t ++ s)
+after {f = f} {s = s} t a = record { at = λ spot. omega (arith, names_both spot t s, a.at spot) }
 
 -- broken rules before and between the uses
 pub besides : {f g : List Finding} {s : List Span} → Among f [] → Among g s → Among (f ++ g) s
@@ -105,7 +105,7 @@ used spot meaning finding found is =
 
 not_fewer : (spot : Spot) (finding : Finding) (found : List Finding) → uses_at spot found ≤ uses_at spot (finding ∷ found)
 not_fewer spot (Use at meaning) found = omega arith
-not_fewer spot (Broken wrong) found = omega arith
+not_fewer spot (Broken diagnostic) found = omega arith
 
 -- a use that is found is counted
 counted : (spot : Spot) (meaning : Meaning) (found : List Finding) → IsIn (Use spot meaning) found → 1 ≤ uses_at spot found

@@ -5,13 +5,13 @@ use Rattle.std.proofs.lemmas.Bool.{true≢false, false≢true, and_parts, and_fr
 use Rattle.std.proofs.lemmas.List.Folds.{list_all-append}
 use Rattle.sr_names.specs.declared.finding.Finding.{Finding}
 use Rattle.sr_names.specs.declared.finding.Finding.TheVariants.{Use, Broken}
-use Rattle.sr_names.specs.declared.finding.Wrong.{Wrong}
+use Rattle.sr_names.specs.declared.finding.Diagnostic.{Diagnostic}
 use Rattle.sr_names.specs.declared.meaning.Meaning.{Meaning}
-use Rattle.sr_names.specs.declared.notes.Notes.{Notes}
+use Rattle.sr_names.specs.declared.diagnostics.Diagnostics.{Diagnostics}
 use Rattle.sr_names.specs.declared.spot.Spot.{Spot}
 use Rattle.sr_names.proofs.Marking.{entry-same, entry-other, same_spot-cases}
 use Rattle.sr_names.specs.Entries.{Entries}
-use Rattle.sr_names.specs.Notes.{nothing, noted, all_noted}
+use Rattle.sr_names.specs.Diagnostics.{nothing, noted, all_noted}
 use Rattle.sr_names.specs.Noted.{Meanings}
 use Rattle.sr_names.specs.Specs.{Specs}
 use Rattle.sr_names.specs.Spots.{same_spot}
@@ -54,19 +54,19 @@ in_flat f a b (x ∷ xs) (inr h) k = in_right b (f x) (flat_map f xs) (in_flat f
 
 abbrev pub is_use : Finding → Bool
 is_use (Use spot meaning) = true
-is_use (Broken wrong) = false
+is_use (Broken diagnostic) = false
 
-abbrev pub Unbroken : List Finding → Type 0
-Unbroken found = list_all is_use found ≡ true
+abbrev pub ErrorFree : List Finding → Type 0
+ErrorFree found = list_all is_use found ≡ true
 
-pub unbroken_both : (f g : List Finding) → Unbroken (f ++ g) → Unbroken f × Unbroken g
-unbroken_both f g h = and_parts (list_all is_use f) (list_all is_use g) (sym (list_all-append is_use f g) ∙ h)
+pub error_free_both : (f g : List Finding) → ErrorFree (f ++ g) → ErrorFree f × ErrorFree g
+error_free_both f g h = and_parts (list_all is_use f) (list_all is_use g) (sym (list_all-append is_use f g) ∙ h)
 
-pub unbroken_first : (f g : List Finding) → Unbroken (f ++ g) → Unbroken f
-unbroken_first f g h = (unbroken_both f g h).0
+pub error_free_first : (f g : List Finding) → ErrorFree (f ++ g) → ErrorFree f
+error_free_first f g h = (error_free_both f g h).0
 
-pub unbroken_behind : (f g : List Finding) → Unbroken (f ++ g) → Unbroken g
-unbroken_behind f g h = (unbroken_both f g h).1
+pub error_free_after : (f g : List Finding) → ErrorFree (f ++ g) → ErrorFree g
+error_free_after f g h = (error_free_both f g h).1
 
 pub all_at : {A : Type 0} (test : A → Bool) (xs : List A) → list_all test xs ≡ true → (a : A) → IsIn a xs → test a ≡ true
 all_at test [] h a k = absurd k
@@ -77,28 +77,28 @@ pub all_from : {A : Type 0} (test : A → Bool) (xs : List A) → ((a : A) → I
 all_from test [] h = refl
 all_from test (x ∷ xs) h = and_from (test x) (list_all test xs) (h x (inl refl)) (all_from test xs (λ a k. h a (inr k)))
 
-first_stays : (notes : Notes) (found : List Finding) → is_some notes.first ≡ true → is_some (all_noted notes found).first ≡ true
-first_stays notes [] h = h
-first_stays notes (Use spot meaning ∷ found) h = first_stays (noted notes (Use spot meaning)) found h
-first_stays notes (Broken wrong ∷ found) h = first_stays (noted notes (Broken wrong)) found refl
+first_stays : (diagnostics : Diagnostics) (found : List Finding) → is_some diagnostics.first ≡ true → is_some (all_noted diagnostics found).first ≡ true
+first_stays diagnostics [] h = h
+first_stays diagnostics (Use spot meaning ∷ found) h = first_stays (noted diagnostics (Use spot meaning)) found h
+first_stays diagnostics (Broken diagnostic ∷ found) h = first_stays (noted diagnostics (Broken diagnostic)) found refl
 
 -- where no broken rule is kept there is none
-nothing_broken : (notes : Notes) (found : List Finding) → (all_noted notes found).first ≡ None → Unbroken found
-nothing_broken notes [] e = refl
-nothing_broken notes (Use spot meaning ∷ found) e = nothing_broken (noted notes (Use spot meaning)) found e
-nothing_broken notes (Broken wrong ∷ found) e = absurd (true≢false (sym (first_stays (noted notes (Broken wrong)) found refl) ∙ ap is_some e))
+nothing_broken : (diagnostics : Diagnostics) (found : List Finding) → (all_noted diagnostics found).first ≡ None → ErrorFree found
+nothing_broken diagnostics [] e = refl
+nothing_broken diagnostics (Use spot meaning ∷ found) e = nothing_broken (noted diagnostics (Use spot meaning)) found e
+nothing_broken diagnostics (Broken diagnostic ∷ found) e = absurd (true≢false (sym (first_stays (noted diagnostics (Broken diagnostic)) found refl) ∙ ap is_some e))
 
-answered_none : (uses : Meanings) (first : Option Wrong) (specs : Specs) (names : Names)
+answered_none : (uses : Meanings) (first : Option Diagnostic) (specs : Specs) (names : Names)
     → answered (record { uses = uses; first = first }) specs ≡ Ok names → (first ≡ None) × (names.uses ≡ uses)
 answered_none uses None specs names e = (refl, ap uses_in (sym e))
   where
     uses_in : Result Names Refusal → Meanings
     uses_in (Ok named) = named.uses
     uses_in (Err refusal) = uses
-answered_none uses (Some wrong) specs names e = absurd (false≢true (ap is_ok e))
+answered_none uses (Some diagnostic) specs names e = absurd (false≢true (ap is_ok e))
 
 -- no rule of names is broken in a program that isn't refused for one
-pub all_uses : (files : List File) (names : Names) → resolved files ≡ Ok names → Unbroken (findings files)
+pub all_uses : (files : List File) (names : Names) → resolved files ≡ Ok names → ErrorFree (findings files)
 all_uses files names e =
     nothing_broken nothing (findings files)
     (answered_none (all_noted nothing (findings files)).uses (all_noted nothing (findings files)).first (program files).specs names e).0
@@ -110,26 +110,26 @@ uses_noted files names e =
 -- ---- meanings
 
 -- what is noted of a use stays, where each use at its spot has that meaning
-pub meaning_stays : (found : List Finding) (notes : Notes) (spot : Spot) (meaning : Meaning)
+pub meaning_stays : (found : List Finding) (diagnostics : Diagnostics) (spot : Spot) (meaning : Meaning)
     → ((other : Meaning) → IsIn (Use spot other) found → other ≡ meaning)
-    → IsIn (Use spot meaning) found ⊎ (meaning_at notes.uses spot ≡ Some meaning)
-    → meaning_at (all_noted notes found).uses spot ≡ Some meaning
-meaning_stays [] notes spot meaning same (inl h) = absurd h
-meaning_stays [] notes spot meaning same (inr h) = h
-meaning_stays (Broken wrong ∷ found) notes spot meaning same h = meaning_stays found (noted notes (Broken wrong)) spot meaning (λ other k. same other (inr k)) (by h)
+    → IsIn (Use spot meaning) found ⊎ (meaning_at diagnostics.uses spot ≡ Some meaning)
+    → meaning_at (all_noted diagnostics found).uses spot ≡ Some meaning
+meaning_stays [] diagnostics spot meaning same (inl h) = absurd h
+meaning_stays [] diagnostics spot meaning same (inr h) = h
+meaning_stays (Broken diagnostic ∷ found) diagnostics spot meaning same h = meaning_stays found (noted diagnostics (Broken diagnostic)) spot meaning (λ other k. same other (inr k)) (by h)
   where
-    by : IsIn (Use spot meaning) (Broken wrong ∷ found) ⊎ (meaning_at notes.uses spot ≡ Some meaning) → IsIn (Use spot meaning) found ⊎ (meaning_at notes.uses spot ≡ Some meaning)
+    by : IsIn (Use spot meaning) (Broken diagnostic ∷ found) ⊎ (meaning_at diagnostics.uses spot ≡ Some meaning) → IsIn (Use spot meaning) found ⊎ (meaning_at diagnostics.uses spot ≡ Some meaning)
     by (inl (inl e)) = absurd (false≢true (ap is_use e))
     by (inl (inr k)) = inl k
     by (inr k) = inr k
-meaning_stays (Use there other ∷ found) notes spot meaning same h = meaning_stays found (noted notes (Use there other)) spot meaning (λ one k. same one (inr k)) (by h)
+meaning_stays (Use there other ∷ found) diagnostics spot meaning same h = meaning_stays found (noted diagnostics (Use there other)) spot meaning (λ one k. same one (inr k)) (by h)
   where
-    now : spot ≡ there → other ≡ meaning → meaning_at (with_use notes.uses there other) spot ≡ Some meaning
-    now e f = ap (λ at. meaning_at (with_use notes.uses there other) at) e ∙ entry-same notes.uses there other ∙ ap Some f
+    now : spot ≡ there → other ≡ meaning → meaning_at (with_use diagnostics.uses there other) spot ≡ Some meaning
+    now e f = ap (λ at. meaning_at (with_use diagnostics.uses there other) at) e ∙ entry-same diagnostics.uses there other ∙ ap Some f
 
-    kept : (spot ≡ there) ⊎ (same_spot spot there ≡ false) → meaning_at notes.uses spot ≡ Some meaning → meaning_at (with_use notes.uses there other) spot ≡ Some meaning
+    kept : (spot ≡ there) ⊎ (same_spot spot there ≡ false) → meaning_at diagnostics.uses spot ≡ Some meaning → meaning_at (with_use diagnostics.uses there other) spot ≡ Some meaning
     kept (inl e) k = now e (same other (inl (ap (λ at. Use at other) (sym e))))
-    kept (inr e) k = entry-other notes.uses there other spot e ∙ k
+    kept (inr e) k = entry-other diagnostics.uses there other spot e ∙ k
 
     same_place : Use there other ≡ Use spot meaning → spot ≡ there
     same_place e = cc
@@ -137,8 +137,8 @@ meaning_stays (Use there other ∷ found) notes spot meaning same h = meaning_st
     same_meaning : Use there other ≡ Use spot meaning → other ≡ meaning
     same_meaning e = cc
 
-    by : IsIn (Use spot meaning) (Use there other ∷ found) ⊎ (meaning_at notes.uses spot ≡ Some meaning)
-        → IsIn (Use spot meaning) found ⊎ (meaning_at (with_use notes.uses there other) spot ≡ Some meaning)
+    by : IsIn (Use spot meaning) (Use there other ∷ found) ⊎ (meaning_at diagnostics.uses spot ≡ Some meaning)
+        → IsIn (Use spot meaning) found ⊎ (meaning_at (with_use diagnostics.uses there other) spot ≡ Some meaning)
     by (inl (inl e)) = inr (now (same_place e) (same_meaning e))
     by (inl (inr k)) = inl k
     by (inr k) = inr (kept (same_spot-cases spot there) k)
@@ -181,8 +181,8 @@ in_program files component there finding h =
     (in_files (program files).components (program files).specs files component there finding h)))
 
 -- no rule is broken in a component of the program
-pub component_unbroken : (files : List File) (names : Names) → resolved files ≡ Ok names
+pub component_error_free : (files : List File) (names : Names) → resolved files ≡ Ok names
     → (component : Component) → IsIn component (flat_map (λ file. file.components) files)
-    → Unbroken (component_found (program files).components (program files).specs component)
-component_unbroken files names e component there =
+    → ErrorFree (component_found (program files).components (program files).specs component)
+component_error_free files names e component there =
     all_from is_use _ (λ finding k. all_at is_use (findings files) (all_uses files names e) finding (in_program files component there finding k))

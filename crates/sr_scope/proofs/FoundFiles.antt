@@ -36,7 +36,7 @@ use Rattle.sr_scope.specs.Procs.{semaphore_names}
 use Rattle.sr_scope.specs.Resolved.{findings, program, no_place}
 use Rattle.sr_scope.specs.Types.{formal_read, formals_declared}
 use Rattle.sr_scope.specs.Uses.{OneMeaning}
-use Rattle.sr_scope.proofs.Among.{Among, nothing, both, besides, and_twice, behind_one, one_broken, uses_at, uses_both, names_both, one_meaning_among}
+use Rattle.sr_scope.proofs.Among.{Among, nothing, both, besides, and_twice, after_one, one_broken, uses_at, uses_both, names_both, one_meaning_among}
 use Rattle.sr_scope.proofs.FoundExprs.{reading_among, twice_among, names_twice_among}
 use Rattle.sr_scope.proofs.FoundTypes.{type_among, signature_among, formals_among, formals_twice_among, const_among, var_among, op_items_among, semaphores_among}
 use Rattle.sr_scope.proofs.FoundStatements.{statement_among, proc_among, procedure_among, process_among, final_among}
@@ -130,8 +130,8 @@ spec_among : (components : Entries) (one : SpecItem) (place : Place) (blocks : B
     → Among (imports_found components (imported_names one) ++ spec_found one place blocks) (spec_item_names one)
 spec_among components (spec.Import imports) place blocks = and_twice (imports_among components imports.names) nothing
 spec_among components (spec.Const constant) place blocks = const_among constant place blocks
-spec_among components (spec.Type named) place blocks = behind_one named.name.span (type_among named.ty place blocks)
-spec_among components (spec.OpType named) place blocks = behind_one named.name.span (signature_among named.signature place blocks)
+spec_among components (spec.Type named) place blocks = after_one named.name.span (type_among named.ty place blocks)
+spec_among components (spec.OpType named) place blocks = after_one named.name.span (signature_among named.signature place blocks)
 spec_among components (spec.Op operations) place blocks = op_items_among operations.items place blocks
 spec_among components (spec.Var variables) place blocks = var_among variables place blocks
 spec_among components (spec.Sem declared) place blocks = semaphores_among declared.semaphores place blocks
@@ -216,7 +216,7 @@ component_among components specs component =
     let spec = specs_among components (spec_of component) place no_blocks in
     let formals = formals_among (formals_of component) within no_blocks in
     let body = items_among components (body_of component) within no_blocks in
-    besides (own_twice_among component) (behind_one (name_of component).span
+    besides (own_twice_among component) (after_one (name_of component).span
     (arranged (imports_found components (specs_imports (spec_of component))) (imports_found components (items_imports (body_of component)))
     (specs_found (spec_of component) place no_blocks) (items_found (body_of component) within no_blocks) (imports_found components (imports_of component))
     (served_twice_among (body_of component) place no_blocks [])

@@ -28,7 +28,7 @@ use Rattle.sr_scope.specs.Exprs.{Finds, all_found}
 use Rattle.sr_scope.specs.Procs.{semaphore_names, proc_item_read, proc_items_found, proc_found, procedure_found, quantifier_names as quantified, process_found, final_found}
 use Rattle.sr_scope.specs.Statements.{Steps, steps_found, item_step, condition_found, arm_scope, arm_twice, arm_step, branch_step, co_arm_step, statement_step, statement_found, item_read, arm_found, branch_found, co_arm_found}
 use Rattle.sr_scope.specs.Types.{signature_read, signed_declared}
-use Rattle.sr_scope.proofs.Among.{Among, nothing, both, besides, and_twice, behind_one, behind}
+use Rattle.sr_scope.proofs.Among.{Among, nothing, both, besides, and_twice, after_one, after}
 use Rattle.sr_scope.proofs.FoundExprs.{expr_among, maybe_expr_among, exprs_among, create_among, invocation_among, name_among, twice_among, names_twice_among, returned_twice_among}
 use Rattle.sr_scope.proofs.FoundTypes.{const_among, var_among, semaphores_among, op_items_among, quantifiers_among, signature_among, signed_twice_among}
 
@@ -180,7 +180,7 @@ arm_good y place blocks =
     let within = arm_scope y.formals y.returned blocks in
     both (name_among place blocks y.operation)
     (besides (arm_twice_among y.formals y.returned)
-    (behind (names_spans y.formals) (behind (where_some name_names y.returned)
+    (after (names_spans y.formals) (after (where_some name_names y.returned)
     (both (condition_among y.condition place within) (both (maybe_expr_among y.order place within) (items_good y.block place (opened within)))))))
 
 branch_good : (y : Branch-F I T A B C) (place : Place) (blocks : Blocks) → Among (branch_of (bare_branch y) place blocks) (branch_spans (bare_branch y))
@@ -252,18 +252,18 @@ pub proc_among : (proc : Proc) (place : Place) (blocks : Blocks) → Among (proc
 proc_among proc place blocks =
     both (name_among place blocks proc.name)
     (besides (arm_twice_among proc.formals proc.returned)
-    (behind (names_spans proc.formals) (behind (where_some name_names proc.returned) (block_among proc.block place (arm_scope proc.formals proc.returned blocks)))))
+    (after (names_spans proc.formals) (after (where_some name_names proc.returned) (block_among proc.block place (arm_scope proc.formals proc.returned blocks)))))
 
 pub procedure_among : (procedure : Procedure) (place : Place) (blocks : Blocks) → Among (procedure_found procedure place blocks) (procedure_names procedure)
 procedure_among procedure place blocks =
-    behind_one procedure.name.span
+    after_one procedure.name.span
     (both (signature_among procedure.signature place blocks)
     (besides (signed_twice_among (signature_read procedure.signature) [])
     (block_among procedure.block place (with_inner (opened blocks) (signed_declared (signature_read procedure.signature) [])))))
 
 pub process_among : (process : Process) (place : Place) (blocks : Blocks) → Among (process_found process place blocks) (process_names process)
 process_among process place blocks =
-    behind_one process.name.span
+    after_one process.name.span
     (both (quantifiers_among process.quantifiers place (opened blocks))
     (besides (names_twice_among Variable (quantified process.quantifiers) [])
     (block_among process.block place (with_inner (opened blocks) (names_declared Variable (quantified process.quantifiers) [])))))

@@ -27,7 +27,7 @@ use Rattle.sr_scope.specs.Declarations.{const_found, var_found, semaphores_found
 use Rattle.sr_scope.specs.Declares.{names_declared}
 use Rattle.sr_scope.specs.Exprs.{Finds}
 use Rattle.sr_scope.specs.Types.{Formals, Signed, range_found, maybe_range_found, dims_found, maybe_dims_found, decls_found, formals_found, maybe_found, formals_declared, formals_twice, maybe_twice, signed_twice, signed_found, type_step, formal_step, returned_step, signature_step, type_found, formal_read, returned_read, signature_read, maybe_type_found}
-use Rattle.sr_scope.proofs.Among.{Among, nothing, both, besides, behind_one, regrouped}
+use Rattle.sr_scope.proofs.Among.{Among, nothing, both, besides, after_one, regrouped}
 use Rattle.sr_scope.proofs.FoundExprs.{expr_among, maybe_expr_among, exprs_among, qualified_among, names_twice_among, twice_among}
 
 -- ---- bounds
@@ -50,7 +50,7 @@ maybe_dims_among None place blocks = nothing
 maybe_dims_among (Some dims) place blocks = dims_among dims place blocks
 
 decl_among : (decl : Decl) (place : Place) (blocks : Blocks) → Among (maybe_dims_found decl.dims place blocks) (decl_names decl)
-decl_among decl place blocks = behind_one decl.name.span (maybe_dims_among decl.dims place blocks)
+decl_among decl place blocks = after_one decl.name.span (maybe_dims_among decl.dims place blocks)
 
 pub decls_among : (decls : List Decl) (place : Place) (blocks : Blocks) → Among (decls_found decls place blocks) (flat_map decl_names decls)
 decls_among [] place blocks = nothing
@@ -221,7 +221,7 @@ maybe_type_among (Some tree) place blocks = type_among tree place blocks
 
 pub const_among : (declared : ConstDecl) (place : Place) (blocks : Blocks) → Among (const_found declared place blocks) (const_names declared)
 const_among declared place blocks =
-    behind_one declared.name.span (both (maybe_type_among declared.ty place blocks) (expr_among declared.value place blocks))
+    after_one declared.name.span (both (maybe_type_among declared.ty place blocks) (expr_among declared.value place blocks))
 
 pub var_among : (declared : VarDecl) (place : Place) (blocks : Blocks) → Among (var_found declared place blocks) (var_names declared)
 var_among declared place blocks =
@@ -230,11 +230,11 @@ var_among declared place blocks =
 pub semaphores_among : (semaphores : List Semaphore) (place : Place) (blocks : Blocks) → Among (semaphores_found semaphores place blocks) (flat_map semaphore_names semaphores)
 semaphores_among [] place blocks = nothing
 semaphores_among (semaphore ∷ semaphores) place blocks =
-    both (behind_one semaphore.name.span (maybe_expr_among semaphore.value place blocks)) (semaphores_among semaphores place blocks)
+    both (after_one semaphore.name.span (maybe_expr_among semaphore.value place blocks)) (semaphores_among semaphores place blocks)
 
 op_item_among : (item : OpItem) (place : Place) (blocks : Blocks) → Among (op_item_found item place blocks) (op_item_names item)
-op_item_among (op.Signed span name signature) place blocks = behind_one name.span (signature_among signature place blocks)
-op_item_among (op.Typed span name optype) place blocks = behind_one name.span (qualified_among place blocks optype)
+op_item_among (op.Signed span name signature) place blocks = after_one name.span (signature_among signature place blocks)
+op_item_among (op.Typed span name optype) place blocks = after_one name.span (qualified_among place blocks optype)
 
 pub op_items_among : (items : List OpItem) (place : Place) (blocks : Blocks) → Among (op_items_found items place blocks) (flat_map op_item_names items)
 op_items_among [] place blocks = nothing
@@ -248,7 +248,7 @@ quantifier_among quantifier place blocks =
     let last = expr_names quantifier.last in
     let step = where_some expr_names quantifier.step in
     let condition = where_some expr_names quantifier.such_that in
-    behind_one quantifier.name.span
+    after_one quantifier.name.span
     (subst (λ (spans : List Span). Among (quantifier_found quantifier place blocks) (first ++ spans)) (append_assoc last step condition)
     (regrouped first (last ++ step) condition
     (both

@@ -37,7 +37,7 @@ use Rattle.sr_scope.specs.Uses.{IsIn}
 use Rattle.sr_scope.proofs.Among.{names_at, names_both, one_if, at_most_one}
 use Rattle.sr_scope.proofs.Findings.{in_either, in_flat, in_left, in_right}
 use Rattle.sr_scope.proofs.Meant.{IsComponent, IsDeclared, means}
-use Rattle.sr_scope.proofs.OwnNames.{Fewer, none, each, both, behind, spans_both, spec_own, item_own, formal_own, own_names, names_of, names_in, spans_of, spec_fewer, formal_fewer, of_each}
+use Rattle.sr_scope.proofs.OwnNames.{Fewer, none, each, both, after, spans_both, spec_own, item_own, formal_own, own_names, names_of, names_in, spans_of, spec_fewer, formal_fewer, of_each}
 use Rattle.sr_scope.proofs.Served.{counted_name, in_names, one_name, proc_denotes}
 use Rattle.sr_scope.proofs.Tables.{sorted}
 
@@ -89,9 +89,9 @@ block_fewer (one ∷ block) = both (inner_fewer one) (block_fewer block)
 item_room : (one : Item) → Room (item_own one) (inner_operations_of one) (item_names one)
 item_room (item.Spec declared) = no_locals (spec_fewer declared)
 item_room (item.Proc proc) =
-    all_locals (behind (proc.name.span ∷ []) (behind (names_spans proc.formals) (behind (where_some name_names proc.returned) (block_fewer proc.block))))
-item_room (item.Procedure procedure) = with_name Operation procedure.name (behind (signature_names procedure.signature) (block_fewer procedure.block))
-item_room (item.Process process) = with_name Operation process.name (behind (flat_map quantifier_names process.quantifiers) (block_fewer process.block))
+    all_locals (after (proc.name.span ∷ []) (after (names_spans proc.formals) (after (where_some name_names proc.returned) (block_fewer proc.block))))
+item_room (item.Procedure procedure) = with_name Operation procedure.name (after (signature_names procedure.signature) (block_fewer procedure.block))
+item_room (item.Process process) = with_name Operation process.name (after (flat_map quantifier_names process.quantifiers) (block_fewer process.block))
 item_room (item.Final final) = all_locals (block_fewer final.block)
 item_room (item.Statement statement) = no_locals none
 

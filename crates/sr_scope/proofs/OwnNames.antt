@@ -150,13 +150,13 @@ both {s = s} {t = t} {u = u} {v = v} a b = record {
   at = λ spot. omega (arith, names_both spot s u, names_both spot t v, a.at spot, b.at spot);
 }
 
--- others behind them
+-- others after them
 first : {s t : List Span} (u : List Span) → Fewer s t → Fewer s (t ++ u)
 first {s = s} {t = t} u a = record { at = λ spot. omega (arith, names_both spot t u, a.at spot) }
 
 -- others before them
-pub behind : {s t : List Span} (u : List Span) → Fewer s t → Fewer s (u ++ t)
-behind {s = s} {t = t} u a = record { at = λ spot. omega (arith, names_both spot u t, a.at spot) }
+pub after : {s t : List Span} (u : List Span) → Fewer s t → Fewer s (u ++ t)
+after {s = s} {t = t} u a = record { at = λ spot. omega (arith, names_both spot u t, a.at spot) }
 
 pub spans_both : (a b : List (Sort × Name)) → spans_of (a ++ b) ≡ spans_of a ++ spans_of b
 spans_both [] b = refl

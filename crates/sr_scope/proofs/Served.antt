@@ -36,7 +36,7 @@ use Rattle.sr_scope.specs.Served.{item_serves, MeansOperation, ItemMeansOperatio
 use Rattle.sr_scope.specs.Types.{formal_read, formals_found}
 use Rattle.sr_scope.specs.Uses.{IsIn}
 use Rattle.sr_scope.proofs.Among.{names_at, one_if, at_most_one}
-use Rattle.sr_scope.proofs.Findings.{Unbroken, is_use, all_at, all_uses, component_unbroken, in_either, in_flat, in_left, in_right, in_program, unbroken_behind, unbroken_first, use_means}
+use Rattle.sr_scope.proofs.Findings.{ErrorFree, is_use, all_at, all_uses, component_error_free, in_either, in_flat, in_left, in_right, in_program, error_free_after, error_free_first, use_means}
 use Rattle.sr_scope.proofs.FoundFiles.{one_meaning}
 use Rattle.sr_scope.proofs.Meant.{IsComponent, IsDeclared, means, own_meaning}
 use Rattle.sr_scope.proofs.OwnNames.{names_fewer, names_in, names_of, own_is, own_names, own_twice_is, spans_of, item_own, formal_own, spec_own}
@@ -82,32 +82,32 @@ module _ (place : Place) where
       by true h = none_before served name.text text (declaration Operation name.span) h
       by false h = h
 
-  served_new : (name : Name) (served : Entries) → serves place no_blocks name ≡ true → Unbroken (name_served_twice place no_blocks (Some name) served) → declared_as served name.text ≡ None
-  served_new name served serving unbroken =
-      twice_new Operation name served (subst (λ b. Unbroken (if b then name_twice Operation name served else [])) serving unbroken)
+  served_new : (name : Name) (served : Entries) → serves place no_blocks name ≡ true → ErrorFree (name_served_twice place no_blocks (Some name) served) → declared_as served name.text ≡ None
+  served_new name served serving error_free =
+      twice_new Operation name served (subst (λ b. ErrorFree (if b then name_twice Operation name served else [])) serving error_free)
 
   -- a name that is served was not served before
-  not_served : (items : List Item) (served : Entries) → Unbroken (served_twice items place no_blocks served)
+  not_served : (items : List Item) (served : Entries) → ErrorFree (served_twice items place no_blocks served)
       → (name : Name) → IsIn (Some name) (map served_name items) → serves place no_blocks name ≡ true → declared_as served name.text ≡ None
-  not_served [] served unbroken name among serving = absurd among
-  not_served (one ∷ items) served unbroken name (inl is) serving =
+  not_served [] served error_free name among serving = absurd among
+  not_served (one ∷ items) served error_free name (inl is) serving =
       served_new name served serving
-      (subst (λ other. Unbroken (name_served_twice place no_blocks other served)) is
-      (unbroken_first (name_served_twice place no_blocks (served_name one) served) _ unbroken))
-  not_served (one ∷ items) served unbroken name (inr among) serving =
+      (subst (λ other. ErrorFree (name_served_twice place no_blocks other served)) is
+      (error_free_first (name_served_twice place no_blocks (served_name one) served) _ error_free))
+  not_served (one ∷ items) served error_free name (inr among) serving =
       not_before (served_name one) served name.text
-      (not_served items (after (served_name one) served) (unbroken_behind (name_served_twice place no_blocks (served_name one) served) _ unbroken) name among serving)
+      (not_served items (after (served_name one) served) (error_free_after (name_served_twice place no_blocks (served_name one) served) _ error_free) name among serving)
 
   -- a name that an item serves is no name that a later one serves
-  differs : (one : Item) (items : List Item) (served : Entries) → Unbroken (served_twice (one ∷ items) place no_blocks served)
+  differs : (one : Item) (items : List Item) (served : Entries) → ErrorFree (served_twice (one ∷ items) place no_blocks served)
       → (name : Name) → served_name one ≡ Some name → serves place no_blocks name ≡ true
       → (other : Name) → IsIn (Some other) (map served_name items) → serves place no_blocks other ≡ true → name.text ≡ other.text → ⊥
-  differs one items served unbroken name is serving other among also same =
+  differs one items served error_free name is serving other among also same =
       something served name.text (declaration Operation name.span)
       (subst (λ b. declared_as (if b then name_declared Operation name served else served) name.text ≡ None) serving
       (subst (λ what. declared_as (after what served) name.text ≡ None) is
       (subst (λ text. declared_as (after (served_name one) served) text ≡ None) (sym same)
-      (not_served items (after (served_name one) served) (unbroken_behind (name_served_twice place no_blocks (served_name one) served) _ unbroken) other among also))))
+      (not_served items (after (served_name one) served) (error_free_after (name_served_twice place no_blocks (served_name one) served) _ error_free) other among also))))
 
   -- ---- what they mean
 
@@ -150,18 +150,18 @@ module _ (place : Place) where
             subst (λ spots. AllByRecursion (λ at. same_spot spot at ≡ false) (spots ++ flat_map (item_serves meant) items)) (sym serving)
             (other_spot other at is there (same_spot spot at) refl, rest)
 
-    distinct_services : (items : List Item) (served : Entries) → Unbroken (served_twice items place no_blocks served) → AllByRecursion (Service names meant) items
+    distinct_services : (items : List Item) (served : Entries) → ErrorFree (served_twice items place no_blocks served) → AllByRecursion (Service names meant) items
         → IsDistinct same_spot (flat_map (item_serves meant) items)
     unfolding IsDistinct
-    distinct_services [] served unbroken all = tt
-    distinct_services (one ∷ items) served unbroken all =
-        by all.0 (distinct_services items (after (served_name one) served) (unbroken_behind (name_served_twice place no_blocks (served_name one) served) _ unbroken) all.1)
+    distinct_services [] served error_free all = tt
+    distinct_services (one ∷ items) served error_free all =
+        by all.0 (distinct_services items (after (served_name one) served) (error_free_after (name_served_twice place no_blocks (served_name one) served) _ error_free) all.1)
       where
         by : Service names meant one → IsDistinct same_spot (flat_map (item_serves meant) items) → IsDistinct same_spot (item_serves meant one ++ flat_map (item_serves meant) items)
         by (no_service is) rest = subst (λ spots. IsDistinct same_spot (spots ++ flat_map (item_serves meant) items)) (sym is) rest
         by (service name spot is serving here) rest =
             subst (λ spots. IsDistinct same_spot (spots ++ flat_map (item_serves meant) items)) (sym serving)
-            (apart name spot here items all.1 (differs one items served unbroken name is here.serving), rest)
+            (apart name spot here items all.1 (differs one items served error_free name is here.serving), rest)
 
 -- ---- procs, procedures and processes
 
@@ -196,22 +196,22 @@ module _ (files : List File) (names : Names) (accepted : resolved files ≡ Ok n
   abbrev place : Place
   place = place_of (program files).components (program files).specs component
 
-  unbroken : Unbroken (component_found (program files).components (program files).specs component)
-  unbroken = component_unbroken files names accepted component there
+  error_free : ErrorFree (component_found (program files).components (program files).specs component)
+  error_free = component_error_free files names accepted component there
 
-  own_unbroken : Unbroken (all_twice (own_names component) [])
-  own_unbroken = subst Unbroken (own_twice_is component) (unbroken_first (own_twice component) _ unbroken)
+  own_error_free : ErrorFree (all_twice (own_names component) [])
+  own_error_free = subst ErrorFree (own_twice_is component) (error_free_first (own_twice component) _ error_free)
 
-  services_unbroken : Unbroken (served_twice (body_of component) place no_blocks [])
-  services_unbroken =
-      unbroken_first (served_twice (body_of component) place no_blocks []) _
-      (unbroken_behind (imports_found (program files).components (imports_of component)) _ (unbroken_behind (own_twice component) _ unbroken))
+  services_error_free : ErrorFree (served_twice (body_of component) place no_blocks [])
+  services_error_free =
+      error_free_first (served_twice (body_of component) place no_blocks []) _
+      (error_free_after (imports_found (program files).components (imports_of component)) _ (error_free_after (own_twice component) _ error_free))
 
   -- a name that the component itself declares as an operation
   own_serves : (name : Name) → IsIn (Operation, name) (own_names component) → serves place no_blocks name ≡ true
   own_serves name among =
       ap (λ found. is_operation (own_meaning place name.text (spot_of name.span) found))
-      (ap (λ table. declared_as table name.text) (own_is component) ∙ each_declared (own_names component) [] own_unbroken Operation name among)
+      (ap (λ table. declared_as table name.text) (own_is component) ∙ each_declared (own_names component) [] own_error_free Operation name among)
 
   -- the name of a proc means what it denotes
   pub proc_denotes : (proc : Proc) → IsIn (item.Proc proc) (body_of component) → (decl : Decl) → meaning_at names.uses (spot_of proc.name.span) ≡ Some (Declared decl)
@@ -289,7 +289,7 @@ module _ (files : List File) (names : Names) (accepted : resolved files ≡ Ok n
     services_apart : AllMeanOperations names.uses meant (body_of component) → IsDistinct same_spot (flat_map (item_serves meant) (body_of component))
     services_apart all =
         distinct_services place (names_in files) meant (λ spot. omega (arith, (names_fewer files).at spot, at_most_one spot (flat_map file_names files) distinct))
-        (body_of component) [] services_unbroken (all_services (body_of component) (λ one k. k) all)
+        (body_of component) [] services_error_free (all_services (body_of component) (λ one k. k) all)
 
 pub served_once : (files : List File) (names : Names) (meant : Name → Spot) (component : Component) → resolved files ≡ Ok names
     → IsDistinct same_spot (map spot_of (flat_map file_names files)) → IsIn component (flat_map (λ file. file.components) files)

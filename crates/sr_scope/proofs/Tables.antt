@@ -13,7 +13,7 @@ use Rattle.sr_names.specs.Tables.{declared_as, with_decl}
 use Rattle.sr_tree.specs.declared.name.Name.{Name}
 use Rattle.sr_scope.specs.Declares.{name_declared, name_twice, names_declared, names_twice}
 use Rattle.sr_scope.specs.Uses.{IsIn}
-use Rattle.sr_scope.proofs.Findings.{Unbroken, unbroken_first, unbroken_behind}
+use Rattle.sr_scope.proofs.Findings.{ErrorFree, error_free_first, error_free_after}
 
 pub bytes_same : (a b : List ℕ) → bytes_eq a b ≡ true → a ≡ b
 bytes_same a b e = (bytes_eq-Decides a b).0 e
@@ -101,10 +101,10 @@ something table name decl none =
 
 -- ---- a name that isn't declared twice
 
-pub twice_new : (sort : Sort) (name : Name) (table : Entries) → Unbroken (name_twice sort name table) → declared_as table name.text ≡ None
-twice_new sort name table unbroken = by (declared_as table name.text) unbroken
+pub twice_new : (sort : Sort) (name : Name) (table : Entries) → ErrorFree (name_twice sort name table) → declared_as table name.text ≡ None
+twice_new sort name table error_free = by (declared_as table name.text) error_free
   where
-    by : (found : Option Decl) → Unbroken (twice_unless (not (is_some found)) name.span) → found ≡ None
+    by : (found : Option Decl) → ErrorFree (twice_unless (not (is_some found)) name.span) → found ≡ None
     by None h = refl
     by (Some d) h = absurd (false≢true h)
 
@@ -123,15 +123,15 @@ all_kept [] table text d e = e
 all_kept (one ∷ ds) table text d e = all_kept ds (name_declared one.0 one.1 table) text d (kept table one.1.text text (declaration one.0 one.1.span) d e)
 
 -- where none is declared twice each is declared as it stands there
-pub each_declared : (ds : List (Sort × Name)) (table : Entries) → Unbroken (all_twice ds table) → (sort : Sort) (name : Name) → IsIn (sort, name) ds
+pub each_declared : (ds : List (Sort × Name)) (table : Entries) → ErrorFree (all_twice ds table) → (sort : Sort) (name : Name) → IsIn (sort, name) ds
     → declared_as (all_declared ds table) name.text ≡ Some (declaration sort name.span)
-each_declared [] table unbroken sort name among = absurd among
-each_declared (one ∷ ds) table unbroken sort name (inl is) =
+each_declared [] table error_free sort name among = absurd among
+each_declared (one ∷ ds) table error_free sort name (inl is) =
     subst (λ (d : Sort × Name). declared_as (all_declared (one ∷ ds) table) d.1.text ≡ Some (declaration d.0 d.1.span)) is
     (all_kept ds (name_declared one.0 one.1 table) one.1.text (declaration one.0 one.1.span)
-    (declared_new table one.1.text (declaration one.0 one.1.span) (twice_new one.0 one.1 table (unbroken_first (name_twice one.0 one.1 table) _ unbroken))))
-each_declared (one ∷ ds) table unbroken sort name (inr among) =
-    each_declared ds (name_declared one.0 one.1 table) (unbroken_behind (name_twice one.0 one.1 table) _ unbroken) sort name among
+    (declared_new table one.1.text (declaration one.0 one.1.span) (twice_new one.0 one.1 table (error_free_first (name_twice one.0 one.1 table) _ error_free))))
+each_declared (one ∷ ds) table error_free sort name (inr among) =
+    each_declared ds (name_declared one.0 one.1 table) (error_free_after (name_twice one.0 one.1 table) _ error_free) sort name among
 
 -- what is declared was before, or is one of these
 pub declared_among : (ds : List (Sort × Name)) (table : Entries) (text : List ℕ) (d : Decl) → declared_as (all_declared ds table) text ≡ Some d

@@ -59,7 +59,7 @@ with_quantifier quantifier blocks = with_inner blocks (name_declared quantifier_
 abbrev pub with_quantifiers : List Quantifier → Blocks → Blocks
 with_quantifiers quantifiers blocks = with_inner blocks (names_declared quantifier_sort (map (λ quantifier. quantifier.name) quantifiers) blocks.inner)
 
--- the condition of a quantifier and the quantifiers behind it see its name
+-- the condition of a quantifier and the quantifiers after it see its name
 abbrev pub quantifier_found : Quantifier → Finds
 quantifier_found quantifier place blocks =
     bounds_found quantifier place blocks

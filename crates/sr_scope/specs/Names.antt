@@ -33,7 +33,7 @@ component_named place blocks name = component (denotes place blocks name.text (s
 abbrev pub name_found : Place → Blocks → Name → List Finding
 name_found place blocks name = read_found place blocks name.text name.span
 
--- behind a component and a point stands a name of its spec; behind anything else a field, which has no scope
+-- after a component and a point stands a name of its spec; after anything else a field, which has no scope
 abbrev pub field_found : Place → Option Decl → Name → List Finding
 field_found place None name = []
 field_found place (Some component) name = member_found place component name.text name.span

@@ -24,7 +24,7 @@ use Rattle.sr_scope.specs.Types.{signature_read, signed_found, signed_declared, 
 abbrev pub semaphore_names : List Semaphore → List Name
 semaphore_names semaphores = map (λ semaphore. semaphore.name) semaphores
 
--- a name in the block of a proc is visible behind its declaration
+-- a name in the block of a proc is visible after its declaration
 abbrev pub proc_item_read : ProcItem → Steps
 proc_item_read (Const constant) place blocks = record {
   found = const_found constant place blocks ++ name_twice Constant constant.name blocks.inner;

@@ -8,11 +8,11 @@ use Rattle.sr_text.specs.declared.refusal.Refusal.{Refusal}
 use Rattle.sr_names.specs.declared.finding.Finding.{Finding}
 use Rattle.sr_names.specs.declared.finding.Rule.{Rule}
 use Rattle.sr_names.specs.declared.finding.Rule.TheVariants.{Name, Twice, BadType, BadUse, Guard, Main, Cycle}
-use Rattle.sr_names.specs.declared.finding.Wrong.{Wrong}
-use Rattle.sr_names.specs.declared.notes.Notes.{Notes}
+use Rattle.sr_names.specs.declared.finding.Diagnostic.{Diagnostic}
+use Rattle.sr_names.specs.declared.diagnostics.Diagnostics.{Diagnostics}
 use Rattle.sr_names.specs.declared.place.Place.{Place}
 use Rattle.sr_names.specs.Cycles.{cycles_found}
-use Rattle.sr_names.specs.Notes.{nothing, all_noted}
+use Rattle.sr_names.specs.Diagnostics.{nothing, all_noted}
 use Rattle.sr_names.specs.Specs.{Specs}
 use Rattle.sr_tree.specs.declared.component.File.{File}
 use Rattle.sr_scope.specs.declared.program.Names.{Names}
@@ -41,21 +41,21 @@ kind_of Guard = guard_kind
 kind_of Main = main_kind
 kind_of Cycle = cycle_kind
 
-abbrev pub refusal_of : Wrong → Refusal
-refusal_of wrong = record { kind = kind_of wrong.rule; place = record { file = wrong.span.file; line = wrong.span.line } }
+abbrev pub refusal_of : Diagnostic → Refusal
+refusal_of diagnostic = record { kind = kind_of diagnostic.rule; place = record { file = diagnostic.span.file; line = diagnostic.span.line } }
 
 -- the first broken rule refuses the program; where none is broken the names have their meanings
-abbrev pub answered : Notes → Specs → Result Names Refusal
-answered notes specs = by notes.first
+abbrev pub answered : Diagnostics → Specs → Result Names Refusal
+answered diagnostics specs = by diagnostics.first
   where
-    by : Option Wrong → Result Names Refusal
-    by None = Ok (record { uses = notes.uses; specs = specs })
-    by (Some wrong) = Err (refusal_of wrong)
+    by : Option Diagnostic → Result Names Refusal
+    by None = Ok (record { uses = diagnostics.uses; specs = specs })
+    by (Some diagnostic) = Err (refusal_of diagnostic)
 
 abbrev pub resolved : List File → Result Names Refusal
 resolved files = answered (all_noted nothing (findings files)) (program files).specs
 
--- an answer is what is meant, but for want of memory
+-- an answer is what is meant, unless memory ran out
 abbrev pub Answers : Result Names FrontFail → Result Names Refusal → Type 0
 Answers (Ok names) meant = meant ≡ Ok names
 Answers (Err (Refused refusal)) meant = meant ≡ Err refusal

@@ -22,7 +22,7 @@ use Rattle.sr_scope.specs.Exprs.{Finds, all_found, create_found, invocation_foun
 use Rattle.sr_scope.specs.Names.{name_found}
 use Rattle.sr_scope.specs.Types.{expr_found, maybe_expr_found}
 
--- what is found in an item of a block, and the innermost scope behind it
+-- what is found in an item of a block, and the innermost scope after it
 pub record Step : Type 0 where
   pub found : List Finding
   pub inner : Entries
@@ -43,7 +43,7 @@ abbrev pub maybe_block_found : Option (List Steps) → Finds
 maybe_block_found None place blocks = []
 maybe_block_found (Some items) place blocks = block_found items place blocks
 
--- a name in a block is visible behind its declaration
+-- a name in a block is visible after its declaration
 abbrev pub item_step : BlockItem-F Steps Finds Finds Finds Finds → Steps
 item_step (BlockItem-F.Const constant) place blocks = record {
   found = const_found constant place blocks ++ name_twice Constant constant.name blocks.inner;

@@ -1,6 +1,6 @@
 ghost use Rattle.std.specs.Prelude.{◌≡◌, ◌++◌, IfOk, OnOk, []};
 ghost use Rattle.sr_names.specs.Components.{with_members};
-ghost use Rattle.sr_names.specs.Notes.{all_noted};
+ghost use Rattle.sr_names.specs.Diagnostics.{all_noted};
 ghost use Rattle.sr_names.specs.Scopes.{no_blocks};
 ghost use Rattle.sr_names.specs.Visible.{with_component};
 ghost use Rattle.sr_scope.specs.Components.{sort_of, decl_of, collected, collected_twice, all_collected, all_collected_twice, files_collected, files_collected_twice, imported_names, specs_imports, items_imports, imports_of, import_at, import_of_sorts, import_to, imports_to, all_imports, files_imports, import_found, imports_found, with_import, with_imports, visible_to, own_declared, own_twice, walked, component_found, components_found, files_found};
@@ -10,8 +10,8 @@ use crate::declares::declare_name;
 use crate::items::{declare_items, declare_spec, items, note_served, spec_items};
 use crate::types::{declare_formals, formals};
 use sr_names::{
-    Blocks, Decl, Finding, Import, Link, Meaning, Members, Notes, Place, Rule, Sort, Spot, Table,
-    Visible, Wrong,
+    Blocks, Decl, Diagnostic, Diagnostics, Finding, Import, Link, Meaning, Members, Place, Rule,
+    Sort, Spot, Table, Visible,
 };
 use sr_tree::{Component, File, Formal, Item, Name, SpecItem};
 use sr_value::{Duplicate, NoMemory, Row, Span};
@@ -40,10 +40,10 @@ fn collect_component(
     alloc: Global,
     component: &Component,
     place: &mut Place,
-    notes: &mut Notes,
+    diagnostics: &mut Diagnostics,
 ) -> Result<(), NoMemory>
     ensures place { OnOk result (place.new ≡ collected component.now place.old) }
-    ensures noted { OnOk result (notes.new ≡ all_noted notes.old (collected_twice component.now place.old)) }
+    ensures noted { OnOk result (diagnostics.new ≡ all_noted diagnostics.old (collected_twice component.now place.old)) }
 {
     let name = component.name();
     declare_name(
@@ -51,10 +51,10 @@ fn collect_component(
         name,
         sort_of(component),
         &mut place.components,
-        notes,
+        diagnostics,
     )?;
     let spot = Spot::of(name.span);
-    collect_spec(alloc, spot, component.spec(), &mut place.specs, notes)
+    collect_spec(alloc, spot, component.spec(), &mut place.specs, diagnostics)
 }
 
 /// Puts the names of a component's spec among those of all specs.
@@ -63,13 +63,13 @@ fn collect_spec(
     component: Spot,
     items: &[SpecItem],
     specs: &mut Members,
-    notes: &mut Notes,
+    diagnostics: &mut Diagnostics,
 ) -> Result<(), NoMemory>
     ensures specs { OnOk result (specs.new ≡ with_members specs.old component (specs_declared items.now [])) }
-    ensures noted { OnOk result (notes.new ≡ all_noted notes.old (specs_twice items.now [])) }
+    ensures noted { OnOk result (diagnostics.new ≡ all_noted diagnostics.old (specs_twice items.now [])) }
 {
     let mut spec = Table::new(alloc);
-    declare_spec(alloc, items, &mut spec, notes)?;
+    declare_spec(alloc, items, &mut spec, diagnostics)?;
     specs.insert(alloc, component, spec)
 }
 
@@ -77,13 +77,13 @@ fn collect_components(
     alloc: Global,
     components: &[Component],
     place: &mut Place,
-    notes: &mut Notes,
+    diagnostics: &mut Diagnostics,
 ) -> Result<(), NoMemory>
     ensures place { OnOk result (place.new ≡ all_collected components.now place.old) }
-    ensures noted { OnOk result (notes.new ≡ all_noted notes.old (all_collected_twice components.now place.old)) }
+    ensures noted { OnOk result (diagnostics.new ≡ all_noted diagnostics.old (all_collected_twice components.now place.old)) }
 {
     for component in components {
-        collect_component(alloc, component, place, notes)?;
+        collect_component(alloc, component, place, diagnostics)?;
     }
     Ok(())
 }
@@ -93,13 +93,13 @@ pub fn collect_files(
     alloc: Global,
     files: &[File],
     place: &mut Place,
-    notes: &mut Notes,
+    diagnostics: &mut Diagnostics,
 ) -> Result<(), NoMemory>
     ensures place { OnOk result (place.new ≡ files_collected files.now place.old) }
-    ensures noted { OnOk result (notes.new ≡ all_noted notes.old (files_collected_twice files.now place.old)) }
+    ensures noted { OnOk result (diagnostics.new ≡ all_noted diagnostics.old (files_collected_twice files.now place.old)) }
 {
     for file in files {
-        collect_components(alloc, file.components.as_slice(), place, notes)?;
+        collect_components(alloc, file.components.as_slice(), place, diagnostics)?;
     }
     Ok(())
 }
@@ -244,7 +244,7 @@ fn imported(components: &Table, name: &Name) -> Finding
             spot: Spot::of(name.span),
             meaning: Meaning::Declared(decl),
         },
-        None => Finding::Broken(Wrong {
+        None => Finding::Broken(Diagnostic {
             rule: Rule::Name,
             span: name.span,
         }),
@@ -252,11 +252,15 @@ fn imported(components: &Table, name: &Name) -> Finding
 }
 
 /// Notes what the names in the imports of a component mean.
-fn note_imports(components: &Table, names: &[Name], notes: &mut Notes) -> Result<(), NoMemory>
-    ensures { OnOk result (notes.new ≡ all_noted notes.old (imports_found components.now names.now)) }
+fn note_imports(
+    components: &Table,
+    names: &[Name],
+    diagnostics: &mut Diagnostics,
+) -> Result<(), NoMemory>
+    ensures { OnOk result (diagnostics.new ≡ all_noted diagnostics.old (imports_found components.now names.now)) }
 {
     for name in names {
-        notes.note(imported(components, name))?;
+        diagnostics.note(imported(components, name))?;
     }
     Ok(())
 }
@@ -293,17 +297,17 @@ fn walk(
     component: &Component,
     place: &mut Place,
     blocks: &mut Blocks,
-    notes: &mut Notes,
+    diagnostics: &mut Diagnostics,
 ) -> Result<(), NoMemory>
     requires { blocks.old ≡ no_blocks }
     ensures place { OnOk result (place.new ≡ inside place.old place.new.within) }
-    ensures noted { OnOk result (notes.new ≡ all_noted notes.old (walked component.now place.old)) }
+    ensures noted { OnOk result (diagnostics.new ≡ all_noted diagnostics.old (walked component.now place.old)) }
 {
-    note_served(alloc, component.body(), place, blocks, notes)?;
-    spec_items(alloc, component.spec(), place, blocks, notes)?;
+    note_served(alloc, component.body(), place, blocks, diagnostics)?;
+    spec_items(alloc, component.spec(), place, blocks, diagnostics)?;
     place.within = None;
-    formals(alloc, component.formals(), place, blocks, notes)?;
-    items(alloc, component.body(), place, blocks, notes)
+    formals(alloc, component.formals(), place, blocks, diagnostics)?;
+    items(alloc, component.body(), place, blocks, diagnostics)
 }
 
 /// Declares the names of a component in the scope of its own, which is empty.
@@ -311,15 +315,15 @@ fn declare_own(
     alloc: Global,
     component: &Component,
     own: &mut Table,
-    notes: &mut Notes,
+    diagnostics: &mut Diagnostics,
 ) -> Result<(), NoMemory>
     requires { own.old ≡ [] }
     ensures own { OnOk result (own.new ≡ own_declared component.now) }
-    ensures noted { OnOk result (notes.new ≡ all_noted notes.old (own_twice component.now)) }
+    ensures noted { OnOk result (diagnostics.new ≡ all_noted diagnostics.old (own_twice component.now)) }
 {
-    declare_spec(alloc, component.spec(), own, notes)?;
-    declare_formals(alloc, component.formals(), own, notes)?;
-    declare_items(alloc, component.body(), own, notes)
+    declare_spec(alloc, component.spec(), own, diagnostics)?;
+    declare_formals(alloc, component.formals(), own, diagnostics)?;
+    declare_items(alloc, component.body(), own, diagnostics)
 }
 
 /// Notes what the imports of a component mean, and answers the components whose names it can use.
@@ -327,13 +331,13 @@ fn note_visible(
     alloc: Global,
     component: &Component,
     components: &Table,
-    notes: &mut Notes,
+    diagnostics: &mut Diagnostics,
 ) -> Result<Visible, NoMemory>
     ensures visible { IfOk result (λ visible. visible ≡ visible_to components.now component.now) }
-    ensures noted { OnOk result (notes.new ≡ all_noted notes.old (imports_found components.now (imports_of component.now))) }
+    ensures noted { OnOk result (diagnostics.new ≡ all_noted diagnostics.old (imports_found components.now (imports_of component.now))) }
 {
     let names = imports_of(alloc, component)?;
-    note_imports(components, names.as_slice(), notes)?;
+    note_imports(components, names.as_slice(), diagnostics)?;
     visible_to(alloc, components, decl_of(component), names.as_slice())
 }
 
@@ -342,32 +346,32 @@ fn component(
     alloc: Global,
     component: &Component,
     place: &mut Place,
-    notes: &mut Notes,
+    diagnostics: &mut Diagnostics,
 ) -> Result<(), NoMemory>
     ensures components { OnOk result (place.new.components ≡ place.old.components) }
     ensures specs { OnOk result (place.new.specs ≡ place.old.specs) }
-    ensures noted { OnOk result (notes.new ≡ all_noted notes.old (component_found place.old.components place.old.specs component.now)) }
+    ensures noted { OnOk result (diagnostics.new ≡ all_noted diagnostics.old (component_found place.old.components place.old.specs component.now)) }
 {
     place.own = Table::new(alloc);
-    declare_own(alloc, component, &mut place.own, notes)?;
-    place.visible = note_visible(alloc, component, &place.components, notes)?;
+    declare_own(alloc, component, &mut place.own, diagnostics)?;
+    place.visible = note_visible(alloc, component, &place.components, diagnostics)?;
     place.within = None;
     let mut blocks = Blocks::new(alloc);
-    walk(alloc, component, place, &mut blocks, notes)
+    walk(alloc, component, place, &mut blocks, diagnostics)
 }
 
 fn components(
     alloc: Global,
     components: &[Component],
     place: &mut Place,
-    notes: &mut Notes,
+    diagnostics: &mut Diagnostics,
 ) -> Result<(), NoMemory>
     ensures components { OnOk result (place.new.components ≡ place.old.components) }
     ensures specs { OnOk result (place.new.specs ≡ place.old.specs) }
-    ensures noted { OnOk result (notes.new ≡ all_noted notes.old (components_found place.old.components place.old.specs components.now)) }
+    ensures noted { OnOk result (diagnostics.new ≡ all_noted diagnostics.old (components_found place.old.components place.old.specs components.now)) }
 {
     for each in components {
-        component(alloc, each, place, notes)?;
+        component(alloc, each, place, diagnostics)?;
     }
     Ok(())
 }
@@ -377,13 +381,13 @@ pub fn walk_files(
     alloc: Global,
     files: &[File],
     place: &mut Place,
-    notes: &mut Notes,
+    diagnostics: &mut Diagnostics,
 ) -> Result<(), NoMemory>
     ensures specs { OnOk result (place.new.specs ≡ place.old.specs) }
-    ensures noted { OnOk result (notes.new ≡ all_noted notes.old (files_found place.old.components place.old.specs files.now)) }
+    ensures noted { OnOk result (diagnostics.new ≡ all_noted diagnostics.old (files_found place.old.components place.old.specs files.now)) }
 {
     for file in files {
-        components(alloc, file.components.as_slice(), place, notes)?;
+        components(alloc, file.components.as_slice(), place, diagnostics)?;
     }
     Ok(())
 }

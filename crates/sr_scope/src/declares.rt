@@ -1,9 +1,9 @@
 ghost use Rattle.std.specs.Prelude.{◌≡◌, OnOk, map};
-ghost use Rattle.sr_names.specs.Notes.{all_noted};
+ghost use Rattle.sr_names.specs.Diagnostics.{all_noted};
 ghost use Rattle.sr_scope.specs.Declares.{name_declared, name_twice, names_declared, names_twice, returned_declared, returned_twice, op_name};
 ghost use Rattle.sr_scope.specs.Statements.{arm_scope, arm_twice};
 
-use sr_names::{Blocks, Notes, Sort, Table, declare};
+use sr_names::{Blocks, Diagnostics, Sort, Table, declare};
 use sr_tree::{Decl, Name, OpItem, Semaphore};
 use sr_value::NoMemory;
 use std::alloc::Global;
@@ -14,12 +14,19 @@ pub fn declare_name(
     name: &Name,
     sort: Sort,
     table: &mut Table,
-    notes: &mut Notes,
+    diagnostics: &mut Diagnostics,
 ) -> Result<(), NoMemory>
     ensures table { OnOk result (table.new ≡ name_declared sort name.now table.old) }
-    ensures noted { OnOk result (notes.new ≡ all_noted notes.old (name_twice sort name.now table.old)) }
+    ensures noted { OnOk result (diagnostics.new ≡ all_noted diagnostics.old (name_twice sort name.now table.old)) }
 {
-    declare(alloc, table, notes, name.text.as_bytes(), name.span, sort)
+    declare(
+        alloc,
+        table,
+        diagnostics,
+        name.text.as_bytes(),
+        name.span,
+        sort,
+    )
 }
 
 /// Declares names in a scope one after another.
@@ -28,13 +35,13 @@ pub fn declare_names(
     names: &[Name],
     sort: Sort,
     table: &mut Table,
-    notes: &mut Notes,
+    diagnostics: &mut Diagnostics,
 ) -> Result<(), NoMemory>
     ensures table { OnOk result (table.new ≡ names_declared sort names.now table.old) }
-    ensures noted { OnOk result (notes.new ≡ all_noted notes.old (names_twice sort names.now table.old)) }
+    ensures noted { OnOk result (diagnostics.new ≡ all_noted diagnostics.old (names_twice sort names.now table.old)) }
 {
     for name in names {
-        declare_name(alloc, name, sort, table, notes)?;
+        declare_name(alloc, name, sort, table, diagnostics)?;
     }
     Ok(())
 }
@@ -44,13 +51,13 @@ pub fn declare_variables(
     alloc: Global,
     decls: &[Decl],
     table: &mut Table,
-    notes: &mut Notes,
+    diagnostics: &mut Diagnostics,
 ) -> Result<(), NoMemory>
     ensures table { OnOk result (table.new ≡ names_declared Sort.Variable (map (λ decl. decl.name) decls.now) table.old) }
-    ensures noted { OnOk result (notes.new ≡ all_noted notes.old (names_twice Sort.Variable (map (λ decl. decl.name) decls.now) table.old)) }
+    ensures noted { OnOk result (diagnostics.new ≡ all_noted diagnostics.old (names_twice Sort.Variable (map (λ decl. decl.name) decls.now) table.old)) }
 {
     for decl in decls {
-        declare_name(alloc, &decl.name, Sort::Variable, table, notes)?;
+        declare_name(alloc, &decl.name, Sort::Variable, table, diagnostics)?;
     }
     Ok(())
 }
@@ -60,13 +67,13 @@ pub fn declare_returned(
     alloc: Global,
     returned: &Option<Name>,
     table: &mut Table,
-    notes: &mut Notes,
+    diagnostics: &mut Diagnostics,
 ) -> Result<(), NoMemory>
     ensures table { OnOk result (table.new ≡ returned_declared returned.now table.old) }
-    ensures noted { OnOk result (notes.new ≡ all_noted notes.old (returned_twice returned.now table.old)) }
+    ensures noted { OnOk result (diagnostics.new ≡ all_noted diagnostics.old (returned_twice returned.now table.old)) }
 {
     match returned {
-        Some(name) => declare_name(alloc, name, Sort::Variable, table, notes),
+        Some(name) => declare_name(alloc, name, Sort::Variable, table, diagnostics),
         None => Ok(()),
     }
 }
@@ -77,14 +84,20 @@ pub fn open_formals(
     formals: &[Name],
     returned: &Option<Name>,
     blocks: &mut Blocks,
-    notes: &mut Notes,
+    diagnostics: &mut Diagnostics,
 ) -> Result<(), NoMemory>
     ensures scopes { OnOk result (blocks.new ≡ arm_scope formals.now returned.now blocks.old) }
-    ensures noted { OnOk result (notes.new ≡ all_noted notes.old (arm_twice formals.now returned.now)) }
+    ensures noted { OnOk result (diagnostics.new ≡ all_noted diagnostics.old (arm_twice formals.now returned.now)) }
 {
     blocks.open(alloc)?;
-    declare_names(alloc, formals, Sort::Variable, &mut blocks.inner, notes)?;
-    declare_returned(alloc, returned, &mut blocks.inner, notes)
+    declare_names(
+        alloc,
+        formals,
+        Sort::Variable,
+        &mut blocks.inner,
+        diagnostics,
+    )?;
+    declare_returned(alloc, returned, &mut blocks.inner, diagnostics)
 }
 
 /// Declares operations.
@@ -92,13 +105,19 @@ pub fn declare_operations(
     alloc: Global,
     items: &[OpItem],
     table: &mut Table,
-    notes: &mut Notes,
+    diagnostics: &mut Diagnostics,
 ) -> Result<(), NoMemory>
     ensures table { OnOk result (table.new ≡ names_declared Sort.Operation (map op_name items.now) table.old) }
-    ensures noted { OnOk result (notes.new ≡ all_noted notes.old (names_twice Sort.Operation (map op_name items.now) table.old)) }
+    ensures noted { OnOk result (diagnostics.new ≡ all_noted diagnostics.old (names_twice Sort.Operation (map op_name items.now) table.old)) }
 {
     for item in items {
-        declare_name(alloc, operation_name(item), Sort::Operation, table, notes)?;
+        declare_name(
+            alloc,
+            operation_name(item),
+            Sort::Operation,
+            table,
+            diagnostics,
+        )?;
     }
     Ok(())
 }
@@ -117,13 +136,13 @@ pub fn declare_semaphores(
     alloc: Global,
     semaphores: &[Semaphore],
     table: &mut Table,
-    notes: &mut Notes,
+    diagnostics: &mut Diagnostics,
 ) -> Result<(), NoMemory>
     ensures table { OnOk result (table.new ≡ names_declared Sort.Operation (map (λ semaphore. semaphore.name) semaphores.now) table.old) }
-    ensures noted { OnOk result (notes.new ≡ all_noted notes.old (names_twice Sort.Operation (map (λ semaphore. semaphore.name) semaphores.now) table.old)) }
+    ensures noted { OnOk result (diagnostics.new ≡ all_noted diagnostics.old (names_twice Sort.Operation (map (λ semaphore. semaphore.name) semaphores.now) table.old)) }
 {
     for semaphore in semaphores {
-        declare_name(alloc, &semaphore.name, Sort::Operation, table, notes)?;
+        declare_name(alloc, &semaphore.name, Sort::Operation, table, diagnostics)?;
     }
     Ok(())
 }

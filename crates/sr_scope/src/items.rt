@@ -1,6 +1,6 @@
 ghost use Rattle.std.specs.Prelude.{◌≡◌, OnOk, Some, []};
 ghost use Rattle.std.specs.Option.{option_copied};
-ghost use Rattle.sr_names.specs.Notes.{all_noted};
+ghost use Rattle.sr_names.specs.Diagnostics.{all_noted};
 ghost use Rattle.sr_scope.specs.Declares.{names_declared, names_twice};
 ghost use Rattle.sr_scope.specs.Items.{literals_of, spec_declared, spec_twice, specs_declared, specs_twice, item_declared, item_twice, items_declared, items_twice, spec_within, item_within, inside, spec_found, specs_found, item_found, items_found, served_name, is_operation, name_served, name_served_twice, served_twice};
 
@@ -11,7 +11,7 @@ use crate::declares::{
 use crate::procs::{final_code, proc, procedure, process};
 use crate::statements::statement;
 use crate::types::{signature, type_tree};
-use sr_names::{Blocks, Meaning, Notes, Place, Sort, Spot, Table};
+use sr_names::{Blocks, Diagnostics, Meaning, Place, Sort, Spot, Table};
 use sr_tree::{Item, Name, SpecItem, TypeTree};
 use sr_value::NoMemory;
 use std::alloc::Global;
@@ -21,14 +21,20 @@ fn declare_literals(
     alloc: Global,
     ty: &TypeTree,
     table: &mut Table,
-    notes: &mut Notes,
+    diagnostics: &mut Diagnostics,
 ) -> Result<(), NoMemory>
     ensures table { OnOk result (table.new ≡ names_declared Sort.Literal (literals_of ty.now) table.old) }
-    ensures noted { OnOk result (notes.new ≡ all_noted notes.old (names_twice Sort.Literal (literals_of ty.now) table.old)) }
+    ensures noted { OnOk result (diagnostics.new ≡ all_noted diagnostics.old (names_twice Sort.Literal (literals_of ty.now) table.old)) }
 {
     match ty {
         TypeTree::Enum { literals, .. } => {
-            declare_names(alloc, literals.as_slice(), Sort::Literal, table, notes)
+            declare_names(
+                alloc,
+                literals.as_slice(),
+                Sort::Literal,
+                table,
+                diagnostics,
+            )
         }
         _ => Ok(()),
     }
@@ -38,31 +44,31 @@ fn declare_spec_item(
     alloc: Global,
     item: &SpecItem,
     table: &mut Table,
-    notes: &mut Notes,
+    diagnostics: &mut Diagnostics,
 ) -> Result<(), NoMemory>
     ensures table { OnOk result (table.new ≡ spec_declared item.now table.old) }
-    ensures noted { OnOk result (notes.new ≡ all_noted notes.old (spec_twice item.now table.old)) }
+    ensures noted { OnOk result (diagnostics.new ≡ all_noted diagnostics.old (spec_twice item.now table.old)) }
 {
     match item {
         SpecItem::Import(_) => Ok(()),
         SpecItem::Const(declared) => {
-            declare_name(alloc, &declared.name, Sort::Constant, table, notes)
+            declare_name(alloc, &declared.name, Sort::Constant, table, diagnostics)
         }
         SpecItem::Type(declared) => {
-            declare_name(alloc, &declared.name, Sort::Type, table, notes)?;
-            declare_literals(alloc, &declared.ty, table, notes)
+            declare_name(alloc, &declared.name, Sort::Type, table, diagnostics)?;
+            declare_literals(alloc, &declared.ty, table, diagnostics)
         }
         SpecItem::OpType(declared) => {
-            declare_name(alloc, &declared.name, Sort::OpType, table, notes)
+            declare_name(alloc, &declared.name, Sort::OpType, table, diagnostics)
         }
         SpecItem::Op(declared) => {
-            declare_operations(alloc, declared.items.as_slice(), table, notes)
+            declare_operations(alloc, declared.items.as_slice(), table, diagnostics)
         }
         SpecItem::Var(declared) => {
-            declare_variables(alloc, declared.decls.as_slice(), table, notes)
+            declare_variables(alloc, declared.decls.as_slice(), table, diagnostics)
         }
         SpecItem::Sem(declared) => {
-            declare_semaphores(alloc, declared.semaphores.as_slice(), table, notes)
+            declare_semaphores(alloc, declared.semaphores.as_slice(), table, diagnostics)
         }
     }
 }
@@ -72,13 +78,13 @@ pub fn declare_spec(
     alloc: Global,
     items: &[SpecItem],
     table: &mut Table,
-    notes: &mut Notes,
+    diagnostics: &mut Diagnostics,
 ) -> Result<(), NoMemory>
     ensures table { OnOk result (table.new ≡ specs_declared items.now table.old) }
-    ensures noted { OnOk result (notes.new ≡ all_noted notes.old (specs_twice items.now table.old)) }
+    ensures noted { OnOk result (diagnostics.new ≡ all_noted diagnostics.old (specs_twice items.now table.old)) }
 {
     for item in items {
-        declare_spec_item(alloc, item, table, notes)?;
+        declare_spec_item(alloc, item, table, diagnostics)?;
     }
     Ok(())
 }
@@ -87,18 +93,18 @@ fn declare_item(
     alloc: Global,
     item: &Item,
     table: &mut Table,
-    notes: &mut Notes,
+    diagnostics: &mut Diagnostics,
 ) -> Result<(), NoMemory>
     ensures table { OnOk result (table.new ≡ item_declared item.now table.old) }
-    ensures noted { OnOk result (notes.new ≡ all_noted notes.old (item_twice item.now table.old)) }
+    ensures noted { OnOk result (diagnostics.new ≡ all_noted diagnostics.old (item_twice item.now table.old)) }
 {
     match item {
-        Item::Spec(inner) => declare_spec_item(alloc, inner, table, notes),
+        Item::Spec(inner) => declare_spec_item(alloc, inner, table, diagnostics),
         Item::Procedure(procedure) => {
-            declare_name(alloc, &procedure.name, Sort::Operation, table, notes)
+            declare_name(alloc, &procedure.name, Sort::Operation, table, diagnostics)
         }
         Item::Process(process) => {
-            declare_name(alloc, &process.name, Sort::Operation, table, notes)
+            declare_name(alloc, &process.name, Sort::Operation, table, diagnostics)
         }
         Item::Proc(_) | Item::Final(_) | Item::Statement(_) => Ok(()),
     }
@@ -109,13 +115,13 @@ pub fn declare_items(
     alloc: Global,
     items: &[Item],
     table: &mut Table,
-    notes: &mut Notes,
+    diagnostics: &mut Diagnostics,
 ) -> Result<(), NoMemory>
     ensures table { OnOk result (table.new ≡ items_declared items.now table.old) }
-    ensures noted { OnOk result (notes.new ≡ all_noted notes.old (items_twice items.now table.old)) }
+    ensures noted { OnOk result (diagnostics.new ≡ all_noted diagnostics.old (items_twice items.now table.old)) }
 {
     for item in items {
-        declare_item(alloc, item, table, notes)?;
+        declare_item(alloc, item, table, diagnostics)?;
     }
     Ok(())
 }
@@ -150,20 +156,31 @@ fn spec_item(
     item: &SpecItem,
     place: &Place,
     blocks: &Blocks,
-    notes: &mut Notes,
+    diagnostics: &mut Diagnostics,
 ) -> Result<(), NoMemory>
-    ensures { OnOk result (notes.new ≡ all_noted notes.old (spec_found item.now place.now blocks.now)) }
+    ensures { OnOk result (diagnostics.new ≡ all_noted diagnostics.old (spec_found item.now place.now blocks.now)) }
 {
     match item {
         SpecItem::Import(_) => Ok(()),
-        SpecItem::Const(declared) => constant(alloc, declared, place, blocks, notes),
-        SpecItem::Type(declared) => type_tree(alloc, &declared.ty, place, blocks, notes),
-        SpecItem::OpType(declared) => signature(alloc, &declared.signature, place, blocks, notes),
+        SpecItem::Const(declared) => constant(alloc, declared, place, blocks, diagnostics),
+        SpecItem::Type(declared) => type_tree(alloc, &declared.ty, place, blocks, diagnostics),
+        SpecItem::OpType(declared) => signature(
+            alloc,
+            &declared.signature,
+            place,
+            blocks,
+            diagnostics,
+        ),
         SpecItem::Op(declared) => {
-            operations(alloc, declared.items.as_slice(), place, blocks, notes)
+            operations(alloc, declared.items.as_slice(), place, blocks, diagnostics)
         }
-        SpecItem::Var(declared) => variables(alloc, declared, place, blocks, notes),
-        SpecItem::Sem(declared) => semaphores(declared.semaphores.as_slice(), place, blocks, notes),
+        SpecItem::Var(declared) => variables(alloc, declared, place, blocks, diagnostics),
+        SpecItem::Sem(declared) => semaphores(
+            declared.semaphores.as_slice(),
+            place,
+            blocks,
+            diagnostics,
+        ),
     }
 }
 
@@ -173,14 +190,14 @@ pub fn spec_items(
     items: &[SpecItem],
     place: &mut Place,
     blocks: &Blocks,
-    notes: &mut Notes,
+    diagnostics: &mut Diagnostics,
 ) -> Result<(), NoMemory>
     ensures place { OnOk result (place.new ≡ inside place.old place.new.within) }
-    ensures noted { OnOk result (notes.new ≡ all_noted notes.old (specs_found items.now place.old blocks.now)) }
+    ensures noted { OnOk result (diagnostics.new ≡ all_noted diagnostics.old (specs_found items.now place.old blocks.now)) }
 {
     for item in items {
         place.within = spec_within(item);
-        spec_item(alloc, item, place, blocks, notes)?;
+        spec_item(alloc, item, place, blocks, diagnostics)?;
     }
     Ok(())
 }
@@ -190,18 +207,18 @@ fn item(
     item: &Item,
     place: &Place,
     blocks: &mut Blocks,
-    notes: &mut Notes,
+    diagnostics: &mut Diagnostics,
 ) -> Result<(), NoMemory>
     ensures scopes { OnOk result (blocks.new ≡ blocks.old) }
-    ensures noted { OnOk result (notes.new ≡ all_noted notes.old (item_found item.now place.now blocks.old)) }
+    ensures noted { OnOk result (diagnostics.new ≡ all_noted diagnostics.old (item_found item.now place.now blocks.old)) }
 {
     match item {
-        Item::Spec(inner) => spec_item(alloc, inner, place, blocks, notes),
-        Item::Proc(inner) => proc(alloc, inner, place, blocks, notes),
-        Item::Procedure(inner) => procedure(alloc, inner, place, blocks, notes),
-        Item::Process(inner) => process(alloc, inner, place, blocks, notes),
-        Item::Final(inner) => final_code(alloc, inner, place, blocks, notes),
-        Item::Statement(inner) => statement(alloc, inner, place, blocks, notes),
+        Item::Spec(inner) => spec_item(alloc, inner, place, blocks, diagnostics),
+        Item::Proc(inner) => proc(alloc, inner, place, blocks, diagnostics),
+        Item::Procedure(inner) => procedure(alloc, inner, place, blocks, diagnostics),
+        Item::Process(inner) => process(alloc, inner, place, blocks, diagnostics),
+        Item::Final(inner) => final_code(alloc, inner, place, blocks, diagnostics),
+        Item::Statement(inner) => statement(alloc, inner, place, blocks, diagnostics),
     }
 }
 
@@ -211,15 +228,15 @@ pub fn items(
     items: &[Item],
     place: &mut Place,
     blocks: &mut Blocks,
-    notes: &mut Notes,
+    diagnostics: &mut Diagnostics,
 ) -> Result<(), NoMemory>
     ensures place { OnOk result (place.new ≡ inside place.old place.new.within) }
     ensures scopes { OnOk result (blocks.new ≡ blocks.old) }
-    ensures noted { OnOk result (notes.new ≡ all_noted notes.old (items_found items.now place.old blocks.old)) }
+    ensures noted { OnOk result (diagnostics.new ≡ all_noted diagnostics.old (items_found items.now place.old blocks.old)) }
 {
     for each in items {
         place.within = item_within(each);
-        item(alloc, each, place, blocks, notes)?;
+        item(alloc, each, place, blocks, diagnostics)?;
     }
     Ok(())
 }
@@ -252,14 +269,14 @@ fn serve(
     place: &Place,
     blocks: &Blocks,
     served: &mut Table,
-    notes: &mut Notes,
+    diagnostics: &mut Diagnostics,
 ) -> Result<(), NoMemory>
     ensures table { OnOk result (served.new ≡ name_served place.now blocks.now (Some name.now) served.old) }
-    ensures noted { OnOk result (notes.new ≡ all_noted notes.old (name_served_twice place.now blocks.now (Some name.now) served.old)) }
+    ensures noted { OnOk result (diagnostics.new ≡ all_noted diagnostics.old (name_served_twice place.now blocks.now (Some name.now) served.old)) }
 {
     let meaning = place.denotes(blocks, name.text.as_bytes(), Spot::of(name.span));
     if is_operation(meaning) {
-        return declare_name(alloc, name, Sort::Operation, served, notes);
+        return declare_name(alloc, name, Sort::Operation, served, diagnostics);
     }
     Ok(())
 }
@@ -270,12 +287,12 @@ pub fn note_served(
     items: &[Item],
     place: &Place,
     blocks: &Blocks,
-    notes: &mut Notes,
+    diagnostics: &mut Diagnostics,
 ) -> Result<(), NoMemory>
-    ensures { OnOk result (notes.new ≡ all_noted notes.old (served_twice items.now place.now blocks.now [])) }
+    ensures { OnOk result (diagnostics.new ≡ all_noted diagnostics.old (served_twice items.now place.now blocks.now [])) }
 {
     let mut served = Table::new(alloc);
-    serve_items(alloc, items, place, blocks, &mut served, notes)
+    serve_items(alloc, items, place, blocks, &mut served, diagnostics)
 }
 
 /// Notes those that serve an operation that is among the served ones, or that an item before them serves.
@@ -285,13 +302,13 @@ fn serve_items(
     place: &Place,
     blocks: &Blocks,
     served: &mut Table,
-    notes: &mut Notes,
+    diagnostics: &mut Diagnostics,
 ) -> Result<(), NoMemory>
-    ensures { OnOk result (notes.new ≡ all_noted notes.old (served_twice items.now place.now blocks.now served.old)) }
+    ensures { OnOk result (diagnostics.new ≡ all_noted diagnostics.old (served_twice items.now place.now blocks.now served.old)) }
 {
     for item in items {
         if let Some(name) = served_name(item) {
-            serve(alloc, name, place, blocks, served, notes)?;
+            serve(alloc, name, place, blocks, served, diagnostics)?;
         }
     }
     Ok(())

@@ -25,8 +25,9 @@ pub fn one_meaning()
     ensures { (files : List File) → IsDistinct same_spot (map spot_of (flat_map file_names files)) → OneMeaning (findings files) }
 {}
 
-/// A law of procs: where no rule of names is broken and no two names of the files stand at one spot, the operations that
-/// the procs, procedures and processes of a component serve are different, if each name of a proc means an operation.
+/// A law of procs: where no rule of names is broken and no two names of the files stand at one spot, the operations
+/// that the procs, procedures and processes of a component serve are different, if each name of a proc means an
+/// operation.
 pub fn served_once()
     ensures { (files : List File) (names : Names) (meant : Name → Spot) (component : Component) → resolved files ≡ Ok names
         → IsDistinct same_spot (map spot_of (flat_map file_names files)) → IsIn component (flat_map (λ file. file.components) files)

@@ -1,8 +1,8 @@
 ghost use Rattle.std.specs.Prelude.{◌≡◌, IfOk, OnOk};
-ghost use Rattle.sr_names.specs.Notes.{all_noted};
+ghost use Rattle.sr_names.specs.Diagnostics.{all_noted};
 ghost use Rattle.sr_scope.specs.Names.{component, is_component, component_named, name_found, field_found, qualified_found};
 
-use sr_names::{Blocks, Decl, Meaning, Notes, Place, Sort, read, read_member};
+use sr_names::{Blocks, Decl, Diagnostics, Meaning, Place, Sort, read, read_member};
 use sr_tree::{Name, QualifiedName};
 use sr_value::NoMemory;
 
@@ -11,12 +11,12 @@ pub fn name(
     name: &Name,
     place: &Place,
     blocks: &Blocks,
-    notes: &mut Notes,
+    diagnostics: &mut Diagnostics,
 ) -> Result<Option<Decl>, NoMemory>
     ensures component { IfOk result (λ component. component ≡ component_named place.now blocks.now name.now) }
-    ensures noted { OnOk result (notes.new ≡ all_noted notes.old (name_found place.now blocks.now name.now)) }
+    ensures noted { OnOk result (diagnostics.new ≡ all_noted diagnostics.old (name_found place.now blocks.now name.now)) }
 {
-    let meaning = read(place, blocks, notes, name.text.as_bytes(), name.span)?;
+    let meaning = read(place, blocks, diagnostics, name.text.as_bytes(), name.span)?;
     Ok(component(meaning))
 }
 
@@ -36,34 +36,40 @@ fn is_component(sort: Sort) -> bool
     matches!(sort, Sort::Resource | Sort::Global)
 }
 
-/// Notes what a name means that is used, and where it names a component and a point and a name stand behind it,
+/// Notes what a name means that is used, and where it names a component and a point and a name stand after it,
 /// what that name of its spec means.
 pub fn qualified_name(
     qualified: &QualifiedName,
     place: &Place,
     blocks: &Blocks,
-    notes: &mut Notes,
+    diagnostics: &mut Diagnostics,
 ) -> Result<(), NoMemory>
-    ensures { OnOk result (notes.new ≡ all_noted notes.old (qualified_found place.now blocks.now qualified.now)) }
+    ensures { OnOk result (diagnostics.new ≡ all_noted diagnostics.old (qualified_found place.now blocks.now qualified.now)) }
 {
-    let component = name(&qualified.first, place, blocks, notes)?;
+    let component = name(&qualified.first, place, blocks, diagnostics)?;
     match &qualified.second {
-        Some(second) => note_field(component, second, place, notes),
+        Some(second) => note_field(component, second, place, diagnostics),
         None => Ok(()),
     }
 }
 
-/// Notes what a name means behind a point, where a component stands before it. Behind anything else it is a field.
+/// Notes what a name means after a point, where a component stands before it. After anything else it is a field.
 pub fn note_field(
     component: Option<Decl>,
     name: &Name,
     place: &Place,
-    notes: &mut Notes,
+    diagnostics: &mut Diagnostics,
 ) -> Result<(), NoMemory>
-    ensures { OnOk result (notes.new ≡ all_noted notes.old (field_found place.now component name.now)) }
+    ensures { OnOk result (diagnostics.new ≡ all_noted diagnostics.old (field_found place.now component name.now)) }
 {
     match component {
-        Some(component) => read_member(place, notes, component, name.text.as_bytes(), name.span),
+        Some(component) => read_member(
+            place,
+            diagnostics,
+            component,
+            name.text.as_bytes(),
+            name.span,
+        ),
         None => Ok(()),
     }
 }

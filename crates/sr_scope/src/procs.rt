@@ -1,5 +1,5 @@
 ghost use Rattle.std.specs.Prelude.{◌≡◌, OnOk};
-ghost use Rattle.sr_names.specs.Notes.{all_noted};
+ghost use Rattle.sr_names.specs.Diagnostics.{all_noted};
 ghost use Rattle.sr_scope.specs.Declarations.{with_inner};
 ghost use Rattle.sr_scope.specs.Declares.{names_declared, names_twice};
 ghost use Rattle.sr_scope.specs.Procs.{proc_item_read, proc_items_found, proc_found, procedure_found, process_found, final_found, quantifier_names};
@@ -11,7 +11,7 @@ use crate::declares::{
 use crate::names::name;
 use crate::statements::statement;
 use crate::types::{declare_signature, signature};
-use sr_names::{Blocks, Notes, Place, Sort, Table};
+use sr_names::{Blocks, Diagnostics, Place, Sort, Table};
 use sr_tree::{FinalCode, Proc, ProcItem, Procedure, Process, Quantifier};
 use sr_value::NoMemory;
 use std::alloc::Global;
@@ -22,13 +22,13 @@ fn proc_items(
     items: &[ProcItem],
     place: &Place,
     blocks: &mut Blocks,
-    notes: &mut Notes,
+    diagnostics: &mut Diagnostics,
 ) -> Result<(), NoMemory>
     ensures scopes { OnOk result (blocks.new.outer ≡ blocks.old.outer) }
-    ensures noted { OnOk result (notes.new ≡ all_noted notes.old (proc_items_found items.now place.now blocks.old)) }
+    ensures noted { OnOk result (diagnostics.new ≡ all_noted diagnostics.old (proc_items_found items.now place.now blocks.old)) }
 {
     for item in items {
-        proc_item(alloc, item, place, blocks, notes)?;
+        proc_item(alloc, item, place, blocks, diagnostics)?;
     }
     Ok(())
 }
@@ -38,40 +38,50 @@ fn proc_item(
     item: &ProcItem,
     place: &Place,
     blocks: &mut Blocks,
-    notes: &mut Notes,
+    diagnostics: &mut Diagnostics,
 ) -> Result<(), NoMemory>
     ensures scopes { OnOk result (blocks.new ≡ with_inner blocks.old (proc_item_read item.now place.now blocks.old).inner) }
-    ensures noted { OnOk result (notes.new ≡ all_noted notes.old (proc_item_read item.now place.now blocks.old).found) }
+    ensures noted { OnOk result (diagnostics.new ≡ all_noted diagnostics.old (proc_item_read item.now place.now blocks.old).found) }
 {
     match item {
         ProcItem::Const(declared) => {
-            constant(alloc, declared, place, blocks, notes)?;
+            constant(alloc, declared, place, blocks, diagnostics)?;
             declare_name(
                 alloc,
                 &declared.name,
                 Sort::Constant,
                 &mut blocks.inner,
-                notes,
+                diagnostics,
             )
         }
         ProcItem::Var(declared) => {
-            variables(alloc, declared, place, blocks, notes)?;
-            declare_variables(alloc, declared.decls.as_slice(), &mut blocks.inner, notes)
+            variables(alloc, declared, place, blocks, diagnostics)?;
+            declare_variables(
+                alloc,
+                declared.decls.as_slice(),
+                &mut blocks.inner,
+                diagnostics,
+            )
         }
         ProcItem::Op(declared) => {
-            operations(alloc, declared.items.as_slice(), place, blocks, notes)?;
-            declare_operations(alloc, declared.items.as_slice(), &mut blocks.inner, notes)
+            operations(alloc, declared.items.as_slice(), place, blocks, diagnostics)?;
+            declare_operations(
+                alloc,
+                declared.items.as_slice(),
+                &mut blocks.inner,
+                diagnostics,
+            )
         }
         ProcItem::Sem(declared) => {
-            semaphores(declared.semaphores.as_slice(), place, blocks, notes)?;
+            semaphores(declared.semaphores.as_slice(), place, blocks, diagnostics)?;
             declare_semaphores(
                 alloc,
                 declared.semaphores.as_slice(),
                 &mut blocks.inner,
-                notes,
+                diagnostics,
             )
         }
-        ProcItem::Statement(inner) => statement(alloc, inner, place, blocks, notes),
+        ProcItem::Statement(inner) => statement(alloc, inner, place, blocks, diagnostics),
     }
 }
 
@@ -81,20 +91,20 @@ pub fn proc(
     proc: &Proc,
     place: &Place,
     blocks: &mut Blocks,
-    notes: &mut Notes,
+    diagnostics: &mut Diagnostics,
 ) -> Result<(), NoMemory>
     ensures scopes { OnOk result (blocks.new ≡ blocks.old) }
-    ensures noted { OnOk result (notes.new ≡ all_noted notes.old (proc_found proc.now place.now blocks.old)) }
+    ensures noted { OnOk result (diagnostics.new ≡ all_noted diagnostics.old (proc_found proc.now place.now blocks.old)) }
 {
-    name(&proc.name, place, blocks, notes)?;
+    name(&proc.name, place, blocks, diagnostics)?;
     open_formals(
         alloc,
         proc.formals.as_slice(),
         &proc.returned,
         blocks,
-        notes,
+        diagnostics,
     )?;
-    proc_items(alloc, proc.block.as_slice(), place, blocks, notes)?;
+    proc_items(alloc, proc.block.as_slice(), place, blocks, diagnostics)?;
     blocks.close();
     Ok(())
 }
@@ -105,15 +115,21 @@ pub fn procedure(
     procedure: &Procedure,
     place: &Place,
     blocks: &mut Blocks,
-    notes: &mut Notes,
+    diagnostics: &mut Diagnostics,
 ) -> Result<(), NoMemory>
     ensures scopes { OnOk result (blocks.new ≡ blocks.old) }
-    ensures noted { OnOk result (notes.new ≡ all_noted notes.old (procedure_found procedure.now place.now blocks.old)) }
+    ensures noted { OnOk result (diagnostics.new ≡ all_noted diagnostics.old (procedure_found procedure.now place.now blocks.old)) }
 {
-    signature(alloc, &procedure.signature, place, blocks, notes)?;
+    signature(alloc, &procedure.signature, place, blocks, diagnostics)?;
     blocks.open(alloc)?;
-    declare_signature(alloc, &procedure.signature, &mut blocks.inner, notes)?;
-    proc_items(alloc, procedure.block.as_slice(), place, blocks, notes)?;
+    declare_signature(alloc, &procedure.signature, &mut blocks.inner, diagnostics)?;
+    proc_items(
+        alloc,
+        procedure.block.as_slice(),
+        place,
+        blocks,
+        diagnostics,
+    )?;
     blocks.close();
     Ok(())
 }
@@ -124,21 +140,27 @@ pub fn process(
     process: &Process,
     place: &Place,
     blocks: &mut Blocks,
-    notes: &mut Notes,
+    diagnostics: &mut Diagnostics,
 ) -> Result<(), NoMemory>
     ensures scopes { OnOk result (blocks.new ≡ blocks.old) }
-    ensures noted { OnOk result (notes.new ≡ all_noted notes.old (process_found process.now place.now blocks.old)) }
+    ensures noted { OnOk result (diagnostics.new ≡ all_noted diagnostics.old (process_found process.now place.now blocks.old)) }
 {
     blocks.open(alloc)?;
-    quantifiers(alloc, process.quantifiers.as_slice(), place, blocks, notes)?;
+    quantifiers(
+        alloc,
+        process.quantifiers.as_slice(),
+        place,
+        blocks,
+        diagnostics,
+    )?;
     blocks.inner = Table::new(alloc);
     declare_quantified(
         alloc,
         process.quantifiers.as_slice(),
         &mut blocks.inner,
-        notes,
+        diagnostics,
     )?;
-    proc_items(alloc, process.block.as_slice(), place, blocks, notes)?;
+    proc_items(alloc, process.block.as_slice(), place, blocks, diagnostics)?;
     blocks.close();
     Ok(())
 }
@@ -148,13 +170,13 @@ fn declare_quantified(
     alloc: Global,
     quantifiers: &[Quantifier],
     table: &mut Table,
-    notes: &mut Notes,
+    diagnostics: &mut Diagnostics,
 ) -> Result<(), NoMemory>
     ensures table { OnOk result (table.new ≡ names_declared Sort.Variable (quantifier_names quantifiers.now) table.old) }
-    ensures noted { OnOk result (notes.new ≡ all_noted notes.old (names_twice Sort.Variable (quantifier_names quantifiers.now) table.old)) }
+    ensures noted { OnOk result (diagnostics.new ≡ all_noted diagnostics.old (names_twice Sort.Variable (quantifier_names quantifiers.now) table.old)) }
 {
     for quantifier in quantifiers {
-        declare_name(alloc, &quantifier.name, Sort::Variable, table, notes)?;
+        declare_name(alloc, &quantifier.name, Sort::Variable, table, diagnostics)?;
     }
     Ok(())
 }
@@ -165,13 +187,13 @@ pub fn final_code(
     code: &FinalCode,
     place: &Place,
     blocks: &mut Blocks,
-    notes: &mut Notes,
+    diagnostics: &mut Diagnostics,
 ) -> Result<(), NoMemory>
     ensures scopes { OnOk result (blocks.new ≡ blocks.old) }
-    ensures noted { OnOk result (notes.new ≡ all_noted notes.old (final_found code.now place.now blocks.old)) }
+    ensures noted { OnOk result (diagnostics.new ≡ all_noted diagnostics.old (final_found code.now place.now blocks.old)) }
 {
     blocks.open(alloc)?;
-    proc_items(alloc, code.block.as_slice(), place, blocks, notes)?;
+    proc_items(alloc, code.block.as_slice(), place, blocks, diagnostics)?;
     blocks.close();
     Ok(())
 }

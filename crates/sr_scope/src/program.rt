@@ -1,14 +1,14 @@
 ghost use Rattle.std.specs.Prelude.{◌≡◌, ◌-◌, ◌^◌, ◌<◌, length, IfOk, OnOk, Some};
 ghost use Rattle.sr_names.specs.Components.{member_named};
-ghost use Rattle.sr_names.specs.Notes.{all_noted};
+ghost use Rattle.sr_names.specs.Diagnostics.{all_noted};
 ghost use Rattle.sr_names.specs.Uses.{meaning_at};
 ghost use Rattle.sr_scope.specs.Components.{last_component, can_be_main, main_found, start_of};
 ghost use Rattle.sr_scope.specs.Resolved.{Answers, program, findings, resolved, no_place, kind_of, refusal_of, answered};
 
 use crate::components::{collect_files, global_imports, walk_files};
 use sr_names::{
-    Decl, Finding, Meaning, Members, Notes, Place, Rule, Spot, Table, Uses, Visible, Wrong,
-    note_cycles,
+    Decl, Diagnostic, Diagnostics, Finding, Meaning, Members, Place, Rule, Spot, Table, Uses,
+    Visible, note_cycles,
 };
 use sr_text::{FrontFail, Kind, Refusal};
 use sr_tree::{Component, File};
@@ -20,7 +20,7 @@ use std::alloc::Global;
 pub struct Names {
     /// The meaning of each use of a name, by its spot.
     pub uses: Uses,
-    /// The names of the components' specs, for what stands behind a point.
+    /// The names of the components' specs, for what stands after a point.
     pub specs: Members,
 }
 
@@ -48,19 +48,23 @@ pub fn resolve(alloc: Global, files: &Row<File>) -> Result<Names, FrontFail>
     requires { length files.now < 2 ^ 32 }
     ensures { Answers result (resolved files.now) }
 {
-    let mut notes = Notes::new(alloc);
-    let specs = note_files(alloc, files.as_slice(), &mut notes)?;
-    answer(notes, specs)
+    let mut diagnostics = Diagnostics::new(alloc);
+    let specs = note_files(alloc, files.as_slice(), &mut diagnostics)?;
+    answer(diagnostics, specs)
 }
 
 /// Notes all that is found in the files, and answers the names of the components' specs.
-fn note_files(alloc: Global, files: &[File], notes: &mut Notes) -> Result<Members, NoMemory>
+fn note_files(
+    alloc: Global,
+    files: &[File],
+    diagnostics: &mut Diagnostics,
+) -> Result<Members, NoMemory>
     requires { length files.now < 2 ^ 32 }
     ensures specs { IfOk result (λ specs. specs ≡ (program files.now).specs) }
-    ensures noted { OnOk result (notes.new ≡ all_noted notes.old (findings files.now)) }
+    ensures noted { OnOk result (diagnostics.new ≡ all_noted diagnostics.old (findings files.now)) }
 {
     let mut place = empty_place(alloc);
-    note_all(alloc, files, &mut place, notes)?;
+    note_all(alloc, files, &mut place, diagnostics)?;
     Ok(place.specs)
 }
 
@@ -69,18 +73,18 @@ fn note_all(
     alloc: Global,
     files: &[File],
     place: &mut Place,
-    notes: &mut Notes,
+    diagnostics: &mut Diagnostics,
 ) -> Result<(), NoMemory>
     requires fits { length files.now < 2 ^ 32 }
     requires empty { place.old ≡ no_place }
     ensures specs { OnOk result (place.new.specs ≡ (program files.now).specs) }
-    ensures noted { OnOk result (notes.new ≡ all_noted notes.old (findings files.now)) }
+    ensures noted { OnOk result (diagnostics.new ≡ all_noted diagnostics.old (findings files.now)) }
 {
-    collect_files(alloc, files, place, notes)?;
-    note_main(files, notes)?;
+    collect_files(alloc, files, place, diagnostics)?;
+    note_main(files, diagnostics)?;
     let imports = global_imports(alloc, &place.components, files)?;
-    note_cycles(alloc, imports.as_slice(), notes)?;
-    walk_files(alloc, files, place, notes)
+    note_cycles(alloc, imports.as_slice(), diagnostics)?;
+    walk_files(alloc, files, place, diagnostics)
 }
 
 fn empty_place(alloc: Global) -> Place
@@ -117,7 +121,7 @@ fn has_main(files: &[File]) -> bool
     }
 }
 
-/// The first byte of the last of so many files.
+/// The first byte of the last of this many files.
 fn start_of(files: usize) -> Span
     requires { files < 2 ^ 32 }
     ensures { result ≡ record { file = files - 1; from = 0; to = 0; line = 1 } }
@@ -130,14 +134,14 @@ fn start_of(files: usize) -> Span
     }
 }
 
-fn note_main(files: &[File], notes: &mut Notes) -> Result<(), NoMemory>
+fn note_main(files: &[File], diagnostics: &mut Diagnostics) -> Result<(), NoMemory>
     requires { length files.now < 2 ^ 32 }
-    ensures { OnOk result (notes.new ≡ all_noted notes.old (main_found files.now)) }
+    ensures { OnOk result (diagnostics.new ≡ all_noted diagnostics.old (main_found files.now)) }
 {
     if has_main(files) {
         return Ok(());
     }
-    notes.note(Finding::Broken(Wrong {
+    diagnostics.note(Finding::Broken(Diagnostic {
         rule: Rule::Main,
         span: start_of(files.len()),
     }))
@@ -158,26 +162,26 @@ fn kind_of(rule: Rule) -> Kind
 }
 
 /// The refusal of a program that breaks a rule, by its kind and its line.
-pub fn refusal_of(wrong: Wrong) -> Refusal
-    ensures { result ≡ refusal_of wrong }
+pub fn refusal_of(diagnostic: Diagnostic) -> Refusal
+    ensures { result ≡ refusal_of diagnostic }
 {
     Refusal {
-        kind: kind_of(wrong.rule),
+        kind: kind_of(diagnostic.rule),
         place: sr_value::Place {
-            file: wrong.span.file,
-            line: wrong.span.line,
+            file: diagnostic.span.file,
+            line: diagnostic.span.line,
         },
     }
 }
 
-fn answer(notes: Notes, specs: Members) -> Result<Names, FrontFail>
-    ensures { Answers result (answered notes specs) }
+fn answer(diagnostics: Diagnostics, specs: Members) -> Result<Names, FrontFail>
+    ensures { Answers result (answered diagnostics specs) }
 {
-    match notes.first {
+    match diagnostics.first {
         None => Ok(Names {
-            uses: notes.uses,
+            uses: diagnostics.uses,
             specs,
         }),
-        Some(wrong) => Err(FrontFail::Refused(refusal_of(wrong))),
+        Some(diagnostic) => Err(FrontFail::Refused(refusal_of(diagnostic))),
     }
 }

@@ -1,5 +1,5 @@
 ghost use Rattle.std.specs.Prelude.{◌≡◌, ◌++◌, OnOk, map};
-ghost use Rattle.sr_names.specs.Notes.{all_noted};
+ghost use Rattle.sr_names.specs.Diagnostics.{all_noted};
 ghost use Rattle.sr_scope.specs.Declarations.{with_inner};
 ghost use Rattle.sr_scope.specs.Exprs.{all_found, invocation_found};
 ghost use Rattle.sr_scope.specs.Statements.{condition_found, statement_found, plain_statement_found, for_all_found, item_read, arm_found, branch_found, co_arm_found, block_found};
@@ -10,7 +10,7 @@ use crate::declares::{declare_name, declare_variables, open_formals};
 use crate::exprs::{exprs, note_create, note_expr, note_invocation};
 use crate::names::name;
 use crate::types::maybe_expr;
-use sr_names::{Blocks, Notes, Place, Sort};
+use sr_names::{Blocks, Diagnostics, Place, Sort};
 use sr_tree::{
     Arm, ArmCondition, BlockItem, Branch, CoArm, Expr, Invocation, Quantifier, Statement,
 };
@@ -24,10 +24,10 @@ pub fn statement(
     statement: &Statement,
     place: &Place,
     blocks: &mut Blocks,
-    notes: &mut Notes,
+    diagnostics: &mut Diagnostics,
 ) -> Result<(), NoMemory>
     ensures scopes { OnOk result (blocks.new ≡ blocks.old) }
-    ensures noted { OnOk result (notes.new ≡ all_noted notes.old (statement_found statement.now place.now blocks.old)) }
+    ensures noted { OnOk result (diagnostics.new ≡ all_noted diagnostics.old (statement_found statement.now place.now blocks.old)) }
 {
     match statement {
         Statement::If {
@@ -40,9 +40,9 @@ pub fn statement(
             otherwise,
             ..
         } => {
-            branches(alloc, all.as_slice(), place, blocks, notes)?;
+            branches(alloc, all.as_slice(), place, blocks, diagnostics)?;
             match otherwise {
-                Some(items) => block(alloc, items.as_slice(), place, blocks, notes),
+                Some(items) => block(alloc, items.as_slice(), place, blocks, diagnostics),
                 None => Ok(()),
             }
         }
@@ -50,20 +50,35 @@ pub fn statement(
             quantifiers: all,
             block: body,
             ..
-        } => { for_all(alloc, all.as_slice(), body.as_slice(), place, blocks, notes) }
+        } => {
+            for_all(
+                alloc,
+                all.as_slice(),
+                body.as_slice(),
+                place,
+                blocks,
+                diagnostics,
+            )
+        }
         Statement::In {
             arms: all,
             otherwise,
             ..
         } => {
-            arms(alloc, all.as_slice(), place, blocks, notes)?;
+            arms(alloc, all.as_slice(), place, blocks, diagnostics)?;
             match otherwise {
-                Some(items) => block(alloc, items.as_slice(), place, blocks, notes),
+                Some(items) => block(alloc, items.as_slice(), place, blocks, diagnostics),
                 None => Ok(()),
             }
         }
-        Statement::Co { arms: all, .. } => co_arms(alloc, all.as_slice(), place, blocks, notes),
-        _ => plain_statement(statement, place, blocks, notes),
+        Statement::Co { arms: all, .. } => co_arms(
+            alloc,
+            all.as_slice(),
+            place,
+            blocks,
+            diagnostics,
+        ),
+        _ => plain_statement(statement, place, blocks, diagnostics),
     }
 }
 
@@ -72,24 +87,24 @@ fn plain_statement(
     statement: &Statement,
     place: &Place,
     blocks: &Blocks,
-    notes: &mut Notes,
+    diagnostics: &mut Diagnostics,
 ) -> Result<(), NoMemory>
-    ensures { OnOk result (notes.new ≡ all_noted notes.old (plain_statement_found statement.now place.now blocks.now)) }
+    ensures { OnOk result (diagnostics.new ≡ all_noted diagnostics.old (plain_statement_found statement.now place.now blocks.now)) }
 {
     match statement {
-        Statement::Stop { status, .. } => maybe_expr(status, place, blocks, notes),
+        Statement::Stop { status, .. } => maybe_expr(status, place, blocks, diagnostics),
         Statement::Call { invocation, .. }
         | Statement::Send { invocation, .. }
         | Statement::Forward { invocation, .. } => {
-            note_invocation(invocation, place, blocks, notes)
+            note_invocation(invocation, place, blocks, diagnostics)
         }
         Statement::Receive {
             operation,
             places,
             ..
         } => {
-            name(operation, place, blocks, notes)?;
-            exprs(places.as_slice(), place, blocks, notes)
+            name(operation, place, blocks, diagnostics)?;
+            exprs(places.as_slice(), place, blocks, diagnostics)
         }
         Statement::Assign {
             place: left,
@@ -97,13 +112,13 @@ fn plain_statement(
             ..
         }
         | Statement::Exchange { left, right, .. } => {
-            note_expr(left, place, blocks, notes)?;
-            note_expr(right, place, blocks, notes)
+            note_expr(left, place, blocks, diagnostics)?;
+            note_expr(right, place, blocks, diagnostics)
         }
         Statement::Increment { place: target, .. }
         | Statement::Decrement { place: target, .. }
-        | Statement::Destroy { target, .. } => note_expr(target, place, blocks, notes),
-        Statement::Create { create, .. } => note_create(create, place, blocks, notes),
+        | Statement::Destroy { target, .. } => note_expr(target, place, blocks, diagnostics),
+        Statement::Create { create, .. } => note_create(create, place, blocks, diagnostics),
         _ => Ok(()),
     }
 }
@@ -116,14 +131,14 @@ fn for_all(
     items: &[BlockItem],
     place: &Place,
     blocks: &mut Blocks,
-    notes: &mut Notes,
+    diagnostics: &mut Diagnostics,
 ) -> Result<(), NoMemory>
     ensures scopes { OnOk result (blocks.new ≡ blocks.old) }
-    ensures noted { OnOk result (notes.new ≡ all_noted notes.old (for_all_found all.now (map item_read items.now) place.now blocks.old)) }
+    ensures noted { OnOk result (diagnostics.new ≡ all_noted diagnostics.old (for_all_found all.now (map item_read items.now) place.now blocks.old)) }
 {
     blocks.open(alloc)?;
-    quantifiers(alloc, all, place, blocks, notes)?;
-    block(alloc, items, place, blocks, notes)?;
+    quantifiers(alloc, all, place, blocks, diagnostics)?;
+    block(alloc, items, place, blocks, diagnostics)?;
     blocks.close();
     Ok(())
 }
@@ -135,14 +150,14 @@ fn block(
     items: &[BlockItem],
     place: &Place,
     blocks: &mut Blocks,
-    notes: &mut Notes,
+    diagnostics: &mut Diagnostics,
 ) -> Result<(), NoMemory>
     ensures scopes { OnOk result (blocks.new ≡ blocks.old) }
-    ensures noted { OnOk result (notes.new ≡ all_noted notes.old (block_found (map item_read items.now) place.now blocks.old)) }
+    ensures noted { OnOk result (diagnostics.new ≡ all_noted diagnostics.old (block_found (map item_read items.now) place.now blocks.old)) }
 {
     blocks.open(alloc)?;
     for item in items {
-        block_item(alloc, item, place, blocks, notes)?;
+        block_item(alloc, item, place, blocks, diagnostics)?;
     }
     blocks.close();
     Ok(())
@@ -154,27 +169,32 @@ fn block_item(
     item: &BlockItem,
     place: &Place,
     blocks: &mut Blocks,
-    notes: &mut Notes,
+    diagnostics: &mut Diagnostics,
 ) -> Result<(), NoMemory>
     ensures scopes { OnOk result (blocks.new ≡ with_inner blocks.old (item_read item.now place.now blocks.old).inner) }
-    ensures noted { OnOk result (notes.new ≡ all_noted notes.old (item_read item.now place.now blocks.old).found) }
+    ensures noted { OnOk result (diagnostics.new ≡ all_noted diagnostics.old (item_read item.now place.now blocks.old).found) }
 {
     match item {
         BlockItem::Const(declared) => {
-            constant(alloc, declared, place, blocks, notes)?;
+            constant(alloc, declared, place, blocks, diagnostics)?;
             declare_name(
                 alloc,
                 &declared.name,
                 Sort::Constant,
                 &mut blocks.inner,
-                notes,
+                diagnostics,
             )
         }
         BlockItem::Var(declared) => {
-            variables(alloc, declared, place, blocks, notes)?;
-            declare_variables(alloc, declared.decls.as_slice(), &mut blocks.inner, notes)
+            variables(alloc, declared, place, blocks, diagnostics)?;
+            declare_variables(
+                alloc,
+                declared.decls.as_slice(),
+                &mut blocks.inner,
+                diagnostics,
+            )
         }
-        BlockItem::Statement(inner) => statement(alloc, inner, place, blocks, notes),
+        BlockItem::Statement(inner) => statement(alloc, inner, place, blocks, diagnostics),
     }
 }
 
@@ -184,14 +204,14 @@ fn branches(
     branches: &[Branch],
     place: &Place,
     blocks: &mut Blocks,
-    notes: &mut Notes,
+    diagnostics: &mut Diagnostics,
 ) -> Result<(), NoMemory>
     ensures scopes { OnOk result (blocks.new ≡ blocks.old) }
-    ensures noted { OnOk result (notes.new ≡ all_noted notes.old (all_found (map branch_found branches.now) place.now blocks.old)) }
+    ensures noted { OnOk result (diagnostics.new ≡ all_noted diagnostics.old (all_found (map branch_found branches.now) place.now blocks.old)) }
 {
     for branch in branches {
-        note_expr(&branch.guard, place, blocks, notes)?;
-        block(alloc, branch.block.as_slice(), place, blocks, notes)?;
+        note_expr(&branch.guard, place, blocks, diagnostics)?;
+        block(alloc, branch.block.as_slice(), place, blocks, diagnostics)?;
     }
     Ok(())
 }
@@ -202,13 +222,13 @@ fn arms(
     arms: &[Arm],
     place: &Place,
     blocks: &mut Blocks,
-    notes: &mut Notes,
+    diagnostics: &mut Diagnostics,
 ) -> Result<(), NoMemory>
     ensures scopes { OnOk result (blocks.new ≡ blocks.old) }
-    ensures noted { OnOk result (notes.new ≡ all_noted notes.old (all_found (map arm_found arms.now) place.now blocks.old)) }
+    ensures noted { OnOk result (diagnostics.new ≡ all_noted diagnostics.old (all_found (map arm_found arms.now) place.now blocks.old)) }
 {
     for each in arms {
-        arm(alloc, each, place, blocks, notes)?;
+        arm(alloc, each, place, blocks, diagnostics)?;
     }
     Ok(())
 }
@@ -219,15 +239,21 @@ fn arm(
     arm: &Arm,
     place: &Place,
     blocks: &mut Blocks,
-    notes: &mut Notes,
+    diagnostics: &mut Diagnostics,
 ) -> Result<(), NoMemory>
     ensures scopes { OnOk result (blocks.new ≡ blocks.old) }
-    ensures noted { OnOk result (notes.new ≡ all_noted notes.old (arm_found arm.now place.now blocks.old)) }
+    ensures noted { OnOk result (diagnostics.new ≡ all_noted diagnostics.old (arm_found arm.now place.now blocks.old)) }
 {
-    name(&arm.operation, place, blocks, notes)?;
-    open_formals(alloc, arm.formals.as_slice(), &arm.returned, blocks, notes)?;
-    guards(&arm.condition, &arm.order, place, blocks, notes)?;
-    block(alloc, arm.block.as_slice(), place, blocks, notes)?;
+    name(&arm.operation, place, blocks, diagnostics)?;
+    open_formals(
+        alloc,
+        arm.formals.as_slice(),
+        &arm.returned,
+        blocks,
+        diagnostics,
+    )?;
+    guards(&arm.condition, &arm.order, place, blocks, diagnostics)?;
+    block(alloc, arm.block.as_slice(), place, blocks, diagnostics)?;
     blocks.close();
     Ok(())
 }
@@ -238,24 +264,24 @@ fn guards(
     order: &Option<Expr>,
     place: &Place,
     blocks: &Blocks,
-    notes: &mut Notes,
+    diagnostics: &mut Diagnostics,
 ) -> Result<(), NoMemory>
-    ensures { OnOk result (notes.new ≡ all_noted notes.old (condition_found written.now place.now blocks.now ++ maybe_expr_found order.now place.now blocks.now)) }
+    ensures { OnOk result (diagnostics.new ≡ all_noted diagnostics.old (condition_found written.now place.now blocks.now ++ maybe_expr_found order.now place.now blocks.now)) }
 {
-    condition(written, place, blocks, notes)?;
-    maybe_expr(order, place, blocks, notes)
+    condition(written, place, blocks, diagnostics)?;
+    maybe_expr(order, place, blocks, diagnostics)
 }
 
 fn condition(
     condition: &Option<ArmCondition>,
     place: &Place,
     blocks: &Blocks,
-    notes: &mut Notes,
+    diagnostics: &mut Diagnostics,
 ) -> Result<(), NoMemory>
-    ensures { OnOk result (notes.new ≡ all_noted notes.old (condition_found condition.now place.now blocks.now)) }
+    ensures { OnOk result (diagnostics.new ≡ all_noted diagnostics.old (condition_found condition.now place.now blocks.now)) }
 {
     match condition {
-        Some(written) => note_expr(&written.condition, place, blocks, notes),
+        Some(written) => note_expr(&written.condition, place, blocks, diagnostics),
         None => Ok(()),
     }
 }
@@ -266,13 +292,13 @@ fn co_arms(
     arms: &[CoArm],
     place: &Place,
     blocks: &mut Blocks,
-    notes: &mut Notes,
+    diagnostics: &mut Diagnostics,
 ) -> Result<(), NoMemory>
     ensures scopes { OnOk result (blocks.new ≡ blocks.old) }
-    ensures noted { OnOk result (notes.new ≡ all_noted notes.old (all_found (map co_arm_found arms.now) place.now blocks.old)) }
+    ensures noted { OnOk result (diagnostics.new ≡ all_noted diagnostics.old (all_found (map co_arm_found arms.now) place.now blocks.old)) }
 {
     for each in arms {
-        co_arm(alloc, each, place, blocks, notes)?;
+        co_arm(alloc, each, place, blocks, diagnostics)?;
     }
     Ok(())
 }
@@ -283,16 +309,22 @@ fn co_arm(
     arm: &CoArm,
     place: &Place,
     blocks: &mut Blocks,
-    notes: &mut Notes,
+    diagnostics: &mut Diagnostics,
 ) -> Result<(), NoMemory>
     ensures scopes { OnOk result (blocks.new ≡ blocks.old) }
-    ensures noted { OnOk result (notes.new ≡ all_noted notes.old (co_arm_found arm.now place.now blocks.old)) }
+    ensures noted { OnOk result (diagnostics.new ≡ all_noted diagnostics.old (co_arm_found arm.now place.now blocks.old)) }
 {
     blocks.open(alloc)?;
-    quantifiers(alloc, arm.quantifiers.as_slice(), place, blocks, notes)?;
-    co_target(&arm.target, &arm.invocation, place, blocks, notes)?;
+    quantifiers(
+        alloc,
+        arm.quantifiers.as_slice(),
+        place,
+        blocks,
+        diagnostics,
+    )?;
+    co_target(&arm.target, &arm.invocation, place, blocks, diagnostics)?;
     if let Some(items) = &arm.block {
-        block(alloc, items.as_slice(), place, blocks, notes)?;
+        block(alloc, items.as_slice(), place, blocks, diagnostics)?;
     }
     blocks.close();
     Ok(())
@@ -304,10 +336,10 @@ fn co_target(
     invocation: &Invocation,
     place: &Place,
     blocks: &Blocks,
-    notes: &mut Notes,
+    diagnostics: &mut Diagnostics,
 ) -> Result<(), NoMemory>
-    ensures { OnOk result (notes.new ≡ all_noted notes.old (maybe_expr_found target.now place.now blocks.now ++ invocation_found invocation.now place.now blocks.now)) }
+    ensures { OnOk result (diagnostics.new ≡ all_noted diagnostics.old (maybe_expr_found target.now place.now blocks.now ++ invocation_found invocation.now place.now blocks.now)) }
 {
-    maybe_expr(target, place, blocks, notes)?;
-    note_invocation(invocation, place, blocks, notes)
+    maybe_expr(target, place, blocks, diagnostics)?;
+    note_invocation(invocation, place, blocks, diagnostics)
 }

@@ -1,4 +1,4 @@
--- What is put in one list after another is what is put in both, one behind the other.
+-- What is put in one list after another is what is put in both, one after the other.
 use Rattle.std.proofs.Common.{◌≡◌, List, ◌++◌, fold, sym}
 use Rattle.std.proofs.lemmas.List.Sums.{fold-append}
 use Rattle.indexmap.specs.IndexSet.{insert_key}

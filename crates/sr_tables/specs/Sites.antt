@@ -17,8 +17,8 @@ use Rattle.sr_core.specs.declared.owner.Home.{Home}
 use Rattle.sr_core.specs.declared.owner.Home.TheVariants as home
 use Rattle.sr_core.specs.declared.owner.Root.{Root}
 use Rattle.sr_core.specs.declared.owner.Root.TheVariants as root
-use Rattle.sr_core.specs.declared.owner.Whose.{Whose}
-use Rattle.sr_core.specs.declared.owner.Whose.TheVariants as whose
+use Rattle.sr_core.specs.declared.owner.OperationOwner.{OperationOwner}
+use Rattle.sr_core.specs.declared.owner.OperationOwner.TheVariants as whose
 use Rattle.sr_core.specs.declared.site.Arm.{Arm}
 use Rattle.sr_core.specs.declared.site.Named.{Named}
 use Rattle.sr_core.specs.declared.site.Named.TheVariants as named
@@ -35,7 +35,7 @@ abbrev pub root_named : Root → List Named
 root_named (root.Own var) = named.Own var ∷ []
 root_named (root.Shared home var) = home_named home
 
-abbrev pub whose_named : Whose → List Named
+abbrev pub whose_named : OperationOwner → List Named
 whose_named (whose.Imported import) = named.Home import ∷ []
 whose_named _ = []
 

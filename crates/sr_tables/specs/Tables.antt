@@ -13,7 +13,7 @@ found_at table spot = lookup (same_spot spot) table
 abbrev pub with_entry : {A : Type 0} → List (Spot × A) → Spot → A → List (Spot × A)
 with_entry table spot thing = insert_entry same_spot table spot thing
 
--- a table with these entries behind its own, in order
+-- a table with these entries after its own, in order
 abbrev pub with_entries : {A : Type 0} → List (Spot × A) → List (Spot × A) → List (Spot × A)
 with_entries table entries = fold (λ table entry. with_entry table entry.0 entry.1) table entries
 
@@ -26,7 +26,7 @@ keys_of table = map (λ entry. entry.0) table
 abbrev pub things_in : {A : Type 0} → List (Spot × A) → List A
 things_in table = map (λ entry. entry.1) table
 
--- spots behind others, each once
+-- spots after others, each once
 abbrev pub with_spots : List Spot → List Spot → List Spot
 with_spots there spots = fold (insert_key same_spot) there spots
 

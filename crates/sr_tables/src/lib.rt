@@ -7,4 +7,4 @@ mod tables;
 
 pub use parts::{component_decl, deciding, kind_of, line_of, op_item_name, spot_named};
 pub use sites::site_of;
-pub use tables::{BySpot, Head, SharedVariable, Spots, Tables, number_of};
+pub use tables::{Head, SharedVariable, SpotMap, Spots, Tables, number_of};

@@ -5,8 +5,8 @@ ghost use Rattle.sr_tables.specs.Sites as sites;
 ghost use Rattle.sr_tables.specs.Lists.{maybe, lists};
 
 use sr_core::{
-    Argument, Arm, Expr, Formal, Home, Leaf, Named, Part, PlaceExpr, Reading, Returned, Root, Site,
-    Step, Whose,
+    Argument, Arm, Expr, Formal, Home, Leaf, Named, OperationOwner, Part, PlaceExpr, Reading,
+    Returned, Root, Site, Step,
 };
 use sr_value::{NoMemory, Row};
 use std::alloc::Global;
@@ -29,12 +29,12 @@ fn note_root(root: Root, all: &mut Row<Named>) -> Result<(), NoMemory>
     }
 }
 
-fn note_whose(whose: Whose, all: &mut Row<Named>) -> Result<(), NoMemory>
+fn note_whose(whose: OperationOwner, all: &mut Row<Named>) -> Result<(), NoMemory>
     ensures { OnOk result (all.new ≡ all.old ++ sites.whose_named whose) }
 {
     match whose {
-        Whose::Imported(import) => all.push(Named::Home(import)),
-        Whose::Mine | Whose::Process => Ok(()),
+        OperationOwner::Imported(import) => all.push(Named::Home(import)),
+        OperationOwner::Mine | OperationOwner::Process => Ok(()),
     }
 }
 
@@ -48,7 +48,7 @@ fn note_leaf(leaf: &Leaf, all: &mut Row<Named>) -> Result<(), NoMemory>
     }
 }
 
-/// Puts what an expression names behind other names.
+/// Appends what an expression names to other names.
 #[cycle(named)]
 fn note_expr(expr: &Expr, all: &mut Row<Named>) -> Result<(), NoMemory>
     ensures { OnOk result (all.new ≡ all.old ++ sites.named_in expr.now) }
@@ -244,7 +244,7 @@ fn is_among(names: &[Named], name: Named) -> bool
     false
 }
 
-/// Puts a name behind others, unless it is there.
+/// Appends a name to others, unless it is there.
 fn insert(names: &mut Row<Named>, name: Named) -> Result<(), NoMemory>
     ensures { OnOk result (names.new ≡ sites.with_named names.old name) }
 {
@@ -254,7 +254,7 @@ fn insert(names: &mut Row<Named>, name: Named) -> Result<(), NoMemory>
     names.push(name)
 }
 
-/// Puts those names that are no formals of an arm behind others.
+/// Appends those names that are no formals of an arm to others.
 fn insert_outer(arm: &Arm, all: &[Named], names: &mut Row<Named>) -> Result<(), NoMemory>
     ensures { OnOk result (names.new ≡ fold sites.with_named names.old (filter (sites.is_outer arm.now) all.now)) }
 {
@@ -266,7 +266,7 @@ fn insert_outer(arm: &Arm, all: &[Named], names: &mut Row<Named>) -> Result<(), 
     Ok(())
 }
 
-/// Puts what the guard and the order of an arm name besides its formals behind other names.
+/// Appends what the guard and the order of an arm name besides its formals to other names.
 fn note_arm(alloc: Global, arm: &Arm, names: &mut Row<Named>) -> Result<(), NoMemory>
     ensures { OnOk result (names.new ≡ fold sites.with_named names.old (sites.arm_outer arm.now)) }
 {

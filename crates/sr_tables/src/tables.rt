@@ -46,7 +46,7 @@ impl Spots {
         }
     }
 
-    /// Puts a declaration behind the others, unless it is there.
+    /// Appends a declaration to the others, unless it is there.
     pub fn insert(&mut self, spot: Spot) -> Result<(), NoMemory>
         ensures { OnOk result (self.new ≡ insert_key same_spot self.old spot) }
     {
@@ -85,11 +85,11 @@ impl Spots {
 
 /// What is known of each declaration, in the order in which it was put in.
 #[derive(Drop)]
-pub struct BySpot<T: Drop> {
+pub struct SpotMap<T: Drop> {
     entries: IndexMap<Spot, T>,
 }
 
-impl<T: Drop> Model for BySpot<T> {
+impl<T: Drop> Model for SpotMap<T> {
     ghost use Rattle.std.specs.Prelude.{List};
     ghost use Rattle.std.specs.Coded.{coded_list, coded×};
     ghost use Rattle.sr_names.specs.declared.spot.Spot.{Spot};
@@ -102,12 +102,12 @@ impl<T: Drop> Model for BySpot<T> {
     ghost view = { λ table. table.entries.entries };
 }
 
-impl<T: Drop> BySpot<T> {
+impl<T: Drop> SpotMap<T> {
     /// Nothing is known. It takes no memory.
     pub fn new(alloc: Global) -> Self
         ensures { result ≡ [] }
     {
-        BySpot {
+        SpotMap {
             entries: IndexMap::new(alloc),
         }
     }
@@ -146,7 +146,7 @@ impl<T: Drop> BySpot<T> {
     pub fn into_things(self, alloc: Global) -> Result<Row<T>, NoMemory>
         ensures { IfOk result (λ things. things ≡ things_in self) }
     {
-        let BySpot { entries } = self;
+        let SpotMap { entries } = self;
         let things = entries.into_values().collect(alloc)?;
         Ok(Row::from_vec(things))
     }
@@ -178,11 +178,11 @@ pub struct Tables {
     /// The statements that wait for invocations, each by its first token.
     pub sites: Spots,
     /// The shared variables of all components.
-    pub shared: BySpot<SharedVariable>,
+    pub shared: SpotMap<SharedVariable>,
     /// The shapes of places of the declared types.
-    pub shapes: BySpot<Shape>,
+    pub shapes: SpotMap<Shape>,
     /// The signatures that have names.
-    pub heads: BySpot<Head>,
+    pub heads: SpotMap<Head>,
     /// The operations.
-    pub operations: BySpot<Operation>,
+    pub operations: SpotMap<Operation>,
 }

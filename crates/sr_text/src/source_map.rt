@@ -31,7 +31,7 @@ impl SourceMap {
         Ok(SourceMap { contents })
     }
 
-    /// The line, from 1, of the byte `at` of a file, which may be the place behind its last byte.
+    /// The line, from 1, of the byte `at` of a file, which may be the place after its last byte.
     pub fn line_of(&self, file: u32, at: u32) -> u32
         requires known { file < length self.now }
         requires within { at ≤ length (content_of self.now file) }

@@ -43,7 +43,7 @@ pub data SpellsList {A : Type 0} (Spells : A → List Token → Type 0) : Bool �
       → SpellsList Spells may_begin is (t ∷ u)
   one : {i : A} {is : List A} {u v : List Token} → Spells i u → SpellsList Spells false is v → SpellsList Spells true (i ∷ is) (u ++ v)
 
--- the name behind `body` or `end`, where one is written, is that of what ends
+-- the name after `body` or `end`, where one is written, is the name of the construct that ends
 pub data SpellsEndName (name : Name) : List Token → Type 0 where
   unnamed : SpellsEndName name []
   ends : (n : Token) → IsName n → n.text ≡ name.text → SpellsEndName name (n ∷ [])

@@ -18,7 +18,7 @@ name_of (Resource span name formals items) = name
 name_of (SplitResource span name spec formals items) = name
 name_of (Global span name spec body) = name
 
--- a resource that has its formals directly behind its name is all body
+-- a resource that has its formals directly after its name is all body
 abbrev pub spec_of : Component → List SpecItem
 spec_of (Resource span name formals items) = []
 spec_of (SplitResource span name spec formals items) = spec

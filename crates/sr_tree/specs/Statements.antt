@@ -126,10 +126,10 @@ pub data SpellsOptionalQuantifiers : List Quantifier → List Token → Type 0 w
   some_quantifiers : {qs : List Quantifier} {u : List Token} (opening closing : Token) → IsSign sign.OpenParen opening → SpellsQuantifiers qs u
       → IsSign sign.CloseParen closing → SpellsOptionalQuantifiers qs (opening ∷ (u ++ closing ∷ []))
 
--- the first primary of an arm of `co`: any behind quantifiers (true), and else one that begins with a name
+-- the first primary of an arm of `co`: any after quantifiers (true), and else one that begins with a name
 pub data SpellsCoStart : Bool → Expr → List Token → Type 0 where
   begins_arm : {e : Expr} {u : List Token} → SpellsNamed e u → SpellsCoStart false e u
-  behind_quantifiers : {e : Expr} {u : List Token} → SpellsPrimary e u → SpellsCoStart true e u
+  after_quantifiers : {e : Expr} {u : List Token} → SpellsPrimary e u → SpellsCoStart true e u
 
 -- [primary ":="] ["call"] invocation, of which the first primary is that of the arm
 pub data SpellsCoCall (quantified : Bool) : Option Expr → Bool → Invocation → List Token → Type 0 where

@@ -37,7 +37,7 @@ kind_of word.Call = Some invoked.Call
 kind_of word.Send = Some invoked.Send
 kind_of _ = None
 
--- a type that ends in a signature with no braces yet: those behind it would be that signature's
+-- a type that ends in a signature with no braces yet: those after it would be that signature's
 pub data EndsOpen : TypeTree → Type 0 where
   operation : {span : Span} (signature : Signature) → (out-Signature signature).kinds ≡ [] → EndsOpen (ty.CapOperation span signature)
   array : {span : Span} {dims : DimsTree} (item : TypeTree) → EndsOpen item → EndsOpen (ty.Array span dims item)
@@ -45,8 +45,8 @@ pub data EndsOpen : TypeTree → Type 0 where
 -- braces belong to the innermost signature that they can belong to
 pub data BracesBelong : Option Returned → List InvocationKind → Type 0 where
   no_braces : {r : Option Returned} → BracesBelong r []
-  behind_formals : {ks : List InvocationKind} → BracesBelong None ks
-  behind_type : {ks : List InvocationKind} (r : Returned) → ¬ EndsOpen (out-Returned r).ty → BracesBelong (Some r) ks
+  after_formals : {ks : List InvocationKind} → BracesBelong None ks
+  after_type : {ks : List InvocationKind} (r : Returned) → ¬ EndsOpen (out-Returned r).ty → BracesBelong (Some r) ks
 
 -- {"," name}
 pub data SpellsMoreNames : List Name → List Token → Type 0 where

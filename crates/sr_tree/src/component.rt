@@ -10,7 +10,7 @@ pub struct File {
     pub components: Row<Component>,
 }
 
-/// A resource or a global. Each `span` is that of the first token.
+/// A resource or a global. Each `span` is the span of the first token.
 #[derive(Drop)]
 pub enum Component {
     /// `resource name formals items end`

@@ -61,7 +61,7 @@ pub enum BinaryOperator {
     Modulo,
 }
 
-/// An expression. Each `span` is that of the first token.
+/// An expression. Each `span` is the span of the first token.
 #[derive(Drop)]
 #[cycle(expressions)]
 pub enum Expr {

@@ -1,7 +1,7 @@
 //! The tokens of a source text, the trees that they spell, and the grammar that ties both.
 //!
-//! There is one type for each rule of the grammar and one variant for each of its alternatives, with the parts
-//! in order. A `span` is that of the first token. What stands in parentheses or a separated list is a `Row`.
+//! There is one type for each rule of the grammar and one variant for each of its alternatives, with the parts in
+//! order. A `span` is the span of the first token. What stands in parentheses or a separated list is a `Row`.
 #![tactic(auto)]
 
 mod component;

@@ -12,6 +12,6 @@ pub struct Name {
 pub struct QualifiedName {
     pub span: Span,
     pub first: Name,
-    /// The name behind the point, where there is one.
+    /// The name after the point, where there is one.
     pub second: Option<Name>,
 }

@@ -30,7 +30,7 @@ impl Component {
         }
     }
 
-    /// The spec of a component. A resource that has its formals directly behind its name is all body.
+    /// The spec of a component. A resource that has its formals directly after its name is all body.
     pub fn spec(&self) -> &[SpecItem]
         ensures { result.now ≡ spec_of self.now }
     {

@@ -37,7 +37,7 @@ pub struct ArmCondition {
     pub condition: Expr,
 }
 
-/// A statement. Each `span` is that of the first token.
+/// A statement. Each `span` is the span of the first token.
 #[derive(Drop)]
 #[cycle(statements)]
 pub enum Statement {
@@ -103,13 +103,13 @@ pub enum Statement {
         span: Span,
         place: Expr,
     },
-    /// `if branches fi`, with what stands behind `else`.
+    /// `if branches fi`, with what stands after `else`.
     If {
         span: Span,
         branches: Row<Branch>,
         otherwise: Option<Row<BlockItem>>,
     },
-    /// `do branches od`, with what stands behind `else`.
+    /// `do branches od`, with what stands after `else`.
     Do {
         span: Span,
         branches: Row<Branch>,
@@ -121,7 +121,7 @@ pub enum Statement {
         quantifiers: Row<Quantifier>,
         block: Row<BlockItem>,
     },
-    /// `in arms ni`, with what stands behind `else`.
+    /// `in arms ni`, with what stands after `else`.
     In {
         span: Span,
         arms: Row<Arm>,

@@ -46,7 +46,7 @@ pub enum InvocationKind {
     Send,
 }
 
-/// A type. Each `span` is that of the first token.
+/// A type. Each `span` is the span of the first token.
 #[derive(Drop)]
 #[cycle(types)]
 pub enum TypeTree {
@@ -110,7 +110,7 @@ pub struct Formal {
     pub ty: TypeTree,
 }
 
-/// What an operation returns: `returns decl : ty`. The span is that of `returns`.
+/// What an operation returns: `returns decl : ty`. The span is the span of `returns`.
 #[derive(Drop)]
 #[cycle(types)]
 pub struct Returned {

@@ -15,9 +15,9 @@ all-at P (y ∷ ys) zero x a e = subst P (some-is y x e) a.0
 all-at P (y ∷ ys) (suc i) x a e = all-at P ys i x a.1 e
 
 module _ {X : Type 0} (test : X → X → Bool) (itself : (x : X) → test x x ≡ true) where
-  -- a thing doesn't stand behind itself
-  not-behind : (x y : X) (ys : List X) (i : ℕ) → IsDistinct test (y ∷ ys) → Some y ≡ Some x → slice_get ys i ≡ Some x → true ≡ false
-  not-behind x y ys i distinct here there =
+  -- a thing doesn't stand after itself
+  not-after : (x y : X) (ys : List X) (i : ℕ) → IsDistinct test (y ∷ ys) → Some y ≡ Some x → slice_get ys i ≡ Some x → true ≡ false
+  not-after x y ys i distinct here there =
       let apart : test y x ≡ false = all-at (λ z. test y z ≡ false) ys i x (IsDistinct-head test y ys distinct) there in
       sym (itself x) ∙ ap (λ z. test z x) (sym (some-is y x here)) ∙ apart
 
@@ -25,8 +25,8 @@ module _ {X : Type 0} (test : X → X → Bool) (itself : (x : X) → test x x �
   pub one-place : (xs : List X) (a b : ℕ) (x : X) → IsDistinct test xs → slice_get xs a ≡ Some x → slice_get xs b ≡ Some x → a ≡ b
   one-place [] a b x distinct p q = cc
   one-place (y ∷ ys) zero zero x distinct p q = refl
-  one-place (y ∷ ys) zero (suc b) x distinct p q = absurd (true≢false (not-behind x y ys b distinct p q))
-  one-place (y ∷ ys) (suc a) zero x distinct p q = absurd (true≢false (not-behind x y ys a distinct q p))
+  one-place (y ∷ ys) zero (suc b) x distinct p q = absurd (true≢false (not-after x y ys b distinct p q))
+  one-place (y ∷ ys) (suc a) zero x distinct p q = absurd (true≢false (not-after x y ys a distinct q p))
   one-place (y ∷ ys) (suc a) (suc b) x distinct p q = ap suc (one-place ys a b x (IsDistinct-tail test y ys distinct) p q)
 
 -- a list that goes on has what it had, at the same places
@@ -46,8 +46,8 @@ insert_key-keeps test xs k i x e = by (list_any (test k) xs)
 abbrev pub PassesAt : {X : Type 0} → (X → Bool) → List X → ℕ → ℕ → Type 0
 PassesAt {X} test xs i n = (k : ℕ) × (x : X) × (n ≡ i + k) × (slice_get xs k ≡ Some x) × (test x ≡ true)
 
-passes-behind : {X : Type 0} (test : X → Bool) (y : X) (ys : List X) (i n : ℕ) → PassesAt test ys (i + 1) n → PassesAt test (y ∷ ys) i n
-passes-behind test y ys i n found =
+passes-after : {X : Type 0} (test : X → Bool) (y : X) (ys : List X) (i n : ℕ) → PassesAt test ys (i + 1) n → PassesAt test (y ∷ ys) i n
+passes-after test y ys i n found =
     let further : (i + 1) + found.0 ≡ i + suc found.0 = omega arith in
     (suc found.0, found.1, found.2 ∙ further, found.3, found.4)
 
@@ -59,7 +59,7 @@ passes-from test (y ∷ ys) i n e = by (test y) refl e (λ later. passes-from te
     by true h here later =
         let same : i ≡ i + 0 = omega arith in
         (0, y, sym (some-is i n here) ∙ same, refl, h)
-    by false h there later = passes-behind test y ys i n (later there)
+    by false h there later = passes-after test y ys i n (later there)
 
 pub position-passes : {X : Type 0} (test : X → Bool) (xs : List X) (n : ℕ) → position test xs ≡ Some n → (x : X) × (slice_get xs n ≡ Some x) × (test x ≡ true)
 position-passes test xs n e =

@@ -21,7 +21,7 @@ pub record WholesAreTyped : Type 0 where
   pub between : (op : Operator) (a b : Typed) → IsTyped (binary_rule op a b)
   pub before : (op : Operator) (a : Typed) → IsTyped (unary_rule op a)
 
--- what is known of the value of the whole is that of its operator on the values of its operands
+-- the static value of an expression is the result of its operator on the static values of its operands
 pub record ValuesOfParts : Type 0 where
   pub between : (op : Operator) (a b whole : Typed) (left right : Value) → a.value ≡ Known left → b.value ≡ Known right → binary_rule op a b ≡ Met whole → whole.value ≡ found (value_of op left right)
   pub before : (op : Operator) (a whole : Typed) (operand : Value) → a.value ≡ Known operand → unary_rule op a ≡ Met whole → whole.value ≡ found (value_of_one op operand)

@@ -22,7 +22,7 @@ layer_signature signatures _ = None
 abbrev pub signature_of : List Signature → Ty → Option Signature
 signature_of signatures ty = layer_signature signatures (out-Ty ty)
 
--- the signatures with one more, which goes behind the others unless it is there already
+-- the signatures with one more, which goes after the others unless it is there already
 abbrev pub with_signature : List Signature → Signature → List Signature
 with_signature signatures signature = insert_key equal_signatures signatures signature
 

@@ -1,5 +1,5 @@
--- What is known before the run of the values of expressions: an expression is static where all its parts are, and
--- then its value or fault is that of its operator on theirs.
+-- What is known before the run of the values of expressions: an expression is static where all its parts are. Its value
+-- or fault is then the result of its operator on the values of its parts.
 use Rattle.std.specs.Prelude.{Bool, false, not, if◌then◌else◌}
 use Rattle.std.specs.Option.{option_map_or}
 use Rattle.sr_types.specs.declared.typed.Static.{Static}

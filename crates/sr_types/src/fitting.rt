@@ -39,9 +39,9 @@ impl Ty {
     }
 }
 
-/// Whether a place of the type `place` takes a value of the type `value`: the types are equal, or the
-/// value is `null` or `noop`, or an array of these, and the place one for capabilities. What has no type fits everywhere and
-/// takes everything, so that what was refused once is not refused again. It takes no memory.
+/// Whether a place of the type `place` takes a value of the type `value`: the types are equal, or the value is `null`
+/// or `noop`, or an array of these, and the place one for capabilities. What has no type fits everywhere and takes
+/// everything, so that what was refused once is not refused again. It takes no memory.
 pub fn fits(value: &Ty, place: &Ty) -> bool
     ensures value { result ≡ fits_type value.now place.now }
     ensures exact { IsTrue result ↔ FitsType value.now place.now }

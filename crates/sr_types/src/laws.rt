@@ -5,7 +5,7 @@ pub fn wholes_are_typed()
     ensures { WholesAreTyped }
 {}
 
-/// That what is known of the value of the whole is that of its operator on the values of its operands.
+/// That the static value of an expression is the result of its operator on the static values of its operands.
 pub fn values_of_parts()
     ensures { ValuesOfParts }
 {}

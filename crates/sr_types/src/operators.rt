@@ -136,7 +136,7 @@ impl Operand {
         }
     }
 
-    /// The type of the operand, which is also that of the whole.
+    /// The type of the operand, and of the result.
     fn ty(self) -> Ty
         ensures { result ≡ operand_type self }
     {
@@ -168,7 +168,7 @@ fn fault_beside(fault: Fault, b: &Static) -> Static
     }
 }
 
-/// What is known of the value of an operator behind a left operand of this value.
+/// What is known of the value of an operator after a left operand of this value.
 fn value_after(alloc: Global, op: Operator, left: &Value, b: &Static) -> Result<Static, NoMemory>
     ensures { IfOk result (λ value. value ≡ static_of_two op (Static.Known left.now) b.now) }
 {

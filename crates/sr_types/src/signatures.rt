@@ -64,7 +64,7 @@ impl Signatures {
         }
     }
 
-    /// Puts a signature behind the others, unless it is there already, and answers its number. All that have
+    /// Appends a signature to the others, unless it is there already, and answers its number. All that have
     /// numbers keep them, and no signature has two.
     pub fn add(&mut self, signature: Signature) -> Result<usize, NoMemory>
         ensures added { OnOk result (self.new ≡ with_signature self.old signature) }

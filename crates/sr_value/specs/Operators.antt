@@ -21,7 +21,7 @@ use Rattle.sr_value.specs.Operands.{int_in, bool_in, char_in, literal_in, text_i
 
 -- ---- what a call answers
 
--- the answer is what is meant: its value or its fault; want of memory is free
+-- the answer is what is meant: its value or its fault; out of memory is always allowed
 abbrev pub Answers : {A : Type 0} → Result A ValueFail → Result A Fault → Type 0
 Answers (Ok v) meant = meant ≡ Ok v
 Answers (Err (a_fault fault)) meant = meant ≡ Err fault

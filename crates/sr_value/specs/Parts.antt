@@ -34,7 +34,7 @@ with_ok (Err fault) next = Err fault
 abbrev pub place_of : ℤ → ℤ → ℤ → Option ℕ
 place_of lo hi index = if is_le (int_cmp lo index) && is_le (int_cmp index hi) then Some (unsigned_abs (index -ℤ lo)) else None
 
--- an item of the second dimension stands behind all rows before its own
+-- an item of the second dimension stands after all rows before its own
 abbrev pub in_row : ℕ → Option ℕ → Option ℕ → Option ℕ
 in_row width (Some row) (Some column) = Some (row * width + column)
 in_row width (Some row) None = None

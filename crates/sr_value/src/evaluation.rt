@@ -223,7 +223,7 @@ fn reduced(a: &Value, b: &Value) -> Result<Value, Fault>
     Ok(Value::Int(modulo(x, y)))
 }
 
-/// The bytes of two strings or characters, one behind the other.
+/// The bytes of two strings or characters, one after the other.
 fn joined(alloc: Global, a: &Value, b: &Value) -> Result<Value, ValueFail>
     ensures { Answers result (value_of Operator.Join a.now b.now) }
 {

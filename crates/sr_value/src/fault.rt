@@ -24,7 +24,7 @@ pub enum Fault {
     Range,
     /// E7: an invocation of `null`, or a machine that is none.
     NullCap,
-    /// E8: an invocation of what is gone.
+    /// E8: an invocation of something that is gone.
     Gone,
     /// E9: a status that `stop` doesn't take.
     BadStatus,
@@ -40,7 +40,7 @@ impl Compare for Fault {
     }
 }
 
-/// Why there is no value: a fault of the program, or want of memory.
+/// Why there is no value: a fault of the program, or out of memory.
 #[derive(Clone, Copy, Debug, PartialEq, Eq)]
 pub enum ValueFail {
     Fault(Fault),

@@ -16,7 +16,7 @@ pub fn loaded(alloc: Global, value: &Value, path: &[Sel]) -> Result<Value, Value
     loaded_from(alloc, value, path, 0)
 }
 
-/// A copy of the value at the end of what is left of a path from a step on.
+/// A copy of the value that the rest of a path leads to, from this step on.
 fn loaded_from(alloc: Global, value: &Value, path: &[Sel], at: usize) -> Result<Value, ValueFail>
     ensures { Answers result (loaded_at value.now (drop at path.now)) }
 {

@@ -239,7 +239,7 @@ pub fn int_of(value: &Value) -> Result<Value, Fault>
     }
 }
 
-/// `char(i)`: E6 for a number that is no byte, and for what is no `int`.
+/// `char(i)`: E6 for a number that is no byte, and for a value that is no `int`.
 pub fn char_of(value: &Value) -> Result<Value, Fault>
     ensures { result ≡ char_value value.now }
 {

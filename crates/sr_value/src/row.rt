@@ -98,7 +98,7 @@ impl<T> Row<T> {
 }
 
 impl<T: Drop> Row<T> {
-    /// Puts an item behind the others.
+    /// Appends an item to the others.
     pub fn push(&mut self, item: T) -> Result<(), NoMemory>
         ensures ok { OnOk result (self.new ≡ self.old ++ item ∷ []) }
         ensures err { OnErr result (self.new ≡ self.old) }
@@ -107,7 +107,7 @@ impl<T: Drop> Row<T> {
         Ok(())
     }
 
-    /// Puts all items of `more` behind the others, or none.
+    /// Puts all items of `more` after the others, or none.
     pub fn push_all(&mut self, more: Row<T>) -> Result<(), NoMemory>
         ensures ok { OnOk result (self.new ≡ self.old ++ more) }
         ensures err { OnErr result (self.new ≡ self.old) }
@@ -126,7 +126,7 @@ impl<T: Drop> Row<T> {
         std::mem::replace(&mut self.items[at], item)
     }
 
-    /// Takes an item out; those behind it move up.
+    /// Takes an item out; those after it move up.
     pub fn remove(&mut self, at: usize) -> T
         requires { at < length self.old }
         ensures item { slice_get self.old at ≡ Some result }

@@ -74,7 +74,7 @@ impl Text {
         self.bytes.is_empty()
     }
 
-    /// Puts one byte behind the others.
+    /// Appends one byte to the others.
     pub fn push(&mut self, byte: u8) -> Result<(), NoMemory>
         ensures ok { OnOk result (self.new ≡ self.old ++ byte ∷ []) }
         ensures err { OnErr result (self.new ≡ self.old) }
@@ -83,7 +83,7 @@ impl Text {
         Ok(())
     }
 
-    /// Puts all bytes of `more` behind the others, or none.
+    /// Puts all bytes of `more` after the others, or none.
     pub fn push_all(&mut self, more: &[u8]) -> Result<(), NoMemory>
         ensures ok { OnOk result (self.new ≡ self.old ++ more.now) }
         ensures err { OnErr result (self.new ≡ self.old) }

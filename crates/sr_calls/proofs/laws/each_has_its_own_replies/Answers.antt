@@ -1,4 +1,4 @@
-use Rattle.sr_calls.proofs.DeskLemmas.{items-with_items, items-with_items_other}
+use Rattle.sr_calls.proofs.ProcessCallsLemmas.{items-with_items, items-with_items_other}
 use Rattle.sr_calls.proofs.laws.each_has_its_own_replies.Goals as goal
 
 pub returns-clause-itself : goal.returns-clause-itself

@@ -1,7 +1,7 @@
 use Rattle.std.proofs.Common.{[], ◌∷◌, ◌++◌, ap, ◌∙◌}
 use Rattle.std.specs.Prelude.{find}
 use Rattle.sr_calls.specs.Calls.{answers_one, items_of}
-use Rattle.sr_calls.proofs.DeskLemmas.{items-with_items}
+use Rattle.sr_calls.proofs.ProcessCallsLemmas.{items-with_items}
 use Rattle.sr_calls.proofs.FirstLemmas.{found-earlier, found-last}
 use Rattle.sr_calls.proofs.laws.earlier_reply_goes_first.Goals as goal
 

@@ -18,8 +18,8 @@ IsOne files spot ty component is_local = Declared files spot component is_local
 abbrev Here : List File → Facts → Facts → Type 0
 Here files facts = Sound (IsOne files) facts.uses facts.here.component.spot
 
-stays : (files : List File) (before behind : Facts) → (Here files before before → Here files before behind) → Known files before → Known files behind
-stays files before behind keeps k spot component is_local ty is =
+stays : (files : List File) (before after : Facts) → (Here files before before → Here files before after) → Known files before → Known files after
+stays files before after keeps k spot component is_local ty is =
     (keeps (refl, (refl, λ s t c l e. k s c l t e))).1.1 spot ty component is_local is
 
 pub returns : goal.returns

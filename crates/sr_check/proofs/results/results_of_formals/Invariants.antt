@@ -1,4 +1,4 @@
--- The results of the formals so far are there; those of the rest are behind them.
+-- The results of the formals so far are there; those of the rest are after them.
 use Rattle.std.proofs.Common.{◌≡◌, ◌++◌, drop}
 use Rattle.sr_check.specs.Results.{formal_results}
 use Rattle.sr_check.proofs.results.results_of_formals.Given as goal

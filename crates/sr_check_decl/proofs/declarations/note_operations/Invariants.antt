@@ -1,8 +1,8 @@
 -- What was noted so far and what the rest adds are what all add.
 use Rattle.std.proofs.Common.{◌≡◌, drop}
-use Rattle.sr_names.specs.Notes.{all_noted}
+use Rattle.sr_names.specs.Diagnostics.{all_noted}
 use Rattle.sr_check_decl.specs.Declarations.{ops_found}
 use Rattle.sr_check_decl.proofs.declarations.note_operations.Given as goal
 
 abbrev pub invariant-loop-item : goal.invariant-loop-item
-invariant-loop-item l = all_noted l.notes (ops_found l.facts (drop l.item-index l.items)) ≡ all_noted l.fn.notes (ops_found l.facts l.items)
+invariant-loop-item l = all_noted l.diagnostics (ops_found l.facts (drop l.item-index l.items)) ≡ all_noted l.fn.diagnostics (ops_found l.facts l.items)

@@ -4,7 +4,7 @@ use Rattle.std.proofs.lemmas.List.{length-map}
 use Rattle.sr_check_expr.specs.declared.facts.Facts.{Facts}
 use Rattle.sr_check_decl.specs.declared.waiting.Waits.{Waits}
 use Rattle.sr_check_decl.specs.Inferring.{all_settled, waves}
-use Rattle.sr_check_decl.specs.Needers.{needers_behind}
+use Rattle.sr_check_decl.specs.Needers.{needers_after}
 use Rattle.sr_check_decl.specs.Picked.{picked}
 use Rattle.sr_check_decl.specs.Waits.{seen}
 use Rattle.sr_check_decl.specs.Waiting.{Waiting}
@@ -39,12 +39,12 @@ loop-wave-preserved c =
     let picks : ws ≡ picked facts waiting c.loop-wave.places = c.in_ok-wave.ensures.value ∙ ap (λ ps. picked facts waiting ps) c.as_slice.ensures in
     let settles : c.settle_all.new.facts ≡ all_settled ws facts =
     c.in_ok-settle_all.ensures ∙ ap (λ (xs : List Waits). all_settled (map seen xs) facts) c.as_slice-in-loop-wave.ensures in
-    let found : c.in_ok-needers_behind.field-0 ≡ needers_behind c.args.needers.now ws =
-    c.in_ok-needers_behind.ensures ∙ ap (λ (xs : List Waits). needers_behind c.args.needers.now (map seen xs)) c.as_slice-in-loop-wave-2.ensures in
+    let found : c.in_ok-needers_after.field-0 ≡ needers_after c.args.needers.now ws =
+    c.in_ok-needers_after.ensures ∙ ap (λ (xs : List Waits). needers_after c.args.needers.now (map seen xs)) c.as_slice-in-loop-wave-2.ensures in
     record {
       lined =
           lined-on facts c.settle_all.new.facts waiting ws c.loop-wave.needs.spots c.next_wave.new.needs.spots c.args.needs.now.spots c.loop-wave.needs.known c.next_wave.new.needs.known
-          c.loop-wave.places c.in_ok-needers_behind.field-0 c.in_order-places.result c.args.needers.now lined c.loop-wave.invariant.same
+          c.loop-wave.places c.in_ok-needers_after.field-0 c.in_order-places.result c.args.needers.now lined c.loop-wave.invariant.same
           c.requires.needers picks c.next_wave.ensures.same c.next_wave.ensures.known settles found
           c.in_order-places.ensures.rising c.in_order-places.ensures.same;
       same = c.next_wave.ensures.same ∙ c.loop-wave.invariant.same;

@@ -1,4 +1,4 @@
--- What the rest settles behind what is settled so far is what all settle.
+-- What the rest settles after what is settled so far is what all settle.
 use Rattle.std.proofs.Common.{◌≡◌, map, drop}
 use Rattle.sr_check_decl.specs.Waits.{seen}
 use Rattle.sr_check_decl.specs.Inferring.{all_settled}

@@ -1,4 +1,4 @@
--- All operations behind the first are joined with it.
+-- All operations after the first are joined with it.
 use Rattle.std.proofs.Common.{subst}
 use Rattle.sr_classes.specs.Joins.{Stands}
 use Rattle.sr_classes.proofs.Groups.{group-joined}

@@ -6,13 +6,13 @@ use Rattle.sr_outline.specs.Meanings.{meant_by}
 use Rattle.sr_desugar.proofs.Trees.{create_made, parts_made, pending_made}
 use Rattle.sr_desugar.proofs.exprs.+exprs.Goals as goal
 
-pub cored-returns-in_ok-parts-in-Parts : goal.cored-returns-in_ok-parts-in-Parts
-cored-returns-in_ok-parts-in-Parts t c =
+pub lowered-returns-in_ok-parts-in-Parts : goal.lowered-returns-in_ok-parts-in-Parts
+lowered-returns-in_ok-parts-in-Parts t c =
     parts_made c.args.scene.now c.in-Parts.span c.in-Parts.parts c.args.tree.now c.in_ok-parts-in-Parts.parts
     c.in-Parts.is (c.in_ok-parts-in-Parts.ensures ∙ ap (map (exprs.core_part c.args.scene.now)) c.as_slice.ensures)
 
-pub cored-returns-in_ok-pending-in-Pending : goal.cored-returns-in_ok-pending-in-Pending
-cored-returns-in_ok-pending-in-Pending t c =
+pub lowered-returns-in_ok-pending-in-Pending : goal.lowered-returns-in_ok-pending-in-Pending
+lowered-returns-in_ok-pending-in-Pending t c =
     pending_made c.args.scene.now c.in-Pending.span c.in-Pending.operation c.args.tree.now c.in_ok-pending-in-Pending.field-0
     c.in-Pending.is (c.in_ok-pending-in-Pending.ensures ∙ ap (exprs.pending_core c.args.scene.now) c.meant_by.ensures)
 

@@ -6,8 +6,8 @@ use Rattle.sr_desugar.proofs.exprs.+exprs.Given as goal
 abbrev pub invariant-core_values-loop-tree : goal.invariant-core_values-loop-tree
 invariant-core_values-loop-tree l = l.values ++ map (core_value l.scene) (drop l.tree-index l.trees) ≡ map (core_value l.scene) l.trees
 
-abbrev pub invariant-all_cored-loop-tree : goal.invariant-all_cored-loop-tree
-invariant-all_cored-loop-tree l = l.all ++ map (core_expr l.scene) (drop l.tree-index l.trees) ≡ map (core_expr l.scene) l.trees
+abbrev pub invariant-all_lowered-loop-tree : goal.invariant-all_lowered-loop-tree
+invariant-all_lowered-loop-tree l = l.all ++ map (core_expr l.scene) (drop l.tree-index l.trees) ≡ map (core_expr l.scene) l.trees
 
 abbrev pub invariant-core_parts-loop-tree : goal.invariant-core_parts-loop-tree
 invariant-core_parts-loop-tree l = l.parts ++ map (core_part l.scene) (drop l.tree-index l.trees) ≡ map (core_part l.scene) l.trees

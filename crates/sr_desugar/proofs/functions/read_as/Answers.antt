@@ -10,7 +10,7 @@ use Rattle.sr_desugar.proofs.functions.read_as.Goals as goal
 pub returns : goal.returns
 returns c =
     let kinds = YieldsList-from_vec c.args.kinds (c.into_iter.ensures.rest ∙ c.into_vec.ensures) (c.into_iter.ensures.len ∙ c.into_vec.result.ok.0 ∙ ap length c.into_vec.ensures) in
-    let cored = YieldsList-from_vec c.args.cored (c.zip.ensures.second.0 ∙ c.into_vec-2.ensures) (c.zip.ensures.second.1 ∙ c.into_vec-2.result.ok.0 ∙ ap length c.into_vec-2.ensures) in
+    let lowered = YieldsList-from_vec c.args.lowered (c.zip.ensures.second.0 ∙ c.into_vec-2.ensures) (c.zip.ensures.second.1 ∙ c.into_vec-2.result.ok.0 ∙ ap length c.into_vec-2.ensures) in
     c.from_vec.ensures
     ∙ items_from_collect {E = AllocError} (Ok c.in_ok-readings.readings) c.in_ok-readings.ensures.ran
-    (YieldsList-from_map _ exprs.reading_core (YieldsList-at c.map.ensures.source (YieldsList-from_zip (YieldsList-at c.zip.ensures.first kinds) cored)) c.map.ensures.closure (λ x r q k. search (rules, tests)))
+    (YieldsList-from_map _ exprs.reading_core (YieldsList-at c.map.ensures.source (YieldsList-from_zip (YieldsList-at c.zip.ensures.first kinds) lowered)) c.map.ensures.closure (λ x r q k. search (rules, tests)))

@@ -6,14 +6,14 @@ use Rattle.std.proofs.lemmas.Iterator.Consumers.{YieldsList-at}
 use Rattle.sr_types.specs.declared.signature.Param.{Param}
 use Rattle.std.specs.declared.alloc.AllocError.{AllocError}
 use Rattle.sr_desugar.specs.Expressions as exprs
-use Rattle.sr_desugar.specs.declared.scene.Cored.{Cored}
+use Rattle.sr_desugar.specs.declared.scene.Lowered.{Lowered}
 use Rattle.sr_outline.specs.Meanings.{params_of}
 use Rattle.sr_desugar.proofs.invoked.arguments_of.Goals as goal
 
 pub returns : goal.returns
 returns c =
     let params = YieldsList-from_slice (params_of c.args.facts.now c.args.callee.now) (c.iter.ensures.rest ∙ c.params_of.ensures) in
-    let cored = YieldsList-from_vec c.args.cored (c.zip.ensures.second.0 ∙ c.into_vec.ensures) (c.zip.ensures.second.1 ∙ c.into_vec.result.ok.0 ∙ ap length c.into_vec.ensures) in
+    let lowered = YieldsList-from_vec c.args.lowered (c.zip.ensures.second.0 ∙ c.into_vec.ensures) (c.zip.ensures.second.1 ∙ c.into_vec.result.ok.0 ∙ ap length c.into_vec.ensures) in
     c.from_vec.ensures
     ∙ items_from_collect {E = AllocError} (Ok c.in_ok-args.args) c.in_ok-args.ensures.ran
-    (YieldsList-from_map _ (λ (pair : Param × Cored). exprs.argument_core pair.0.mode pair.1) (YieldsList-at c.map.ensures.source (YieldsList-from_zip (YieldsList-at c.zip.ensures.first params) cored)) c.map.ensures.closure (λ x r q k. search (rules, tests)))
+    (YieldsList-from_map _ (λ (pair : Param × Lowered). exprs.argument_core pair.0.mode pair.1) (YieldsList-at c.map.ensures.source (YieldsList-from_zip (YieldsList-at c.zip.ensures.first params) lowered)) c.map.ensures.closure (λ x r q k. search (rules, tests)))

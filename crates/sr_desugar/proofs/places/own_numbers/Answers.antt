@@ -1,4 +1,4 @@
--- One number more is put behind.
+-- One number more is appended.
 use Rattle.std.proofs.Common.{◌+◌, ℕ, List, ◌++◌, map, drop, ap, ◌∙◌}
 use Rattle.sr_tables.specs.Tables.{number_in}
 use Rattle.sr_desugar.proofs.Outputs.{map_next}

@@ -7,7 +7,7 @@ use Rattle.sr_tables.specs.Parts.{components_in}
 use Rattle.sr_tree.specs.declared.component.Component.{Component as Tree}
 use Rattle.sr_tree.specs.declared.component.File.{File}
 use Rattle.sr_desugar.specs.declared.bodies.Gathered.{Gathered}
-use Rattle.sr_desugar.specs.Core.{Whole, all_components, wholes_from, with_wholes}
+use Rattle.sr_desugar.specs.Core.{LoweredComponent, all_components, wholes_from, with_wholes}
 use Rattle.sr_desugar.proofs.Outputs.{components_file, gathered_file}
 use Rattle.sr_desugar.proofs.program.components_of.Goals as goal
 
@@ -30,9 +30,9 @@ loop-file-preserved c =
       c.in_ok-number.ensures.facts ∙ there.0,
       c.in_ok-number.ensures.tables ∙ there.1,
       ap (λ (components : List Component). components ++ all_components (wholes_from facts tables imports m (components_in (drop (i + 1) files))))
-          (c.in_ok-number.ensures.components ∙ ap (λ (w : List Whole). c.loop-file.components ++ all_components w) wholes)
+          (c.in_ok-number.ensures.components ∙ ap (λ (w : List LoweredComponent). c.loop-file.components ++ all_components w) wholes)
           ∙ components_file facts tables imports c.loop-file.components n m files i file c.loop-file-test.true c.file-item.is next ∙ there.2,
       ap (λ (gathered : Gathered). with_wholes gathered (wholes_from facts tables imports m (components_in (drop (i + 1) files))))
-          (c.in_ok-number.ensures.gathered ∙ ap (λ (w : List Whole). with_wholes c.loop-file.gathered w) wholes)
+          (c.in_ok-number.ensures.gathered ∙ ap (λ (w : List LoweredComponent). with_wholes c.loop-file.gathered w) wholes)
           ∙ gathered_file facts tables imports c.loop-file.gathered n m files i file c.loop-file-test.true c.file-item.is next ∙ there.3,
     )

@@ -5,7 +5,7 @@ use Rattle.sr_core.specs.declared.component.Component.{Component}
 use Rattle.sr_tables.specs.declared.tables.Tables.{Tables}
 use Rattle.sr_tree.specs.declared.component.Component.{Component as Tree}
 use Rattle.sr_desugar.specs.declared.bodies.Gathered.{Gathered}
-use Rattle.sr_desugar.specs.Core.{Whole, all_components, whole_of, wholes_from, with_wholes}
+use Rattle.sr_desugar.specs.Core.{LoweredComponent, all_components, whole_of, wholes_from, with_wholes}
 use Rattle.sr_desugar.proofs.Outputs.{components_item, gathered_item}
 use Rattle.sr_desugar.proofs.program.push_components.Goals as goal
 
@@ -27,9 +27,9 @@ loop-component-preserved c =
       c.in_ok-push_component.ensures.facts ∙ there.1,
       c.in_ok-push_component.ensures.tables ∙ there.2,
       ap (λ (components : List Component). components ++ all_components (wholes_from facts tables imports (n + 1) (drop (i + 1) trees)))
-          (c.in_ok-push_component.ensures.components ∙ ap (λ (w : Whole). c.loop-component.components ++ w.component ∷ []) whole)
+          (c.in_ok-push_component.ensures.components ∙ ap (λ (w : LoweredComponent). c.loop-component.components ++ w.component ∷ []) whole)
           ∙ components_item (whole_of facts tables imports) c.loop-component.components n trees i tree c.loop-component-test.true c.component-item.is ∙ there.3,
       ap (λ (gathered : Gathered). with_wholes gathered (wholes_from facts tables imports (n + 1) (drop (i + 1) trees)))
-          (c.in_ok-push_component.ensures.gathered ∙ ap (λ (w : Whole). with_wholes c.loop-component.gathered (w ∷ [])) whole)
+          (c.in_ok-push_component.ensures.gathered ∙ ap (λ (w : LoweredComponent). with_wholes c.loop-component.gathered (w ∷ [])) whole)
           ∙ gathered_item (whole_of facts tables imports) c.loop-component.gathered n trees i tree c.loop-component-test.true c.component-item.is ∙ there.4,
     )

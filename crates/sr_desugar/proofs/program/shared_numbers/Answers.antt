@@ -1,4 +1,4 @@
--- One number more is put behind.
+-- One number more is appended.
 use Rattle.std.proofs.Common.{◌+◌, ℕ, List, ◌++◌, map, drop, ap, ◌∙◌}
 use Rattle.sr_core.specs.declared.statement.Scope.TheVariants.{Shared}
 use Rattle.sr_desugar.specs.Declarations.{var_number}

@@ -1,4 +1,4 @@
--- One arm more is put behind.
+-- One arm more is appended.
 use Rattle.std.proofs.Common.{◌+◌, List, ◌++◌, map, drop, ap, ◌∙◌}
 use Rattle.sr_core.specs.declared.site.Arm.{Arm}
 use Rattle.sr_desugar.specs.Statements.{arms_of, core_arm}

@@ -9,7 +9,7 @@ use Rattle.sr_scope.specs.Resolved.{Answers, resolved}
 use Rattle.sr_scope.specs.declared.program.Names.{Names}
 use Rattle.sr_check.specs.Checked.{verdict}
 use Rattle.sr_front.specs.declared.program.Accepted.{Accepted}
-use Rattle.sr_front.specs.Program.{IsAccepted, IsRefused, IsJudged, in_reading, in_names, in_types}
+use Rattle.sr_front.specs.Program.{IsAccepted, IsRefused, IsChecked, in_reading, in_names, in_types}
 use Rattle.sr_front.specs.Reading.{AreRead, AreRefused, IsRefusal, contents_of}
 use Rattle.sr_front.proofs.FileByFile.{as_many}
 use Rattle.sr_front.proofs.program.accept.Goals as goal
@@ -34,19 +34,19 @@ accepted_with contents trees names accepted read named same met = record {
 }
 
 accepted_by : (contents : List (List ℕ)) (trees : List File) (names : Names) (result : Result Accepted FrontFail) → AreRead contents trees
-    → resolved trees ≡ Ok names → IsJudged trees (verdict names.uses names.specs trees) result → IfOk result (IsAccepted contents)
-accepted_by contents trees names (Ok accepted) read named judged = accepted_with contents trees names accepted read named judged.0 judged.1
-accepted_by contents trees names (Err fail) read named judged = tt
+    → resolved trees ≡ Ok names → IsChecked trees (verdict names.uses names.specs trees) result → IfOk result (IsAccepted contents)
+accepted_by contents trees names (Ok accepted) read named checked_trees = accepted_with contents trees names accepted read named checked_trees.0 checked_trees.1
+accepted_by contents trees names (Err fail) read named checked_trees = tt
 
 refused_in_types : (contents : List (List ℕ)) (trees : List File) (names : Names) (fail : FrontFail) → AreRead contents trees → resolved trees ≡ Ok names
-    → IsJudged trees (verdict names.uses names.specs trees) (Err fail) → IsRefusal (IsRefused contents) fail
-refused_in_types contents trees names (Refused refusal) read named judged = in_types {names = names} read named judged
-refused_in_types contents trees names NoMemory read named judged = tt
+    → IsChecked trees (verdict names.uses names.specs trees) (Err fail) → IsRefusal (IsRefused contents) fail
+refused_in_types contents trees names (Refused refusal) read named checked_trees = in_types {names = names} read named checked_trees
+refused_in_types contents trees names NoMemory read named checked_trees = tt
 
 refused_by : (contents : List (List ℕ)) (trees : List File) (names : Names) (result : Result Accepted FrontFail) → AreRead contents trees
-    → resolved trees ≡ Ok names → IsJudged trees (verdict names.uses names.specs trees) result → IfErr result (IsRefusal (IsRefused contents))
-refused_by contents trees names (Ok accepted) read named judged = tt
-refused_by contents trees names (Err fail) read named judged = refused_in_types contents trees names fail read named judged
+    → resolved trees ≡ Ok names → IsChecked trees (verdict names.uses names.specs trees) result → IfErr result (IsRefusal (IsRefused contents))
+refused_by contents trees names (Ok accepted) read named checked_trees = tt
+refused_by contents trees names (Err fail) read named checked_trees = refused_in_types contents trees names fail read named checked_trees
 
 pub returns-in_err-trees-clause-refused : goal.returns-in_err-trees-clause-refused
 returns-in_err-trees-clause-refused c =
@@ -67,8 +67,8 @@ returns-in-Err-clause-refused c =
 
 pub returns-in-Ok-clause-accepted : goal.returns-in-Ok-clause-accepted
 returns-in-Ok-clause-accepted c =
-    accepted_by (contents_of c.args.files.now) c.in_ok-trees.trees c.in-Ok.names _ c.in_ok-trees.ensures.trees c.in-Ok.ensures c.judged.ensures
+    accepted_by (contents_of c.args.files.now) c.in_ok-trees.trees c.in-Ok.names _ c.in_ok-trees.ensures.trees c.in-Ok.ensures c.checked_trees.ensures
 
 pub returns-in-Ok-clause-refused : goal.returns-in-Ok-clause-refused
 returns-in-Ok-clause-refused c =
-    refused_by (contents_of c.args.files.now) c.in_ok-trees.trees c.in-Ok.names _ c.in_ok-trees.ensures.trees c.in-Ok.ensures c.judged.ensures
+    refused_by (contents_of c.args.files.now) c.in_ok-trees.trees c.in-Ok.names _ c.in_ok-trees.ensures.trees c.in-Ok.ensures c.checked_trees.ensures

@@ -9,7 +9,7 @@ use Rattle.sr_names.specs.declared.marks.Mark.{Mark}
 use Rattle.sr_names.specs.declared.spot.Spot.{Spot}
 use Rattle.sr_names.specs.Cycles.{links_of, cycle_found, all_cycles_found, all_together_found, AreGrouped}
 use Rattle.sr_names.specs.Links.{Among}
-use Rattle.sr_names.specs.Notes.{all_noted}
+use Rattle.sr_names.specs.Diagnostics.{all_noted}
 use Rattle.sr_names.specs.Readings.{broken}
 use Rattle.sr_names.proofs.cycles.note_cycles.Goals as goal
 
@@ -24,5 +24,5 @@ pub returns : goal.returns
 returns c =
     let good = subst (λ (links : List Link). AreGrouped links c.in_ok-groups.groups) (c.as_slice.ensures ∙ c.in_ok-links.ensures) c.in_ok-groups.ensures in
     on_ok_weaker c.note_all.result
-    (λ e. e ∙ ap (λ found. all_noted c.args.notes.now found) (together-cycles (links_of c.args.imports.now) c.in_ok-groups.groups good c.args.imports.now (λ link h. h)))
+    (λ e. e ∙ ap (λ found. all_noted c.args.diagnostics.now found) (together-cycles (links_of c.args.imports.now) c.in_ok-groups.groups good c.args.imports.now (λ link h. h)))
     c.note_all.ensures

@@ -1,6 +1,6 @@
 -- What was opened is put back into the tables.
 use Rattle.sr_tables.specs.Parts.{components_in}
-use Rattle.sr_outline.proofs.Opened.{opened_whole}
+use Rattle.sr_outline.proofs.DeclaredOperation.{opened_whole}
 use Rattle.sr_outline.proofs.outline.note_operations.Goals as goal
 
 pub returns : goal.returns

@@ -31,12 +31,12 @@ pub operators-more-preserved : goal.operators-more-preserved
 operators-more-preserved t c = record {
   shorter = omega (arith, c.in_ok-whole.ensures.shorter, c.more.invariant.shorter);
   leads = leads-step readers (λ r. r.steps) steps-readers (λ (x : Expr × Bor (List Token)). (x.0, x.1.now)) (is_operator c.args.limit) operation_at c.args.first c.args.tokens.now c.more.left c.more.rest.now c.more.invariant.leads c.more.invariant.shorter
-      (c.in_ok-whole.whole, c.in_ok-whole.behind) (sym c.next_is_operator.ensures ∙ c.more-test.true) c.in_ok-whole.ensures.reads c.in_ok-whole.ensures.shorter;
+      (c.in_ok-whole.whole, c.in_ok-whole.after) (sym c.next_is_operator.ensures ∙ c.more-test.true) c.in_ok-whole.ensures.reads c.in_ok-whole.ensures.shorter;
 }
 
-pub operators-returns-in_err-whole-clause-reads : goal.operators-returns-in_err-whole-clause-reads
+pub operators-returns-in_err-complete-clause-reads : goal.operators-returns-in_err-complete-clause-reads
 unfolding operators_at
-operators-returns-in_err-whole-clause-reads t c =
+operators-returns-in_err-complete-clause-reads t c =
     let p = err_from_is_err_and c.from_residual.result c.from_residual.ensures.1 in
     rw (p.1, p.2)
     (leads-fail readers (λ r. r.steps) steps-readers (λ (x : Expr × Bor (List Token)). (x.0, x.1.now)) (is_operator c.args.limit) operation_at c.args.first c.args.tokens.now c.more.left c.more.rest.now c.more.invariant.leads c.more.invariant.shorter
@@ -52,7 +52,7 @@ pub more_parts-more-preserved : goal.more_parts-more-preserved
 more_parts-more-preserved t c = record {
   shorter = omega (arith, c.in_ok-more.ensures.shorter, c.more.invariant.shorter);
   leads = leads-step readers (λ r. r.steps) steps-readers (λ (x : List Part × Bor (List Token)). (x.0, x.1.now)) is_comma next_part_at c.args.first c.args.tokens.now c.more.parts c.more.rest.now c.more.invariant.leads c.more.invariant.shorter
-      (c.in_ok-more.more, c.in_ok-more.behind) (sym c.next_is_sign.ensures ∙ c.more-test.true) c.in_ok-more.ensures.reads c.in_ok-more.ensures.shorter;
+      (c.in_ok-more.more, c.in_ok-more.after) (sym c.next_is_sign.ensures ∙ c.more-test.true) c.in_ok-more.ensures.reads c.in_ok-more.ensures.shorter;
 }
 
 pub more_parts-returns-in_err-more-clause-reads : goal.more_parts-returns-in_err-more-clause-reads
@@ -73,12 +73,12 @@ pub suffixes-more-preserved : goal.suffixes-more-preserved
 suffixes-more-preserved t c = record {
   shorter = omega (arith, c.in_ok-whole.ensures.shorter, c.more.invariant.shorter);
   leads = leads-step readers (λ r. r.steps) steps-readers (λ (x : Expr × Bor (List Token)). (x.0, x.1.now)) is_suffix suffix_at c.args.start c.args.tokens.now c.more.primary c.more.rest.now c.more.invariant.leads c.more.invariant.shorter
-      (c.in_ok-whole.whole, c.in_ok-whole.behind) (sym c.next_is_suffix.ensures ∙ c.more-test.true) c.in_ok-whole.ensures.reads c.in_ok-whole.ensures.shorter;
+      (c.in_ok-whole.whole, c.in_ok-whole.after) (sym c.next_is_suffix.ensures ∙ c.more-test.true) c.in_ok-whole.ensures.reads c.in_ok-whole.ensures.shorter;
 }
 
-pub suffixes-returns-in_err-whole-clause-reads : goal.suffixes-returns-in_err-whole-clause-reads
+pub suffixes-returns-in_err-complete-clause-reads : goal.suffixes-returns-in_err-complete-clause-reads
 unfolding suffixes_at
-suffixes-returns-in_err-whole-clause-reads t c =
+suffixes-returns-in_err-complete-clause-reads t c =
     let p = err_from_is_err_and c.from_residual.result c.from_residual.ensures.1 in
     rw (p.1, p.2)
     (leads-fail readers (λ r. r.steps) steps-readers (λ (x : Expr × Bor (List Token)). (x.0, x.1.now)) is_suffix suffix_at c.args.start c.args.tokens.now c.more.primary c.more.rest.now c.more.invariant.leads c.more.invariant.shorter
@@ -94,7 +94,7 @@ pub more_arguments-more-preserved : goal.more_arguments-more-preserved
 more_arguments-more-preserved t c = record {
   shorter = omega (arith, c.in_ok-more.ensures.shorter, c.more.invariant.shorter);
   leads = leads-step readers (λ r. r.steps) steps-readers (λ (x : List Expr × Bor (List Token)). (x.0, x.1.now)) is_comma next_argument_at c.args.first c.args.tokens.now c.more.arguments c.more.rest.now c.more.invariant.leads c.more.invariant.shorter
-      (c.in_ok-more.more, c.in_ok-more.behind) (sym c.next_is_sign.ensures ∙ c.more-test.true) c.in_ok-more.ensures.reads c.in_ok-more.ensures.shorter;
+      (c.in_ok-more.more, c.in_ok-more.after) (sym c.next_is_sign.ensures ∙ c.more-test.true) c.in_ok-more.ensures.reads c.in_ok-more.ensures.shorter;
 }
 
 pub more_arguments-returns-in_err-more-clause-reads : goal.more_arguments-returns-in_err-more-clause-reads

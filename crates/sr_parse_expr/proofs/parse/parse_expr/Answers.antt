@@ -3,7 +3,7 @@ use Rattle.std.proofs.Common.{◌≡◌, ℕ, ◌+◌, ◌-◌, sym, ap, subst, 
 use Rattle.sr_reader.specs.Pieces.{IsLongest}
 use Rattle.sr_tree.specs.Expressions.{SpellsExpr}
 use Rattle.sr_parse_expr.specs.Refused.{HasNoTree, IsRefusedIn}
-use Rattle.sr_parse_expr.proofs.Parsing.{expression-longest, expression-stops, front_behind, none_behind, dead_behind}
+use Rattle.sr_parse_expr.proofs.Parsing.{expression-longest, expression-stops, front_after, none_after, dead_after}
 use Rattle.sr_parse_expr.proofs.parse.parse_expr.Goals as goal
 
 pub returns-in-Ok-clause-front : goal.returns-in-Ok-clause-front
@@ -11,7 +11,7 @@ returns-in-Ok-clause-front c =
     let e = c.as_slice-items.ensures in
     subst
     (λ w. (x : ℕ) × (length c.as_slice-items.result.now - length c.in-Ok.rest.now ≡ c.args.at + x) × IsLongest (SpellsExpr 5) (drop c.args.at w) c.in-Ok.expr x) e
-    (front_behind c.as_slice-items.result.now c.args.at (omega (arith, c.requires.within, ap length e)) expression-longest c.in-Ok.expr c.in-Ok.rest.now
+    (front_after c.as_slice-items.result.now c.args.at (omega (arith, c.requires.within, ap length e)) expression-longest c.in-Ok.expr c.in-Ok.rest.now
     (omega (arith, c.in-Ok.ensures.shorter)) c.in-Ok.ensures.reads)
 
 pub returns-in-Err-clause-none : goal.returns-in-Err-clause-none
@@ -19,11 +19,11 @@ returns-in-Err-clause-none c =
     let e = c.as_slice-items.ensures in
     subst (λ w. HasNoTree (SpellsExpr 5) (drop c.args.at w) c.refused.result) e
     (subst (HasNoTree (SpellsExpr 5) (drop c.args.at c.as_slice-items.result.now)) (sym c.refused.ensures)
-    (none_behind c.as_slice-items.result.now c.args.at (omega (arith, c.requires.within, ap length e)) expression-longest c.in-Err.fail c.in-Err.ensures.reads))
+    (none_after c.as_slice-items.result.now c.args.at (omega (arith, c.requires.within, ap length e)) expression-longest c.in-Err.fail c.in-Err.ensures.reads))
 
 pub returns-in-Err-clause-dead : goal.returns-in-Err-clause-dead
 returns-in-Err-clause-dead c =
     let e = c.as_slice-items.ensures in
     subst (λ w. IsRefusedIn (SpellsExpr 5) w c.args.at c.refused.result) e
     (subst (IsRefusedIn (SpellsExpr 5) c.as_slice-items.result.now c.args.at) (sym c.refused.ensures)
-    (dead_behind c.as_slice-items.result.now c.args.at (omega (arith, c.requires.within, ap length e)) expression-stops c.in-Err.fail c.in-Err.ensures.reads))
+    (dead_after c.as_slice-items.result.now c.args.at (omega (arith, c.requires.within, ap length e)) expression-stops c.in-Err.fail c.in-Err.ensures.reads))

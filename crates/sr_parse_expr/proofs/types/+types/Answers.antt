@@ -17,7 +17,7 @@ pub more_formals-more-preserved : goal.more_formals-more-preserved
 more_formals-more-preserved t c = record {
   shorter = omega (arith, c.in_ok-more.ensures.shorter, c.more.invariant.shorter);
   leads = leads-step type_readers (λ r. r.expressions.steps) steps-readers (λ (x : List Formal × Bor (List Token)). (x.0, x.1.now)) is_separated next_formal_at c.args.first c.args.tokens.now c.more.formals c.more.rest.now c.more.invariant.leads c.more.invariant.shorter
-      (c.in_ok-more.more, c.in_ok-more.behind) (sym c.next_is_separator.ensures ∙ c.more-test.true) c.in_ok-more.ensures.reads c.in_ok-more.ensures.shorter;
+      (c.in_ok-more.more, c.in_ok-more.after) (sym c.next_is_separator.ensures ∙ c.more-test.true) c.in_ok-more.ensures.reads c.in_ok-more.ensures.shorter;
 }
 
 pub more_formals-returns-in_err-more-clause-reads : goal.more_formals-returns-in_err-more-clause-reads

@@ -19,8 +19,8 @@ decreases-array_type l = 64 * length l.tokens.now + 30
 abbrev pub decreases-signature : goal.decreases-signature
 decreases-signature l = 64 * length l.tokens.now + 0
 
-abbrev pub decreases-formals_behind : goal.decreases-formals_behind
-decreases-formals_behind l = 64 * length l.tokens.now + 40
+abbrev pub decreases-formals_after : goal.decreases-formals_after
+decreases-formals_after l = 64 * length l.tokens.now + 40
 
 abbrev pub decreases-more_formals : goal.decreases-more_formals
 decreases-more_formals l = 64 * length l.tokens.now + 1
@@ -31,8 +31,8 @@ decreases-next_formal l = 64 * length l.tokens.now + 0
 abbrev pub decreases-formal : goal.decreases-formal
 decreases-formal l = 64 * length l.tokens.now + 30
 
-abbrev pub decreases-formal_behind : goal.decreases-formal_behind
-decreases-formal_behind l = 64 * length l.tokens.now + 20
+abbrev pub decreases-formal_after : goal.decreases-formal_after
+decreases-formal_after l = 64 * length l.tokens.now + 20
 
 abbrev pub decreases-returned : goal.decreases-returned
 decreases-returned l = 64 * length l.tokens.now + 0

@@ -15,7 +15,7 @@ pub more-preserved : goal.more-preserved
 more-preserved c = record {
   shorter = omega (arith, c.in_ok-more.ensures.shorter, c.more.invariant.shorter);
   leads = leads-step type_readers (λ r. r.expressions.steps) steps-readers (λ (x : List OpItem × Bor (List Token)). (x.0, x.1.now)) is_comma next_op_item_at c.args.first c.args.tokens.now c.more.items c.more.rest.now c.more.invariant.leads c.more.invariant.shorter
-      (c.in_ok-more.more, c.in_ok-more.behind) (sym c.next_is_sign.ensures ∙ c.more-test.true) c.in_ok-more.ensures.reads c.in_ok-more.ensures.shorter;
+      (c.in_ok-more.more, c.in_ok-more.after) (sym c.next_is_sign.ensures ∙ c.more-test.true) c.in_ok-more.ensures.reads c.in_ok-more.ensures.shorter;
 }
 
 pub returns-in_err-more-clause-reads : goal.returns-in_err-more-clause-reads

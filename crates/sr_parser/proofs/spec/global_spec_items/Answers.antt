@@ -15,7 +15,7 @@ pub more-preserved : goal.more-preserved
 more-preserved c = record {
   shorter = omega (arith, c.in_ok-more.ensures.shorter, c.more.invariant.shorter);
   leads = leads-step type_readers (λ r. r.expressions.steps) steps-readers (λ (x : (List SpecItem × Bool) × Bor (List Token)). (x.0, x.1.now)) (may_go_on (λ t. begins_spec t.kind)) (λ r. next_item_at (spec_item_at r)) c.args.first c.args.tokens.now c.more.state c.more.rest.now c.more.invariant.leads c.more.invariant.shorter
-      (c.in_ok-more.more, c.in_ok-more.behind) (sym c.spec_goes_on.ensures ∙ c.more-test.true) c.in_ok-more.ensures.reads c.in_ok-more.ensures.shorter;
+      (c.in_ok-more.more, c.in_ok-more.after) (sym c.spec_goes_on.ensures ∙ c.more-test.true) c.in_ok-more.ensures.reads c.in_ok-more.ensures.shorter;
 }
 
 pub returns-in_err-more-clause-reads : goal.returns-in_err-more-clause-reads

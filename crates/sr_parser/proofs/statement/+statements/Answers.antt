@@ -16,8 +16,8 @@ use Rattle.sr_parser.proofs.Fields.{below_block}
 use Rattle.sr_parser.proofs.ArmSplits.{arm-splits, co-splits}
 use Rattle.sr_parser.proofs.statement.+statements.Goals as goal
 
-pub block_behind-returns-clause-reads : goal.block_behind-returns-clause-reads
-block_behind-returns-clause-reads t c = below_block _ _ _ c.block.ensures.reads
+pub block_after-returns-clause-reads : goal.block_after-returns-clause-reads
+block_after-returns-clause-reads t c = below_block _ _ _ c.block.ensures.reads
 
 pub arm-returns-clause-reads : goal.arm-returns-clause-reads
 arm-returns-clause-reads t c = λ k h.
@@ -33,7 +33,7 @@ pub more_branches-more-preserved : goal.more_branches-more-preserved
 more_branches-more-preserved t c = record {
   shorter = omega (arith, c.in_ok-more.ensures.shorter, c.more.invariant.shorter);
   leads = leads-step statement_readers (λ r. r.types.expressions.steps) steps-readers (λ (x : (List Branch × Option (List BlockItem)) × Bor (List Token)). (x.0, x.1.now)) is_alternative (λ r. next_alternative_at r (branch_at r)) c.args.first c.args.tokens.now c.more.state c.more.rest.now c.more.invariant.leads c.more.invariant.shorter
-      (c.in_ok-more.more, c.in_ok-more.behind) (sym c.next_is_alternative.ensures ∙ c.more-test.true) c.in_ok-more.ensures.reads c.in_ok-more.ensures.shorter;
+      (c.in_ok-more.more, c.in_ok-more.after) (sym c.next_is_alternative.ensures ∙ c.more-test.true) c.in_ok-more.ensures.reads c.in_ok-more.ensures.shorter;
 }
 
 pub more_branches-returns-in_err-more-clause-reads : goal.more_branches-returns-in_err-more-clause-reads
@@ -52,7 +52,7 @@ pub more_arms-more-preserved : goal.more_arms-more-preserved
 more_arms-more-preserved t c = record {
   shorter = omega (arith, c.in_ok-more.ensures.shorter, c.more.invariant.shorter);
   leads = leads-step statement_readers (λ r. r.types.expressions.steps) steps-readers (λ (x : (List Arm × Option (List BlockItem)) × Bor (List Token)). (x.0, x.1.now)) is_alternative (λ r. next_alternative_at r (arm_at r)) c.args.first c.args.tokens.now c.more.state c.more.rest.now c.more.invariant.leads c.more.invariant.shorter
-      (c.in_ok-more.more, c.in_ok-more.behind) (sym c.next_is_alternative.ensures ∙ c.more-test.true) c.in_ok-more.ensures.reads c.in_ok-more.ensures.shorter;
+      (c.in_ok-more.more, c.in_ok-more.after) (sym c.next_is_alternative.ensures ∙ c.more-test.true) c.in_ok-more.ensures.reads c.in_ok-more.ensures.shorter;
 }
 
 pub more_arms-returns-in_err-more-clause-reads : goal.more_arms-returns-in_err-more-clause-reads
@@ -71,7 +71,7 @@ pub more_co_arms-more-preserved : goal.more_co_arms-more-preserved
 more_co_arms-more-preserved t c = record {
   shorter = omega (arith, c.in_ok-more.ensures.shorter, c.more.invariant.shorter);
   leads = leads-step statement_readers (λ r. r.types.expressions.steps) steps-readers (λ (x : List CoArm × Bor (List Token)). (x.0, x.1.now)) is_parallel next_co_arm_at c.args.first c.args.tokens.now c.more.arms c.more.rest.now c.more.invariant.leads c.more.invariant.shorter
-      (c.in_ok-more.more, c.in_ok-more.behind) (sym c.next_is_sign.ensures ∙ c.more-test.true) c.in_ok-more.ensures.reads c.in_ok-more.ensures.shorter;
+      (c.in_ok-more.more, c.in_ok-more.after) (sym c.next_is_sign.ensures ∙ c.more-test.true) c.in_ok-more.ensures.reads c.in_ok-more.ensures.shorter;
 }
 
 pub more_co_arms-returns-in_err-more-clause-reads : goal.more_co_arms-returns-in_err-more-clause-reads
@@ -92,7 +92,7 @@ pub items-more-preserved : goal.items-more-preserved
 items-more-preserved t c = record {
   shorter = omega (arith, c.in_ok-more.ensures.shorter, c.more.invariant.shorter);
   leads = leads-step statement_readers (λ r. r.types.expressions.steps) steps-readers (λ (x : (List BlockItem × Bool) × Bor (List Token)). (x.0, x.1.now)) (may_go_on (λ t. begins_block_item t.kind)) (λ r. next_item_at (block_item_at r)) c.args.first c.args.tokens.now c.more.state c.more.rest.now c.more.invariant.leads c.more.invariant.shorter
-      (c.in_ok-more.more, c.in_ok-more.behind) (sym c.next_goes_on.ensures ∙ c.more-test.true) c.in_ok-more.ensures.reads c.in_ok-more.ensures.shorter;
+      (c.in_ok-more.more, c.in_ok-more.after) (sym c.next_goes_on.ensures ∙ c.more-test.true) c.in_ok-more.ensures.reads c.in_ok-more.ensures.shorter;
 }
 
 pub items-returns-in_err-more-clause-reads : goal.items-returns-in_err-more-clause-reads

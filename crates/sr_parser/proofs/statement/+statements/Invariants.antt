@@ -5,8 +5,8 @@ use Rattle.sr_program_reader.specs.DeclarationReaders.{may_go_on, next_item_at}
 use Rattle.sr_program_reader.specs.StatementReaders.{arm_at, begins_block_item, block_item_at, branch_at, is_alternative, is_parallel, next_alternative_at, next_co_arm_at, statement_readers}
 use Rattle.sr_parser.proofs.statement.+statements.Given as goal
 
-abbrev pub decreases-block_behind : goal.decreases-block_behind
-decreases-block_behind l = 128 * length l.tokens.now + 100
+abbrev pub decreases-block_after : goal.decreases-block_after
+decreases-block_after l = 128 * length l.tokens.now + 100
 
 abbrev pub decreases-block : goal.decreases-block
 decreases-block l = 128 * length l.tokens.now + 90

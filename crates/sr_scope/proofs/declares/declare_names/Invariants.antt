@@ -1,11 +1,11 @@
 -- The scope and what was noted so far, and what the rest adds, are what the whole list adds.
 use Rattle.std.proofs.Common.{◌≡◌, drop, map}
 use Rattle.sr_names.specs.declared.meaning.Sort.TheVariants.{Variable, Operation}
-use Rattle.sr_names.specs.Notes.{all_noted}
+use Rattle.sr_names.specs.Diagnostics.{all_noted}
 use Rattle.sr_scope.specs.Declares.{names_declared, names_twice, op_name}
 use Rattle.sr_scope.proofs.declares.declare_names.Given as goal
 
 abbrev pub invariant-loop-name : goal.invariant-loop-name
 invariant-loop-name l =
     (names_declared l.sort ((drop l.name-index l.names)) l.table ≡ names_declared l.sort (l.names) l.fn.table)
-    × (all_noted l.notes (names_twice l.sort ((drop l.name-index l.names)) l.table) ≡ all_noted l.fn.notes (names_twice l.sort (l.names) l.fn.table))
+    × (all_noted l.diagnostics (names_twice l.sort ((drop l.name-index l.names)) l.table) ≡ all_noted l.fn.diagnostics (names_twice l.sort (l.names) l.fn.table))

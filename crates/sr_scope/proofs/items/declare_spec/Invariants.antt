@@ -1,10 +1,10 @@
 -- The scope and what was noted so far, and what the rest adds, are what the whole list adds.
 use Rattle.std.proofs.Common.{◌≡◌, drop}
-use Rattle.sr_names.specs.Notes.{all_noted}
+use Rattle.sr_names.specs.Diagnostics.{all_noted}
 use Rattle.sr_scope.specs.Items.{specs_declared, specs_twice}
 use Rattle.sr_scope.proofs.items.declare_spec.Given as goal
 
 abbrev pub invariant-loop-item : goal.invariant-loop-item
 invariant-loop-item l =
     (specs_declared (drop l.item-index l.items) l.table ≡ specs_declared l.items l.fn.table)
-    × (all_noted l.notes (specs_twice (drop l.item-index l.items) l.table) ≡ all_noted l.fn.notes (specs_twice l.items l.fn.table))
+    × (all_noted l.diagnostics (specs_twice (drop l.item-index l.items) l.table) ≡ all_noted l.fn.diagnostics (specs_twice l.items l.fn.table))

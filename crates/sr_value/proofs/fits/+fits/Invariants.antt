@@ -1,4 +1,4 @@
--- What holds of the rest of the values holds of all, behind those that were looked at.
+-- What holds of the rest of the values holds of all, after those that were looked at.
 use Rattle.std.proofs.Common.{◌≡◌, ◌++◌, drop, map, Ok}
 use Rattle.sr_value.specs.Parts.{all_fit, each_fits, fitted_in, with_ok}
 use Rattle.sr_value.proofs.fits.+fits.Given as goal

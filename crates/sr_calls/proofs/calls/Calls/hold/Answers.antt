@@ -1,11 +1,11 @@
 use Rattle.std.proofs.Common.{[], ◌∷◌, ◌++◌, ap, refl, ◌∙◌, arith}
-use Rattle.sr_calls.proofs.DeskLemmas.{no_desk}
+use Rattle.sr_calls.proofs.ProcessCallsLemmas.{no_process_calls}
 use Rattle.sr_calls.proofs.StepLemmas.{Step, absent, could-hold, holds-more, keeps-answers, keeps-other-holds, lent, lent-same, made, on_err, on_ok, replies-stay}
 use Rattle.sr_calls.proofs.calls.Calls.hold.Goals as goal
 
-some : (c : goal.After-self-in-Some-1) → Step c.self.inside.desks.entries (c.get_mut.follows.lender c.hold.new.self).entries c.args.self.now c.args.actor c.in-Some.desk.now c.hold.new.self
+some : (c : goal.After-self-in-Some-1) → Step c.self.inside.by_process.entries (c.get_mut.follows.lender c.hold.new.self).entries c.args.self.now c.args.actor c.in-Some.process_calls.now c.hold.new.self
 some c =
-    lent c.self.inside.desks (c.get_mut.follows.lender c.hold.new.self) c.args.self.now c.args.actor c.in-Some.desk.now c.hold.new.self c.self.view_is c.in-Some.ensures.value
+    lent c.self.inside.by_process (c.get_mut.follows.lender c.hold.new.self) c.args.self.now c.args.actor c.in-Some.process_calls.now c.hold.new.self c.self.view_is c.in-Some.ensures.value
     (c.get_mut.follows.holds c.hold.new.self)
 
 pub returns-in-Some-clause-held : goal.returns-in-Some-clause-held
@@ -30,29 +30,29 @@ returns-in-Some-clause-answers c =
 
 pub returns-in-Some-clause-err : goal.returns-in-Some-clause-err
 returns-in-Some-clause-err c =
-    on_err c.hold.result c.hold.ensures.err (λ same. lent-same c.self.inside.desks (c.get_mut.follows.lender c.hold.new.self) c.args.self.now c.args.actor c.in-Some.desk.now c.hold.new.self c.self.view_is c.in-Some.ensures.value
+    on_err c.hold.result c.hold.ensures.err (λ same. lent-same c.self.inside.by_process (c.get_mut.follows.lender c.hold.new.self) c.args.self.now c.args.actor c.in-Some.process_calls.now c.hold.new.self c.self.view_is c.in-Some.ensures.value
     (c.get_mut.follows.holds c.hold.new.self) same)
 
 pub returns-in_err-hold-clause-succeeds : goal.returns-in_err-hold-clause-succeeds
 returns-in_err-hold-clause-succeeds c =
-    λ can. absurd (omega (arith, could-hold _ _ _ _ _ _ (absent c.self.inside.desks c.self.inside.desks c.args.self.now c.args.actor c.self.view_is c.in_default.ensures.value refl) can))
+    λ can. absurd (omega (arith, could-hold _ _ _ _ _ _ (absent c.self.inside.by_process c.self.inside.by_process c.args.self.now c.args.actor c.self.view_is c.in_default.ensures.value refl) can))
 
 pub returns-in_err-insert-clause-succeeds : goal.returns-in_err-insert-clause-succeeds
 returns-in_err-insert-clause-succeeds c =
-    λ can. absurd (omega (arith, could-hold _ _ _ _ _ _ (absent c.self.inside.desks c.self.inside.desks c.args.self.now c.args.actor c.self.view_is c.in_default.ensures.value refl) can))
+    λ can. absurd (omega (arith, could-hold _ _ _ _ _ _ (absent c.self.inside.by_process c.self.inside.by_process c.args.self.now c.args.actor c.self.view_is c.in_default.ensures.value refl) can))
 
-none : (c : goal.Joined-branch-3) → Step c.self.inside.desks.entries c.insert.new.self.entries c.args.self.now c.args.actor no_desk c.hold-2.new.self
+none : (c : goal.Joined-branch-3) → Step c.self.inside.by_process.entries c.insert.new.self.entries c.args.self.now c.args.actor no_process_calls c.hold-2.new.self
 none c =
-    made c.self.inside.desks c.get_mut.follows.lender-at-none c.insert.new.self c.args.self.now c.args.actor c.hold-2.new.self c.self.view_is c.in_default.ensures.value
+    made c.self.inside.by_process c.get_mut.follows.lender-at-none c.insert.new.self c.args.self.now c.args.actor c.hold-2.new.self c.self.view_is c.in_default.ensures.value
     c.get_mut.follows.holds-at-none c.in_ok-insert.ensures.updates
 
 pub returns-clause-held : goal.returns-clause-held
 returns-clause-held c =
-    holds-more _ _ _ _ _ _ (none c) (record { id = c.args.id; back = c.args.back; back_id = c.args.back_id }) (c.in_ok-hold.ensures.ok ∙ ap (λ all. all ++ (record { id = c.args.id; back = c.args.back; back_id = c.args.back_id }) ∷ []) c.new-desk.ensures.held)
+    holds-more _ _ _ _ _ _ (none c) (record { id = c.args.id; back = c.args.back; back_id = c.args.back_id }) (c.in_ok-hold.ensures.ok ∙ ap (λ all. all ++ (record { id = c.args.id; back = c.args.back; back_id = c.args.back_id }) ∷ []) c.new-process_calls.ensures.held)
 
 pub returns-clause-replies : goal.returns-clause-replies
 returns-clause-replies c =
-    replies-stay _ _ _ _ _ _ (none c) (c.in_ok-hold.ensures.replies ∙ c.new-desk.ensures.replies)
+    replies-stay _ _ _ _ _ _ (none c) (c.in_ok-hold.ensures.replies ∙ c.new-process_calls.ensures.replies)
 
 pub returns-clause-holds : goal.returns-clause-holds
 returns-clause-holds c =

@@ -1,11 +1,11 @@
 use Rattle.std.proofs.Common.{◌∙◌, arith}
-use Rattle.sr_calls.proofs.DeskLemmas.{no_desk}
+use Rattle.sr_calls.proofs.ProcessCallsLemmas.{no_process_calls}
 use Rattle.sr_calls.proofs.StepLemmas.{Step, can-answer-now, can-hold-now, held-stays, keeps-answers, keeps-holds, lent, made, on_ok, replies-stay}
 use Rattle.sr_calls.proofs.calls.Calls.reserve.Goals as goal
 
-some : (c : goal.After-self-in-Some-1) → Step c.self.inside.desks.entries (c.get_mut.follows.lender c.reserve.new.self).entries c.args.self.now c.args.process c.in-Some.desk.now c.reserve.new.self
+some : (c : goal.After-self-in-Some-1) → Step c.self.inside.by_process.entries (c.get_mut.follows.lender c.reserve.new.self).entries c.args.self.now c.args.process c.in-Some.process_calls.now c.reserve.new.self
 some c =
-    lent c.self.inside.desks (c.get_mut.follows.lender c.reserve.new.self) c.args.self.now c.args.process c.in-Some.desk.now c.reserve.new.self c.self.view_is c.in-Some.ensures.value
+    lent c.self.inside.by_process (c.get_mut.follows.lender c.reserve.new.self) c.args.self.now c.args.process c.in-Some.process_calls.now c.reserve.new.self c.self.view_is c.in-Some.ensures.value
     (c.get_mut.follows.holds c.reserve.new.self)
 
 pub returns-in-Some-clause-can_hold : goal.returns-in-Some-clause-can_hold
@@ -32,9 +32,9 @@ pub returns-in-Some-clause-answers : goal.returns-in-Some-clause-answers
 returns-in-Some-clause-answers c =
     keeps-answers _ _ _ _ _ _ (some c) c.reserve.ensures.kept.answers
 
-none : (c : goal.Joined-branch-3) → Step c.self.inside.desks.entries c.insert.new.self.entries c.args.self.now c.args.process no_desk c.reserve-2.new.self
+none : (c : goal.Joined-branch-3) → Step c.self.inside.by_process.entries c.insert.new.self.entries c.args.self.now c.args.process no_process_calls c.reserve-2.new.self
 none c =
-    made c.self.inside.desks c.get_mut.follows.lender-at-none c.insert.new.self c.args.self.now c.args.process c.reserve-2.new.self c.self.view_is c.in_default.ensures.value
+    made c.self.inside.by_process c.get_mut.follows.lender-at-none c.insert.new.self c.args.self.now c.args.process c.reserve-2.new.self c.self.view_is c.in_default.ensures.value
     c.get_mut.follows.holds-at-none c.in_ok-insert.ensures.updates
 
 pub returns-clause-can_hold : goal.returns-clause-can_hold
@@ -47,11 +47,11 @@ returns-clause-can_answer c =
 
 pub returns-clause-held : goal.returns-clause-held
 returns-clause-held c =
-    held-stays _ _ _ _ _ _ (none c) (c.in_ok-reserve.ensures.held ∙ c.new-desk.ensures.held)
+    held-stays _ _ _ _ _ _ (none c) (c.in_ok-reserve.ensures.held ∙ c.new-process_calls.ensures.held)
 
 pub returns-clause-replies : goal.returns-clause-replies
 returns-clause-replies c =
-    replies-stay _ _ _ _ _ _ (none c) (c.in_ok-reserve.ensures.replies ∙ c.new-desk.ensures.replies)
+    replies-stay _ _ _ _ _ _ (none c) (c.in_ok-reserve.ensures.replies ∙ c.new-process_calls.ensures.replies)
 
 pub returns-clause-holds : goal.returns-clause-holds
 returns-clause-holds c =

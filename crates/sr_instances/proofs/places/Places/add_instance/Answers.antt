@@ -5,11 +5,11 @@ use Rattle.sr_instances.specs.Instances.{Instance, Placed, IsAdded, with_instanc
 use Rattle.sr_instances.specs.Tables.{first_of, instances_in, same_spot}
 use Rattle.sr_instances.specs.declared.state.State.TheVariants.{Starting}
 use Rattle.sr_instances.specs.declared.tables.Spot.{Spot}
-use Rattle.sr_instances.specs.declared.tables.Standing.{Standing}
+use Rattle.sr_instances.specs.declared.tables.InstanceInfo.{InstanceInfo}
 use Rattle.sr_instances.proofs.TableLemmas.{absent, indexed-along, indexed-push, instances-push}
 use Rattle.sr_instances.proofs.places.Places.add_instance.Goals as goal
 
-entry : (c : goal.After-put) → ℕ × Standing
+entry : (c : goal.After-put) → ℕ × InstanceInfo
 entry c = (c.args.name, record { component = c.args.component; machine = c.args.vm; state = Starting })
 
 grown : (c : goal.After-put) → c.put.new.table.entries ≡ c.self.inside.instances.entries ++ entry c ∷ []

@@ -3,7 +3,7 @@ use Rattle.std.specs.Map.{lookup}
 use Rattle.std.proofs.Common.{nat_eq}
 use Rattle.sr_instances.specs.Instances.{Instance, Placed, instance_of, with_state}
 use Rattle.sr_instances.specs.Tables.{IsIndexed, instances_in}
-use Rattle.sr_instances.specs.declared.tables.Standing.{Standing}
+use Rattle.sr_instances.specs.declared.tables.InstanceInfo.{InstanceInfo}
 use Rattle.sr_instances.specs.declared.places.Places.TheInside.{Inside}
 use Rattle.sr_instances.specs.contracts.places.Places.{the_view}
 use Rattle.sr_instances.proofs.TableLemmas.{indexed-set, instances-set, is_some-look-up}
@@ -19,7 +19,7 @@ invariant_of-self c =
     elim c.match-get_mut.branch [
       | in-Some w ↦
           let standing = w.in-Some.standing.now in
-          let new : Standing = record standing { state = c.args.state } in
+          let new : InstanceInfo = record standing { state = c.args.state } in
           let entries = c.self.inside.instances.entries in
           subst (λ (x : Inside). IsIndexed x.instances.entries x.names x.globals.entries) (sym w.self-inside-is)
           (subst (λ es. IsIndexed es c.self.inside.names c.self.inside.globals.entries) (sym (c.get_mut.follows.holds new).0)
@@ -32,7 +32,7 @@ returns c =
     elim c.match-get_mut.branch [
       | in-Some w ↦
           let standing = w.in-Some.standing.now in
-          let new : Standing = record standing { state = c.args.state } in
+          let new : InstanceInfo = record standing { state = c.args.state } in
           let entries = c.self.inside.instances.entries in
           let placed : List Instance → Placed = λ is. record { instances = is; machines = c.self.inside.machines } in
           ap the_view w.self-inside-is

@@ -1,0 +1,91 @@
+ghost use Rattle.std.specs.Prelude.{◌≡◌, IfOk};
+ghost use Rattle.sr_meaning.specs.Expressions.{give_back};
+ghost use Rattle.sr_meaning.specs.Laws.{after_arguments};
+ghost use Rattle.sr_interpreter_expr.specs.Interpreters.{Agrees, here_of, stage_of};
+ghost use Rattle.sr_ask.specs.Invocations.{places_back, value_after, values_sent};
+
+use crate::interpreter::Interpreter;
+use crate::invoke::{default_value, reply_to, store_from};
+use crate::listening::{IsMade, ask};
+use crate::scene::Scene;
+use crate::stop::Stop;
+use sr_ask::{Located, Request, Sent};
+use sr_value::{Cap, Duplicate, NoMemory, Row, Shape, Value};
+use std::alloc::Global;
+
+/// The values that an invocation sends.
+pub fn values_in(alloc: Global, sent: &[Sent]) -> Result<Row<Value>, NoMemory>
+    ensures { IfOk result (λ values. values ≡ values_sent sent.now) }
+{
+    let mut values = Row::new(alloc);
+    for one in sent {
+        if let Some(value) = &one.value {
+            values.push(value.copy(alloc)?)?;
+        }
+    }
+    Ok(values)
+}
+
+/// The places that the results of an invocation go to.
+pub fn places_in(alloc: Global, sent: &[Sent]) -> Result<Row<Located>, NoMemory>
+    ensures { IfOk result (λ places. places ≡ places_back sent.now) }
+{
+    let mut places = Row::new(alloc);
+    for one in sent {
+        if let Some(place) = &one.back {
+            places.push(place.copy(alloc)?)?;
+        }
+    }
+    Ok(places)
+}
+
+/// The value after the results.
+fn value_after(mut left: Row<Value>) -> Value
+    ensures { result ≡ value_after left }
+{
+    if left.is_empty() {
+        Value::Bool(false)
+    } else {
+        left.remove(0)
+    }
+}
+
+/// Stores the results of a reply, and gives the value.
+pub fn give_back(
+    scene: &Scene,
+    interpreter: &mut Interpreter,
+    places: &[Located],
+    returns: &Option<Shape>,
+    reply: &Option<Row<Value>>,
+) -> Result<Value, Stop>
+    ensures { Agrees (give_back places.now returns.now reply.now (here_of scene.now) (stage_of interpreter.old)) result (stage_of interpreter.new) }
+{
+    match reply {
+        None => default_value(scene, interpreter, returns),
+        Some(results) => {
+            let left = store_from(scene, interpreter, places, results.as_slice(), 0)?;
+            Ok(value_after(left))
+        }
+    }
+}
+
+/// A call whose target and arguments are there.
+pub fn call(
+    scene: &Scene,
+    interpreter: &mut Interpreter,
+    target: Cap,
+    sent: &Row<Sent>,
+    returns: &Option<Shape>,
+) -> Result<Value, Stop>
+    ensures { Agrees (after_arguments target sent.now returns.now (here_of scene.now) (stage_of interpreter.old)) result (stage_of interpreter.new) }
+{
+    let places = places_in(scene.alloc, sent.as_slice())?;
+    let request = Request::Invoke {
+        target,
+        args: values_in(scene.alloc, sent.as_slice())?,
+        wants: true,
+    };
+    let id = ask(scene, interpreter, &IsMade, request)?;
+    let reply = reply_to(scene, interpreter, id)?;
+    give_back(scene, interpreter, places.as_slice(), returns, &reply)
+}

@@ -1,0 +1,95 @@
+ghost use Rattle.std.specs.Prelude.{◌≡◌, ◌++◌, drop, MatchResult, OnOk};
+ghost use Rattle.sr_meaning.specs.Expressions.{default_given, taken};
+ghost use Rattle.sr_meaning.specs.Places.{store_results};
+ghost use Rattle.sr_interpreter_expr.specs.Interpreters.{Agrees, here_of, stage_of};
+
+use crate::interpreter::Interpreter;
+use crate::listening::{IsReply, ask};
+use crate::places::store;
+use crate::scene::Scene;
+use crate::settle::failed;
+use crate::stop::Stop;
+use sr_ask::{Located, Request};
+use sr_value::{Duplicate, NoMemory, Row, Shape, Value, ValueFail, default_of};
+use std::alloc::Global;
+
+/// The reply to one invocation.
+pub fn reply_to(
+    scene: &Scene,
+    interpreter: &mut Interpreter,
+    id: u32,
+) -> Result<Option<Row<Value>>, Stop>
+    ensures { Agrees (taken id (here_of scene.now) (stage_of interpreter.old)) result (stage_of interpreter.new) }
+{
+    let mut ids = Row::new(scene.alloc);
+    ids.push(id)?;
+    let reply = ask(scene, interpreter, &IsReply { id }, Request::Take { ids })?;
+    Ok(reply.results)
+}
+
+/// The default of the returned type, which a call of `noop` gives.
+pub fn default_value(
+    scene: &Scene,
+    interpreter: &Interpreter,
+    returns: &Option<Shape>,
+) -> Result<Value, Stop>
+    ensures { Agrees (default_given returns.now (here_of scene.now) (stage_of interpreter.now)) result (stage_of interpreter.now) }
+{
+    match returns {
+        None => Ok(Value::Bool(false)),
+        Some(shape) => match default_of(scene.alloc, shape) {
+            Ok(value) => Ok(value),
+            Err(ValueFail::Fault(fault)) => failed(scene, interpreter, fault),
+            Err(ValueFail::NoMemory) => Err(Stop::NoMemory),
+        },
+    }
+}
+
+/// Stores results in their places, in order, from one on. Returns copies of the results that are left.
+pub fn store_from(
+    scene: &Scene,
+    interpreter: &mut Interpreter,
+    places: &[Located],
+    results: &[Value],
+    at: usize,
+) -> Result<Row<Value>, Stop>
+    ensures { Agrees (store_results (drop at places.now) (drop at results.now) (here_of scene.now) (stage_of interpreter.old)) result (stage_of interpreter.new) }
+{
+    match places.get(at) {
+        None => left_from(scene, results, at),
+        Some(place) => match results.get(at) {
+            None => left_from(scene, results, at),
+            Some(value) => {
+                store(scene, interpreter, place, value.copy(scene.alloc)?)?;
+                store_from(scene, interpreter, places, results, at + 1)
+            }
+        },
+    }
+}
+
+/// Copies of the results from one on.
+fn left_from(scene: &Scene, results: &[Value], at: usize) -> Result<Row<Value>, Stop>
+    ensures { MatchResult result (λ left. left ≡ drop at results.now) (λ stop. stop ≡ Stop.NoMemory) }
+{
+    let mut left = Row::new(scene.alloc);
+    copy_from(scene.alloc, &mut left, results, at)?;
+    Ok(left)
+}
+
+/// Copies of the results from one on, after others.
+fn copy_from(
+    alloc: Global,
+    left: &mut Row<Value>,
+    results: &[Value],
+    at: usize,
+) -> Result<(), NoMemory>
+    ensures { OnOk result (left.new ≡ left.old ++ drop at results.now) }
+{
+    match results.get(at) {
+        None => Ok(()),
+        Some(value) => {
+            left.push(value.copy(alloc)?)?;
+            copy_from(alloc, left, results, at + 1)
+        }
+    }
+}

@@ -1,6 +1,0 @@
-use Rattle.sr_walker_expr.specs.Walkers.{here_of, stage_of}
-use Rattle.sr_meaning.proofs.Forever.{forever}
-use Rattle.sr_walker_parts.proofs.lasting.ask_for_good.Goals as goal
-
-pub returns : goal.returns
-returns c = forever _ (here_of c.args.scene.now).limit (stage_of c.args.walker.now)
