@@ -1,5 +1,6 @@
 use crate::expression::Expr;
 use crate::formal::{Formal, Returned};
+use crate::statement::Scope;
 use sr_value::{Place, Row};
 
 /// Something of the process that a guard names, and that goes with its `Select`.
@@ -30,6 +31,8 @@ pub struct Arm {
 /// An `in` statement as selection sees it.
 #[derive(Debug, Drop)]
 pub struct Site {
+    /// Whether its operations belong to the instance or to the process. They are never mixed.
+    pub scope: Scope,
     pub arms: Row<Arm>,
     /// Whether it has an `else`.
     pub has_else: bool,

@@ -23,6 +23,7 @@ use Rattle.sr_core.specs.declared.site.Arm.{Arm}
 use Rattle.sr_core.specs.declared.site.Named.{Named}
 use Rattle.sr_core.specs.declared.site.Named.TheVariants as named
 use Rattle.sr_core.specs.declared.site.Site.{Site}
+use Rattle.sr_core.specs.declared.statement.Scope.{Scope}
 use Rattle.sr_tables.specs.Lists.{maybe, lists}
 
 -- ---- what an expression names of the process
@@ -129,5 +130,5 @@ with_named names name = if list_any (same_named name) names then names else name
 abbrev pub names_of : List Arm → List Named
 names_of arms = fold with_named [] (flat_map arm_outer arms)
 
-abbrev pub site_of : List Arm → Bool → Site
-site_of arms has_else = record { arms = arms; has_else = has_else; names = names_of arms }
+abbrev pub site_of : Scope → List Arm → Bool → Site
+site_of scope arms has_else = record { scope = scope; arms = arms; has_else = has_else; names = names_of arms }

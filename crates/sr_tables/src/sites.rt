@@ -6,7 +6,7 @@ ghost use Rattle.sr_tables.specs.Lists.{maybe, lists};
 
 use sr_core::{
     Argument, Arm, Expr, Formal, Home, Leaf, Named, OperationOwner, Part, PlaceExpr, Reading,
-    Returned, Root, Site, Step,
+    Returned, Root, Scope, Site, Step,
 };
 use sr_value::{NoMemory, Row};
 use std::alloc::Global;
@@ -288,12 +288,18 @@ fn names_of(alloc: Global, arms: &[Arm]) -> Result<Row<Named>, NoMemory>
     Ok(names)
 }
 
-/// The site of a statement with these arms.
-pub fn site_of(alloc: Global, arms: Row<Arm>, has_else: bool) -> Result<Site, NoMemory>
-    ensures { IfOk result (λ site. site ≡ sites.site_of arms has_else) }
+/// The site of a statement with these arms, whose operations are of this scope.
+pub fn site_of(
+    alloc: Global,
+    scope: Scope,
+    arms: Row<Arm>,
+    has_else: bool,
+) -> Result<Site, NoMemory>
+    ensures { IfOk result (λ site. site ≡ sites.site_of scope arms has_else) }
 {
     let names = names_of(alloc, arms.as_slice())?;
     Ok(Site {
+        scope,
         arms,
         has_else,
         names,
