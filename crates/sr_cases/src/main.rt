@@ -2,16 +2,7 @@
 //! there. Its words are the names of the files. It prints a line for each file, and each case that differs.
 #![tactic(auto)]
 
-mod answers;
-mod asks;
-mod checks;
-mod cores;
-mod edits;
-mod names;
-mod processes;
-mod subject;
-
-use crate::subject::{Subject, report_of};
+use sr_case_reports::{Subject, report_of};
 use std::alloc::Global;
 use std::rt::{Env, Files};
 use std::{env, fs, io};

@@ -21,7 +21,7 @@ use Rattle.sr_tree.specs.declared.component.File.{File}
 use Rattle.sr_desugar.specs.Core.{core_of}
 use Rattle.sr_desugar.proofs.CoreNumbers.{codes, procs}
 use Rattle.sr_desugar.proofs.WaitsCode.{core_waits}
-use Rattle.sr_front.specs.declared.program.Accepted.{Accepted}
+use Rattle.sr_front.specs.declared.program.Checked.{Checked}
 use Rattle.sr_front.specs.Program.{IsAccepted}
 use Rattle.sr_front.proofs.AllowedCode.{accepted_allowed}
 use Rattle.sr_front.proofs.Clear.{all_clear}
@@ -39,7 +39,7 @@ use Rattle.sr_front.proofs.SpotsApart.{spots-apart}
 use Rattle.sr_front.proofs.WaitApart.{waits_apart}
 use Rattle.sr_front.proofs.CoreParts.{well_made}
 
-module _ (contents : List (List ℕ)) (accepted : Accepted) (is : IsAccepted contents accepted) where
+module _ (contents : List (List ℕ)) (accepted : Checked) (is : IsAccepted contents accepted) where
   abbrev trees : List File
   trees = accepted.trees
 

@@ -8,11 +8,11 @@ use Rattle.sr_scope.specs.declared.program.Names.{Names}
 use Rattle.sr_scope.specs.Resolved.{resolved}
 use Rattle.sr_check_expr.specs.declared.facts.Facts.{Facts}
 use Rattle.sr_check.specs.Checked.{verdict}
-use Rattle.sr_front.specs.declared.program.Accepted.{Accepted}
+use Rattle.sr_front.specs.declared.program.Checked.{Checked}
 use Rattle.sr_front.specs.Reading.{AreRead, AreRefused}
 
 -- the files are read, each use of a name in their trees has its meaning, and no rule of kinds and types is broken
-pub record IsAccepted (contents : List (List ℕ)) (accepted : Accepted) : Type 0 where
+pub record IsAccepted (contents : List (List ℕ)) (accepted : Checked) : Type 0 where
   pub read : AreRead contents accepted.trees
   pub names : Names
   pub named : resolved accepted.trees ≡ Ok names
@@ -27,7 +27,7 @@ pub data IsRefused (contents : List (List ℕ)) (refusal : Refusal) : Type 0 whe
       → verdict names.uses names.specs trees ≡ Err refusal → IsRefused contents refusal
 
 -- what becomes of trees with this verdict
-abbrev pub IsChecked : List File → Result Facts Refusal → Result Accepted FrontFail → Type 0
+abbrev pub IsChecked : List File → Result Facts Refusal → Result Checked FrontFail → Type 0
 IsChecked trees meant (Ok accepted) = (accepted.trees ≡ trees) × (meant ≡ Ok accepted.facts)
 IsChecked trees meant (Err (Refused refusal)) = meant ≡ Err refusal
 IsChecked trees meant (Err NoMemory) = Unit {0}

@@ -4,7 +4,7 @@ ghost use Rattle.sr_front.specs.Cores.{IsCoreOf, IsWrittenOut};
 ghost use Rattle.sr_front.specs.Program.{IsRefused};
 ghost use Rattle.sr_front.specs.Reading.{IsRefusal, contents_of};
 
-use crate::program::{Accepted, accept};
+use crate::program::{Checked, accept};
 use sr_classes::partition;
 use sr_core::{Classes, Core};
 use sr_desugar::to_core;
@@ -26,10 +26,10 @@ pub fn core_of(alloc: Global, files: &[(Text, Text)]) -> Result<(Core, Classes),
 }
 
 /// The core of a program that is accepted, with its classes.
-fn written_out(alloc: Global, accepted: Accepted) -> Result<(Core, Classes), NoMemory>
+fn written_out(alloc: Global, accepted: Checked) -> Result<(Core, Classes), NoMemory>
     ensures { IfOk result (IsWrittenOut accepted) }
 {
-    let Accepted { trees, facts } = accepted;
+    let Checked { trees, facts } = accepted;
     let core = to_core(alloc, trees.as_slice(), facts)?;
     let classes = partition(alloc, &core)?;
     Ok((core, classes))

@@ -11,5 +11,5 @@ mod sources;
 pub use cores::core_of;
 pub use laws::spots_apart;
 pub use phases::MOST_BYTES;
-pub use program::{Accepted, accept};
+pub use program::{Checked, accept};
 pub use sources::read;

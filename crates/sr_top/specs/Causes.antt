@@ -8,7 +8,7 @@ use Rattle.sr_text.specs.declared.refusal.Refusal.{Refusal}
 use Rattle.sr_text.specs.declared.refusal.Kind.TheVariants.{NotBuilt}
 use Rattle.sr_top.specs.declared.report.Ending.{Ending}
 use Rattle.sr_top.specs.declared.report.Ending.TheVariants.{Done, Quiet, Stopped, Failed, Limit, Refused, NoFile, ReadFault, WriteFault, NoMemory, Usage}
-use Rattle.sr_front.specs.declared.program.Accepted.{Accepted}
+use Rattle.sr_front.specs.declared.program.Checked.{Checked}
 use Rattle.sr_front.specs.Program.{IsAccepted, IsRefused}
 use Rattle.sr_top.specs.Small.{small_texts}
 use Rattle.sr_top.specs.Run.{IsWholeRun, IsCutShort, IsCutInWrite}
@@ -58,13 +58,13 @@ pub record EndsNoFile (call : Call) (file : ℕ) : Type 0 where
 pub record IsSmall (call : Call) (texts : List (List ℕ)) : Type 0 where
   pub bytes : List ℕ
   pub read : Reads call bytes
-  pub program : Accepted
+  pub program : Checked
   pub accepted : IsAccepted (bytes ∷ []) program
   pub small : small_texts program.trees ≡ Some texts
 
 -- the file is accepted, but it isn't a small program, and nothing else can be run yet
 pub record IsNotBuilt (bytes : List ℕ) (refusal : Refusal) : Type 0 where
-  pub program : Accepted
+  pub program : Checked
   pub accepted : IsAccepted (bytes ∷ []) program
   pub no_small : small_texts program.trees ≡ None
   pub is : refusal ≡ record { kind = NotBuilt; place = record { file = 0; line = 1 } }
@@ -125,7 +125,7 @@ TextCause bytes items held held_now faults faults_now ending =
     → Reads call bytes → HasCause call ending
 
 -- the same for a program that was accepted
-abbrev pub ProgramCause : Accepted → List Item → Option (List ℕ) → Option (List ℕ) → ℕ → ℕ → Ending → Type 0
+abbrev pub ProgramCause : Checked → List Item → Option (List ℕ) → Option (List ℕ) → ℕ → ℕ → Ending → Type 0
 ProgramCause program items held held_now faults faults_now ending =
     (call : Call) (bytes : List ℕ) → call.items ≡ items → call.held ≡ held → call.held_now ≡ held_now → call.write_faults ≡ faults
     → call.write_faults_now ≡ faults_now → Reads call bytes → IsAccepted (bytes ∷ []) program → HasCause call ending

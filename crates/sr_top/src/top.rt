@@ -15,7 +15,7 @@ use crate::run::run_writes;
 use crate::small::small_texts;
 use crate::words::file_word;
 use sr_ask::Item;
-use sr_front::{Accepted, accept};
+use sr_front::{Checked, accept};
 use sr_ports::{Files, Gate, PortFail, Sink, Source};
 use sr_text::{FrontFail, Kind, Refusal};
 use sr_value::{Place, Row, Text};
@@ -146,7 +146,7 @@ fn run_text<O: Sink>(alloc: Global, name: &[u8], bytes: Vec<u8>, output: &mut O)
 }
 
 /// The program that the text of a file is, or its refusal.
-fn accepted(alloc: Global, name: &[u8], bytes: Vec<u8>) -> Result<Accepted, FrontFail>
+fn accepted(alloc: Global, name: &[u8], bytes: Vec<u8>) -> Result<Checked, FrontFail>
     ensures accepted { IfOk result (IsAccepted (bytes.items ∷ [])) }
     ensures refused { IfErr result (IsRefusal (IsRefused (bytes.items ∷ []))) }
 {
@@ -155,7 +155,7 @@ fn accepted(alloc: Global, name: &[u8], bytes: Vec<u8>) -> Result<Accepted, Fron
 }
 
 /// Runs a small program.
-fn run_program<O: Sink>(alloc: Global, program: &Accepted, output: &mut O) -> Outcome
+fn run_program<O: Sink>(alloc: Global, program: &Checked, output: &mut O) -> Outcome
     ensures { ProgramCause program.now result.items (O.held output.old) (O.held output.new) (O.faults output.old) (O.faults output.new) result.ending }
 {
     match small_texts(alloc, program.trees.as_slice()) {

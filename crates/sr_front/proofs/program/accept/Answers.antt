@@ -8,7 +8,7 @@ use Rattle.sr_tree.specs.declared.component.File.{File}
 use Rattle.sr_scope.specs.Resolved.{Answers, resolved}
 use Rattle.sr_scope.specs.declared.program.Names.{Names}
 use Rattle.sr_check.specs.Checked.{verdict}
-use Rattle.sr_front.specs.declared.program.Accepted.{Accepted}
+use Rattle.sr_front.specs.declared.program.Checked.{Checked}
 use Rattle.sr_front.specs.Program.{IsAccepted, IsRefused, IsChecked, in_reading, in_names, in_types}
 use Rattle.sr_front.specs.Reading.{AreRead, AreRefused, IsRefusal, contents_of}
 use Rattle.sr_front.proofs.FileByFile.{as_many}
@@ -24,7 +24,7 @@ refused_in_names contents trees (Refused refusal) read refused = in_names read r
 refused_in_names contents trees NoMemory read refused = refused
 
 -- trees that pass with these names are those of the program
-accepted_with : (contents : List (List ℕ)) (trees : List File) (names : Names) (accepted : Accepted) → AreRead contents trees → resolved trees ≡ Ok names
+accepted_with : (contents : List (List ℕ)) (trees : List File) (names : Names) (accepted : Checked) → AreRead contents trees → resolved trees ≡ Ok names
     → accepted.trees ≡ trees → verdict names.uses names.specs trees ≡ Ok accepted.facts → IsAccepted contents accepted
 accepted_with contents trees names accepted read named same met = record {
   read = subst (AreRead contents) (sym same) read;
@@ -33,7 +33,7 @@ accepted_with contents trees names accepted read named same met = record {
   checked = ap (verdict names.uses names.specs) same ∙ met;
 }
 
-accepted_by : (contents : List (List ℕ)) (trees : List File) (names : Names) (result : Result Accepted FrontFail) → AreRead contents trees
+accepted_by : (contents : List (List ℕ)) (trees : List File) (names : Names) (result : Result Checked FrontFail) → AreRead contents trees
     → resolved trees ≡ Ok names → IsChecked trees (verdict names.uses names.specs trees) result → IfOk result (IsAccepted contents)
 accepted_by contents trees names (Ok accepted) read named checked_trees = accepted_with contents trees names accepted read named checked_trees.0 checked_trees.1
 accepted_by contents trees names (Err fail) read named checked_trees = tt
@@ -43,7 +43,7 @@ refused_in_types : (contents : List (List ℕ)) (trees : List File) (names : Nam
 refused_in_types contents trees names (Refused refusal) read named checked_trees = in_types {names = names} read named checked_trees
 refused_in_types contents trees names NoMemory read named checked_trees = tt
 
-refused_by : (contents : List (List ℕ)) (trees : List File) (names : Names) (result : Result Accepted FrontFail) → AreRead contents trees
+refused_by : (contents : List (List ℕ)) (trees : List File) (names : Names) (result : Result Checked FrontFail) → AreRead contents trees
     → resolved trees ≡ Ok names → IsChecked trees (verdict names.uses names.specs trees) result → IfErr result (IsRefusal (IsRefused contents))
 refused_by contents trees names (Ok accepted) read named checked_trees = tt
 refused_by contents trees names (Err fail) read named checked_trees = refused_in_types contents trees names fail read named checked_trees
