@@ -34,9 +34,9 @@ operators-more-preserved t c = record {
       (c.in_ok-whole.whole, c.in_ok-whole.after) (sym c.next_is_operator.ensures ∙ c.more-test.true) c.in_ok-whole.ensures.reads c.in_ok-whole.ensures.shorter;
 }
 
-pub operators-returns-in_err-complete-clause-reads : goal.operators-returns-in_err-complete-clause-reads
+pub operators-returns-in_err-whole-clause-reads : goal.operators-returns-in_err-whole-clause-reads
 unfolding operators_at
-operators-returns-in_err-complete-clause-reads t c =
+operators-returns-in_err-whole-clause-reads t c =
     let p = err_from_is_err_and c.from_residual.result c.from_residual.ensures.1 in
     rw (p.1, p.2)
     (leads-fail readers (λ r. r.steps) steps-readers (λ (x : Expr × Bor (List Token)). (x.0, x.1.now)) (is_operator c.args.limit) operation_at c.args.first c.args.tokens.now c.more.left c.more.rest.now c.more.invariant.leads c.more.invariant.shorter
@@ -76,9 +76,9 @@ suffixes-more-preserved t c = record {
       (c.in_ok-whole.whole, c.in_ok-whole.after) (sym c.next_is_suffix.ensures ∙ c.more-test.true) c.in_ok-whole.ensures.reads c.in_ok-whole.ensures.shorter;
 }
 
-pub suffixes-returns-in_err-complete-clause-reads : goal.suffixes-returns-in_err-complete-clause-reads
+pub suffixes-returns-in_err-whole-clause-reads : goal.suffixes-returns-in_err-whole-clause-reads
 unfolding suffixes_at
-suffixes-returns-in_err-complete-clause-reads t c =
+suffixes-returns-in_err-whole-clause-reads t c =
     let p = err_from_is_err_and c.from_residual.result c.from_residual.ensures.1 in
     rw (p.1, p.2)
     (leads-fail readers (λ r. r.steps) steps-readers (λ (x : Expr × Bor (List Token)). (x.0, x.1.now)) is_suffix suffix_at c.args.start c.args.tokens.now c.more.primary c.more.rest.now c.more.invariant.leads c.more.invariant.shorter
