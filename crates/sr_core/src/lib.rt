@@ -19,7 +19,7 @@ pub use expression::{Argument, Expr, Function, Leaf, Part, PlaceExpr, Readable, 
 pub use formal::{Formal, FormalShape, Mode, Returned};
 pub use owner::{Classes, Home, Me, OperationOwner, Root};
 pub use piece::Piece;
-pub use site::{Arm, Named, Site};
+pub use site::{Arm, Named, SharedRead, Site};
 pub use statement::{
     Action, Bump, CoArm, CoCall, Declaration, DimsExpr, Direction, Guarded, ItemShape, Quantifier,
     Range, Scope, Setup, ShapeExpr, Statement,

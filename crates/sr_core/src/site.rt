@@ -1,5 +1,6 @@
 use crate::expression::Expr;
 use crate::formal::{Formal, Returned};
+use crate::owner::Home;
 use crate::statement::Scope;
 use sr_value::{Place, Row};
 
@@ -12,6 +13,14 @@ pub enum Named {
     Home(u32),
     /// The machine of the process.
     Machine,
+}
+
+/// A variable that all processes of an instance share, and that a guard reads.
+#[derive(Clone, Copy, Debug, PartialEq, Eq)]
+pub struct SharedRead {
+    pub home: Home,
+    /// Its number in the component.
+    pub var: u32,
 }
 
 /// The head of an arm of an `in` statement.
@@ -38,4 +47,8 @@ pub struct Site {
     pub has_else: bool,
     /// What its guards name of the process.
     pub names: Row<Named>,
+    /// The shared variables that its guards read.
+    pub reads: Row<SharedRead>,
+    /// The operations whose pending invocations its guards count.
+    pub counts: Row<u32>,
 }

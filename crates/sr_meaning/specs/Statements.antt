@@ -341,7 +341,7 @@ named_value named_machine here stage = Came (Capa (Vm here.start.vm)) stage
 
 -- what a site without number has: no arms
 abbrev pub no_site : Site
-no_site = record { scope = shared_scope; arms = []; has_else = false; names = [] }
+no_site = record { scope = shared_scope; arms = []; has_else = false; names = []; reads = []; counts = [] }
 
 abbrev pub site_at : ℕ → Here → Site
 site_at site here = unwrap_or (slice_get here.core.sites site) no_site

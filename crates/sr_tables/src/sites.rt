@@ -1,57 +1,42 @@
-//! What the guards of statements that wait name of the process.
-ghost use Rattle.std.specs.Prelude.{◌≡◌, ◌==◌, ◌++◌, IfOk, OnOk, filter, map, fold};
-ghost use Rattle.std.specs.List.{list_any};
+//! What the guards of statements that wait name of the process, and what they read of the world.
+ghost use Rattle.std.specs.Prelude.{◌≡◌, ◌==◌, ◌++◌, [], IfOk, OnOk, filter, flat_map, map, fold};
+ghost use Rattle.std.specs.List.{list_any, filter_map};
 ghost use Rattle.sr_tables.specs.Sites as sites;
 ghost use Rattle.sr_tables.specs.Lists.{maybe, lists};
 
 use sr_core::{
     Argument, Arm, Expr, Formal, Home, Leaf, Named, OperationOwner, Part, PlaceExpr, Reading,
-    Returned, Root, Scope, Site, Step,
+    Returned, Root, Scope, SharedRead, Site, Step,
 };
 use sr_value::{NoMemory, Row};
 use std::alloc::Global;
 
-fn note_home(home: Home, all: &mut Row<Named>) -> Result<(), NoMemory>
-    ensures { OnOk result (all.new ≡ all.old ++ sites.home_named home) }
-{
-    match home {
-        Home::Mine => Ok(()),
-        Home::Imported(import) => all.push(Named::Home(import)),
-    }
+/// What an expression mentions that stands outside it.
+#[derive(Clone, Copy)]
+pub enum Mention {
+    Variable(Root),
+    Operation(OperationOwner),
+    /// The machine of the process.
+    Machine,
+    /// An operation whose pending invocations are counted.
+    Count(u32),
 }
 
-fn note_root(root: Root, all: &mut Row<Named>) -> Result<(), NoMemory>
-    ensures { OnOk result (all.new ≡ all.old ++ sites.root_named root) }
-{
-    match root {
-        Root::Own(var) => all.push(Named::Own(var)),
-        Root::Shared { home, .. } => note_home(home, all),
-    }
-}
-
-fn note_whose(whose: OperationOwner, all: &mut Row<Named>) -> Result<(), NoMemory>
-    ensures { OnOk result (all.new ≡ all.old ++ sites.whose_named whose) }
-{
-    match whose {
-        OperationOwner::Imported(import) => all.push(Named::Home(import)),
-        OperationOwner::Mine | OperationOwner::Process => Ok(()),
-    }
-}
-
-fn note_leaf(leaf: &Leaf, all: &mut Row<Named>) -> Result<(), NoMemory>
-    ensures { OnOk result (all.new ≡ all.old ++ sites.leaf_named leaf.now) }
+fn note_leaf(leaf: &Leaf, all: &mut Row<Mention>) -> Result<(), NoMemory>
+    ensures { OnOk result (all.new ≡ all.old ++ sites.leaf_mentions leaf.now) }
 {
     match leaf {
-        Leaf::Operation { whose, .. } => note_whose(*whose, all),
-        Leaf::MyMachine => all.push(Named::Machine),
+        Leaf::Operation { whose, .. } => all.push(Mention::Operation(*whose)),
+        Leaf::MyMachine => all.push(Mention::Machine),
+        Leaf::Count { op } => all.push(Mention::Count(*op)),
         _ => Ok(()),
     }
 }
 
-/// Appends what an expression names to other names.
-#[cycle(named)]
-fn note_expr(expr: &Expr, all: &mut Row<Named>) -> Result<(), NoMemory>
-    ensures { OnOk result (all.new ≡ all.old ++ sites.named_in expr.now) }
+/// Appends what an expression mentions to other mentions.
+#[cycle(mentions)]
+fn note_expr(expr: &Expr, all: &mut Row<Mention>) -> Result<(), NoMemory>
+    ensures { OnOk result (all.new ≡ all.old ++ sites.mentions_in expr.now) }
 {
     match expr {
         Expr::Leaf(leaf) => note_leaf(leaf, all),
@@ -80,9 +65,9 @@ fn note_expr(expr: &Expr, all: &mut Row<Named>) -> Result<(), NoMemory>
     }
 }
 
-#[cycle(named)]
-fn note_exprs(exprs: &[Expr], all: &mut Row<Named>) -> Result<(), NoMemory>
-    ensures { OnOk result (all.new ≡ all.old ++ lists (map sites.named_in exprs.now)) }
+#[cycle(mentions)]
+fn note_exprs(exprs: &[Expr], all: &mut Row<Mention>) -> Result<(), NoMemory>
+    ensures { OnOk result (all.new ≡ all.old ++ lists (map sites.mentions_in exprs.now)) }
 {
     for expr in exprs {
         note_expr(expr, all)?;
@@ -90,17 +75,17 @@ fn note_exprs(exprs: &[Expr], all: &mut Row<Named>) -> Result<(), NoMemory>
     Ok(())
 }
 
-#[cycle(named)]
-fn note_place(place: &PlaceExpr, all: &mut Row<Named>) -> Result<(), NoMemory>
-    ensures { OnOk result (all.new ≡ all.old ++ sites.named_at place.now) }
+#[cycle(mentions)]
+fn note_place(place: &PlaceExpr, all: &mut Row<Mention>) -> Result<(), NoMemory>
+    ensures { OnOk result (all.new ≡ all.old ++ sites.mentions_at place.now) }
 {
-    note_root(place.root, all)?;
+    all.push(Mention::Variable(place.root))?;
     note_steps(place.path.as_slice(), all)
 }
 
-#[cycle(named)]
-fn note_steps(steps: &[Step], all: &mut Row<Named>) -> Result<(), NoMemory>
-    ensures { OnOk result (all.new ≡ all.old ++ lists (map sites.step_names steps.now)) }
+#[cycle(mentions)]
+fn note_steps(steps: &[Step], all: &mut Row<Mention>) -> Result<(), NoMemory>
+    ensures { OnOk result (all.new ≡ all.old ++ lists (map sites.mentions_in_step steps.now)) }
 {
     for step in steps {
         note_step(step, all)?;
@@ -108,9 +93,9 @@ fn note_steps(steps: &[Step], all: &mut Row<Named>) -> Result<(), NoMemory>
     Ok(())
 }
 
-#[cycle(named)]
-fn note_step(step: &Step, all: &mut Row<Named>) -> Result<(), NoMemory>
-    ensures { OnOk result (all.new ≡ all.old ++ sites.step_names step.now) }
+#[cycle(mentions)]
+fn note_step(step: &Step, all: &mut Row<Mention>) -> Result<(), NoMemory>
+    ensures { OnOk result (all.new ≡ all.old ++ sites.mentions_in_step step.now) }
 {
     match step {
         Step::At(index) => note_expr(index, all),
@@ -122,9 +107,9 @@ fn note_step(step: &Step, all: &mut Row<Named>) -> Result<(), NoMemory>
     }
 }
 
-#[cycle(named)]
-fn note_part(part: &Part, all: &mut Row<Named>) -> Result<(), NoMemory>
-    ensures { OnOk result (all.new ≡ all.old ++ sites.part_names part.now) }
+#[cycle(mentions)]
+fn note_part(part: &Part, all: &mut Row<Mention>) -> Result<(), NoMemory>
+    ensures { OnOk result (all.new ≡ all.old ++ sites.mentions_in_part part.now) }
 {
     match part {
         Part::One(value) => note_expr(value, all),
@@ -135,9 +120,9 @@ fn note_part(part: &Part, all: &mut Row<Named>) -> Result<(), NoMemory>
     }
 }
 
-#[cycle(named)]
-fn note_parts(parts: &[Part], all: &mut Row<Named>) -> Result<(), NoMemory>
-    ensures { OnOk result (all.new ≡ all.old ++ lists (map sites.part_names parts.now)) }
+#[cycle(mentions)]
+fn note_parts(parts: &[Part], all: &mut Row<Mention>) -> Result<(), NoMemory>
+    ensures { OnOk result (all.new ≡ all.old ++ lists (map sites.mentions_in_part parts.now)) }
 {
     for part in parts {
         note_part(part, all)?;
@@ -145,9 +130,9 @@ fn note_parts(parts: &[Part], all: &mut Row<Named>) -> Result<(), NoMemory>
     Ok(())
 }
 
-#[cycle(named)]
-fn note_argument(arg: &Argument, all: &mut Row<Named>) -> Result<(), NoMemory>
-    ensures { OnOk result (all.new ≡ all.old ++ sites.argument_names arg.now) }
+#[cycle(mentions)]
+fn note_argument(arg: &Argument, all: &mut Row<Mention>) -> Result<(), NoMemory>
+    ensures { OnOk result (all.new ≡ all.old ++ sites.mentions_in_argument arg.now) }
 {
     match arg {
         Argument::Val(value) => note_expr(value, all),
@@ -155,9 +140,9 @@ fn note_argument(arg: &Argument, all: &mut Row<Named>) -> Result<(), NoMemory>
     }
 }
 
-#[cycle(named)]
-fn note_arguments(args: &[Argument], all: &mut Row<Named>) -> Result<(), NoMemory>
-    ensures { OnOk result (all.new ≡ all.old ++ lists (map sites.argument_names args.now)) }
+#[cycle(mentions)]
+fn note_arguments(args: &[Argument], all: &mut Row<Mention>) -> Result<(), NoMemory>
+    ensures { OnOk result (all.new ≡ all.old ++ lists (map sites.mentions_in_argument args.now)) }
 {
     for arg in args {
         note_argument(arg, all)?;
@@ -165,9 +150,9 @@ fn note_arguments(args: &[Argument], all: &mut Row<Named>) -> Result<(), NoMemor
     Ok(())
 }
 
-#[cycle(named)]
-fn note_readings(readings: &[Reading], all: &mut Row<Named>) -> Result<(), NoMemory>
-    ensures { OnOk result (all.new ≡ all.old ++ lists (map sites.reading_names readings.now)) }
+#[cycle(mentions)]
+fn note_readings(readings: &[Reading], all: &mut Row<Mention>) -> Result<(), NoMemory>
+    ensures { OnOk result (all.new ≡ all.old ++ lists (map sites.mentions_in_reading readings.now)) }
 {
     for reading in readings {
         note_place(&reading.place, all)?;
@@ -175,12 +160,71 @@ fn note_readings(readings: &[Reading], all: &mut Row<Named>) -> Result<(), NoMem
     Ok(())
 }
 
-fn note_optional(expr: &Option<Expr>, all: &mut Row<Named>) -> Result<(), NoMemory>
-    ensures { OnOk result (all.new ≡ all.old ++ maybe sites.named_in expr.now) }
+fn note_optional(expr: &Option<Expr>, all: &mut Row<Mention>) -> Result<(), NoMemory>
+    ensures { OnOk result (all.new ≡ all.old ++ maybe sites.mentions_in expr.now) }
 {
     match expr {
         None => Ok(()),
         Some(expr) => note_expr(expr, all),
+    }
+}
+
+fn home_named(home: Home) -> Option<Named>
+    ensures { result ≡ sites.home_named home }
+{
+    match home {
+        Home::Mine => None,
+        Home::Imported(import) => Some(Named::Home(import)),
+    }
+}
+
+fn root_named(root: Root) -> Option<Named>
+    ensures { result ≡ sites.root_named root }
+{
+    match root {
+        Root::Own(var) => Some(Named::Own(var)),
+        Root::Shared { home, .. } => home_named(home),
+    }
+}
+
+fn whose_named(whose: OperationOwner) -> Option<Named>
+    ensures { result ≡ sites.whose_named whose }
+{
+    match whose {
+        OperationOwner::Imported(import) => Some(Named::Home(import)),
+        OperationOwner::Mine | OperationOwner::Process => None,
+    }
+}
+
+/// What is named of the process by what is mentioned.
+fn named_by(mention: Mention) -> Option<Named>
+    ensures { result ≡ sites.named_by mention }
+{
+    match mention {
+        Mention::Variable(root) => root_named(root),
+        Mention::Operation(whose) => whose_named(whose),
+        Mention::Machine => Some(Named::Machine),
+        Mention::Count(_) => None,
+    }
+}
+
+/// The shared variable that is read.
+fn read_by(mention: Mention) -> Option<SharedRead>
+    ensures { result ≡ sites.read_by mention }
+{
+    match mention {
+        Mention::Variable(Root::Shared { home, var }) => Some(SharedRead { home, var }),
+        _ => None,
+    }
+}
+
+/// The operation whose pending invocations are counted.
+fn counted_by(mention: Mention) -> Option<u32>
+    ensures { result ≡ sites.counted_by mention }
+{
+    match mention {
+        Mention::Count(op) => Some(op),
+        _ => None,
     }
 }
 
@@ -255,24 +299,32 @@ fn insert(names: &mut Row<Named>, name: Named) -> Result<(), NoMemory>
 }
 
 /// Appends those names that are no formals of an arm to others.
-fn insert_outer(arm: &Arm, all: &[Named], names: &mut Row<Named>) -> Result<(), NoMemory>
-    ensures { OnOk result (names.new ≡ fold sites.with_named names.old (filter (sites.is_outer arm.now) all.now)) }
+fn insert_outer(arm: &Arm, all: &[Mention], names: &mut Row<Named>) -> Result<(), NoMemory>
+    ensures { OnOk result (names.new ≡ fold sites.with_named names.old (filter (sites.is_outer arm.now) (filter_map sites.named_by all.now))) }
 {
-    for name in all {
-        if is_outer(arm, *name) {
-            insert(names, *name)?;
+    for mention in all {
+        match named_by(*mention) {
+            Some(name) if is_outer(arm, name) => insert(names, name)?,
+            _ => {}
         }
     }
     Ok(())
 }
 
+/// Appends what the guard and the order of an arm mention to other mentions.
+fn note_arm(arm: &Arm, all: &mut Row<Mention>) -> Result<(), NoMemory>
+    ensures { OnOk result (all.new ≡ all.old ++ sites.arm_mentions arm.now) }
+{
+    note_optional(&arm.guard, all)?;
+    note_optional(&arm.by, all)
+}
+
 /// Appends what the guard and the order of an arm name besides its formals to other names.
-fn note_arm(alloc: Global, arm: &Arm, names: &mut Row<Named>) -> Result<(), NoMemory>
+fn insert_arm(alloc: Global, arm: &Arm, names: &mut Row<Named>) -> Result<(), NoMemory>
     ensures { OnOk result (names.new ≡ fold sites.with_named names.old (sites.arm_outer arm.now)) }
 {
     let mut all = Row::new(alloc);
-    note_optional(&arm.guard, &mut all)?;
-    note_optional(&arm.by, &mut all)?;
+    note_arm(arm, &mut all)?;
     insert_outer(arm, all.as_slice(), names)
 }
 
@@ -283,9 +335,109 @@ fn names_of(alloc: Global, arms: &[Arm]) -> Result<Row<Named>, NoMemory>
 {
     let mut names = Row::new(alloc);
     for arm in arms {
-        note_arm(alloc, arm, &mut names)?;
+        insert_arm(alloc, arm, &mut names)?;
     }
     Ok(names)
+}
+
+/// What the guards of all arms mention.
+fn mentions_of(alloc: Global, arms: &[Arm]) -> Result<Row<Mention>, NoMemory>
+    ensures { IfOk result (λ all. all ≡ flat_map sites.arm_mentions arms.now) }
+{
+    let mut all = Row::new(alloc);
+    for arm in arms {
+        note_arm(arm, &mut all)?;
+    }
+    Ok(all)
+}
+
+fn same_home(home: Home, other: Home) -> bool
+    ensures { result ≡ sites.same_home home other }
+{
+    match home {
+        Home::Mine => match other {
+            Home::Mine => true,
+            Home::Imported(_) => false,
+        },
+        Home::Imported(import) => match other {
+            Home::Mine => false,
+            Home::Imported(other) => import == other,
+        },
+    }
+}
+
+fn same_read(read: SharedRead, other: SharedRead) -> bool
+    ensures { result ≡ sites.same_read read other }
+{
+    same_home(read.home, other.home) && read.var == other.var
+}
+
+fn is_read(reads: &[SharedRead], read: SharedRead) -> bool
+    ensures { result ≡ list_any (sites.same_read read) reads.now }
+{
+    for other in reads {
+        if same_read(read, *other) {
+            return true;
+        }
+    }
+    false
+}
+
+/// Appends a shared variable to others, unless it is there.
+fn insert_read(reads: &mut Row<SharedRead>, read: SharedRead) -> Result<(), NoMemory>
+    ensures { OnOk result (reads.new ≡ sites.with_read reads.old read) }
+{
+    if is_read(reads.as_slice(), read) {
+        return Ok(());
+    }
+    reads.push(read)
+}
+
+/// The shared variables among what is mentioned, each once.
+fn reads_among(alloc: Global, all: &[Mention]) -> Result<Row<SharedRead>, NoMemory>
+    ensures { IfOk result (λ reads. reads ≡ fold sites.with_read [] (filter_map sites.read_by all.now)) }
+{
+    let mut reads = Row::new(alloc);
+    for mention in all {
+        if let Some(read) = read_by(*mention) {
+            insert_read(&mut reads, read)?;
+        }
+    }
+    Ok(reads)
+}
+
+fn is_counted(counts: &[u32], op: u32) -> bool
+    ensures { result ≡ list_any (λ other. op == other) counts.now }
+{
+    for other in counts {
+        if op == *other {
+            return true;
+        }
+    }
+    false
+}
+
+/// Appends an operation to others, unless it is there.
+fn insert_count(counts: &mut Row<u32>, op: u32) -> Result<(), NoMemory>
+    ensures { OnOk result (counts.new ≡ sites.with_count counts.old op) }
+{
+    if is_counted(counts.as_slice(), op) {
+        return Ok(());
+    }
+    counts.push(op)
+}
+
+/// The operations that are counted among what is mentioned, each once.
+fn counts_among(alloc: Global, all: &[Mention]) -> Result<Row<u32>, NoMemory>
+    ensures { IfOk result (λ counts. counts ≡ fold sites.with_count [] (filter_map sites.counted_by all.now)) }
+{
+    let mut counts = Row::new(alloc);
+    for mention in all {
+        if let Some(op) = counted_by(*mention) {
+            insert_count(&mut counts, op)?;
+        }
+    }
+    Ok(counts)
 }
 
 /// The site of a statement with these arms, whose operations are of this scope.
@@ -298,10 +450,15 @@ pub fn site_of(
     ensures { IfOk result (λ site. site ≡ sites.site_of scope arms has_else) }
 {
     let names = names_of(alloc, arms.as_slice())?;
+    let all = mentions_of(alloc, arms.as_slice())?;
+    let reads = reads_among(alloc, all.as_slice())?;
+    let counts = counts_among(alloc, all.as_slice())?;
     Ok(Site {
         scope,
         arms,
         has_else,
         names,
+        reads,
+        counts,
     })
 }
