@@ -14,7 +14,7 @@ use Rattle.sr_value.specs.declared.shape.Sel.{Sel}
 use Rattle.sr_value.specs.declared.value.Value.{Value}
 use Rattle.sr_value.specs.Parts.{loaded_at, or_fault, stored_at, with_ok}
 use Rattle.sr_store.specs.Kept.{Kept}
-use Rattle.sr_store.specs.Puts.{Wrote}
+use Rattle.sr_in_place.specs.Puts.{Wrote}
 use Rattle.sr_store.specs.Variables.{ByNumber, block_loaded, block_stored}
 use Rattle.sr_store.specs.declared.variable.Variable.{Variable}
 

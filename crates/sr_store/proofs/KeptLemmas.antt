@@ -15,7 +15,7 @@ use Rattle.sr_value.specs.declared.shape.Sel.{Sel}
 use Rattle.sr_value.specs.declared.value.Value.{Value}
 use Rattle.sr_value.specs.Parts.{loaded_at, or_fault, stored_at, with_ok}
 use Rattle.sr_store.specs.Kept.{Kept, stored_on, variables_on}
-use Rattle.sr_store.specs.Puts.{Wrote}
+use Rattle.sr_in_place.specs.Puts.{Wrote}
 use Rattle.sr_store.specs.Variables.{ByNumber, CanPlace, KeepsOtherRoom, KeepsRoom, Stored, Variables, block_loaded, block_of, block_stored, loaded_in, room_of, stored_in, with_block, with_variable}
 use Rattle.sr_store.specs.declared.variable.Variable.{Variable}
 use Rattle.sr_store.proofs.BlockLemmas.{apart, by_number, itself, turned}

@@ -2,11 +2,11 @@ ghost use Rattle.std.specs.Prelude.{◌≡◌, ◌<◌, ◌≤◌, IsOk, OnErr, 
 ghost use Rattle.std.specs.HashMap.{Updates, spare};
 ghost use Rattle.std.specs.FinMap as map;
 ghost use Rattle.sr_value.specs.Operators.{Answers};
-ghost use Rattle.sr_store.specs.Puts.{Wrote};
+ghost use Rattle.sr_in_place.specs.Puts.{Wrote};
 ghost use Rattle.sr_store.specs.Variables.{block_loaded, block_stored};
 
-use crate::putting::put;
 use crate::variable::Variable;
+use sr_in_place::put;
 use sr_value::{Fault, NoMemory, Sel, Value, ValueFail, loaded};
 use std::alloc::Global;
 use std::collections::HashMap;

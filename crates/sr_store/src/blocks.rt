@@ -1,8 +1,8 @@
 ghost use Rattle.std.specs.Prelude.{◌≡◌, IfOk, IsOk, OnErr, OnOk};
 ghost use Rattle.std.specs.FinMap as map;
 ghost use Rattle.sr_value.specs.Operators.{Answers};
-ghost use Rattle.sr_store.specs.Puts.{Made, Wrote};
-ghost use Rattle.sr_store.specs.Variables.{CanPlace, KeepsOtherRoom, KeepsRoom, declared_in, loaded_in, stored_in, with_variable};
+ghost use Rattle.sr_in_place.specs.Puts.{Wrote};
+ghost use Rattle.sr_store.specs.Variables.{CanPlace, KeepsOtherRoom, KeepsRoom, Made, declared_in, loaded_in, stored_in, with_variable};
 
 use crate::block::Block;
 use crate::variable::{Variable, new_variable};
