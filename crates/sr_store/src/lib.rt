@@ -7,5 +7,5 @@ mod laws;
 mod variable;
 
 pub use blocks::Blocks;
-pub use laws::store_is_to_one_variable;
+pub use laws::{load_after_store, store_is_to_one_variable};
 pub use variable::Variable;
