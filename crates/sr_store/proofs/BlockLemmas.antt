@@ -45,7 +45,7 @@ by_number p q P here there = by (is_eq (nat_cmp p q)) refl
 pub apart : (p q : ℕ) → q ≢ p → is_eq (nat_cmp p q) ≡ false
 apart p q ne = by_number p q (λ b. b ≡ false) (λ e. absurd (ne (sym e))) (λ is. refl)
 
-same-test : (p q : ℕ) → nat_eq p q ≡ is_eq (nat_cmp p q)
+pub same-test : (p q : ℕ) → nat_eq p q ≡ is_eq (nat_cmp p q)
 same-test p q = by (nat_eq p q) refl
   where
     by : (b : Bool) → nat_eq p q ≡ b → b ≡ is_eq (nat_cmp p q)

@@ -1,3 +1,4 @@
 pub mod BlockLemmas
+pub mod CopyLemmas
 pub mod KeptLemmas
 pub mod LawLemmas
