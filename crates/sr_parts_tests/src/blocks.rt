@@ -131,3 +131,35 @@ fn a_place_takes_no_memory(rt: HostRuntime) -> Result<(), Fail> {
     assert!(rt; placed(rt.alloc())?);
     Ok(())
 }
+
+/// What the last cell of an array holds after it was stored, and the fault of a store past it.
+fn last_of(alloc: Global, cells: i32) -> Result<(Option<i32>, Option<Fault>), ValueFail> {
+    let mut blocks = Blocks::new(alloc);
+    let shape = ints(alloc, 1, cells)?;
+    blocks.declare(2, 0, &shape)?;
+    let _ = blocks.store(2, 0, &[Sel::At(cells)], Value::Int(5));
+    let past = blocks.store(2, 0, &[Sel::At(cells.wrapping_add(1))], Value::Int(5));
+    Ok((int_at(&blocks, cells).ok(), past.err()))
+}
+
+#[test]
+fn last_cells(rt: HostRuntime) -> Result<(), Fail> {
+    for cells in [1, 3, 1048576] {
+        assert!(rt; last_of(rt.alloc(), cells)? == (Some(5), Some(Fault::Index)));
+    }
+    Ok(())
+}
+
+/// What a copy holds after a store to the variables that it was made from, and what these hold.
+fn copied(alloc: Global) -> Result<(Option<i32>, Option<i32>), ValueFail> {
+    let mut blocks = made(alloc)?;
+    let copy = blocks.copy(alloc)?;
+    let _ = blocks.store(2, 0, &[Sel::At(4)], Value::Int(9));
+    Ok((int_at(&copy, 4).ok(), int_at(&blocks, 4).ok()))
+}
+
+#[test]
+fn copies(rt: HostRuntime) -> Result<(), Fail> {
+    assert!(rt; copied(rt.alloc())? == (Some(0), Some(9)));
+    Ok(())
+}

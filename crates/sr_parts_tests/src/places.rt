@@ -93,3 +93,35 @@ fn lists(rt: HostRuntime) -> Result<(), Fail> {
     assert_eq!(rt; machines(rt.alloc())?, 1);
     Ok(())
 }
+
+/// A global and a resource that imports it on the machine of main, and then both on a new machine.
+fn on_two_machines(alloc: Global, second: bool) -> Result<Places, NoMemory> {
+    let mut places = Places::new(alloc);
+    add(&mut places, 1, 10, 0)?;
+    add(&mut places, 2, 11, 0)?;
+    add(&mut places, 3, 12, 0)?;
+    places.add_vm(4)?;
+    if second {
+        add(&mut places, 5, 11, 4)?;
+        add(&mut places, 6, 12, 4)?;
+    }
+    Ok(places)
+}
+
+fn global_after(alloc: Global, second: bool, vm: u32) -> Result<Option<u32>, NoMemory> {
+    Ok(on_two_machines(alloc, second)?.global_at(11, vm))
+}
+
+#[test]
+fn globals_of_machines(rt: HostRuntime) -> Result<(), Fail> {
+    let rows = [
+        (false, 0, Some(2)),
+        (false, 4, None),
+        (true, 0, Some(2)),
+        (true, 4, Some(5)),
+    ];
+    for (second, vm, want) in rows {
+        assert_eq!(rt; global_after(rt.alloc(), second, vm)?, want);
+    }
+    Ok(())
+}

@@ -14,7 +14,7 @@ use Rattle.sr_value.specs.declared.shape.Sel.{Sel}
 use Rattle.sr_value.specs.declared.value.Value.{Value}
 use Rattle.sr_value.specs.Parts.{loaded_at, or_fault, stored_at, with_ok}
 use Rattle.sr_store.specs.Kept.{Kept}
-use Rattle.sr_store.specs.Puts.{Wrote}
+use Rattle.sr_in_place.specs.Puts.{Wrote}
 use Rattle.sr_store.specs.Variables.{ByNumber, block_loaded, block_stored}
 use Rattle.sr_store.specs.declared.variable.Variable.{Variable}
 
@@ -45,7 +45,7 @@ by_number p q P here there = by (is_eq (nat_cmp p q)) refl
 pub apart : (p q : ℕ) → q ≢ p → is_eq (nat_cmp p q) ≡ false
 apart p q ne = by_number p q (λ b. b ≡ false) (λ e. absurd (ne (sym e))) (λ is. refl)
 
-same-test : (p q : ℕ) → nat_eq p q ≡ is_eq (nat_cmp p q)
+pub same-test : (p q : ℕ) → nat_eq p q ≡ is_eq (nat_cmp p q)
 same-test p q = by (nat_eq p q) refl
   where
     by : (b : Bool) → nat_eq p q ≡ b → b ≡ is_eq (nat_cmp p q)

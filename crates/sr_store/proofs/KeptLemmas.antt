@@ -15,7 +15,7 @@ use Rattle.sr_value.specs.declared.shape.Sel.{Sel}
 use Rattle.sr_value.specs.declared.value.Value.{Value}
 use Rattle.sr_value.specs.Parts.{loaded_at, or_fault, stored_at, with_ok}
 use Rattle.sr_store.specs.Kept.{Kept, stored_on, variables_on}
-use Rattle.sr_store.specs.Puts.{Wrote}
+use Rattle.sr_in_place.specs.Puts.{Wrote}
 use Rattle.sr_store.specs.Variables.{ByNumber, CanPlace, KeepsOtherRoom, KeepsRoom, Stored, Variables, block_loaded, block_of, block_stored, loaded_in, room_of, stored_in, with_block, with_variable}
 use Rattle.sr_store.specs.declared.variable.Variable.{Variable}
 use Rattle.sr_store.proofs.BlockLemmas.{apart, by_number, itself, turned}
@@ -40,7 +40,7 @@ same-room stored next same q can = subst (λ s. CanPlace s q) (sym same) can
 abbrev pub listed : ByNumber Variable → Option (ByNumber Variable)
 listed block = cond (map.len block == 0) None (Some block)
 
-unwrap_or-listed : (block : ByNumber Variable) → unwrap_or (listed block) map.empty ≡ block
+pub unwrap_or-listed : (block : ByNumber Variable) → unwrap_or (listed block) map.empty ≡ block
 unwrap_or-listed block = by (map.len block == 0) refl
   where
     by : (b : Bool) → (map.len block == 0) ≡ b → unwrap_or (cond b None (Some block)) map.empty ≡ block
@@ -70,7 +70,7 @@ no_block = record { variables = map.empty; room = 0 }
 abbrev pub kept_of : List (ℕ × Kept) → ℕ → Kept
 kept_of blocks p = unwrap_or (lookup (is_at (nat_cmp p)) blocks) no_block
 
-listed-empty : None ≡ listed map.empty
+pub listed-empty : None ≡ listed map.empty
 listed-empty = sym (ap (λ n. cond (n == 0) None (Some map.empty)) (map.len-empty nat_cmp Variable))
 
 -- the block is this now, and all others are as before
@@ -78,14 +78,14 @@ pub record Changes (old new : List (ℕ × Kept)) (p : ℕ) (block : Kept) : Typ
   pub here : kept_of new p ≡ block
   pub others : (q : ℕ) → is_eq (nat_cmp p q) ≡ false → kept_of new q ≡ kept_of old q
 
-changes : (old new : List (ℕ × Kept)) (p : ℕ) (w : Option Kept)
+pub changes : (old new : List (ℕ × Kept)) (p : ℕ) (w : Option Kept)
     → ((q : ℕ) → lookup (is_at (nat_cmp q)) new ≡ cond (is_at (nat_cmp p) q) w (lookup (is_at (nat_cmp q)) old)) → Changes old new p (unwrap_or w no_block)
 changes old new p w updates = record {
   here = ap (λ o. unwrap_or o no_block) (updates p ∙ ap (λ b. cond b w (lookup (is_at (nat_cmp p)) old)) (itself p));
   others = λ q there. ap (λ o. unwrap_or o no_block) (updates q ∙ ap (λ b. cond b w (lookup (is_at (nat_cmp q)) old)) there);
 }
 
-get-variables_on : (blocks : List (ℕ × Kept)) (q : ℕ) → map.get (variables_on blocks) q ≡ listed (kept_of blocks q).variables
+pub get-variables_on : (blocks : List (ℕ × Kept)) (q : ℕ) → map.get (variables_on blocks) q ≡ listed (kept_of blocks q).variables
 get-variables_on [] q = map.get-empty nat_cmp q ∙ listed-empty
 get-variables_on (e ∷ es) q =
     get-with_block (variables_on es) e.0 e.1.variables q
@@ -96,10 +96,10 @@ get-variables_on (e ∷ es) q =
     step true d o = refl
     step false d o = refl
 
-block-variables_on : (blocks : List (ℕ × Kept)) (p : ℕ) → block_of (variables_on blocks) p ≡ (kept_of blocks p).variables
+pub block-variables_on : (blocks : List (ℕ × Kept)) (p : ℕ) → block_of (variables_on blocks) p ≡ (kept_of blocks p).variables
 block-variables_on blocks p = ap (λ o. unwrap_or o map.empty) (get-variables_on blocks p) ∙ unwrap_or-listed (kept_of blocks p).variables
 
-variables-changed : (old new : List (ℕ × Kept)) (p : ℕ) (block : Kept) → Changes old new p block → variables_on new ≡ with_block (variables_on old) p block.variables
+pub variables-changed : (old new : List (ℕ × Kept)) (p : ℕ) (block : Kept) → Changes old new p block → variables_on new ≡ with_block (variables_on old) p block.variables
 variables-changed old new p block change =
     map.same_map nat_cmp_total map.nat_cmp-IsAntisymmetric (variables_on new) (with_block (variables_on old) p block.variables)
     (λ q. get-variables_on new q ∙ at q

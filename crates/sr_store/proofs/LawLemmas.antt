@@ -1,31 +1,20 @@
 -- What a store leaves to be loaded.
-use Rattle.std.proofs.Common.{◌≡◌, ◌≢◌, ℕ, cond, List, Option, Some, None, Result, Ok, Err, refl, ap, sym, subst, ◌∙◌, true≢false}
+use Rattle.std.proofs.Common.{◌≡◌, ◌≢◌, ℕ, cond, List, ◌++◌, Some, Ok, ap, sym, subst, ◌∙◌, true≢false}
 use Rattle.std.specs.Option.{option_map}
 use Rattle.std.specs.Cmp.{nat_cmp_total}
 use Rattle.std.specs.FinMap as map
 use Rattle.std.specs.Ordering.{nat_cmp, is_eq}
-use Rattle.sr_value.specs.declared.fault.Fault.{Fault}
 use Rattle.sr_value.specs.declared.fault.Fault.TheVariants.{Early}
 use Rattle.sr_value.specs.declared.shape.Sel.{Sel}
 use Rattle.sr_value.specs.declared.value.Value.{Value}
-use Rattle.sr_value.specs.Parts.{or_fault, stored_at, with_ok}
-use Rattle.sr_store.specs.Variables.{ByNumber, Variables, block_of, block_stored, stored_in, variable_at, with_block}
+use Rattle.sr_value.specs.Parts.{fitted_in, loaded_at, or_fault, stored_at, with_ok}
+use Rattle.sr_in_place.specs.Places.{shape_at}
+use Rattle.sr_in_place.proofs.PlaceLemmas.{others-stay as places-stay, stored-loaded}
+use Rattle.sr_in_place.proofs.ResultLemmas.{found-back, same-ok, step-back}
+use Rattle.sr_store.specs.Variables.{ByNumber, Variables, block_of, block_stored, loaded_in, stored_in, variable_at, with_block}
 use Rattle.sr_store.specs.declared.variable.Variable.{Variable}
 use Rattle.sr_store.proofs.BlockLemmas.{apart, by_number, itself, turned}
 use Rattle.sr_store.proofs.KeptLemmas.{block-with_block, block-with_block_other}
-
--- ---- a result that is there
-
-step-back : {A B : Type 0} (r : Result A Fault) (next : A → Result B Fault) (b : B) → with_ok r next ≡ Ok b → (a : A) × ((r ≡ Ok a) × (next a ≡ Ok b))
-step-back (Ok a) next b is = (a, (refl, is))
-step-back (Err fault) next b is = cc
-
-found-back : {A : Type 0} (fault : Fault) (o : Option A) (a : A) → or_fault fault o ≡ Ok a → o ≡ Some a
-found-back fault (Some x) a is = let same : x ≡ a = cc in ap (λ y. Some y) same
-found-back fault None a is = cc
-
-same-ok : {A : Type 0} (a b : A) → ◌≡◌ {A = Result A Fault} (Ok a) (Ok b) → a ≡ b
-same-ok a b is = cc
 
 -- ---- a store to a variable
 
@@ -79,3 +68,29 @@ others-stay all new block var other_block other path value is ne =
     ∙ map.get-insert nat_cmp_total (block_of all block) var after other
     ∙ ap (λ b. cond b (Some after) (map.get (block_of all block) other)) (turned other var ∙ apart var other (ne (sym e)))))
     (λ there. ap (λ b. map.get b other) (block-with_block_other all block other_block table (λ e. true≢false (sym (ap (λ n. is_eq (nat_cmp block n)) e ∙ itself block) ∙ there))))
+
+-- ---- a load after it
+
+load-after : (all new : Variables) (block var : ℕ) (path : List Sel) (value : Value) (c : Change all new block var path value) (other : List Sel) → loaded_in new block var other ≡ loaded_at c.held other
+load-after all new block var path value c other = ap (λ o. with_ok (or_fault Early o) (λ (v : Variable). loaded_at v.value other)) (here-after all new block var path value c)
+
+load-before : (all new : Variables) (block var : ℕ) (path : List Sel) (value : Value) (c : Change all new block var path value) (other : List Sel) → loaded_in all block var other ≡ loaded_at c.variable.value other
+load-before all new block var path value c other = ap (λ o. with_ok (or_fault Early o) (λ (v : Variable). loaded_at v.value other)) c.there
+
+pub loaded-after : (all new : Variables) (block var : ℕ) (variable : Variable) (path : List Sel) (value : Value) → variable_at all block var ≡ Some variable → stored_in all block var path value ≡ Ok new
+    → loaded_in new block var path ≡ with_ok (shape_at variable.shape variable.value path) (λ place. fitted_in place value)
+loaded-after all new block var variable path value there is =
+    let c = change all new block var path value is in
+    let found : Some c.variable ≡ Some variable = sym c.there ∙ there in
+    let same : c.variable ≡ variable = cc in
+    load-after all new block var path value c path
+    ∙ stored-loaded c.variable.shape c.variable.value c.held value path c.stored
+    ∙ ap (λ v. with_ok (shape_at v.shape v.value path) (λ place. fitted_in place value)) same
+
+pub other-places-stay : (all new : Variables) (block var : ℕ) (path other : List Sel) (value : Value) → stored_in all block var path value ≡ Ok new
+    → ((rest : List Sel) → other ≢ path ++ rest) → ((rest : List Sel) → path ≢ other ++ rest) → loaded_in new block var other ≡ loaded_in all block var other
+other-places-stay all new block var path other value is after before =
+    let c = change all new block var path value is in
+    load-after all new block var path value c other
+    ∙ places-stay c.variable.shape c.variable.value c.held value path other c.stored after before
+    ∙ sym (load-before all new block var path value c other)

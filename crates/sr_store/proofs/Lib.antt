@@ -1,5 +1,4 @@
 pub mod BlockLemmas
-pub mod FittingLemmas
+pub mod CopyLemmas
 pub mod KeptLemmas
 pub mod LawLemmas
-pub mod PuttingLemmas

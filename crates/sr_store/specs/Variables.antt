@@ -1,9 +1,11 @@
 -- The shared variables of a world, and what is loaded from them and stored to them.
-use Rattle.std.specs.Prelude.{ℕ, ◌<◌, ◌≢◌, ◌==◌, if◌then◌else◌, Option, unwrap_or, Result, Ok, Err, List}
+use Rattle.std.specs.Prelude.{◌≡◌, ◌≢◌, ℕ, ◌<◌, ◌==◌, if◌then◌else◌, Option, unwrap_or, Result, Ok, Err, List}
 use Rattle.std.specs.Ordering.{nat_cmp}
 use Rattle.std.specs.FinMap as map
 use Rattle.sr_value.specs.declared.fault.Fault.{Fault}
 use Rattle.sr_value.specs.declared.fault.Fault.TheVariants.{Early}
+use Rattle.sr_value.specs.declared.fault.ValueFail.{ValueFail}
+use Rattle.sr_value.specs.declared.fault.ValueFail.TheVariants.{Fault as a_fault, NoMemory as out_of_memory}
 use Rattle.sr_value.specs.declared.shape.Sel.{Sel}
 use Rattle.sr_value.specs.declared.shape.Shape.{Shape}
 use Rattle.sr_value.specs.declared.value.Value.{Value}
@@ -60,6 +62,12 @@ loaded_in all block var path = block_loaded (block_of all block) var path
 
 abbrev pub stored_in : Variables → ℕ → ℕ → List Sel → Value → Result Variables Fault
 stored_in all block var path value = with_ok (block_stored (block_of all block) var path value) (λ changed. Ok (with_block all block changed))
+
+-- what was meant is there now, or there is this fault or no memory, and all is as before
+abbrev pub Made : {A : Type 0} → Result (Unit {0}) ValueFail → A → A → Result A Fault → Type 0
+Made (Ok done) old new meant = meant ≡ Ok new
+Made (Err (a_fault fault)) old new meant = (meant ≡ Err fault) × (new ≡ old)
+Made (Err out_of_memory) old new meant = new ≡ old
 
 -- ---- room
 

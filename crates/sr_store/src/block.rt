@@ -1,13 +1,13 @@
-ghost use Rattle.std.specs.Prelude.{◌≡◌, ◌<◌, ◌≤◌, IsOk, OnErr, OnOk, Some, nat_eq};
+ghost use Rattle.std.specs.Prelude.{◌≡◌, ◌<◌, ◌≤◌, IfOk, IsOk, OnErr, OnOk, Some, nat_eq};
 ghost use Rattle.std.specs.HashMap.{Updates, spare};
 ghost use Rattle.std.specs.FinMap as map;
 ghost use Rattle.sr_value.specs.Operators.{Answers};
-ghost use Rattle.sr_store.specs.Puts.{Wrote};
+ghost use Rattle.sr_in_place.specs.Puts.{Wrote};
 ghost use Rattle.sr_store.specs.Variables.{block_loaded, block_stored};
 
-use crate::putting::put;
 use crate::variable::Variable;
-use sr_value::{Fault, NoMemory, Sel, Value, ValueFail, loaded};
+use sr_in_place::put;
+use sr_value::{Duplicate, Fault, NoMemory, Sel, Value, ValueFail, loaded};
 use std::alloc::Global;
 use std::collections::HashMap;
 use std::marker::Model;
@@ -97,6 +97,27 @@ impl Block {
             return Err(Fault::Early);
         };
         put(&variable.shape, &mut variable.value, path, value)
+    }
+
+    /// A copy of the variables.
+    pub fn copy(&self, alloc: Global) -> Result<Block, NoMemory>
+        ensures { IfOk result (λ copy. copy.variables ≡ self.now.variables) }
+    {
+        let mut copy = Block::new(alloc);
+        copy.add_copies(alloc, self)?;
+        Ok(copy)
+    }
+
+    /// Adds copies of another block's variables.
+    fn add_copies(&mut self, alloc: Global, other: &Block) -> Result<(), NoMemory>
+        requires { self.old.variables ≡ map.empty }
+        ensures { OnOk result (self.new.variables ≡ other.now.variables) }
+    {
+        for (var, variable) in &other.variables {
+            let copy = variable.copy(alloc)?;
+            self.set(*var, copy)?;
+        }
+        Ok(())
     }
 }
 

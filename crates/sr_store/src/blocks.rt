@@ -1,8 +1,8 @@
 ghost use Rattle.std.specs.Prelude.{◌≡◌, IfOk, IsOk, OnErr, OnOk};
 ghost use Rattle.std.specs.FinMap as map;
 ghost use Rattle.sr_value.specs.Operators.{Answers};
-ghost use Rattle.sr_store.specs.Puts.{Made, Wrote};
-ghost use Rattle.sr_store.specs.Variables.{CanPlace, KeepsOtherRoom, KeepsRoom, declared_in, loaded_in, stored_in, with_variable};
+ghost use Rattle.sr_in_place.specs.Puts.{Wrote};
+ghost use Rattle.sr_store.specs.Variables.{CanPlace, KeepsOtherRoom, KeepsRoom, Made, declared_in, loaded_in, stored_in, with_block, with_variable};
 
 use crate::block::Block;
 use crate::variable::{Variable, new_variable};
@@ -121,5 +121,33 @@ impl Blocks {
         ensures room { KeepsOtherRoom self.old self.new block }
     {
         let _ = self.set(block, var, Variable { shape, value });
+    }
+    /// A copy of all variables, without the room.
+    pub fn copy(&self, alloc: Global) -> Result<Blocks, NoMemory>
+        ensures { IfOk result (λ copy. copy.variables ≡ self.now.variables) }
+    {
+        let mut copy = Blocks::new(alloc);
+        copy.add_copies(self)?;
+        Ok(copy)
+    }
+
+    /// Adds copies of the variables of another's blocks.
+    fn add_copies(&mut self, other: &Blocks) -> Result<(), NoMemory>
+        requires { self.old.variables ≡ map.empty }
+        ensures { OnOk result (self.new.variables ≡ other.now.variables) }
+    {
+        for (block, kept) in &other.tables {
+            let copy = kept.copy(self.alloc)?;
+            self.add(*block, copy)?;
+        }
+        Ok(())
+    }
+
+    /// Gives a block these variables, in place of all that it had.
+    fn add(&mut self, block: u32, kept: Block) -> Result<(), NoMemory>
+        ensures { OnOk result (self.new.variables ≡ with_block self.old.variables block kept.variables) }
+    {
+        self.tables.insert(block, kept)?;
+        Ok(())
     }
 }

@@ -2,7 +2,7 @@ ghost use Rattle.sr_value.specs.Operators.{Answers};
 ghost use Rattle.sr_value.specs.Parts.{with_ok};
 ghost use Rattle.sr_value.specs.Shapes.{default_value};
 
-use sr_value::{Duplicate, Shape, Value, ValueFail, default_of};
+use sr_value::{Duplicate, NoMemory, Shape, Value, ValueFail, default_of};
 use std::alloc::Global;
 
 /// A shared variable: what it can hold, and what it holds.
@@ -20,5 +20,13 @@ pub(crate) fn new_variable(alloc: Global, shape: &Shape) -> Result<Variable, Val
     match shape.copy(alloc) {
         Ok(shape) => Ok(Variable { shape, value }),
         Err(_) => Err(ValueFail::NoMemory),
+    }
+}
+
+impl Duplicate for Variable {
+    fn copy(&self, alloc: Global) -> Result<Variable, NoMemory> {
+        let value = self.value.copy(alloc)?;
+        let shape = self.shape.copy(alloc)?;
+        Ok(Variable { shape, value })
     }
 }

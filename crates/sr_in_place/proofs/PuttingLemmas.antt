@@ -13,7 +13,7 @@ use Rattle.sr_value.specs.declared.value.Value.{Value, out-Value, out-roll-Value
 use Rattle.sr_value.specs.declared.value.Value.TheOpen.{Value-F}
 use Rattle.sr_value.specs.declared.value.Value.TheVariants.{Rec, Arr, rolls-Rec, rolls-Arr}
 use Rattle.sr_value.specs.Parts.{Part_of, field_place, item_place, layer_parts, layer_with_part, or_fault, part_at, some_part, stored_at, with_ok, with_part}
-use Rattle.sr_store.specs.Puts.{Wrote, item_stored}
+use Rattle.sr_in_place.specs.Puts.{Wrote, item_stored}
 
 set-same : (at : ℕ) (values : List Value) (part : Value) → slice_get values at ≡ Some part → slice_set values at part ≡ values
 set-same at [] part here = absurd (true≢false (sym (ap is_some here)))

@@ -5,8 +5,8 @@ use Rattle.sr_value.specs.declared.fault.Fault.TheVariants.{Index}
 use Rattle.sr_value.specs.declared.value.Value.{Value}
 use Rattle.sr_value.specs.Parts.{all_fit, fitted_in, with_ok}
 use Rattle.sr_value.proofs.FitLemmas.{fitted-record}
-use Rattle.sr_store.proofs.FittingLemmas.{all-fitted, field-fails, field-fits, field-missing, fields-end, fields-past, fields_from, next-fitted, not-fitted, recorded, too-few, too-many}
-use Rattle.sr_store.proofs.fitting.+fitting.Goals as goal
+use Rattle.sr_in_place.proofs.FittingLemmas.{all-fitted, field-fails, field-fits, field-missing, fields-end, fields-past, fields_from, next-fitted, not-fitted, recorded, too-few, too-many}
+use Rattle.sr_in_place.proofs.fitting.+fitting.Goals as goal
 
 pub fit-returns-in-Rec-value : goal.fit-returns-in-Rec-value
 fit-returns-in-Rec-value t c =

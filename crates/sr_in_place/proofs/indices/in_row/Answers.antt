@@ -1,6 +1,6 @@
 use Rattle.std.proofs.Common.{arith}
 use Rattle.std.proofs.Math.Nat.{mul-le-mul_left}
-use Rattle.sr_store.proofs.indices.in_row.Goals as goal
+use Rattle.sr_in_place.proofs.indices.in_row.Goals as goal
 
 pub overflow_mul-result : goal.overflow_mul-result
 overflow_mul-result c = omega (arith, mul-le-mul_left c.args.row c.requires)

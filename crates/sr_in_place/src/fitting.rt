@@ -1,6 +1,6 @@
 ghost use Rattle.std.specs.Prelude.{map};
 ghost use Rattle.sr_value.specs.Parts.{all_fit, each_fits, fitted_in};
-ghost use Rattle.sr_store.specs.Puts.{Fitted};
+ghost use Rattle.sr_in_place.specs.Puts.{Fitted};
 
 use crate::indices::check_extents;
 use sr_value::{Fault, Row, Shape, Value};

@@ -1,7 +1,7 @@
 ghost use Rattle.std.specs.Prelude.{◌≡◌, ◌<◌, drop};
 ghost use Rattle.sr_value.specs.declared.value.Value.{out-Value};
 ghost use Rattle.sr_value.specs.Parts.{stored_at, with_part};
-ghost use Rattle.sr_store.specs.Puts.{IsCharStored, Wrote, byte_count, char_stored, item_stored, layer_spot};
+ghost use Rattle.sr_in_place.specs.Puts.{IsCharStored, Wrote, byte_count, char_stored, item_stored, layer_spot};
 
 use crate::fitting::fit;
 use crate::indices::{byte_place, field_place, item_place, step_at};

@@ -7,7 +7,7 @@ use Rattle.sr_value.specs.declared.shape.Shape.{Shape}
 use Rattle.sr_value.specs.declared.value.Value.{Value}
 use Rattle.sr_value.specs.declared.value.Value.TheVariants.{Rec}
 use Rattle.sr_value.specs.Parts.{each_fits, fitted_in, with_ok}
-use Rattle.sr_store.specs.Puts.{Fitted}
+use Rattle.sr_in_place.specs.Puts.{Fitted}
 
 -- what all items give, where the first `at` were fitted already and `rest` is what those after them give
 abbrev pub after_first : ℕ → (List Value → Result (List Value) Fault) → List Value → Result (List Value) Fault

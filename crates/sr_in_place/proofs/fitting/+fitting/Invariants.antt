@@ -1,8 +1,8 @@
 -- What is left of the items gives, after those that were fitted, what all items give.
 use Rattle.std.proofs.Common.{◌≡◌, ◌≤◌, length, map, drop}
 use Rattle.sr_value.specs.Parts.{all_fit, each_fits, fitted_in}
-use Rattle.sr_store.proofs.FittingLemmas.{after_first}
-use Rattle.sr_store.proofs.fitting.+fitting.Given as goal
+use Rattle.sr_in_place.proofs.FittingLemmas.{after_first}
+use Rattle.sr_in_place.proofs.fitting.+fitting.Given as goal
 
 abbrev pub invariant-fit_all-loop-at : goal.invariant-fit_all-loop-at
 invariant-fit_all-loop-at l = record {

@@ -1,6 +1,6 @@
 use Rattle.std.proofs.Common.{rules}
 use Rattle.sr_value.proofs.FitLemmas.{fitted-char}
-use Rattle.sr_store.proofs.putting.char_at_end.Goals as goal
+use Rattle.sr_in_place.proofs.putting.char_at_end.Goals as goal
 
 pub returns-in-Char : goal.returns-in-Char
 returns-in-Char c = λ old. let e = fitted-char c.args.value.now in search rules

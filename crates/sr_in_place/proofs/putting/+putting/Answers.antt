@@ -1,6 +1,6 @@
 use Rattle.std.proofs.Common.{◌+◌, arith, drop, refl}
-use Rattle.sr_store.proofs.PuttingLemmas.{no-item, wrote-one, wrote-read}
-use Rattle.sr_store.proofs.putting.+putting.Goals as goal
+use Rattle.sr_in_place.proofs.PuttingLemmas.{no-item, wrote-one, wrote-read}
+use Rattle.sr_in_place.proofs.putting.+putting.Goals as goal
 
 pub put_from-returns-in-Some-item_place : goal.put_from-returns-in-Some-item_place
 put_from-returns-in-Some-item_place t c =

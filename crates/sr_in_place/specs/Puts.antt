@@ -3,8 +3,6 @@ use Rattle.std.specs.Prelude.{◌≡◌, ℕ, List, length, Option, Some, None, 
 use Rattle.std.specs.Option.{option_and_then}
 use Rattle.sr_value.specs.declared.fault.Fault.{Fault}
 use Rattle.sr_value.specs.declared.fault.Fault.TheVariants.{Index}
-use Rattle.sr_value.specs.declared.fault.ValueFail.{ValueFail}
-use Rattle.sr_value.specs.declared.fault.ValueFail.TheVariants.{Fault as a_fault, NoMemory as out_of_memory}
 use Rattle.sr_value.specs.declared.shape.Sel.{Sel}
 use Rattle.sr_value.specs.declared.shape.Shape.{Shape}
 use Rattle.sr_value.specs.declared.shape.Shape.TheOpen.{Shape-F}
@@ -23,12 +21,6 @@ Fitted (Err fault) new meant = meant ≡ Err fault
 abbrev pub Wrote : {A : Type 0} → Result (Unit {0}) Fault → A → A → Result A Fault → Type 0
 Wrote (Ok done) old new meant = meant ≡ Ok new
 Wrote (Err fault) old new meant = (meant ≡ Err fault) × (new ≡ old)
-
--- the same where memory may run out
-abbrev pub Made : {A : Type 0} → Result (Unit {0}) ValueFail → A → A → Result A Fault → Type 0
-Made (Ok done) old new meant = meant ≡ Ok new
-Made (Err (a_fault fault)) old new meant = (meant ≡ Err fault) × (new ≡ old)
-Made (Err out_of_memory) old new meant = new ≡ old
 
 -- the items after a value was put at the end of a path in one of them
 abbrev pub item_stored : Shape → List Value → ℕ → List Sel → Value → Result (List Value) Fault

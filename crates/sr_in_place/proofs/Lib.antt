@@ -1,0 +1,5 @@
+pub mod FittingLemmas
+pub mod IndexLemmas
+pub mod PlaceLemmas
+pub mod PuttingLemmas
+pub mod ResultLemmas

@@ -1,0 +1,11 @@
+//! Stores of a value into a place that stands.
+#![tactic(auto)]
+
+mod fitting;
+mod indices;
+mod laws;
+mod putting;
+
+pub use fitting::fit;
+pub use laws::store_is_to_one_place;
+pub use putting::put;
