@@ -46,7 +46,7 @@ use Rattle.sr_check.specs.Quantifying.{expr_with, quantifiers_found, quantifiers
 use Rattle.sr_check.specs.Receiving.{receive_found, receive_by, received_found, takes_all}
 use Rattle.sr_check.specs.Services.{operation_at, operation_named, decl_named, is_local_info, is_shared_info, is_local_name, is_shared_name, is_own, params_of, head_rule, proc_found, service_found, head_found, type_of}
 use Rattle.sr_check.specs.Servicing.{item_step as item_waiting, statement_step as statement_waiting, arm_step as arm_waiting, branch_step as branch_waiting, co_arm_step as co_arm_waiting, meant_at, expr_meant, first_meant, waits_by, layer_waits, Together, Waits, ArmWaits, joined, call_waits, arms_meant, arms_waits, statement_waits, block_item_waits, arm_waits, branch_waits, co_arm_waits}
-use Rattle.sr_check.specs.Statements.{ArmSteps, arm_context, guards_found, mixture_found, is_mixture, then_step, maybe_block, arms_at, item_step, statement_step, arm_step, branch_step, co_arm_step, statement_read, block_item_read, arm_read, branch_read, co_arm_read}
+use Rattle.sr_check.specs.Statements.{ArmSteps, CoArmSteps, arm_context, guards_found, mixture_found, is_mixture, then_step, maybe_block, arms_at, co_arms_at, item_step, statement_step, arm_step, branch_step, co_arm_step, statement_read, block_item_read, arm_read, branch_read, co_arm_read}
 use Rattle.sr_check.specs.Uses.{condition_rule}
 use Rattle.sr_check.proofs.Each.{Each, each-append}
 use Rattle.sr_check.specs.ErrorFree.{ErrorFree}
@@ -166,7 +166,7 @@ module _ (P : Spot → Ty → Spot → Bool → Type 0) (uses : Meanings) (compo
   B = (tree : Branch) × Finds (branch_read tree) (branch_waits uses tree)
 
   abbrev C : Type 0
-  C = (tree : CoArm) × Finds (co_arm_read tree) (co_arm_waits uses tree)
+  C = (tree : CoArm) × ((span : Span) → Finds (co_arm_read tree span) (co_arm_waits uses tree))
 
   finds_row : {X : Type 0} (read : X → Steps) (waits : X → Waits) → ((x : X) (context : Context) → Holds context.facts → Holds (read x context).facts) → (xs : List ((tree : X) × Finds (read tree) (waits tree)))
       → Finds (in_order (map read (map (λ x. x.0) xs))) (joined (map waits (map (λ x. x.0) xs)))
@@ -179,6 +179,16 @@ module _ (P : Spot → Ty → Spot → Bool → Type 0) (uses : Meanings) (compo
 
   finds_items : (xs : List I) → Finds (in_order (map block_item_read (map (λ x. x.0) xs))) (joined (map (block_item_waits uses) (map (λ x. x.0) xs)))
   finds_items = finds_row block_item_read (block_item_waits uses) (keeps_block_item P uses component)
+
+  -- the arms of a `co`
+  finds_co_arms : (span : Span) (xs : List C) → Finds (in_order (co_arms_at span (map co_arm_read (map (λ x. x.0) xs)))) (joined (map (co_arm_waits uses) (map (λ x. x.0) xs)))
+  finds_co_arms span [] context of h nothing = tt
+  finds_co_arms span (x ∷ xs) context of h nothing =
+      let first = co_arm_read x.0 span context in
+      let next = with_facts context first.facts in
+      let rest = in_order (co_arms_at span (map co_arm_read (map (λ x. x.0) xs))) next in
+      each-append Right (co_arm_waits uses x.0) (joined (map (co_arm_waits uses) (map (λ x. x.0) xs))) (x.1 span context of h (error_free_first first.found rest.found nothing))
+      (finds_co_arms span xs next of (keeps_co_arm P uses component x.0 span context h) (error_free_second first.found rest.found nothing))
 
   -- the arms of an `in`, by what is known at it
   finds_arms : (start : Facts) (span : Span) (xs : List A) (context : Context) → context.procs ≡ procs → Holds context.facts → Since start context.facts
@@ -391,7 +401,7 @@ module _ (P : Spot → Ty → Spot → Bool → Type 0) (uses : Meanings) (compo
   statement_node (Statement-F.In span arms None) context of h nothing = finds_in span arms (maybe_block None) [] finds_none context of h nothing
   statement_node (Statement-F.In span arms (Some items)) context of h nothing =
       finds_in span arms (in_order (map block_item_read (map (λ x. x.0) items))) (joined (map (block_item_waits uses) (map (λ x. x.0) items))) (finds_items items) context of h nothing
-  statement_node (Statement-F.Co span arms) context of h nothing = finds_row co_arm_read (co_arm_waits uses) (keeps_co_arm P uses component) arms context of h nothing
+  statement_node (Statement-F.Co span arms) context of h nothing = finds_co_arms span arms context of h nothing
   statement_node (Statement-F.Receive span operation places) context of h nothing = receive_node context span operation places of h nothing
   statement_node (Statement-F.Call span with_call invocation) context of h nothing = call_node context span invocation of h nothing
   statement_node _ context of h nothing = tt
@@ -419,16 +429,17 @@ module _ (P : Spot → Ty → Spot → Bool → Type 0) (uses : Meanings) (compo
   branch_node y context of h nothing =
       finds_items y.block context of h (error_free_second (expr_with condition_rule context.facts y.guard) (in_order (map block_item_read (map (λ x. x.0) y.block)) context).found nothing)
 
-  co_arm_by : (y : CoArm-F I S A B C) (block : Option (List I)) → Finds (co_arm_step (read_co_arm (first_co_arm (record y { block = block })))) (co_arm_waiting (wait_co_arm (first_co_arm (record y { block = block }))))
-  co_arm_by y None context of h nothing = tt
-  co_arm_by y (Some items) context of h nothing =
+  co_arm_by : (y : CoArm-F I S A B C) (block : Option (List I)) (span : Span)
+      → Finds (co_arm_step (read_co_arm (first_co_arm (record y { block = block }))) span) (co_arm_waiting (wait_co_arm (first_co_arm (record y { block = block }))))
+  co_arm_by y None span context of h nothing = tt
+  co_arm_by y (Some items) span context of h nothing =
       let inside = with_facts context (quantifiers_known context.facts y.quantifiers) in
       let inner = in_order (map block_item_read (map (λ x. x.0) items)) (looping inside) in
-      let started = started_found inside.facts y.target (infer_invocation y.invocation inside.facts) in
+      let started = started_found inside.facts span y.target (infer_invocation y.invocation inside.facts) in
       finds_items items (looping inside) of (keeps_quantifiers P uses component y.quantifiers context.facts h)
       (error_free_second started inner.found (error_free_second (quantifiers_found context.facts y.quantifiers) (started ++ inner.found) nothing))
 
-  co_arm_node : (y : CoArm-F I S A B C) → Finds (co_arm_step (read_co_arm (first_co_arm y))) (co_arm_waiting (wait_co_arm (first_co_arm y)))
+  co_arm_node : (y : CoArm-F I S A B C) (span : Span) → Finds (co_arm_step (read_co_arm (first_co_arm y)) span) (co_arm_waiting (wait_co_arm (first_co_arm y)))
   co_arm_node y = co_arm_by y y.block
 
   finds_both : (a b : Steps) (c d : Waits) → a ≡ b → c ≡ d → Finds b d → Finds a c
@@ -438,14 +449,14 @@ module _ (P : Spot → Ty → Spot → Bool → Type 0) (uses : Meanings) (compo
   finds_Item x y is =
       let R : BlockItem-F BlockItem Statement Arm Branch CoArm → Type 0 = λ z. Finds (block_item_read (roll-BlockItem z)) (block_item_waits uses (roll-BlockItem z)) in
       subst R is (finds_both _ _ _ _
-      (fold-roll-BlockItem Steps Steps ArmSteps Steps Steps item_step statement_step arm_step branch_step co_arm_step (first_item y))
+      (fold-roll-BlockItem Steps Steps ArmSteps Steps CoArmSteps item_step statement_step arm_step branch_step co_arm_step (first_item y))
       (fold-roll-BlockItem Waits Waits ArmWaits Waits Waits item_waiting (statement_waiting uses) (arm_waiting uses) branch_waiting co_arm_waiting (first_item y)) (item_node y))
 
   finds_Statement : (x : Statement-F BlockItem Statement Arm Branch CoArm) (y : Statement-F I S A B C) → first_statement y ≡ x → Finds (statement_read (roll-Statement x)) (statement_waits uses (roll-Statement x))
   finds_Statement x y is =
       let R : Statement-F BlockItem Statement Arm Branch CoArm → Type 0 = λ z. Finds (statement_read (roll-Statement z)) (statement_waits uses (roll-Statement z)) in
       subst R is (finds_both _ _ _ _
-      (fold-roll-Statement Steps Steps ArmSteps Steps Steps item_step statement_step arm_step branch_step co_arm_step (first_statement y))
+      (fold-roll-Statement Steps Steps ArmSteps Steps CoArmSteps item_step statement_step arm_step branch_step co_arm_step (first_statement y))
       (fold-roll-Statement Waits Waits ArmWaits Waits Waits item_waiting (statement_waiting uses) (arm_waiting uses) branch_waiting co_arm_waiting (first_statement y)) (statement_node y))
 
   finds_Arm : (x : Arm-F BlockItem Statement Arm Branch CoArm) (y : Arm-F I S A B C) → first_arm y ≡ x → ArmFinds (arm_read (roll-Arm x)) (arm_waits uses (roll-Arm x))
@@ -454,26 +465,28 @@ module _ (P : Spot → Ty → Spot → Bool → Type 0) (uses : Meanings) (compo
       let K : ArmSteps → Type 0 = λ arm. ArmFinds arm (arm_waits uses (roll-Arm (first_arm y))) in
       let L : ArmWaits → Type 0 = λ waits. ArmFinds (arm_step (read_arm (first_arm y))) waits in
       subst R is
-      (subst K (sym (fold-roll-Arm Steps Steps ArmSteps Steps Steps item_step statement_step arm_step branch_step co_arm_step (first_arm y)))
+      (subst K (sym (fold-roll-Arm Steps Steps ArmSteps Steps CoArmSteps item_step statement_step arm_step branch_step co_arm_step (first_arm y)))
       (subst L (sym (fold-roll-Arm Waits Waits ArmWaits Waits Waits item_waiting (statement_waiting uses) (arm_waiting uses) branch_waiting co_arm_waiting (first_arm y))) (arm_node y)))
 
   finds_Branch : (x : Branch-F BlockItem Statement Arm Branch CoArm) (y : Branch-F I S A B C) → first_branch y ≡ x → Finds (branch_read (roll-Branch x)) (branch_waits uses (roll-Branch x))
   finds_Branch x y is =
       let R : Branch-F BlockItem Statement Arm Branch CoArm → Type 0 = λ z. Finds (branch_read (roll-Branch z)) (branch_waits uses (roll-Branch z)) in
       subst R is (finds_both _ _ _ _
-      (fold-roll-Branch Steps Steps ArmSteps Steps Steps item_step statement_step arm_step branch_step co_arm_step (first_branch y))
+      (fold-roll-Branch Steps Steps ArmSteps Steps CoArmSteps item_step statement_step arm_step branch_step co_arm_step (first_branch y))
       (fold-roll-Branch Waits Waits ArmWaits Waits Waits item_waiting (statement_waiting uses) (arm_waiting uses) branch_waiting co_arm_waiting (first_branch y)) (branch_node y))
 
-  finds_CoArm : (x : CoArm-F BlockItem Statement Arm Branch CoArm) (y : CoArm-F I S A B C) → first_co_arm y ≡ x → Finds (co_arm_read (roll-CoArm x)) (co_arm_waits uses (roll-CoArm x))
+  finds_CoArm : (x : CoArm-F BlockItem Statement Arm Branch CoArm) (y : CoArm-F I S A B C) → first_co_arm y ≡ x → (span : Span) → Finds (co_arm_read (roll-CoArm x) span) (co_arm_waits uses (roll-CoArm x))
   finds_CoArm x y is =
-      let R : CoArm-F BlockItem Statement Arm Branch CoArm → Type 0 = λ z. Finds (co_arm_read (roll-CoArm z)) (co_arm_waits uses (roll-CoArm z)) in
-      subst R is (finds_both _ _ _ _
-      (fold-roll-CoArm Steps Steps ArmSteps Steps Steps item_step statement_step arm_step branch_step co_arm_step (first_co_arm y))
-      (fold-roll-CoArm Waits Waits ArmWaits Waits Waits item_waiting (statement_waiting uses) (arm_waiting uses) branch_waiting co_arm_waiting (first_co_arm y)) (co_arm_node y))
+      let R : CoArm-F BlockItem Statement Arm Branch CoArm → Type 0 = λ z. (span : Span) → Finds (co_arm_read (roll-CoArm z) span) (co_arm_waits uses (roll-CoArm z)) in
+      let K : CoArmSteps → Type 0 = λ arm. (span : Span) → Finds (arm span) (co_arm_waits uses (roll-CoArm (first_co_arm y))) in
+      let L : Waits → Type 0 = λ waits. (span : Span) → Finds (co_arm_step (read_co_arm (first_co_arm y)) span) waits in
+      subst R is
+      (subst K (sym (fold-roll-CoArm Steps Steps ArmSteps Steps CoArmSteps item_step statement_step arm_step branch_step co_arm_step (first_co_arm y)))
+      (subst L (sym (fold-roll-CoArm Waits Waits ArmWaits Waits Waits item_waiting (statement_waiting uses) (arm_waiting uses) branch_waiting co_arm_waiting (first_co_arm y))) (co_arm_node y)))
 
   -- what statements service is right where nothing is found in them
   pub finds_statement : (tree : Statement) → Finds (statement_read tree) (statement_waits uses tree)
   finds_statement =
       ind-Statement (λ tree. Finds (block_item_read tree) (block_item_waits uses tree)) (λ tree. Finds (statement_read tree) (statement_waits uses tree)) (λ tree. ArmFinds (arm_read tree) (arm_waits uses tree))
-      (λ tree. Finds (branch_read tree) (branch_waits uses tree)) (λ tree. Finds (co_arm_read tree) (co_arm_waits uses tree))
+      (λ tree. Finds (branch_read tree) (branch_waits uses tree)) (λ tree. (span : Span) → Finds (co_arm_read tree span) (co_arm_waits uses tree))
       finds_Item finds_Statement finds_Arm finds_Branch finds_CoArm

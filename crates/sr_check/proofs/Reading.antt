@@ -35,26 +35,26 @@ use Rattle.sr_check.specs.Contexts.{Context, Steps, with_facts, looping, in_orde
 use Rattle.sr_check.specs.Owners.{inner_owned, block_owned}
 use Rattle.sr_check.specs.Quantifying.{quantified, quantifiers_known}
 use Rattle.sr_check.specs.Services.{operation_named, type_of, names_bound, params_of, returned_bound, returns_of, type_or_none, service_bound}
-use Rattle.sr_check.specs.Statements.{ArmSteps, arm_context, arms_at, item_step, statement_step, arm_step, branch_step, co_arm_step, statement_read, block_item_read, arm_read, branch_read, co_arm_read, const_read, var_read}
+use Rattle.sr_check.specs.Statements.{ArmSteps, CoArmSteps, arm_context, arms_at, co_arms_at, item_step, statement_step, arm_step, branch_step, co_arm_step, statement_read, block_item_read, arm_read, branch_read, co_arm_read, const_read, var_read}
 use Rattle.sr_check.proofs.Each.{Each, each-parts}
 use Rattle.sr_check.proofs.Entered.{keeps_written, keeps_ops}
 use Rattle.sr_check.proofs.Owners.{Allows, Sound, sound_with, sound_signatures, sound_vars, sound_ops, sound_sems, sound_params}
 
 -- the parts of trees as they are read
-abbrev pub read_item : BlockItem-F BlockItem Statement Arm Branch CoArm → BlockItem-F Steps Steps ArmSteps Steps Steps
-read_item = map-BlockItem BlockItem Statement Arm Branch CoArm Steps Steps ArmSteps Steps Steps block_item_read statement_read arm_read branch_read co_arm_read
+abbrev pub read_item : BlockItem-F BlockItem Statement Arm Branch CoArm → BlockItem-F Steps Steps ArmSteps Steps CoArmSteps
+read_item = map-BlockItem BlockItem Statement Arm Branch CoArm Steps Steps ArmSteps Steps CoArmSteps block_item_read statement_read arm_read branch_read co_arm_read
 
-abbrev pub read_statement : Statement-F BlockItem Statement Arm Branch CoArm → Statement-F Steps Steps ArmSteps Steps Steps
-read_statement = map-Statement BlockItem Statement Arm Branch CoArm Steps Steps ArmSteps Steps Steps block_item_read statement_read arm_read branch_read co_arm_read
+abbrev pub read_statement : Statement-F BlockItem Statement Arm Branch CoArm → Statement-F Steps Steps ArmSteps Steps CoArmSteps
+read_statement = map-Statement BlockItem Statement Arm Branch CoArm Steps Steps ArmSteps Steps CoArmSteps block_item_read statement_read arm_read branch_read co_arm_read
 
-abbrev pub read_arm : Arm-F BlockItem Statement Arm Branch CoArm → Arm-F Steps Steps ArmSteps Steps Steps
-read_arm = map-Arm BlockItem Statement Arm Branch CoArm Steps Steps ArmSteps Steps Steps block_item_read statement_read arm_read branch_read co_arm_read
+abbrev pub read_arm : Arm-F BlockItem Statement Arm Branch CoArm → Arm-F Steps Steps ArmSteps Steps CoArmSteps
+read_arm = map-Arm BlockItem Statement Arm Branch CoArm Steps Steps ArmSteps Steps CoArmSteps block_item_read statement_read arm_read branch_read co_arm_read
 
-abbrev pub read_branch : Branch-F BlockItem Statement Arm Branch CoArm → Branch-F Steps Steps ArmSteps Steps Steps
-read_branch = map-Branch BlockItem Statement Arm Branch CoArm Steps Steps ArmSteps Steps Steps block_item_read statement_read arm_read branch_read co_arm_read
+abbrev pub read_branch : Branch-F BlockItem Statement Arm Branch CoArm → Branch-F Steps Steps ArmSteps Steps CoArmSteps
+read_branch = map-Branch BlockItem Statement Arm Branch CoArm Steps Steps ArmSteps Steps CoArmSteps block_item_read statement_read arm_read branch_read co_arm_read
 
-abbrev pub read_co_arm : CoArm-F BlockItem Statement Arm Branch CoArm → CoArm-F Steps Steps ArmSteps Steps Steps
-read_co_arm = map-CoArm BlockItem Statement Arm Branch CoArm Steps Steps ArmSteps Steps Steps block_item_read statement_read arm_read branch_read co_arm_read
+abbrev pub read_co_arm : CoArm-F BlockItem Statement Arm Branch CoArm → CoArm-F Steps Steps ArmSteps Steps CoArmSteps
+read_co_arm = map-CoArm BlockItem Statement Arm Branch CoArm Steps Steps ArmSteps Steps CoArmSteps block_item_read statement_read arm_read branch_read co_arm_read
 
 module _ (P : Spot → Ty → Spot → Bool → Type 0) (uses : Meanings) (component : Spot) where
   abbrev pub Holds : Facts → Type 0
@@ -127,7 +127,7 @@ module _ (P : Spot → Ty → Spot → Bool → Type 0) (uses : Meanings) (compo
   B = (tree : Branch) × Keeps (branch_read tree)
 
   abbrev C : Type 0
-  C = (tree : CoArm) × Keeps (co_arm_read tree)
+  C = (tree : CoArm) × ((span : Span) → Keeps (co_arm_read tree span))
 
   keeps_row : {X : Type 0} (read : X → Steps) (xs : List ((tree : X) × Keeps (read tree))) → Keeps (in_order (map read (map (λ x. x.0) xs)))
   keeps_row read [] context h = h
@@ -136,6 +136,10 @@ module _ (P : Spot → Ty → Spot → Bool → Type 0) (uses : Meanings) (compo
   keeps_arms : (span : Span) (xs : List A) → Keeps (in_order (arms_at span (map arm_read (map (λ x. x.0) xs))))
   keeps_arms span [] context h = h
   keeps_arms span (x ∷ xs) context h = keeps_arms span xs (with_facts context ((arm_read x.0).steps span context).facts) (x.1 span context h)
+
+  keeps_co_arms : (span : Span) (xs : List C) → Keeps (in_order (co_arms_at span (map co_arm_read (map (λ x. x.0) xs))))
+  keeps_co_arms span [] context h = h
+  keeps_co_arms span (x ∷ xs) context h = keeps_co_arms span xs (with_facts context (co_arm_read x.0 span context).facts) (x.1 span context h)
 
   abbrev first_item : BlockItem-F I S A B C → BlockItem-F BlockItem Statement Arm Branch CoArm
   first_item = map-BlockItem I S A B C BlockItem Statement Arm Branch CoArm (λ x. x.0) (λ x. x.0) (λ x. x.0) (λ x. x.0) (λ x. x.0)
@@ -166,7 +170,7 @@ module _ (P : Spot → Ty → Spot → Bool → Type 0) (uses : Meanings) (compo
       keeps_row block_item_read block (looping (with_facts context (quantifiers_known context.facts quantifiers))) (keeps_quantifiers quantifiers context.facts h)
   statement_node (Statement-F.In span arms None) context h = keeps_arms span arms context h
   statement_node (Statement-F.In span arms (Some items)) context h = keeps_row block_item_read items _ (keeps_arms span arms context h)
-  statement_node (Statement-F.Co span arms) context h = keeps_row co_arm_read arms context h
+  statement_node (Statement-F.Co span arms) context h = keeps_co_arms span arms context h
   statement_node _ context h = h
 
   arm_node : (y : Arm-F I S A B C) (span : Span) → Keeps ((arm_step (read_arm (first_arm y))).steps span)
@@ -177,67 +181,67 @@ module _ (P : Spot → Ty → Spot → Bool → Type 0) (uses : Meanings) (compo
   branch_node : (y : Branch-F I S A B C) → Keeps (branch_step (read_branch (first_branch y)))
   branch_node y context h = keeps_row block_item_read y.block context h
 
-  co_arm_by : (y : CoArm-F I S A B C) (block : Option (List I)) → Keeps (co_arm_step (read_co_arm (first_co_arm (record y { block = block }))))
-  co_arm_by y None context h = keeps_quantifiers y.quantifiers context.facts h
-  co_arm_by y (Some items) context h =
+  co_arm_by : (y : CoArm-F I S A B C) (block : Option (List I)) (span : Span) → Keeps (co_arm_step (read_co_arm (first_co_arm (record y { block = block }))) span)
+  co_arm_by y None span context h = keeps_quantifiers y.quantifiers context.facts h
+  co_arm_by y (Some items) span context h =
       keeps_row block_item_read items (looping (with_facts context (quantifiers_known context.facts y.quantifiers))) (keeps_quantifiers y.quantifiers context.facts h)
 
-  co_arm_node : (y : CoArm-F I S A B C) → Keeps (co_arm_step (read_co_arm (first_co_arm y)))
+  co_arm_node : (y : CoArm-F I S A B C) (span : Span) → Keeps (co_arm_step (read_co_arm (first_co_arm y)) span)
   co_arm_node y = co_arm_by y y.block
 
   keeps_Item : (x : BlockItem-F BlockItem Statement Arm Branch CoArm) (y : BlockItem-F I S A B C) → first_item y ≡ x → Keeps (block_item_read (roll-BlockItem x))
   keeps_Item x y is =
       let R : BlockItem-F BlockItem Statement Arm Branch CoArm → Type 0 = λ z. Keeps (block_item_read (roll-BlockItem z)) in
       let K : Steps → Type 0 = λ steps. Keeps steps in
-      subst R is (subst K (sym (fold-roll-BlockItem Steps Steps ArmSteps Steps Steps item_step statement_step arm_step branch_step co_arm_step _)) (item_node y))
+      subst R is (subst K (sym (fold-roll-BlockItem Steps Steps ArmSteps Steps CoArmSteps item_step statement_step arm_step branch_step co_arm_step _)) (item_node y))
 
   keeps_Statement : (x : Statement-F BlockItem Statement Arm Branch CoArm) (y : Statement-F I S A B C) → first_statement y ≡ x → Keeps (statement_read (roll-Statement x))
   keeps_Statement x y is =
       let R : Statement-F BlockItem Statement Arm Branch CoArm → Type 0 = λ z. Keeps (statement_read (roll-Statement z)) in
       let K : Steps → Type 0 = λ steps. Keeps steps in
-      subst R is (subst K (sym (fold-roll-Statement Steps Steps ArmSteps Steps Steps item_step statement_step arm_step branch_step co_arm_step _)) (statement_node y))
+      subst R is (subst K (sym (fold-roll-Statement Steps Steps ArmSteps Steps CoArmSteps item_step statement_step arm_step branch_step co_arm_step _)) (statement_node y))
 
   keeps_Arm : (x : Arm-F BlockItem Statement Arm Branch CoArm) (y : Arm-F I S A B C) → first_arm y ≡ x → (span : Span) → Keeps ((arm_read (roll-Arm x)).steps span)
   keeps_Arm x y is =
       let R : Arm-F BlockItem Statement Arm Branch CoArm → Type 0 = λ z. (span : Span) → Keeps ((arm_read (roll-Arm z)).steps span) in
       let K : ArmSteps → Type 0 = λ arm. (span : Span) → Keeps (arm.steps span) in
-      subst R is (subst K (sym (fold-roll-Arm Steps Steps ArmSteps Steps Steps item_step statement_step arm_step branch_step co_arm_step _)) (arm_node y))
+      subst R is (subst K (sym (fold-roll-Arm Steps Steps ArmSteps Steps CoArmSteps item_step statement_step arm_step branch_step co_arm_step _)) (arm_node y))
 
   keeps_Branch : (x : Branch-F BlockItem Statement Arm Branch CoArm) (y : Branch-F I S A B C) → first_branch y ≡ x → Keeps (branch_read (roll-Branch x))
   keeps_Branch x y is =
       let R : Branch-F BlockItem Statement Arm Branch CoArm → Type 0 = λ z. Keeps (branch_read (roll-Branch z)) in
       let K : Steps → Type 0 = λ steps. Keeps steps in
-      subst R is (subst K (sym (fold-roll-Branch Steps Steps ArmSteps Steps Steps item_step statement_step arm_step branch_step co_arm_step _)) (branch_node y))
+      subst R is (subst K (sym (fold-roll-Branch Steps Steps ArmSteps Steps CoArmSteps item_step statement_step arm_step branch_step co_arm_step _)) (branch_node y))
 
-  keeps_CoArm : (x : CoArm-F BlockItem Statement Arm Branch CoArm) (y : CoArm-F I S A B C) → first_co_arm y ≡ x → Keeps (co_arm_read (roll-CoArm x))
+  keeps_CoArm : (x : CoArm-F BlockItem Statement Arm Branch CoArm) (y : CoArm-F I S A B C) → first_co_arm y ≡ x → (span : Span) → Keeps (co_arm_read (roll-CoArm x) span)
   keeps_CoArm x y is =
-      let R : CoArm-F BlockItem Statement Arm Branch CoArm → Type 0 = λ z. Keeps (co_arm_read (roll-CoArm z)) in
-      let K : Steps → Type 0 = λ steps. Keeps steps in
-      subst R is (subst K (sym (fold-roll-CoArm Steps Steps ArmSteps Steps Steps item_step statement_step arm_step branch_step co_arm_step _)) (co_arm_node y))
+      let R : CoArm-F BlockItem Statement Arm Branch CoArm → Type 0 = λ z. (span : Span) → Keeps (co_arm_read (roll-CoArm z) span) in
+      let K : CoArmSteps → Type 0 = λ arm. (span : Span) → Keeps (arm span) in
+      subst R is (subst K (sym (fold-roll-CoArm Steps Steps ArmSteps Steps CoArmSteps item_step statement_step arm_step branch_step co_arm_step _)) (co_arm_node y))
 
   pub keeps_statement : (tree : Statement) → Keeps (statement_read tree)
   keeps_statement =
-      ind-Statement (λ tree. Keeps (block_item_read tree)) (λ tree. Keeps (statement_read tree)) (λ tree. (span : Span) → Keeps ((arm_read tree).steps span)) (λ tree. Keeps (branch_read tree)) (λ tree. Keeps (co_arm_read tree))
+      ind-Statement (λ tree. Keeps (block_item_read tree)) (λ tree. Keeps (statement_read tree)) (λ tree. (span : Span) → Keeps ((arm_read tree).steps span)) (λ tree. Keeps (branch_read tree)) (λ tree. (span : Span) → Keeps (co_arm_read tree span))
       keeps_Item keeps_Statement keeps_Arm keeps_Branch keeps_CoArm
 
   pub keeps_block_item : (tree : BlockItem) → Keeps (block_item_read tree)
   keeps_block_item =
-      ind-BlockItem (λ tree. Keeps (block_item_read tree)) (λ tree. Keeps (statement_read tree)) (λ tree. (span : Span) → Keeps ((arm_read tree).steps span)) (λ tree. Keeps (branch_read tree)) (λ tree. Keeps (co_arm_read tree))
+      ind-BlockItem (λ tree. Keeps (block_item_read tree)) (λ tree. Keeps (statement_read tree)) (λ tree. (span : Span) → Keeps ((arm_read tree).steps span)) (λ tree. Keeps (branch_read tree)) (λ tree. (span : Span) → Keeps (co_arm_read tree span))
       keeps_Item keeps_Statement keeps_Arm keeps_Branch keeps_CoArm
 
   pub keeps_arm : (tree : Arm) (span : Span) → Keeps ((arm_read tree).steps span)
   keeps_arm =
-      ind-Arm (λ tree. Keeps (block_item_read tree)) (λ tree. Keeps (statement_read tree)) (λ tree. (span : Span) → Keeps ((arm_read tree).steps span)) (λ tree. Keeps (branch_read tree)) (λ tree. Keeps (co_arm_read tree))
+      ind-Arm (λ tree. Keeps (block_item_read tree)) (λ tree. Keeps (statement_read tree)) (λ tree. (span : Span) → Keeps ((arm_read tree).steps span)) (λ tree. Keeps (branch_read tree)) (λ tree. (span : Span) → Keeps (co_arm_read tree span))
       keeps_Item keeps_Statement keeps_Arm keeps_Branch keeps_CoArm
 
   pub keeps_branch : (tree : Branch) → Keeps (branch_read tree)
   keeps_branch =
-      ind-Branch (λ tree. Keeps (block_item_read tree)) (λ tree. Keeps (statement_read tree)) (λ tree. (span : Span) → Keeps ((arm_read tree).steps span)) (λ tree. Keeps (branch_read tree)) (λ tree. Keeps (co_arm_read tree))
+      ind-Branch (λ tree. Keeps (block_item_read tree)) (λ tree. Keeps (statement_read tree)) (λ tree. (span : Span) → Keeps ((arm_read tree).steps span)) (λ tree. Keeps (branch_read tree)) (λ tree. (span : Span) → Keeps (co_arm_read tree span))
       keeps_Item keeps_Statement keeps_Arm keeps_Branch keeps_CoArm
 
-  pub keeps_co_arm : (tree : CoArm) → Keeps (co_arm_read tree)
+  pub keeps_co_arm : (tree : CoArm) (span : Span) → Keeps (co_arm_read tree span)
   keeps_co_arm =
-      ind-CoArm (λ tree. Keeps (block_item_read tree)) (λ tree. Keeps (statement_read tree)) (λ tree. (span : Span) → Keeps ((arm_read tree).steps span)) (λ tree. Keeps (branch_read tree)) (λ tree. Keeps (co_arm_read tree))
+      ind-CoArm (λ tree. Keeps (block_item_read tree)) (λ tree. Keeps (statement_read tree)) (λ tree. (span : Span) → Keeps ((arm_read tree).steps span)) (λ tree. Keeps (branch_read tree)) (λ tree. (span : Span) → Keeps (co_arm_read tree span))
       keeps_Item keeps_Statement keeps_Arm keeps_Branch keeps_CoArm
 
   -- ---- items of procs

@@ -132,19 +132,21 @@ may_reply (Serves operation) = true
 
 -- ---- arms of `co`
 
-abbrev pub result_found : TypedExpr → Option Ty → Span → List Finding
-result_found target None span = broken BadType span ∷ []
-result_found target (Some ty) span = broken_unless (store_rule target.typed (computed ty Unknown)) BadType target.span
+-- an arm is no statement: a store that its `co` doesn't allow is refused at the `co`, and that nothing is given back at
+-- the invocation
+abbrev pub result_found : Span → TypedExpr → Option Ty → Span → List Finding
+result_found span target None invoked = broken BadType invoked ∷ []
+result_found span target (Some ty) invoked = broken_unless (store_rule target.typed (computed ty Unknown)) BadType span
 
 -- what a callee of this type gives back is stored to the place
-abbrev pub place_found : Facts → Option Expr → Ty → Span → List Finding
-place_found facts None callee span = []
-place_found facts (Some target) callee span =
-    valued (infer_expr target facts) ++ result_found (infer_expr target facts).typed_expr (returned_by facts.signatures callee) span
+abbrev pub place_found : Facts → Span → Option Expr → Ty → Span → List Finding
+place_found facts span None callee invoked = []
+place_found facts span (Some target) callee invoked =
+    valued (infer_expr target facts) ++ result_found span (infer_expr target facts).typed_expr (returned_by facts.signatures callee) invoked
 
 -- what is invoked is an operation that is called, and its result is stored to the place of the arm
-abbrev pub started_found : Facts → Option Expr → Called → List Finding
-started_found facts target called =
+abbrev pub started_found : Facts → Span → Option Expr → Called → List Finding
+started_found facts span target called =
     parts_found called
     ++ (invoked_found facts called.span (is_callable facts.signatures called.callee.typed_expr.typed.ty) called.callee.typed_expr (typed_exprs_of called.arguments)
-    ++ place_found facts target called.callee.typed_expr.typed.ty called.span)
+    ++ place_found facts span target called.callee.typed_expr.typed.ty called.span)

@@ -59,6 +59,10 @@ pub record ArmSteps : Type 0 where
   pub operation : Name
   pub steps : Span → Steps
 
+-- what is found in an arm of `co`, where its `co` stands at a span
+abbrev pub CoArmSteps : Type 0
+CoArmSteps = Span → Steps
+
 -- ---- blocks
 
 abbrev pub maybe_block : Option (List Steps) → Steps
@@ -68,13 +72,13 @@ maybe_block (Some items) context = in_order items context
 abbrev pub then_step : Steps → Steps → Steps
 then_step first second context = with_more (first context).found (second (with_facts context (first context).facts))
 
-abbrev pub item_step : BlockItem-F Steps Steps ArmSteps Steps Steps → Steps
+abbrev pub item_step : BlockItem-F Steps Steps ArmSteps Steps CoArmSteps → Steps
 item_step (BlockItem-F.Const constant) context = const_read constant context.facts
 item_step (BlockItem-F.Var variables) context = var_read variables context.facts
 item_step (BlockItem-F.Statement statement) context = statement context
 
 -- a guard is a bool
-abbrev pub branch_step : Branch-F Steps Steps ArmSteps Steps Steps → Steps
+abbrev pub branch_step : Branch-F Steps Steps ArmSteps Steps CoArmSteps → Steps
 branch_step branch context = with_more (expr_with condition_rule context.facts branch.guard) (in_order branch.block context)
 
 -- ---- `in`
@@ -99,7 +103,7 @@ abbrev pub arm_inner : Option ArmCondition → Option Expr → List Steps → St
 arm_inner condition order block context = with_more (guards_found context.facts condition order) (in_order block context)
 
 -- what an arm says of its operation is refused at its `in`
-abbrev pub arm_step : Arm-F Steps Steps ArmSteps Steps Steps → ArmSteps
+abbrev pub arm_step : Arm-F Steps Steps ArmSteps Steps CoArmSteps → ArmSteps
 arm_step arm = record {
   operation = arm.operation;
   steps = λ span context.
@@ -119,15 +123,18 @@ arms_at span arms = map (λ arm. arm.steps span) arms
 
 -- ---- `co`
 
-abbrev pub co_arm_inner : Option Expr → Invocation → Option (List Steps) → Steps
-co_arm_inner target invocation block context =
-    with_more (started_found context.facts target (infer_invocation invocation context.facts)) (maybe_block block (looping context))
+abbrev pub co_arm_inner : Span → Option Expr → Invocation → Option (List Steps) → Steps
+co_arm_inner span target invocation block context =
+    with_more (started_found context.facts span target (infer_invocation invocation context.facts)) (maybe_block block (looping context))
 
 -- the quantifiers of an arm are known in all of it
-abbrev pub co_arm_step : CoArm-F Steps Steps ArmSteps Steps Steps → Steps
-co_arm_step arm context =
+abbrev pub co_arm_step : CoArm-F Steps Steps ArmSteps Steps CoArmSteps → CoArmSteps
+co_arm_step arm span context =
     with_more (quantifiers_found context.facts arm.quantifiers)
-    (co_arm_inner arm.target arm.invocation arm.block (with_facts context (quantifiers_known context.facts arm.quantifiers)))
+    (co_arm_inner span arm.target arm.invocation arm.block (with_facts context (quantifiers_known context.facts arm.quantifiers)))
+
+abbrev pub co_arms_at : Span → List CoArmSteps → List Steps
+co_arms_at span arms = map (λ steps. steps span) arms
 
 -- ---- all
 
@@ -153,7 +160,7 @@ plain_step (Statement-F.Forward span invocation) context = forward_found context
 plain_step (Statement-F.Receive span operation places) context = receive_found context span operation places
 plain_step statement context = store_step statement context.facts
 
-abbrev pub statement_step : Statement-F Steps Steps ArmSteps Steps Steps → Steps
+abbrev pub statement_step : Statement-F Steps Steps ArmSteps Steps CoArmSteps → Steps
 statement_step (Statement-F.If span branches otherwise) context = then_step (in_order branches) (maybe_block otherwise) context
 statement_step (Statement-F.Do span branches otherwise) context = then_step (in_order branches) (maybe_block otherwise) (looping context)
 statement_step (Statement-F.ForAll span quantifiers block) context =
@@ -161,7 +168,7 @@ statement_step (Statement-F.ForAll span quantifiers block) context =
     (in_order block (looping (with_facts context (quantifiers_known context.facts quantifiers))))
 statement_step (Statement-F.In span arms otherwise) context =
     with_more (mixture_found context.facts span arms) (then_step (in_order (arms_at span arms)) (maybe_block otherwise) context)
-statement_step (Statement-F.Co span arms) context = in_order arms context
+statement_step (Statement-F.Co span arms) context = in_order (co_arms_at span arms) context
 statement_step statement context = only_found context (plain_step statement context)
 
 abbrev pub store_found : Statement → Facts → List Finding
@@ -171,16 +178,16 @@ abbrev pub plain_found : Statement → Context → List Finding
 plain_found statement context = plain_step (out-Statement statement) context
 
 abbrev pub statement_read : Statement → Steps
-statement_read = fold-Statement Steps Steps ArmSteps Steps Steps item_step statement_step arm_step branch_step co_arm_step
+statement_read = fold-Statement Steps Steps ArmSteps Steps CoArmSteps item_step statement_step arm_step branch_step co_arm_step
 
 abbrev pub block_item_read : BlockItem → Steps
-block_item_read = fold-BlockItem Steps Steps ArmSteps Steps Steps item_step statement_step arm_step branch_step co_arm_step
+block_item_read = fold-BlockItem Steps Steps ArmSteps Steps CoArmSteps item_step statement_step arm_step branch_step co_arm_step
 
 abbrev pub arm_read : Arm → ArmSteps
-arm_read = fold-Arm Steps Steps ArmSteps Steps Steps item_step statement_step arm_step branch_step co_arm_step
+arm_read = fold-Arm Steps Steps ArmSteps Steps CoArmSteps item_step statement_step arm_step branch_step co_arm_step
 
 abbrev pub branch_read : Branch → Steps
-branch_read = fold-Branch Steps Steps ArmSteps Steps Steps item_step statement_step arm_step branch_step co_arm_step
+branch_read = fold-Branch Steps Steps ArmSteps Steps CoArmSteps item_step statement_step arm_step branch_step co_arm_step
 
-abbrev pub co_arm_read : CoArm → Steps
-co_arm_read = fold-CoArm Steps Steps ArmSteps Steps Steps item_step statement_step arm_step branch_step co_arm_step
+abbrev pub co_arm_read : CoArm → CoArmSteps
+co_arm_read = fold-CoArm Steps Steps ArmSteps Steps CoArmSteps item_step statement_step arm_step branch_step co_arm_step

@@ -329,20 +329,21 @@ pub(crate) fn may_reply(serving: Serving) -> bool
     !matches!(serving, Serving::Ends)
 }
 
-/// Notes where what an arm of `co` gives back isn't stored to its place.
+/// Notes where what an arm of a `co` gives back isn't stored to its place.
 fn note_result(
     diagnostics: &mut Diagnostics,
+    span: Span,
     target: &TypedExpr,
     returned: Option<Ty>,
-    span: Span,
+    invoked: Span,
 ) -> Result<(), NoMemory>
-    ensures { OnOk result (diagnostics.new ≡ all_noted diagnostics.old (result_found target.now returned span)) }
+    ensures { OnOk result (diagnostics.new ≡ all_noted diagnostics.old (result_found span target.now returned invoked)) }
 {
     match returned {
-        None => note_unless(diagnostics, false, Rule::BadType, span),
+        None => note_unless(diagnostics, false, Rule::BadType, invoked),
         Some(ty) => {
             let met = may_store(&target.typed, &known(ty, Static::Unknown));
-            note_unless(diagnostics, met, Rule::BadType, target.span)
+            note_unless(diagnostics, met, Rule::BadType, span)
         }
     }
 }
@@ -352,72 +353,84 @@ fn note_place(
     alloc: Global,
     facts: &Facts,
     diagnostics: &mut Diagnostics,
+    span: Span,
     target: &TypedExpr,
     callee: &Ty,
-    span: Span,
+    invoked: Span,
 ) -> Result<(), NoMemory>
-    ensures { OnOk result (diagnostics.new ≡ all_noted diagnostics.old (value_found target.now ++ result_found target.now (returned_by facts.now.signatures callee.now) span)) }
+    ensures { OnOk result (diagnostics.new ≡ all_noted diagnostics.old (value_found target.now ++ result_found span target.now (returned_by facts.now.signatures callee.now) invoked)) }
 {
     note_value(diagnostics, target)?;
     let returned = returned_by(alloc, &facts.signatures, callee)?;
-    note_result(diagnostics, target, returned, span)
+    note_result(diagnostics, span, target, returned, invoked)
 }
 
-/// Notes what is found at the place of an arm of `co`.
+/// Notes what is found at the place of an arm of a `co`.
 fn note_target(
     alloc: Global,
     facts: &Facts,
     diagnostics: &mut Diagnostics,
+    span: Span,
     target: &Option<Expr>,
     callee: &Ty,
-    span: Span,
+    invoked: Span,
 ) -> Result<(), NoMemory>
-    ensures { OnOk result (diagnostics.new ≡ all_noted diagnostics.old (place_found facts.now target.now callee.now span)) }
+    ensures { OnOk result (diagnostics.new ≡ all_noted diagnostics.old (place_found facts.now span target.now callee.now invoked)) }
 {
     match target {
         None => Ok(()),
         Some(target) => {
             let target = expr(alloc, target, facts, diagnostics)?;
-            note_place(alloc, facts, diagnostics, &target, callee, span)
+            note_place(alloc, facts, diagnostics, span, &target, callee, invoked)
         }
     }
 }
 
-/// Notes what is found at an arm of `co`, apart from the parts of its invocation.
+/// Notes what is found at an arm of a `co`, apart from the parts of its invocation.
 fn note_begun(
     alloc: Global,
     facts: &Facts,
     diagnostics: &mut Diagnostics,
+    span: Span,
     target: &Option<Expr>,
     parts: &Invoked,
-    span: Span,
+    invoked: Span,
 ) -> Result<(), NoMemory>
-    ensures { OnOk result (diagnostics.new ≡ all_noted diagnostics.old (invoked_found facts.now span (is_callable facts.now.signatures parts.now.callee.typed.ty) parts.now.callee parts.now.arguments
-        ++ place_found facts.now target.now parts.now.callee.typed.ty span)) }
+    ensures { OnOk result (diagnostics.new ≡ all_noted diagnostics.old (invoked_found facts.now invoked (is_callable facts.now.signatures parts.now.callee.typed.ty) parts.now.callee parts.now.arguments
+        ++ place_found facts.now span target.now parts.now.callee.typed.ty invoked)) }
 {
     let callee = &parts.callee;
     let allowed = is_callable(&facts.signatures, &callee.typed.ty);
     note_invoked(
         facts,
         diagnostics,
-        span,
+        invoked,
         allowed,
         callee,
         parts.arguments.as_slice(),
     )?;
-    note_target(alloc, facts, diagnostics, target, &callee.typed.ty, span)
+    note_target(
+        alloc,
+        facts,
+        diagnostics,
+        span,
+        target,
+        &callee.typed.ty,
+        invoked,
+    )
 }
 
-/// Notes what is found at the place and the invocation of an arm of `co`.
+/// Notes what is found at the place and the invocation of an arm of a `co` that stands at a span.
 pub(crate) fn note_started(
     alloc: Global,
     facts: &Facts,
     diagnostics: &mut Diagnostics,
+    span: Span,
     target: &Option<Expr>,
     tree: &Invocation,
 ) -> Result<(), NoMemory>
-    ensures { OnOk result (diagnostics.new ≡ all_noted diagnostics.old (started_found facts.now target.now (infer_invocation tree.now facts.now))) }
+    ensures { OnOk result (diagnostics.new ≡ all_noted diagnostics.old (started_found facts.now span target.now (infer_invocation tree.now facts.now))) }
 {
     let parts = invocation(alloc, tree, facts, diagnostics)?;
-    note_begun(alloc, facts, diagnostics, target, &parts, tree.span)
+    note_begun(alloc, facts, diagnostics, span, target, &parts, tree.span)
 }

@@ -6,7 +6,7 @@ ghost use Rattle.sr_check.specs.Contexts.{context_of, in_order, looping, with_fa
 ghost use Rattle.sr_check.specs.Uses.{choice_rule};
 ghost use Rattle.sr_check.specs.Quantifying.{maybe_with};
 ghost use Rattle.sr_check.specs.Services.{operation_named, is_local_name, is_shared_name};
-ghost use Rattle.sr_check.specs.Statements.{const_read, var_read, guards_found, condition_found, arm_context, arm_inner, is_mixture, mixture_found, arms_at, store_found, plain_found, statement_read, block_item_read, arm_read, branch_read, co_arm_read, guarding};
+ghost use Rattle.sr_check.specs.Statements.{const_read, var_read, guards_found, condition_found, arm_context, arm_inner, is_mixture, mixture_found, arms_at, co_arms_at, store_found, plain_found, statement_read, block_item_read, arm_read, branch_read, co_arm_read, guarding};
 
 use crate::enclosing::Enclosing;
 use crate::invoking::{may_reply, note_call, note_forward, note_send, note_started};
@@ -328,9 +328,10 @@ pub(crate) fn statement(
                 None => Ok(()),
             }
         }
-        Statement::Co { arms: all, .. } => co_arms(
+        Statement::Co { span, arms: all } => co_arms(
             alloc,
             all.as_slice(),
+            *span,
             enclosing,
             facts,
             diagnostics,
@@ -462,32 +463,42 @@ fn arm(
 fn co_arms(
     alloc: Global,
     trees: &[CoArm],
+    span: Span,
     enclosing: &Enclosing<'_>,
     facts: &mut Facts,
     diagnostics: &mut Diagnostics,
 ) -> Result<(), NoMemory>
-    ensures known { OnOk result (facts.new ≡ (in_order (map co_arm_read trees.now) (context_of enclosing.now facts.old)).facts) }
-    ensures noted { OnOk result (diagnostics.new ≡ all_noted diagnostics.old (in_order (map co_arm_read trees.now) (context_of enclosing.now facts.old)).found) }
+    ensures known { OnOk result (facts.new ≡ (in_order (co_arms_at span (map co_arm_read trees.now)) (context_of enclosing.now facts.old)).facts) }
+    ensures noted { OnOk result (diagnostics.new ≡ all_noted diagnostics.old (in_order (co_arms_at span (map co_arm_read trees.now)) (context_of enclosing.now facts.old)).found) }
 {
     for tree in trees {
-        co_arm(alloc, tree, enclosing, facts, diagnostics)?;
+        co_arm(alloc, tree, span, enclosing, facts, diagnostics)?;
     }
     Ok(())
 }
 
+/// Notes what is found in an arm of a `co` that stands at a span.
 #[cycle(statements)]
 fn co_arm(
     alloc: Global,
     tree: &CoArm,
+    span: Span,
     enclosing: &Enclosing<'_>,
     facts: &mut Facts,
     diagnostics: &mut Diagnostics,
 ) -> Result<(), NoMemory>
-    ensures known { OnOk result (facts.new ≡ (co_arm_read tree.now (context_of enclosing.now facts.old)).facts) }
-    ensures noted { OnOk result (diagnostics.new ≡ all_noted diagnostics.old (co_arm_read tree.now (context_of enclosing.now facts.old)).found) }
+    ensures known { OnOk result (facts.new ≡ (co_arm_read tree.now span (context_of enclosing.now facts.old)).facts) }
+    ensures noted { OnOk result (diagnostics.new ≡ all_noted diagnostics.old (co_arm_read tree.now span (context_of enclosing.now facts.old)).found) }
 {
     quantifiers(alloc, facts, diagnostics, tree.quantifiers.as_slice())?;
-    note_started(alloc, facts, diagnostics, &tree.target, &tree.invocation)?;
+    note_started(
+        alloc,
+        facts,
+        diagnostics,
+        span,
+        &tree.target,
+        &tree.invocation,
+    )?;
     match &tree.block {
         Some(items) => block(
             alloc,

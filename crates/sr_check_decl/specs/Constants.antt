@@ -17,7 +17,7 @@ use Rattle.sr_check_expr.specs.declared.typed_expr.TypedExpr.{TypedExpr}
 use Rattle.sr_check_expr.specs.Exprs.{infer_expr}
 use Rattle.sr_check_expr.specs.Typings.{valued, broken_unless}
 use Rattle.sr_check_decl.specs.declared.kind.Kind.{Kind}
-use Rattle.sr_check_decl.specs.TypeTrees.{free_bounds, type_kinding}
+use Rattle.sr_check_decl.specs.TypeTrees.{fixed_bounds, type_kinding}
 
 abbrev pub is_static : Static → Bool
 is_static (Known value) = true
@@ -27,13 +27,13 @@ abbrev pub is_fault : Static → Bool
 is_fault (Faults fault) = true
 is_fault _ = false
 
--- the type that is written, where one is
+-- the type that is written, where one is: its bounds are static
 abbrev pub written_kind : Facts → Option TypeTree → Option Kind
-written_kind facts ty = option_map (λ tree. (type_kinding tree facts free_bounds).kind) ty
+written_kind facts ty = option_map (λ tree. (type_kinding tree facts fixed_bounds).kind) ty
 
 abbrev pub written_found : Facts → Option TypeTree → List Finding
 written_found facts None = []
-written_found facts (Some tree) = (type_kinding tree facts free_bounds).found
+written_found facts (Some tree) = (type_kinding tree facts fixed_bounds).found
 
 -- the value of a constant has its type, if it has one, and isn't of nothing but `null` and `noop` otherwise
 abbrev pub has_type_of : Option Kind → Typed → Bool

@@ -48,7 +48,8 @@ use Rattle.sr_check_expr.specs.Typings.{Typing, valued, broken_unless}
 use Rattle.sr_check_expr.specs.Naming.{decl_of, decl_info, deciding}
 use Rattle.sr_check_expr.specs.PredefinedCalls.{is_resource}
 
--- bounds in type declarations, signatures, fields and formals are static; those of the type of a `var` needn't be
+-- bounds in the type of a `var` needn't be static; those in type declarations, constants, signatures, fields and
+-- formals are
 abbrev pub free_bounds : BoundPolicy
 free_bounds = record { fixed = false; takes_star = false }
 

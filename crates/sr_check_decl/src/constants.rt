@@ -5,7 +5,7 @@ ghost use Rattle.sr_check_expr.specs.Typings.{valued, value_found};
 ghost use Rattle.sr_check_decl.specs.Constants.{is_static, is_fault, written_kind, written_found, has_type_of, const_rule, known_if, type_of_value, const_type, const_typed, const_of, const_value_found, const_found};
 
 use crate::kind::Kind;
-use crate::written::{FREE, type_kind};
+use crate::written::{FIXED, type_kind};
 use sr_check_expr::{Facts, TypedExpr, expr, note_unless, note_value};
 use sr_names::{Diagnostics, Rule};
 use sr_tree::{ConstDecl, Expr, TypeTree};
@@ -38,7 +38,7 @@ pub(crate) fn written_kind(
 {
     match tree {
         None => Ok(None),
-        Some(written) => Ok(Some(type_kind(alloc, written, facts, diagnostics, FREE)?)),
+        Some(written) => Ok(Some(type_kind(alloc, written, facts, diagnostics, FIXED)?)),
     }
 }
 

@@ -20,7 +20,7 @@ use Rattle.sr_check.specs.Invoking.{invoked_found, is_serving, may_reply, starte
 use Rattle.sr_check.specs.Quantifying.{expr_with, quantifiers_found, quantifiers_known}
 use Rattle.sr_check.specs.Services.{head_found, operation_named}
 use Rattle.sr_check.specs.Uses.{condition_rule}
-use Rattle.sr_check.specs.Statements.{ArmSteps, arm_context, arms_at, arm_read, arm_step, block_item_read, branch_read, branch_step, co_arm_inner, co_arm_read, co_arm_step, guards_found, item_step, maybe_block, mixture_found, statement_read, statement_step}
+use Rattle.sr_check.specs.Statements.{ArmSteps, CoArmSteps, arm_context, arms_at, arm_read, arm_step, block_item_read, branch_read, branch_step, co_arms_at, co_arm_inner, co_arm_read, co_arm_step, guards_found, item_step, maybe_block, mixture_found, statement_read, statement_step}
 use Rattle.sr_names.specs.declared.finding.Finding.{Finding}
 use Rattle.sr_names.specs.declared.predefined.Predefined.{Predefined}
 use Rattle.sr_names.specs.declared.predefined.Predefined.TheVariants as predefined
@@ -157,7 +157,7 @@ abbrev BranchGood : Branch → Type 0
 BranchGood branch = (scene : Scene) (context : Context) → ErrorFree (branch_read branch context).found → IsTrue (guarded_is_allowed (core_branch scene branch).made (enclosing_of context))
 
 abbrev CoArmGood : CoArm → Type 0
-CoArmGood arm = (scene : Scene) (context : Context) → ErrorFree (co_arm_read arm context).found → IsTrue (arm_is_allowed (core_co_arm scene arm).made (enclosing_of context))
+CoArmGood arm = (scene : Scene) (context : Context) (span : Span) → ErrorFree (co_arm_read arm span context).found → IsTrue (arm_is_allowed (core_co_arm scene arm).made (enclosing_of context))
 
 -- trees with what is known of them
 abbrev I : Type 0
@@ -193,14 +193,14 @@ branches_good scene context (branch ∷ branches) whole =
     (branch.1 scene context (error_free_first (branch_read branch.0 context).found _ whole))
     (branches_good scene (with_facts context (branch_read branch.0 context).facts) branches (error_free_second (branch_read branch.0 context).found _ whole))
 
-co_arms_good : (scene : Scene) (context : Context) (arms : List C)
-    → ErrorFree (in_order (map co_arm_read (map (λ e. e.0) arms)) context).found
+co_arms_good : (scene : Scene) (context : Context) (span : Span) (arms : List C)
+    → ErrorFree (in_order (co_arms_at span (map co_arm_read (map (λ e. e.0) arms))) context).found
     → IsTrue (all_allowed (map arm_is_allowed (all_made (map (core_co_arm scene) (map (λ e. e.0) arms)))) (enclosing_of context))
-co_arms_good scene context [] whole = refl
-co_arms_good scene context (arm ∷ arms) whole =
+co_arms_good scene context span [] whole = refl
+co_arms_good scene context span (arm ∷ arms) whole =
     both (arm_is_allowed (core_co_arm scene arm.0).made (enclosing_of context)) _
-    (arm.1 scene context (error_free_first (co_arm_read arm.0 context).found _ whole))
-    (co_arms_good scene (with_facts context (co_arm_read arm.0 context).facts) arms (error_free_second (co_arm_read arm.0 context).found _ whole))
+    (arm.1 scene context span (error_free_first (co_arm_read arm.0 span context).found _ whole))
+    (co_arms_good scene (with_facts context (co_arm_read arm.0 span context).facts) span arms (error_free_second (co_arm_read arm.0 span context).found _ whole))
 
 arms_good : (scene : Scene) (context : Context) (span : Span) (arms : List A)
     → ErrorFree (in_order (arms_at span (map arm_read (map (λ e. e.0) arms))) context).found
@@ -213,8 +213,8 @@ arms_good scene context span (arm ∷ arms) whole =
 
 -- ---- the open trees
 
-abbrev read_statement : Statement-F BlockItem Statement Arm Branch CoArm → Statement-F Steps Steps ArmSteps Steps Steps
-read_statement = map-Statement BlockItem Statement Arm Branch CoArm Steps Steps ArmSteps Steps Steps block_item_read statement_read arm_read branch_read co_arm_read
+abbrev read_statement : Statement-F BlockItem Statement Arm Branch CoArm → Statement-F Steps Steps ArmSteps Steps CoArmSteps
+read_statement = map-Statement BlockItem Statement Arm Branch CoArm Steps Steps ArmSteps Steps CoArmSteps block_item_read statement_read arm_read branch_read co_arm_read
 
 abbrev made_statement : Scene → Statement-F BlockItem Statement Arm Branch CoArm → Statement-F (WithSites Block) (WithSites CoreStatement) (WithSites LoweredArm) (WithSites Guarded) (WithSites CoreCoArm)
 made_statement scene =
@@ -277,14 +277,14 @@ statement_good (Statement-F.In span arms (Some otherwise)) scene context whole =
     (Core-F.In (line_of span) (site_number scene (spot_of span)) (blocks_of (map (core_arm scene) (map (λ e. e.0) arms))) (block_made (map (core_block_item scene) (map (λ e. e.0) otherwise))).made) (core.rolls-In _ _ _ _)
     (both _ _ (arms_good scene context span arms (error_free_first first.found _ after_first)) (items_good scene (with_facts context first.facts) otherwise (error_free_second first.found _ after_first)))
 statement_good (Statement-F.Co span arms) scene context whole =
-    rolled (enclosing_of context) _ (Core-F.Co (line_of span) (all_made (map (core_co_arm scene) (map (λ e. e.0) arms)))) (core.rolls-Co _ _) (co_arms_good scene context arms whole)
+    rolled (enclosing_of context) _ (Core-F.Co (line_of span) (all_made (map (core_co_arm scene) (map (λ e. e.0) arms)))) (core.rolls-Co _ _) (co_arms_good scene context span arms whole)
 statement_good (Statement-F.Destroy span target) scene context whole = act_allowed (enclosing_of context) _ _ refl
 statement_good (Statement-F.Create span create) scene context whole = act_allowed (enclosing_of context) _ _ refl
 
 -- ---- arms, branches and items
 
-abbrev read_item : BlockItem-F BlockItem Statement Arm Branch CoArm → BlockItem-F Steps Steps ArmSteps Steps Steps
-read_item = map-BlockItem BlockItem Statement Arm Branch CoArm Steps Steps ArmSteps Steps Steps block_item_read statement_read arm_read branch_read co_arm_read
+abbrev read_item : BlockItem-F BlockItem Statement Arm Branch CoArm → BlockItem-F Steps Steps ArmSteps Steps CoArmSteps
+read_item = map-BlockItem BlockItem Statement Arm Branch CoArm Steps Steps ArmSteps Steps CoArmSteps block_item_read statement_read arm_read branch_read co_arm_read
 
 abbrev made_item : Scene → BlockItem-F BlockItem Statement Arm Branch CoArm → BlockItem-F (WithSites Block) (WithSites CoreStatement) (WithSites LoweredArm) (WithSites Guarded) (WithSites CoreCoArm)
 made_item scene =
@@ -338,8 +338,8 @@ item_good (BlockItem-F.Var variables) scene context whole = var_allowed (enclosi
 item_good (BlockItem-F.Statement statement) scene context whole =
     both (allowed (core_statement scene statement.0).made (enclosing_of context)) true (statement.1 scene context whole) refl
 
-abbrev read_arm : Arm-F BlockItem Statement Arm Branch CoArm → Arm-F Steps Steps ArmSteps Steps Steps
-read_arm = map-Arm BlockItem Statement Arm Branch CoArm Steps Steps ArmSteps Steps Steps block_item_read statement_read arm_read branch_read co_arm_read
+abbrev read_arm : Arm-F BlockItem Statement Arm Branch CoArm → Arm-F Steps Steps ArmSteps Steps CoArmSteps
+read_arm = map-Arm BlockItem Statement Arm Branch CoArm Steps Steps ArmSteps Steps CoArmSteps block_item_read statement_read arm_read branch_read co_arm_read
 
 abbrev made_arm : Scene → Arm-F BlockItem Statement Arm Branch CoArm → Arm-F (WithSites Block) (WithSites CoreStatement) (WithSites LoweredArm) (WithSites Guarded) (WithSites CoreCoArm)
 made_arm scene =
@@ -358,8 +358,8 @@ arm_good y scene context span whole =
     (error_free_second (guards_found (arm_context context (spot_of y.operation.span) y.formals y.returned (operation_named context.facts y.operation)).facts y.condition y.order) _
     (error_free_second (head_found context.facts context.procs span y.formals (is_some y.returned) (operation_named context.facts y.operation)) _ whole))
 
-abbrev read_branch : Branch-F BlockItem Statement Arm Branch CoArm → Branch-F Steps Steps ArmSteps Steps Steps
-read_branch = map-Branch BlockItem Statement Arm Branch CoArm Steps Steps ArmSteps Steps Steps block_item_read statement_read arm_read branch_read co_arm_read
+abbrev read_branch : Branch-F BlockItem Statement Arm Branch CoArm → Branch-F Steps Steps ArmSteps Steps CoArmSteps
+read_branch = map-Branch BlockItem Statement Arm Branch CoArm Steps Steps ArmSteps Steps CoArmSteps block_item_read statement_read arm_read branch_read co_arm_read
 
 abbrev made_branch : Scene → Branch-F BlockItem Statement Arm Branch CoArm → Branch-F (WithSites Block) (WithSites CoreStatement) (WithSites LoweredArm) (WithSites Guarded) (WithSites CoreCoArm)
 made_branch scene =
@@ -376,8 +376,8 @@ branch_good y scene context whole =
     subst (λ rule. IsTrue (rule (enclosing_of context))) (sym (fold-roll-Guarded Rule Rule Rule statement_allowed co_arm_allowed guarded_allowed _))
     (items_good scene context y.block (error_free_second (expr_with condition_rule context.facts y.guard) _ whole))
 
-abbrev read_co_arm : CoArm-F BlockItem Statement Arm Branch CoArm → CoArm-F Steps Steps ArmSteps Steps Steps
-read_co_arm = map-CoArm BlockItem Statement Arm Branch CoArm Steps Steps ArmSteps Steps Steps block_item_read statement_read arm_read branch_read co_arm_read
+abbrev read_co_arm : CoArm-F BlockItem Statement Arm Branch CoArm → CoArm-F Steps Steps ArmSteps Steps CoArmSteps
+read_co_arm = map-CoArm BlockItem Statement Arm Branch CoArm Steps Steps ArmSteps Steps CoArmSteps block_item_read statement_read arm_read branch_read co_arm_read
 
 abbrev made_co_arm : Scene → CoArm-F BlockItem Statement Arm Branch CoArm → CoArm-F (WithSites Block) (WithSites CoreStatement) (WithSites LoweredArm) (WithSites Guarded) (WithSites CoreCoArm)
 made_co_arm scene =
@@ -387,21 +387,21 @@ made_co_arm scene =
 abbrev bare_co_arm : CoArm-F I S A B C → CoArm-F BlockItem Statement Arm Branch CoArm
 bare_co_arm = map-CoArm I S A B C BlockItem Statement Arm Branch CoArm (λ e. e.0) (λ e. e.0) (λ e. e.0) (λ e. e.0) (λ e. e.0)
 
-co_arm_parts_good : (span : Span) (quantifiers : List Quantifier) (target : Option Expr) (with_call : Bool) (invocation : Invocation) (block : Option (List I)) (scene : Scene) (context : Context)
-    → ErrorFree (co_arm_step (read_co_arm (bare_co_arm (record { span = span; quantifiers = quantifiers; target = target; with_call = with_call; invocation = invocation; block = block }))) context).found
+co_arm_parts_good : (span : Span) (quantifiers : List Quantifier) (target : Option Expr) (with_call : Bool) (invocation : Invocation) (block : Option (List I)) (scene : Scene) (context : Context) (at : Span)
+    → ErrorFree (co_arm_step (read_co_arm (bare_co_arm (record { span = span; quantifiers = quantifiers; target = target; with_call = with_call; invocation = invocation; block = block }))) at context).found
     → IsTrue (co_arm_allowed (opened_arm (out-CoArm (co_arm_made scene (made_co_arm scene (bare_co_arm (record { span = span; quantifiers = quantifiers; target = target; with_call = with_call; invocation = invocation; block = block })))).made)) (enclosing_of context))
-co_arm_parts_good span quantifiers target with_call invocation None scene context whole = refl
-co_arm_parts_good span quantifiers target with_call invocation (Some items) scene context whole =
+co_arm_parts_good span quantifiers target with_call invocation None scene context at whole = refl
+co_arm_parts_good span quantifiers target with_call invocation (Some items) scene context at whole =
     let known = quantifiers_known context.facts quantifiers in
     items_good scene (looping (with_facts context known)) items
-    (error_free_second (started_found known target (infer_invocation invocation known)) _ (error_free_second (quantifiers_found context.facts quantifiers) _ whole))
+    (error_free_second (started_found known at target (infer_invocation invocation known)) _ (error_free_second (quantifiers_found context.facts quantifiers) _ whole))
 
-co_arm_good : (y : CoArm-F I S A B C) (scene : Scene) (context : Context)
-    → ErrorFree (co_arm_step (read_co_arm (bare_co_arm y)) context).found
+co_arm_good : (y : CoArm-F I S A B C) (scene : Scene) (context : Context) (span : Span)
+    → ErrorFree (co_arm_step (read_co_arm (bare_co_arm y)) span context).found
     → IsTrue (arm_is_allowed (co_arm_made scene (made_co_arm scene (bare_co_arm y))).made (enclosing_of context))
-co_arm_good y scene context whole =
+co_arm_good y scene context span whole =
     subst (λ rule. IsTrue (rule (enclosing_of context))) (sym (fold_roll_core_arm Rule Rule Rule statement_allowed co_arm_allowed guarded_allowed _))
-    (co_arm_parts_good y.span y.quantifiers y.target y.with_call y.invocation y.block scene context whole)
+    (co_arm_parts_good y.span y.quantifiers y.target y.with_call y.invocation y.block scene context span whole)
 
 -- ---- all trees
 
@@ -410,35 +410,35 @@ step_item x y is = subst (λ z. ItemGood (roll-BlockItem z)) is (λ scene contex
     subst (λ made. IsTrue (block_allowed made.made (enclosing_of context)))
     (sym (fold-roll-BlockItem (WithSites Block) (WithSites CoreStatement) (WithSites LoweredArm) (WithSites Guarded) (WithSites CoreCoArm) (item_made scene) (statement_made scene) (arm_made scene) (branch_made scene) (co_arm_made scene) (bare_item y)))
     (item_good y scene context
-    (subst (λ steps. ErrorFree (steps context).found) (fold-roll-BlockItem Steps Steps ArmSteps Steps Steps item_step statement_step arm_step branch_step co_arm_step (bare_item y)) whole)))
+    (subst (λ steps. ErrorFree (steps context).found) (fold-roll-BlockItem Steps Steps ArmSteps Steps CoArmSteps item_step statement_step arm_step branch_step co_arm_step (bare_item y)) whole)))
 
 step_statement : (x : Statement-F BlockItem Statement Arm Branch CoArm) (y : Statement-F I S A B C) → bare y ≡ x → StatementGood (roll-Statement x)
 step_statement x y is = subst (λ z. StatementGood (roll-Statement z)) is (λ scene context whole.
     subst (λ made. IsTrue (allowed made.made (enclosing_of context)))
     (sym (fold-roll-Statement (WithSites Block) (WithSites CoreStatement) (WithSites LoweredArm) (WithSites Guarded) (WithSites CoreCoArm) (item_made scene) (statement_made scene) (arm_made scene) (branch_made scene) (co_arm_made scene) (bare y)))
     (statement_good y scene context
-    (subst (λ steps. ErrorFree (steps context).found) (fold-roll-Statement Steps Steps ArmSteps Steps Steps item_step statement_step arm_step branch_step co_arm_step (bare y)) whole)))
+    (subst (λ steps. ErrorFree (steps context).found) (fold-roll-Statement Steps Steps ArmSteps Steps CoArmSteps item_step statement_step arm_step branch_step co_arm_step (bare y)) whole)))
 
 step_arm : (x : Arm-F BlockItem Statement Arm Branch CoArm) (y : Arm-F I S A B C) → bare_arm y ≡ x → ArmGood (roll-Arm x)
 step_arm x y is = subst (λ z. ArmGood (roll-Arm z)) is (λ scene context span whole.
     subst (λ made. IsTrue (block_allowed made.made.block (within_arm (enclosing_of context))))
     (sym (fold-roll-Arm (WithSites Block) (WithSites CoreStatement) (WithSites LoweredArm) (WithSites Guarded) (WithSites CoreCoArm) (item_made scene) (statement_made scene) (arm_made scene) (branch_made scene) (co_arm_made scene) (bare_arm y)))
     (arm_good y scene context span
-    (subst (λ steps. ErrorFree (steps.steps span context).found) (fold-roll-Arm Steps Steps ArmSteps Steps Steps item_step statement_step arm_step branch_step co_arm_step (bare_arm y)) whole)))
+    (subst (λ steps. ErrorFree (steps.steps span context).found) (fold-roll-Arm Steps Steps ArmSteps Steps CoArmSteps item_step statement_step arm_step branch_step co_arm_step (bare_arm y)) whole)))
 
 step_branch : (x : Branch-F BlockItem Statement Arm Branch CoArm) (y : Branch-F I S A B C) → bare_branch y ≡ x → BranchGood (roll-Branch x)
 step_branch x y is = subst (λ z. BranchGood (roll-Branch z)) is (λ scene context whole.
     subst (λ made. IsTrue (guarded_is_allowed made.made (enclosing_of context)))
     (sym (fold-roll-Branch (WithSites Block) (WithSites CoreStatement) (WithSites LoweredArm) (WithSites Guarded) (WithSites CoreCoArm) (item_made scene) (statement_made scene) (arm_made scene) (branch_made scene) (co_arm_made scene) (bare_branch y)))
     (branch_good y scene context
-    (subst (λ steps. ErrorFree (steps context).found) (fold-roll-Branch Steps Steps ArmSteps Steps Steps item_step statement_step arm_step branch_step co_arm_step (bare_branch y)) whole)))
+    (subst (λ steps. ErrorFree (steps context).found) (fold-roll-Branch Steps Steps ArmSteps Steps CoArmSteps item_step statement_step arm_step branch_step co_arm_step (bare_branch y)) whole)))
 
 step_co_arm : (x : CoArm-F BlockItem Statement Arm Branch CoArm) (y : CoArm-F I S A B C) → bare_co_arm y ≡ x → CoArmGood (roll-CoArm x)
-step_co_arm x y is = subst (λ z. CoArmGood (roll-CoArm z)) is (λ scene context whole.
+step_co_arm x y is = subst (λ z. CoArmGood (roll-CoArm z)) is (λ scene context span whole.
     subst (λ made. IsTrue (arm_is_allowed made.made (enclosing_of context)))
     (sym (fold-roll-CoArm (WithSites Block) (WithSites CoreStatement) (WithSites LoweredArm) (WithSites Guarded) (WithSites CoreCoArm) (item_made scene) (statement_made scene) (arm_made scene) (branch_made scene) (co_arm_made scene) (bare_co_arm y)))
-    (co_arm_good y scene context
-    (subst (λ steps. ErrorFree (steps context).found) (fold-roll-CoArm Steps Steps ArmSteps Steps Steps item_step statement_step arm_step branch_step co_arm_step (bare_co_arm y)) whole)))
+    (co_arm_good y scene context span
+    (subst (λ (steps : CoArmSteps). ErrorFree (steps span context).found) (fold-roll-CoArm Steps Steps ArmSteps Steps CoArmSteps item_step statement_step arm_step branch_step co_arm_step (bare_co_arm y)) whole)))
 
 pub statement_is_allowed : (tree : Statement) → StatementGood tree
 statement_is_allowed = ind-Statement ItemGood StatementGood ArmGood BranchGood CoArmGood step_item step_statement step_arm step_branch step_co_arm

@@ -15,7 +15,7 @@ use Rattle.sr_check.specs.Invoking.{started_found}
 use Rattle.sr_check.specs.Quantifying.{expr_with, maybe_with, quantifiers_found, quantifiers_known}
 use Rattle.sr_check.specs.Services.{head_found, operation_named, type_of}
 use Rattle.sr_check.specs.Uses.{choice_rule, condition_rule}
-use Rattle.sr_check.specs.Statements.{ArmSteps, arm_context, arm_read, arm_step, arms_at, block_item_read, branch_read, branch_step, co_arm_read, co_arm_step, condition_found, guarding, guards_found, item_step, mixture_found, statement_read, statement_step}
+use Rattle.sr_check.specs.Statements.{ArmSteps, CoArmSteps, arm_context, arm_read, arm_step, arms_at, block_item_read, branch_read, branch_step, co_arms_at, co_arm_read, co_arm_step, condition_found, guarding, guards_found, item_step, mixture_found, statement_read, statement_step}
 use Rattle.sr_check_expr.specs.declared.facts.Facts.{Facts}
 use Rattle.sr_check_expr.specs.Exprs.{infer_expr, infer_invocation}
 use Rattle.sr_check_expr.specs.Typings.{value_found, valued}
@@ -105,7 +105,7 @@ module _ (known : Facts) (scene : Scene) (later : Stay known scene.facts) where
   BranchGood branch = AllFree known (branch_names branch) → (context : Context) → Same known context.facts → Good known (branch_read branch context) (core_branch scene branch).sites
 
   abbrev CoArmGood : CoArm → Type 0
-  CoArmGood arm = AllFree known (co_arm_names arm) → (context : Context) → Same known context.facts → Good known (co_arm_read arm context) (core_co_arm scene arm).sites
+  CoArmGood arm = AllFree known (co_arm_names arm) → (span : Span) (context : Context) → Same known context.facts → Good known (co_arm_read arm span context) (core_co_arm scene arm).sites
 
   -- trees with what is known of them
   abbrev I : Type 0
@@ -146,9 +146,18 @@ module _ (known : Facts) (scene : Scene) (later : Stay known scene.facts) where
       → Good known (in_order (map branch_read (map (λ e. e.0) branches)) context) (all_sites (map (core_branch scene) (map (λ e. e.0) branches)))
   branches_good branches = row_good branch_read branch_names (core_branch scene) branches
 
-  co_arms_good : (arms : List C) → AllFree known (joined (map co_arm_names (map (λ e. e.0) arms))) → (context : Context) → Same known context.facts
-      → Good known (in_order (map co_arm_read (map (λ e. e.0) arms)) context) (all_sites (map (core_co_arm scene) (map (λ e. e.0) arms)))
-  co_arms_good arms = row_good co_arm_read co_arm_names (core_co_arm scene) arms
+  co_arms_good : (span : Span) (arms : List C) → AllFree known (joined (map co_arm_names (map (λ e. e.0) arms))) → (context : Context) → Same known context.facts
+      → Good known (in_order (co_arms_at span (map co_arm_read (map (λ e. e.0) arms))) context) (all_sites (map (core_co_arm scene) (map (λ e. e.0) arms)))
+  co_arms_good span [] free context same = record { same = same; effect_free = λ whole. refl }
+  co_arms_good span (arm ∷ arms) free context same =
+      let step = co_arm_read arm.0 span context in
+      let first = arm.1 (each-left (Free known) (co_arm_names arm.0) _ free) span context same in
+      let rest = co_arms_good span arms (each-right (Free known) (co_arm_names arm.0) _ free) (with_facts context step.facts) first.same in
+      record {
+        same = rest.same;
+        effect_free = λ whole. effect_free_appended (core_co_arm scene arm.0).sites (all_sites (map (core_co_arm scene) (map (λ e. e.0) arms)))
+            (first.effect_free (error_free_first step.found _ whole)) (rest.effect_free (error_free_second step.found _ whole));
+      }
 
   -- the arms of an `in`
   pub record ArmsGoodIn (step : Step) (made : List (WithSites LoweredArm)) : Type 0 where
@@ -172,8 +181,8 @@ module _ (known : Facts) (scene : Scene) (later : Stay known scene.facts) where
 
   -- ---- the open trees
 
-  abbrev read_statement : Statement-F BlockItem Statement Arm Branch CoArm → Statement-F Steps Steps ArmSteps Steps Steps
-  read_statement = map-Statement BlockItem Statement Arm Branch CoArm Steps Steps ArmSteps Steps Steps block_item_read statement_read arm_read branch_read co_arm_read
+  abbrev read_statement : Statement-F BlockItem Statement Arm Branch CoArm → Statement-F Steps Steps ArmSteps Steps CoArmSteps
+  read_statement = map-Statement BlockItem Statement Arm Branch CoArm Steps Steps ArmSteps Steps CoArmSteps block_item_read statement_read arm_read branch_read co_arm_read
 
   abbrev made_statement : Statement-F BlockItem Statement Arm Branch CoArm → Statement-F (WithSites Block) (WithSites CoreStatement) (WithSites LoweredArm) (WithSites Guarded) (WithSites CoreCoArm)
   made_statement =
@@ -252,7 +261,7 @@ module _ (known : Facts) (scene : Scene) (later : Stay known scene.facts) where
             (effect_free_appended (all_sites (map (core_arm scene) (map (λ e. e.0) arms))) (block_made (map (core_block_item scene) (map (λ e. e.0) otherwise))).sites
             (first.effect_free after) (second.effect_free (error_free_second step.found _ (error_free_second mixture _ whole))));
       }
-  statement_good (Statement-F.Co span arms) free context same = co_arms_good arms free context same
+  statement_good (Statement-F.Co span arms) free context same = co_arms_good span arms free context same
   statement_good _ free context same = record { same = same; effect_free = λ whole. refl }
 
   -- ---- arms, branches and items
@@ -260,8 +269,8 @@ module _ (known : Facts) (scene : Scene) (later : Stay known scene.facts) where
   abbrev bare_arm : Arm-F I S A B C → Arm-F BlockItem Statement Arm Branch CoArm
   bare_arm = map-Arm I S A B C BlockItem Statement Arm Branch CoArm (λ e. e.0) (λ e. e.0) (λ e. e.0) (λ e. e.0) (λ e. e.0)
 
-  abbrev read_arm : Arm-F BlockItem Statement Arm Branch CoArm → Arm-F Steps Steps ArmSteps Steps Steps
-  read_arm = map-Arm BlockItem Statement Arm Branch CoArm Steps Steps ArmSteps Steps Steps block_item_read statement_read arm_read branch_read co_arm_read
+  abbrev read_arm : Arm-F BlockItem Statement Arm Branch CoArm → Arm-F Steps Steps ArmSteps Steps CoArmSteps
+  read_arm = map-Arm BlockItem Statement Arm Branch CoArm Steps Steps ArmSteps Steps CoArmSteps block_item_read statement_read arm_read branch_read co_arm_read
 
   abbrev made_arm : Arm-F BlockItem Statement Arm Branch CoArm → Arm-F (WithSites Block) (WithSites CoreStatement) (WithSites LoweredArm) (WithSites Guarded) (WithSites CoreCoArm)
   made_arm =
@@ -297,8 +306,8 @@ module _ (known : Facts) (scene : Scene) (later : Stay known scene.facts) where
   abbrev bare_branch : Branch-F I S A B C → Branch-F BlockItem Statement Arm Branch CoArm
   bare_branch = map-Branch I S A B C BlockItem Statement Arm Branch CoArm (λ e. e.0) (λ e. e.0) (λ e. e.0) (λ e. e.0) (λ e. e.0)
 
-  abbrev read_branch : Branch-F BlockItem Statement Arm Branch CoArm → Branch-F Steps Steps ArmSteps Steps Steps
-  read_branch = map-Branch BlockItem Statement Arm Branch CoArm Steps Steps ArmSteps Steps Steps block_item_read statement_read arm_read branch_read co_arm_read
+  abbrev read_branch : Branch-F BlockItem Statement Arm Branch CoArm → Branch-F Steps Steps ArmSteps Steps CoArmSteps
+  read_branch = map-Branch BlockItem Statement Arm Branch CoArm Steps Steps ArmSteps Steps CoArmSteps block_item_read statement_read arm_read branch_read co_arm_read
 
   abbrev made_branch : Branch-F BlockItem Statement Arm Branch CoArm → Branch-F (WithSites Block) (WithSites CoreStatement) (WithSites LoweredArm) (WithSites Guarded) (WithSites CoreCoArm)
   made_branch =
@@ -317,8 +326,8 @@ module _ (known : Facts) (scene : Scene) (later : Stay known scene.facts) where
   abbrev bare_co_arm : CoArm-F I S A B C → CoArm-F BlockItem Statement Arm Branch CoArm
   bare_co_arm = map-CoArm I S A B C BlockItem Statement Arm Branch CoArm (λ e. e.0) (λ e. e.0) (λ e. e.0) (λ e. e.0) (λ e. e.0)
 
-  abbrev read_co_arm : CoArm-F BlockItem Statement Arm Branch CoArm → CoArm-F Steps Steps ArmSteps Steps Steps
-  read_co_arm = map-CoArm BlockItem Statement Arm Branch CoArm Steps Steps ArmSteps Steps Steps block_item_read statement_read arm_read branch_read co_arm_read
+  abbrev read_co_arm : CoArm-F BlockItem Statement Arm Branch CoArm → CoArm-F Steps Steps ArmSteps Steps CoArmSteps
+  read_co_arm = map-CoArm BlockItem Statement Arm Branch CoArm Steps Steps ArmSteps Steps CoArmSteps block_item_read statement_read arm_read branch_read co_arm_read
 
   abbrev made_co_arm : CoArm-F BlockItem Statement Arm Branch CoArm → CoArm-F (WithSites Block) (WithSites CoreStatement) (WithSites LoweredArm) (WithSites Guarded) (WithSites CoreCoArm)
   made_co_arm =
@@ -328,11 +337,11 @@ module _ (known : Facts) (scene : Scene) (later : Stay known scene.facts) where
   abbrev named_co_arm : CoArm-F BlockItem Statement Arm Branch CoArm → CoArm-F (List Span) (List Span) (List Span) (List Span) (List Span)
   named_co_arm = map-CoArm BlockItem Statement Arm Branch CoArm (List Span) (List Span) (List Span) (List Span) (List Span) block_item_names statement_names arm_names branch_names co_arm_names
 
-  co_arm_by : (y : CoArm-F I S A B C) (block : Option (List I)) → AllFree known (co_arm_names_step (named_co_arm (bare_co_arm (record y { block = block })))) → (context : Context) → Same known context.facts
-      → Good known (co_arm_step (read_co_arm (bare_co_arm (record y { block = block }))) context) (co_arm_made scene (made_co_arm (bare_co_arm (record y { block = block })))).sites
-  co_arm_by y None free context same =
+  co_arm_by : (y : CoArm-F I S A B C) (block : Option (List I)) → AllFree known (co_arm_names_step (named_co_arm (bare_co_arm (record y { block = block })))) → (span : Span) (context : Context) → Same known context.facts
+      → Good known (co_arm_step (read_co_arm (bare_co_arm (record y { block = block }))) span context) (co_arm_made scene (made_co_arm (bare_co_arm (record y { block = block })))).sites
+  co_arm_by y None free span context same =
       record { same = same_quantifiers known y.quantifiers context.facts (each-left (Free known) (flat_map quantifier_names y.quantifiers) _ free) same; effect_free = λ whole. refl }
-  co_arm_by y (Some items) free context same =
+  co_arm_by y (Some items) free span context same =
       let names = flat_map quantifier_names y.quantifiers in
       let inside = quantifiers_known context.facts y.quantifiers in
       let after = each-right (Free known) (invocation_names y.invocation) _ (each-right (Free known) (where_some expr_names y.target) _ (each-right (Free known) names _ free)) in
@@ -341,18 +350,18 @@ module _ (known : Facts) (scene : Scene) (later : Stay known scene.facts) where
         same = inner.same;
         effect_free = λ whole.
             inner.effect_free
-            (error_free_second (started_found inside y.target (infer_invocation y.invocation inside)) _ (error_free_second (quantifiers_found context.facts y.quantifiers) _ whole));
+            (error_free_second (started_found inside span y.target (infer_invocation y.invocation inside)) _ (error_free_second (quantifiers_found context.facts y.quantifiers) _ whole));
       }
 
-  co_arm_good : (y : CoArm-F I S A B C) → AllFree known (co_arm_names_step (named_co_arm (bare_co_arm y))) → (context : Context) → Same known context.facts
-      → Good known (co_arm_step (read_co_arm (bare_co_arm y)) context) (co_arm_made scene (made_co_arm (bare_co_arm y))).sites
+  co_arm_good : (y : CoArm-F I S A B C) → AllFree known (co_arm_names_step (named_co_arm (bare_co_arm y))) → (span : Span) (context : Context) → Same known context.facts
+      → Good known (co_arm_step (read_co_arm (bare_co_arm y)) span context) (co_arm_made scene (made_co_arm (bare_co_arm y))).sites
   co_arm_good y = co_arm_by y y.block
 
   abbrev bare_item : BlockItem-F I S A B C → BlockItem-F BlockItem Statement Arm Branch CoArm
   bare_item = map-BlockItem I S A B C BlockItem Statement Arm Branch CoArm (λ e. e.0) (λ e. e.0) (λ e. e.0) (λ e. e.0) (λ e. e.0)
 
-  abbrev read_item : BlockItem-F BlockItem Statement Arm Branch CoArm → BlockItem-F Steps Steps ArmSteps Steps Steps
-  read_item = map-BlockItem BlockItem Statement Arm Branch CoArm Steps Steps ArmSteps Steps Steps block_item_read statement_read arm_read branch_read co_arm_read
+  abbrev read_item : BlockItem-F BlockItem Statement Arm Branch CoArm → BlockItem-F Steps Steps ArmSteps Steps CoArmSteps
+  read_item = map-BlockItem BlockItem Statement Arm Branch CoArm Steps Steps ArmSteps Steps CoArmSteps block_item_read statement_read arm_read branch_read co_arm_read
 
   abbrev made_item : BlockItem-F BlockItem Statement Arm Branch CoArm → BlockItem-F (WithSites Block) (WithSites CoreStatement) (WithSites LoweredArm) (WithSites Guarded) (WithSites CoreCoArm)
   made_item =
@@ -373,7 +382,7 @@ module _ (known : Facts) (scene : Scene) (later : Stay known scene.facts) where
   step_item : (x : BlockItem-F BlockItem Statement Arm Branch CoArm) (y : BlockItem-F I S A B C) → bare_item y ≡ x → ItemGood (roll-BlockItem x)
   step_item x y is = subst (λ z. ItemGood (roll-BlockItem z)) is (λ free context same.
       subst (λ (steps : Steps). Good known (steps context) (core_block_item scene (roll-BlockItem (bare_item y))).sites)
-      (sym (fold-roll-BlockItem Steps Steps ArmSteps Steps Steps item_step statement_step arm_step branch_step co_arm_step (bare_item y)))
+      (sym (fold-roll-BlockItem Steps Steps ArmSteps Steps CoArmSteps item_step statement_step arm_step branch_step co_arm_step (bare_item y)))
       (subst (λ made. Good known (item_step (read_item (bare_item y)) context) made.sites)
       (sym (fold-roll-BlockItem (WithSites Block) (WithSites CoreStatement) (WithSites LoweredArm) (WithSites Guarded) (WithSites CoreCoArm) (item_made scene) (statement_made scene) (arm_made scene) (branch_made scene) (co_arm_made scene) (bare_item y)))
       (item_good y
@@ -383,7 +392,7 @@ module _ (known : Facts) (scene : Scene) (later : Stay known scene.facts) where
   step_statement : (x : Statement-F BlockItem Statement Arm Branch CoArm) (y : Statement-F I S A B C) → bare y ≡ x → StatementGood (roll-Statement x)
   step_statement x y is = subst (λ z. StatementGood (roll-Statement z)) is (λ free context same.
       subst (λ (steps : Steps). Good known (steps context) (core_statement scene (roll-Statement (bare y))).sites)
-      (sym (fold-roll-Statement Steps Steps ArmSteps Steps Steps item_step statement_step arm_step branch_step co_arm_step (bare y)))
+      (sym (fold-roll-Statement Steps Steps ArmSteps Steps CoArmSteps item_step statement_step arm_step branch_step co_arm_step (bare y)))
       (subst (λ made. Good known (statement_step (read_statement (bare y)) context) made.sites)
       (sym (fold-roll-Statement (WithSites Block) (WithSites CoreStatement) (WithSites LoweredArm) (WithSites Guarded) (WithSites CoreCoArm) (item_made scene) (statement_made scene) (arm_made scene) (branch_made scene) (co_arm_made scene) (bare y)))
       (statement_good y
@@ -393,7 +402,7 @@ module _ (known : Facts) (scene : Scene) (later : Stay known scene.facts) where
   step_arm : (x : Arm-F BlockItem Statement Arm Branch CoArm) (y : Arm-F I S A B C) → bare_arm y ≡ x → ArmGood (roll-Arm x)
   step_arm x y is = subst (λ z. ArmGood (roll-Arm z)) is (λ free span context same.
       subst (λ (steps : ArmSteps). ArmGoodIn (steps.steps span context) (core_arm scene (roll-Arm (bare_arm y))))
-      (sym (fold-roll-Arm Steps Steps ArmSteps Steps Steps item_step statement_step arm_step branch_step co_arm_step (bare_arm y)))
+      (sym (fold-roll-Arm Steps Steps ArmSteps Steps CoArmSteps item_step statement_step arm_step branch_step co_arm_step (bare_arm y)))
       (subst (λ made. ArmGoodIn ((arm_step (read_arm (bare_arm y))).steps span context) made)
       (sym (fold-roll-Arm (WithSites Block) (WithSites CoreStatement) (WithSites LoweredArm) (WithSites Guarded) (WithSites CoreCoArm) (item_made scene) (statement_made scene) (arm_made scene) (branch_made scene) (co_arm_made scene) (bare_arm y)))
       (arm_good y
@@ -403,7 +412,7 @@ module _ (known : Facts) (scene : Scene) (later : Stay known scene.facts) where
   step_branch : (x : Branch-F BlockItem Statement Arm Branch CoArm) (y : Branch-F I S A B C) → bare_branch y ≡ x → BranchGood (roll-Branch x)
   step_branch x y is = subst (λ z. BranchGood (roll-Branch z)) is (λ free context same.
       subst (λ (steps : Steps). Good known (steps context) (core_branch scene (roll-Branch (bare_branch y))).sites)
-      (sym (fold-roll-Branch Steps Steps ArmSteps Steps Steps item_step statement_step arm_step branch_step co_arm_step (bare_branch y)))
+      (sym (fold-roll-Branch Steps Steps ArmSteps Steps CoArmSteps item_step statement_step arm_step branch_step co_arm_step (bare_branch y)))
       (subst (λ made. Good known (branch_step (read_branch (bare_branch y)) context) made.sites)
       (sym (fold-roll-Branch (WithSites Block) (WithSites CoreStatement) (WithSites LoweredArm) (WithSites Guarded) (WithSites CoreCoArm) (item_made scene) (statement_made scene) (arm_made scene) (branch_made scene) (co_arm_made scene) (bare_branch y)))
       (branch_good y
@@ -411,14 +420,14 @@ module _ (known : Facts) (scene : Scene) (later : Stay known scene.facts) where
       context same)))
 
   step_co_arm : (x : CoArm-F BlockItem Statement Arm Branch CoArm) (y : CoArm-F I S A B C) → bare_co_arm y ≡ x → CoArmGood (roll-CoArm x)
-  step_co_arm x y is = subst (λ z. CoArmGood (roll-CoArm z)) is (λ free context same.
-      subst (λ (steps : Steps). Good known (steps context) (core_co_arm scene (roll-CoArm (bare_co_arm y))).sites)
-      (sym (fold-roll-CoArm Steps Steps ArmSteps Steps Steps item_step statement_step arm_step branch_step co_arm_step (bare_co_arm y)))
-      (subst (λ made. Good known (co_arm_step (read_co_arm (bare_co_arm y)) context) made.sites)
+  step_co_arm x y is = subst (λ z. CoArmGood (roll-CoArm z)) is (λ free span context same.
+      subst (λ (steps : CoArmSteps). Good known (steps span context) (core_co_arm scene (roll-CoArm (bare_co_arm y))).sites)
+      (sym (fold-roll-CoArm Steps Steps ArmSteps Steps CoArmSteps item_step statement_step arm_step branch_step co_arm_step (bare_co_arm y)))
+      (subst (λ made. Good known (co_arm_step (read_co_arm (bare_co_arm y)) span context) made.sites)
       (sym (fold-roll-CoArm (WithSites Block) (WithSites CoreStatement) (WithSites LoweredArm) (WithSites Guarded) (WithSites CoreCoArm) (item_made scene) (statement_made scene) (arm_made scene) (branch_made scene) (co_arm_made scene) (bare_co_arm y)))
       (co_arm_good y
       (subst (AllFree known) (fold-roll-CoArm (List Span) (List Span) (List Span) (List Span) (List Span) block_item_names_step statement_names_step arm_names_step branch_names_step co_arm_names_step (bare_co_arm y)) free)
-      context same)))
+      span context same)))
 
   pub statement_effect_free : (tree : Statement) → StatementGood tree
   statement_effect_free = ind-Statement ItemGood StatementGood ArmGood BranchGood CoArmGood step_item step_statement step_arm step_branch step_co_arm

@@ -23,7 +23,7 @@ use Rattle.sr_order.specs.Names.{qualified_names, where_some, name_names, create
 use Rattle.sr_order.specs.Spans.{joined}
 use Rattle.sr_scope.specs.Declares.{name_twice, names_twice, name_declared, returned_twice}
 use Rattle.sr_scope.specs.Exprs.{Finds, Reads, create_step, expr_step, invocation_step, part_step, expr_reads, create_found, invocation_found, part_found, reads_found, all_found}
-use Rattle.sr_scope.specs.Names.{component_named, name_found, field_found, second_found, qualified_found}
+use Rattle.sr_scope.specs.Names.{component_named, name_found, field_found, spec_name_found, second_found, qualified_found}
 use Rattle.sr_scope.specs.Types.{expr_found, maybe_expr_found}
 use Rattle.sr_scope.specs.Declarations.{exprs_found}
 use Rattle.sr_scope.proofs.Among.{Among, nothing, both, besides, one_use, one_broken}
@@ -42,9 +42,13 @@ pub field_among : (place : Place) (component : Option Decl) (name : Name) → Am
 field_among place None name = nothing
 field_among place (Some component) name = reading_among (member place component name.text (spot_of name.span)) name.span
 
+spec_name_among : (place : Place) (component : Option Decl) (name : Name) → Among (spec_name_found place component name) (name.span ∷ [])
+spec_name_among place None name = one_broken _ _
+spec_name_among place (Some component) name = reading_among (member place component name.text (spot_of name.span)) name.span
+
 second_among : (place : Place) (component : Option Decl) (second : Option Name) → Among (second_found place component second) (where_some name_names second)
 second_among place component None = nothing
-second_among place component (Some name) = field_among place component name
+second_among place component (Some name) = spec_name_among place component name
 
 pub qualified_among : (place : Place) (blocks : Blocks) (name : QualifiedName) → Among (qualified_found place blocks name) (qualified_names name)
 qualified_among place blocks name = both (name_among place blocks name.first) (second_among place (component_named place blocks name.first) name.second)

@@ -1,5 +1,5 @@
 -- What is found where a name is used.
-use Rattle.std.specs.Prelude.{ℕ, Bool, true, false, List, [], ◌++◌, Option, Some, None, if◌then◌else◌}
+use Rattle.std.specs.Prelude.{ℕ, Bool, true, false, List, [], ◌∷◌, ◌++◌, Option, Some, None, if◌then◌else◌}
 use Rattle.sr_names.specs.declared.finding.Finding.{Finding}
 use Rattle.sr_names.specs.declared.meaning.Decl.{Decl}
 use Rattle.sr_names.specs.declared.meaning.Meaning.{Meaning}
@@ -8,7 +8,8 @@ use Rattle.sr_names.specs.declared.meaning.Sort.{Sort}
 use Rattle.sr_names.specs.declared.meaning.Sort.TheVariants.{Resource, Global}
 use Rattle.sr_names.specs.declared.place.Blocks.{Blocks}
 use Rattle.sr_names.specs.declared.place.Place.{Place}
-use Rattle.sr_names.specs.Readings.{read_found, member_found}
+use Rattle.sr_names.specs.declared.finding.Rule.TheVariants.{Name as name_rule}
+use Rattle.sr_names.specs.Readings.{broken, read_found, member_found}
 use Rattle.sr_names.specs.Scopes.{denotes}
 use Rattle.sr_names.specs.Spots.{spot_of}
 use Rattle.sr_tree.specs.declared.name.Name.{Name}
@@ -38,9 +39,14 @@ abbrev pub field_found : Place → Option Decl → Name → List Finding
 field_found place None name = []
 field_found place (Some component) name = member_found place component name.text name.span
 
+-- in the name of a type or a resource only a component stands before a point
+abbrev pub spec_name_found : Place → Option Decl → Name → List Finding
+spec_name_found place None name = broken name_rule name.span ∷ []
+spec_name_found place (Some component) name = member_found place component name.text name.span
+
 abbrev pub second_found : Place → Option Decl → Option Name → List Finding
 second_found place component None = []
-second_found place component (Some name) = field_found place component name
+second_found place component (Some name) = spec_name_found place component name
 
 -- a name, or a component and a name of its spec
 abbrev pub qualified_found : Place → Blocks → QualifiedName → List Finding

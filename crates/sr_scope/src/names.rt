@@ -1,8 +1,10 @@
 ghost use Rattle.std.specs.Prelude.{◌≡◌, IfOk, OnOk};
 ghost use Rattle.sr_names.specs.Diagnostics.{all_noted};
-ghost use Rattle.sr_scope.specs.Names.{component, is_component, component_named, name_found, field_found, qualified_found};
+ghost use Rattle.sr_scope.specs.Names.{component, is_component, component_named, name_found, field_found, spec_name_found, qualified_found};
 
-use sr_names::{Blocks, Decl, Diagnostics, Meaning, Place, Sort, read, read_member};
+use sr_names::{
+    Blocks, Decl, Diagnostic, Diagnostics, Finding, Meaning, Place, Rule, Sort, read, read_member,
+};
 use sr_tree::{Name, QualifiedName};
 use sr_value::NoMemory;
 
@@ -36,8 +38,7 @@ fn is_component(sort: Sort) -> bool
     matches!(sort, Sort::Resource | Sort::Global)
 }
 
-/// Notes what a name means that is used, and where it names a component and a point and a name stand after it,
-/// what that name of its spec means.
+/// Notes what a name means that is used, and what the name of its spec means that stands after it and a point.
 pub fn qualified_name(
     qualified: &QualifiedName,
     place: &Place,
@@ -48,8 +49,32 @@ pub fn qualified_name(
 {
     let component = name(&qualified.first, place, blocks, diagnostics)?;
     match &qualified.second {
-        Some(second) => note_field(component, second, place, diagnostics),
+        Some(second) => note_spec_name(component, second, place, diagnostics),
         None => Ok(()),
+    }
+}
+
+/// Notes what a name means after a component and a point. After anything else it means nothing.
+fn note_spec_name(
+    component: Option<Decl>,
+    name: &Name,
+    place: &Place,
+    diagnostics: &mut Diagnostics,
+) -> Result<(), NoMemory>
+    ensures { OnOk result (diagnostics.new ≡ all_noted diagnostics.old (spec_name_found place.now component name.now)) }
+{
+    match component {
+        Some(component) => read_member(
+            place,
+            diagnostics,
+            component,
+            name.text.as_bytes(),
+            name.span,
+        ),
+        None => diagnostics.note(Finding::Broken(Diagnostic {
+            rule: Rule::Name,
+            span: name.span,
+        })),
     }
 }
 
