@@ -1,5 +1,5 @@
 -- The predefined functions of values, by the numbers of their arguments.
-use Rattle.std.specs.Prelude.{ℕ, ℤ, List, [], ◌∷◌, Result, Ok, Err}
+use Rattle.std.specs.Prelude.{ℕ, List, [], ◌∷◌, Result, Ok, Err}
 use Rattle.sr_value.specs.declared.fault.Fault.{Fault}
 use Rattle.sr_value.specs.declared.fault.Fault.TheVariants.{Range}
 use Rattle.sr_value.specs.declared.predefined.Dimension.TheVariants.{First, Second}

@@ -1,20 +1,19 @@
 -- What a process finds out about values by itself.
-use Rattle.std.specs.Prelude.{ℕ, ℤ, pos, negsuc, suc, zero, ◌+◌, ◌*◌, ◌/◌, ◌+ℤ◌, ◌-ℤ◌, ◌*ℤ◌, Bool, true, false, ◌&&◌, List, [], ◌∷◌, ◌++◌, length, map, sum, replicate, Option, Some, None, Result, Ok, Err, ◌==◌, nat_lt, nat_le, if◌then◌else◌, unwrap_or, unsigned_abs}
+use Rattle.std.specs.Prelude.{ℕ, ℤ, pos, negsuc, suc, ◌+◌, ◌*◌, ◌/◌, ◌+ℤ◌, ◌-ℤ◌, Bool, true, false, List, [], ◌∷◌, ◌++◌, length, map, replicate, Option, Some, None, Result, Ok, Err, ◌==◌, nat_lt, if◌then◌else◌}
 use Rattle.std.specs.List.{range_with_len}
-use Rattle.std.specs.Ordering.{int_cmp, is_le, is_lt}
 use Rattle.sr_value.specs.declared.capability.Cap.{Cap}
-use Rattle.sr_value.specs.declared.capability.Cap.TheVariants.{Null, Noop, Op, Res as a_resource}
+use Rattle.sr_value.specs.declared.capability.Cap.TheVariants.{Null, Noop, Op}
 use Rattle.sr_value.specs.declared.capability.Owner.TheVariants.{Inst}
 use Rattle.sr_value.specs.declared.fault.Fault.{Fault}
-use Rattle.sr_value.specs.declared.fault.Fault.TheVariants.{Overflow, Shape as unequal, Range}
+use Rattle.sr_value.specs.declared.fault.Fault.TheVariants.{Shape as unequal, Range}
 use Rattle.sr_value.specs.declared.shape.Dims.{Dims}
 use Rattle.sr_value.specs.declared.shape.Dims.TheVariants.{One, Two}
 use Rattle.sr_value.specs.declared.shape.Shape.{Shape, out-Shape}
 use Rattle.sr_value.specs.declared.shape.Shape.TheOpen.{Shape-F}
-use Rattle.sr_value.specs.declared.shape.Shape.TheVariants.{Int as an_int, Arr as array_of_shape}
+use Rattle.sr_value.specs.declared.shape.Shape.TheVariants.{Arr as array_of_shape}
 use Rattle.sr_value.specs.declared.value.Value.{Value, out-Value}
 use Rattle.sr_value.specs.declared.value.Value.TheOpen.{Value-F}
-use Rattle.sr_value.specs.declared.value.Value.TheVariants.{Int, Bool as truth_value, Arr, Capa}
+use Rattle.sr_value.specs.declared.value.Value.TheVariants.{Arr, Capa}
 use Rattle.sr_value.specs.Operands.{int_in, bool_in, cap_in}
 use Rattle.sr_value.specs.Operators.{is_int}
 use Rattle.sr_value.specs.Shapes.{extent}
@@ -41,7 +40,7 @@ cap_of value = or_fault Range (cap_in value)
 abbrev pub member_of : ℕ → Cap → Result Value Fault
 member_of op Null = Ok (Capa Null)
 member_of op Noop = Ok (Capa Noop)
-member_of op (a_resource instance) = Ok (Capa (Op (Inst instance) op))
+member_of op (Cap.Res instance) = Ok (Capa (Op (Inst instance) op))
 member_of op _ = Err Range
 
 -- ---- bracketed parts
