@@ -1,7 +1,7 @@
 -- A request that takes no answer is asked for good.
 use Rattle.std.proofs.Common.{◌≡◌, ℕ, List, [], ◌∷◌, refl}
 use Rattle.sr_ask.specs.Asking.{none_takes}
-use Rattle.sr_ask.specs.Behaviors.{Stage, Outcome, Stops, heard, asking}
+use Rattle.sr_ask.specs.Behaviors.{Stage, Stops, heard, asking}
 use Rattle.sr_ask.specs.declared.answer.Answer.{Answer}
 use Rattle.sr_ask.specs.declared.ask.Asks.{Asks}
 

@@ -1,5 +1,5 @@
 -- Proofs of the laws.
-use Rattle.std.proofs.Common.{◌≡◌, ℕ, zero, suc, ◌+◌, ◌*◌, ◌<◌, ◌≤◌, ℤ, Bool, true, false, List, [], ◌∷◌, length, Option, Some, None, Result, Ok, Err, refl, sym, ap, ◌∙◌, subst, arith, rules}
+use Rattle.std.proofs.Common.{◌≡◌, ℕ, zero, suc, ◌<◌, Bool, true, false, List, Option, Some, None, Ok, refl, sym, ap, ◌∙◌, subst, arith}
 use Rattle.sr_value.specs.declared.capability.Cap.{Cap}
 use Rattle.sr_value.specs.declared.fault.Fault.TheVariants.{Range}
 use Rattle.sr_value.specs.declared.value.Value.{Value, out-Value, out-roll-Value}
@@ -10,10 +10,8 @@ use Rattle.sr_value.specs.Parts.{or_fault}
 use Rattle.sr_ask.specs.Asking.{made}
 use Rattle.sr_ask.specs.declared.request.Request.TheVariants.{Forward as forward_request}
 use Rattle.sr_core.specs.Values.{truth_of}
-use Rattle.sr_ask.specs.Behaviors.{Stage, Outcome, Came, Stops, Doing, give, and_then, tick, ticked, looped, turned, turns, room}
-use Rattle.sr_ask.specs.declared.ask.Asks.{Asks}
+use Rattle.sr_ask.specs.Behaviors.{Stage, Outcome, Came, Stops, Doing, and_then, ticked, looped, turned, turns, room}
 use Rattle.sr_meaning.specs.declared.ending.Ending.{Ending}
-use Rattle.sr_meaning.specs.Expressions.{Meaning}
 use Rattle.sr_meaning.specs.Here.{Here, request}
 use Rattle.sr_meaning.specs.Laws.{AsksForGood, LeftDecides, CallsInOrder, RepliesOnce, GainsNothing, OneTurnThenTheLoop}
 use Rattle.sr_meaning.specs.Statements.{forward_unless, reply_unless}

@@ -1,7 +1,7 @@
 -- What an expression asks, and what it gives: of each node, from what its parts ask and give.
-use Rattle.std.specs.Prelude.{ℕ, zero, suc, ◌+◌, ℤ, pos, negsuc, Bool, true, false, List, [], ◌∷◌, Option, Some, None, unwrap_or, option_map, slice_get}
+use Rattle.std.specs.Prelude.{ℕ, Bool, true, false, List, [], ◌∷◌, Option, Some, None, unwrap_or, option_map, slice_get}
 use Rattle.sr_value.specs.declared.capability.Cap.{Cap}
-use Rattle.sr_value.specs.declared.capability.Cap.TheVariants.{Null, Op, Res as a_resource, Vm}
+use Rattle.sr_value.specs.declared.capability.Cap.TheVariants.{Op, Vm}
 use Rattle.sr_value.specs.declared.capability.Owner.{Owner}
 use Rattle.sr_value.specs.declared.capability.Owner.TheVariants.{Inst, Proc as of_process}
 use Rattle.sr_value.specs.declared.operator.Operator.TheVariants.{And as both, Or as either}
@@ -19,7 +19,6 @@ use Rattle.sr_ask.specs.declared.environment.ReadTarget.{ReadTarget}
 use Rattle.sr_ask.specs.declared.environment.Located.{Located}
 use Rattle.sr_ask.specs.declared.environment.Sent.{Sent}
 use Rattle.sr_ask.specs.declared.request.ReadKind.{ReadKind}
-use Rattle.sr_ask.specs.declared.request.ReadKind.TheVariants.{Int as read_int, Bool as read_bool, Char as read_char, Str as read_str}
 use Rattle.sr_ask.specs.declared.request.Request.TheVariants.{Invoke, Count, MakeVm, Age}
 use Rattle.sr_core.specs.Applied.{applied}
 use Rattle.sr_core.specs.Values.{truth_of, number_of, cap_of, member_of, count_of, array_of}
@@ -34,9 +33,8 @@ use Rattle.sr_core.specs.declared.expression.Reading.{Reading}
 use Rattle.sr_core.specs.declared.expression.Step.{Step}
 use Rattle.sr_core.specs.declared.expression.PlaceExpr.{PlaceExpr}
 use Rattle.sr_core.specs.declared.expression.Leaf.{Leaf}
-use Rattle.sr_core.specs.declared.expression.Leaf.TheVariants.{Constant, Operation, MyResource, MyMachine, Count as count_of_op, MakeMachine, Moment}
+use Rattle.sr_core.specs.declared.expression.Leaf.TheVariants.{Constant, Operation, MyResource, MyMachine, MakeMachine, Moment}
 use Rattle.sr_core.specs.declared.expression.Readable.{Readable}
-use Rattle.sr_core.specs.declared.expression.Readable.TheVariants.{Int as an_int, Bool as a_bool, Char as a_char, Str as a_str}
 use Rattle.sr_core.specs.declared.owner.OperationOwner.{OperationOwner}
 use Rattle.sr_core.specs.declared.owner.OperationOwner.TheVariants.{Mine, Imported, Process}
 use Rattle.sr_meaning.specs.Here.{Here, asker, request, settle}
@@ -66,9 +64,9 @@ owner_of Process here = of_process here.start.process
 abbrev pub leaf_meaning : Leaf → Meaning Value
 leaf_meaning (Constant value) here = give value
 leaf_meaning (Operation whose op) here = give (Capa (Op (owner_of whose here) op))
-leaf_meaning MyResource here = give (Capa (a_resource here.start.instance))
+leaf_meaning MyResource here = give (Capa (Cap.Res here.start.instance))
 leaf_meaning MyMachine here = give (Capa (Vm here.start.vm))
-leaf_meaning (count_of_op op) here = request number (Count op) here >>= λ n. give (Int n)
+leaf_meaning (Leaf.Count op) here = request number (Count op) here >>= λ n. give (Int n)
 leaf_meaning MakeMachine here = request made MakeVm here >>= λ name. give (Capa (Vm name))
 leaf_meaning Moment here = request moment Age here >>= λ now. give (Int now)
 
@@ -111,10 +109,10 @@ created resource args vm here = instance_created resource (needs_of here.core re
 -- ---- read
 
 abbrev pub kind_of : Readable → ReadKind
-kind_of an_int = read_int
-kind_of a_bool = read_bool
-kind_of a_char = read_char
-kind_of a_str = read_str
+kind_of Readable.Int = ReadKind.Int
+kind_of Readable.Bool = ReadKind.Bool
+kind_of Readable.Char = ReadKind.Char
+kind_of Readable.Str = ReadKind.Str
 
 -- the number of items read, or -1 where the input had ended before the first
 abbrev pub number_read : ℕ → Meaning Value

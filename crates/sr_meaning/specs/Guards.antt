@@ -1,9 +1,8 @@
 -- What the guards of an `in` statement mean. A guard is evaluated by the machine and not by the process, on the
 -- values that went with the `Select`, the arguments of an invocation and the shared variables.
-use Rattle.std.specs.Prelude.{ℕ, zero, suc, ◌+◌, ℤ, pos, ◌+ℤ◌, ◌-ℤ◌, Bool, true, false, List, [], ◌∷◌, ◌++◌, map, Option, Some, None, Result, Ok, Err, ◌==◌, if◌then◌else◌, slice_get, unwrap_or, option_map}
-use Rattle.std.specs.Option.{option_and_then}
+use Rattle.std.specs.Prelude.{ℕ, ◌+◌, ℤ, pos, ◌+ℤ◌, ◌-ℤ◌, Bool, true, false, List, [], ◌∷◌, Option, Some, None, Result, Ok, Err, ◌==◌}
 use Rattle.sr_value.specs.declared.capability.Cap.{Cap}
-use Rattle.sr_value.specs.declared.capability.Cap.TheVariants.{Op, Res as a_resource, Vm}
+use Rattle.sr_value.specs.declared.capability.Cap.TheVariants.{Op, Vm}
 use Rattle.sr_value.specs.declared.capability.Owner.{Owner}
 use Rattle.sr_value.specs.declared.capability.Owner.TheVariants.{Inst, Proc as of_process}
 use Rattle.sr_value.specs.declared.fault.Fault.{Fault}
@@ -27,21 +26,17 @@ use Rattle.sr_core.specs.declared.expression.Argument.TheFolds.{fold-Expr}
 use Rattle.sr_core.specs.declared.expression.Argument.TheOpen.{Argument-F, Expr-F, Part-F, Step-F, PlaceExpr-F, Reading-F}
 use Rattle.sr_core.specs.declared.expression.Expr.{Expr}
 use Rattle.sr_core.specs.declared.expression.Leaf.{Leaf}
-use Rattle.sr_core.specs.declared.expression.Leaf.TheVariants.{Constant, Operation, MyResource, MyMachine, Count as count_of_op, MakeMachine, Moment}
+use Rattle.sr_core.specs.declared.expression.Leaf.TheVariants.{Constant, Operation, MyResource, MyMachine, MakeMachine, Moment}
 use Rattle.sr_core.specs.declared.formal.Formal.{Formal}
-use Rattle.sr_core.specs.declared.formal.Mode.{Mode}
 use Rattle.sr_core.specs.declared.formal.Mode.TheVariants.{Res}
 use Rattle.sr_core.specs.declared.formal.Returned.{Returned}
 use Rattle.sr_core.specs.declared.owner.Home.{Home}
-use Rattle.sr_core.specs.declared.owner.Home.TheVariants.{Mine as my_home, Imported as imported_home}
 use Rattle.sr_core.specs.declared.owner.Me.{Me}
 use Rattle.sr_core.specs.declared.owner.Root.{Root}
-use Rattle.sr_core.specs.declared.owner.Root.TheVariants.{Own as own_root, Shared as shared_root}
 use Rattle.sr_core.specs.declared.owner.OperationOwner.{OperationOwner}
 use Rattle.sr_core.specs.declared.owner.OperationOwner.TheVariants.{Mine, Imported, Process}
 use Rattle.sr_core.specs.declared.site.Arm.{Arm}
 use Rattle.sr_core.specs.declared.site.Named.{Named}
-use Rattle.sr_core.specs.declared.site.Named.TheVariants.{Own as named_own, Home as named_home, Machine as named_machine}
 use Rattle.sr_core.specs.Applied.{applied}
 use Rattle.sr_core.specs.Formals.{sent_to, sent_after}
 use Rattle.sr_core.specs.declared.piece.Piece.{Piece}
@@ -82,21 +77,21 @@ guard_owner Process at = Ok (of_process at.me.process)
 abbrev pub guard_leaf : Leaf → Guard Value
 guard_leaf (Constant value) at = Ok value
 guard_leaf (Operation whose op) at = with_ok (guard_owner whose at) (λ owner. Ok (Capa (Op owner op)))
-guard_leaf MyResource at = Ok (Capa (a_resource at.me.instance))
+guard_leaf MyResource at = Ok (Capa (Cap.Res at.me.instance))
 guard_leaf MyMachine at = with_ok (or_range at.machine) (λ vm. Ok (Capa (Vm vm)))
-guard_leaf (count_of_op op) at = Ok (Int (at.count op))
+guard_leaf (Leaf.Count op) at = Ok (Int (at.count op))
 guard_leaf MakeMachine at = Err Range
 guard_leaf Moment at = Err Range
 
 -- ---- places
 
 abbrev pub guard_block : Home → Guard ℕ
-guard_block my_home at = Ok at.me.instance
-guard_block (imported_home import) at = or_range (at.home import)
+guard_block Home.Mine at = Ok at.me.instance
+guard_block (Home.Imported import) at = or_range (at.home import)
 
 abbrev pub guard_load : Root → List Sel → Guard Value
-guard_load (own_root var) path at = with_ok (at.own var) (λ value. loaded_at value path)
-guard_load (shared_root home var) path at = with_ok (guard_block home at) (λ block. at.load block var path)
+guard_load (Root.Own var) path at = with_ok (at.own var) (λ value. loaded_at value path)
+guard_load (Root.Shared home var) path at = with_ok (guard_block home at) (λ block. at.load block var path)
 
 -- ---- nodes
 
@@ -194,12 +189,12 @@ returned_seen (Some name) var = or_else (name.var == var) (Some (default_value n
 
 -- what went with the `Select`, by the names of the site
 abbrev pub named_seen : List Named → List Value → ℕ → Option Value
-named_seen (named_own own ∷ names) (value ∷ env) var = or_else (own == var) (Some value) (named_seen names env var)
+named_seen (Named.Own own ∷ names) (value ∷ env) var = or_else (own == var) (Some value) (named_seen names env var)
 named_seen (name ∷ names) (value ∷ env) var = named_seen names env var
 named_seen names env var = None
 
 abbrev pub instance_of_cap : Option Cap → Option ℕ
-instance_of_cap (Some (a_resource instance)) = Some instance
+instance_of_cap (Some (Cap.Res instance)) = Some instance
 instance_of_cap _ = None
 
 abbrev pub machine_of_cap : Option Cap → Option ℕ
@@ -207,12 +202,12 @@ machine_of_cap (Some (Vm vm)) = Some vm
 machine_of_cap _ = None
 
 abbrev pub home_seen : List Named → List Value → ℕ → Option ℕ
-home_seen (named_home home ∷ names) (value ∷ env) import = or_else (home == import) (instance_of_cap (cap_in value)) (home_seen names env import)
+home_seen (Named.Home home ∷ names) (value ∷ env) import = or_else (home == import) (instance_of_cap (cap_in value)) (home_seen names env import)
 home_seen (name ∷ names) (value ∷ env) import = home_seen names env import
 home_seen names env import = None
 
 abbrev pub machine_seen : List Named → List Value → Option ℕ
-machine_seen (named_machine ∷ names) (value ∷ env) = machine_of_cap (cap_in value)
+machine_seen (Named.Machine ∷ names) (value ∷ env) = machine_of_cap (cap_in value)
 machine_seen (name ∷ names) (value ∷ env) = machine_seen names env
 machine_seen names env = None
 

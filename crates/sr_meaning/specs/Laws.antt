@@ -1,12 +1,12 @@
 -- Laws of what a process asks, in the language's own words.
-use Rattle.std.specs.Prelude.{◌≡◌, ℕ, ◌≤◌, ℤ, Bool, true, false, List, [], ◌∷◌, ◌++◌, Option, Some, None, Result, Ok, Err}
+use Rattle.std.specs.Prelude.{◌≡◌, ℕ, ◌≤◌, ℤ, true, false, List, ◌∷◌, Option, Some, Ok}
 use Rattle.sr_value.specs.declared.capability.Cap.{Cap}
 use Rattle.sr_value.specs.declared.fault.Fault.{Fault}
 use Rattle.sr_value.specs.declared.shape.Shape.{Shape}
 use Rattle.sr_value.specs.declared.value.Value.{Value}
 use Rattle.sr_value.specs.declared.value.Value.TheVariants.{Bool as truth_value}
 use Rattle.sr_ask.specs.Asking.{none_takes, made}
-use Rattle.sr_ask.specs.Behaviors.{Stage, Outcome, Came, Stops, Doing, give, and_then, ◌>>=◌, tick, looped, turned, room}
+use Rattle.sr_ask.specs.Behaviors.{Stage, Came, Stops, Doing, give, and_then, ◌>>=◌, tick, looped, turned, room}
 use Rattle.sr_ask.specs.declared.environment.Located.{Located}
 use Rattle.sr_ask.specs.declared.forms.Pick.{Pick}
 use Rattle.sr_ask.specs.declared.request.Request.TheVariants.{Invoke, Finish, Stop, Fail}
@@ -15,14 +15,13 @@ use Rattle.sr_core.specs.declared.site.Arm.{Arm}
 use Rattle.sr_meaning.specs.declared.ending.Ending.{Ending}
 use Rattle.sr_ask.specs.declared.environment.Sent.{Sent}
 use Rattle.sr_meaning.specs.Expressions.{Meaning, node_meaning, in_order, called, taken, give_back}
-use Rattle.sr_meaning.specs.Here.{Here, ask_of, request, fail, settle}
+use Rattle.sr_meaning.specs.Here.{Here, ask_of, request, fail}
 use Rattle.sr_meaning.specs.Places.{store_place, store_results}
 use Rattle.sr_meaning.specs.Processes.{finish}
 use Rattle.sr_meaning.specs.Statements.{block_meaning, results_now, reply_meaning, forward_meaning, service_meaning, service_for, served, make_formals, make_returned}
 use Rattle.sr_core.specs.Values.{cap_of}
-use Rattle.sr_core.specs.declared.statement.Scope.TheVariants.{Own as own_scope}
+use Rattle.sr_core.specs.declared.statement.Scope.{Scope}
 use Rattle.sr_ask.specs.Invocations.{values_sent, places_back}
-use Rattle.sr_ask.specs.Replies.{set_service}
 
 -- ---- the end of a process
 
@@ -66,7 +65,7 @@ pub record CallsInOrder : Type 0 where
 -- had been forwarded.
 pub record RepliesOnce : Type 0 where
   pub at_the_end : (pick : Pick) (arm : Arm) (block : List (Meaning Ending)) (here : Here) (stage made_formals begun left : Stage) (ending : Ending)
-      → make_formals own_scope arm.formals pick.args here (record stage { service = service_for pick arm }) ≡ Came tt made_formals
+      → make_formals Scope.Own arm.formals pick.args here (record stage { service = service_for pick arm }) ≡ Came tt made_formals
       → make_returned arm.returned here made_formals ≡ Came tt begun
       → block_meaning block here begun ≡ Came ending left
       → service_meaning pick (Some arm) (Some block) here stage

@@ -6,11 +6,9 @@ use Rattle.sr_ask.specs.Behaviors.{Doing}
 use Rattle.sr_ask.specs.Places.{own_load as own_load_at, own_store as own_store_at, load_at as spot_load, load_place as place_load, store_at as spot_store, store_place as place_store, store_results as results_store}
 use Rattle.sr_ask.specs.declared.environment.Located.{Located}
 use Rattle.sr_ask.specs.declared.environment.Spot.{Spot}
-use Rattle.sr_ask.specs.declared.environment.Spot.TheVariants.{Own as an_own, Shared as a_shared}
 use Rattle.sr_core.specs.declared.owner.Home.{Home}
 use Rattle.sr_core.specs.declared.owner.Home.TheVariants.{Mine, Imported}
 use Rattle.sr_core.specs.declared.owner.Root.{Root}
-use Rattle.sr_core.specs.declared.owner.Root.TheVariants.{Own as own_root, Shared as shared_root}
 use Rattle.sr_meaning.specs.Here.{Here, asker}
 
 -- the instance whose shared variables are meant
@@ -19,8 +17,8 @@ block_of Mine here = here.start.instance
 block_of (Imported at) here = unwrap_or (slice_get here.start.homes at) 0
 
 abbrev pub spot_of : Root → Here → Spot
-spot_of (own_root var) here = an_own var
-spot_of (shared_root home var) here = a_shared (block_of home here) var
+spot_of (Root.Own var) here = Spot.Own var
+spot_of (Root.Shared home var) here = Spot.Shared (block_of home here) var
 
 abbrev pub own_load : ℕ → List Sel → Here → Doing Value
 own_load var path here = own_load_at var path (asker here)

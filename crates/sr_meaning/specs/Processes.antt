@@ -1,14 +1,14 @@
 -- What a process asks from its beginning to its end.
-use Rattle.std.specs.Prelude.{ℕ, pos, false, List, [], ◌∷◌, length, replicate, Option, Some, None, unwrap_or, option_map, slice_get, ◌-◌}
+use Rattle.std.specs.Prelude.{ℕ, false, List, [], length, replicate, Option, Some, None, unwrap_or, option_map, slice_get, ◌-◌}
 use Rattle.std.specs.Option.{option_and_then}
 use Rattle.sr_value.specs.declared.capability.Cap.TheVariants.{Vm}
 use Rattle.sr_value.specs.declared.place.Place.{Place}
 use Rattle.sr_ask.specs.Asking.{none_takes, made}
-use Rattle.sr_ask.specs.Behaviors.{Stage, Doing, give, ◌>>=◌, asked}
+use Rattle.sr_ask.specs.Behaviors.{Stage, give, ◌>>=◌, asked}
 use Rattle.sr_ask.specs.declared.answer.Answer.{Answer}
 use Rattle.sr_ask.specs.declared.ask.Asks.{Asks}
 use Rattle.sr_ask.specs.declared.ask.Role.{Role}
-use Rattle.sr_ask.specs.declared.ask.Role.TheVariants.{Boot, Initial, Proc as proc_role, Final}
+use Rattle.sr_ask.specs.declared.ask.Role.TheVariants.{Boot, Initial, Final}
 use Rattle.sr_ask.specs.declared.environment.Gives.{Gives}
 use Rattle.sr_ask.specs.declared.environment.Gives.TheVariants.{Values, Instance}
 use Rattle.sr_ask.specs.declared.environment.Own.{Own}
@@ -19,12 +19,12 @@ use Rattle.sr_core.specs.declared.component.Body.{Body}
 use Rattle.sr_core.specs.declared.component.Component.{Component}
 use Rattle.sr_core.specs.declared.component.Core.{Core}
 use Rattle.sr_core.specs.declared.component.Proc.{Proc}
-use Rattle.sr_core.specs.declared.statement.Scope.TheVariants.{Own as own_scope, Shared as shared_scope}
 use Rattle.sr_meaning.specs.declared.ending.Ending.{Ending}
 use Rattle.sr_meaning.specs.Expressions.{Meaning, ensured, needs_of, taken}
 use Rattle.sr_meaning.specs.Here.{Here, at_line, request}
 use Rattle.sr_core.specs.Formals.{result_vars}
-use Rattle.sr_meaning.specs.Statements.{block_of, make_formals, make_returned, results_now, through}
+use Rattle.sr_core.specs.declared.statement.Scope.{Scope}
+use Rattle.sr_meaning.specs.Statements.{block_of, make_formals, make_returned, results_now}
 
 -- ---- what a process runs
 
@@ -42,7 +42,7 @@ main_of core = length core.components - 1
 -- the boot process makes main
 abbrev pub component_for : Role → Core → ℕ → ℕ
 component_for Boot core code = main_of core
-component_for proc_role core code = unwrap_or (option_map (component_of_proc core) (proc_at core code)) 0
+component_for Role.Proc core code = unwrap_or (option_map (component_of_proc core) (proc_at core code)) 0
 component_for role core code = code
 
 abbrev pub component_of : Core → Start → Option Component
@@ -65,7 +65,7 @@ owns_of (Some body) = body.owns
 abbrev pub body_for : Role → Core → Start → Option Body
 body_for Boot core start = None
 body_for Initial core start = option_map (λ component. component.initial) (component_of core start)
-body_for proc_role core start = option_map (λ proc. proc.body) (proc_at core start.code)
+body_for Role.Proc core start = option_map (λ proc. proc.body) (proc_at core start.code)
 body_for Final core start = option_and_then (λ component. component.final_code) (component_of core start)
 
 abbrev pub proc_gives : Option Proc → Gives
@@ -76,7 +76,7 @@ proc_gives (Some proc) = Values (result_vars proc.formals proc.returned)
 abbrev pub gives_for : Role → Core → Start → Gives
 gives_for Boot core start = Values []
 gives_for Initial core start = Instance
-gives_for proc_role core start = proc_gives (proc_at core start.code)
+gives_for Role.Proc core start = proc_gives (proc_at core start.code)
 gives_for Final core start = Values []
 
 -- a process holds what it was made for under its own number
@@ -109,12 +109,12 @@ boot_meaning here =
 abbrev pub initial_meaning : Option Component → Meaning (Unit {0})
 initial_meaning None here = give tt
 initial_meaning (Some component) here =
-    make_formals shared_scope component.formals here.start.args here >>= λ _. block_of component.initial.block here >>= λ _. give tt
+    make_formals Scope.Shared component.formals here.start.args here >>= λ _. block_of component.initial.block here >>= λ _. give tt
 
 abbrev pub proc_meaning : Option Proc → Meaning (Unit {0})
 proc_meaning None here = give tt
 proc_meaning (Some proc) here =
-    make_formals own_scope proc.formals here.start.args (at_line proc.place here) >>= λ _.
+    make_formals Scope.Own proc.formals here.start.args (at_line proc.place here) >>= λ _.
     make_returned proc.returned (at_line proc.place here) >>= λ _.
     block_of proc.body.block (at_line proc.place here) >>= λ _. give tt
 
@@ -125,7 +125,7 @@ final_meaning (Some body) here = block_of body.block here >>= λ _. give tt
 abbrev pub role_meaning : Role → Meaning (Unit {0})
 role_meaning Boot here = boot_meaning here
 role_meaning Initial here = initial_meaning (component_of here.core here.start) here
-role_meaning proc_role here = proc_meaning (proc_at here.core here.start.code) here
+role_meaning Role.Proc here = proc_meaning (proc_at here.core here.start.code) here
 role_meaning Final here = final_meaning (body_for Final here.core here.start) here
 
 abbrev pub process_meaning : Meaning Ending

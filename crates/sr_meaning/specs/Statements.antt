@@ -1,12 +1,11 @@
 -- What a statement asks, and how it ends: of each node, from what its parts ask and how they end.
-use Rattle.std.specs.Prelude.{ℕ, zero, suc, ℤ, pos, negsuc, ◌+◌, ◌+ℤ◌, Bool, true, false, not, List, [], ◌∷◌, ◌++◌, length, map, filter, Option, Some, None, Result, Ok, Err, ◌==◌, if◌then◌else◌, nat_le, unwrap_or, option_map, slice_get}
+use Rattle.std.specs.Prelude.{ℕ, zero, suc, ℤ, pos, negsuc, ◌+◌, ◌+ℤ◌, Bool, true, false, not, List, [], ◌∷◌, length, map, filter, Option, Some, None, Result, Ok, Err, ◌==◌, if◌then◌else◌, nat_le, unwrap_or, slice_get}
 use Rattle.sr_value.specs.declared.capability.Cap.{Cap}
-use Rattle.sr_value.specs.declared.capability.Cap.TheVariants.{Res as a_resource, Vm}
+use Rattle.sr_value.specs.declared.capability.Cap.TheVariants.{Vm}
 use Rattle.sr_value.specs.declared.fault.Fault.{Fault}
 use Rattle.sr_value.specs.declared.fault.Fault.TheVariants.{Overflow, Range}
 use Rattle.sr_value.specs.declared.operator.Operator.{Operator}
 use Rattle.sr_value.specs.declared.operator.Operator.TheVariants.{Add, Sub}
-use Rattle.sr_value.specs.declared.shape.Dims.{Dims}
 use Rattle.sr_value.specs.declared.shape.Dims.TheVariants.{One as one_dim, Two as two_dims}
 use Rattle.sr_value.specs.declared.shape.Shape.{Shape}
 use Rattle.sr_value.specs.declared.shape.Shape.TheVariants.{Int as an_int, Str as a_string, Arr as an_array}
@@ -22,7 +21,7 @@ use Rattle.sr_ask.specs.Places.{own_at, own_or_nothing, declare_own, whole, make
 use Rattle.sr_ask.specs.Replies.{Completion, set_service, push_out, set_out, reply_unless as reply_where, reply_meaning as reply_at, results_now as results_at, gives_now as gives_at, forward_unless as forward_where, forward_meaning as forward_at, take_one as take_at}
 use Rattle.sr_ask.specs.declared.forms.Pick.{Pick}
 use Rattle.sr_ask.specs.declared.forms.Selection.{Selection}
-use Rattle.sr_ask.specs.declared.forms.Selection.TheVariants.{Service as a_service, Otherwise}
+use Rattle.sr_ask.specs.declared.forms.Selection.TheVariants.{Otherwise}
 use Rattle.sr_ask.specs.declared.environment.Gives.{Gives}
 use Rattle.sr_ask.specs.declared.environment.Gives.TheVariants.{Values}
 use Rattle.sr_ask.specs.declared.environment.Located.{Located}
@@ -31,7 +30,6 @@ use Rattle.sr_ask.specs.declared.environment.Own.{Own}
 use Rattle.sr_ask.specs.declared.environment.Sent.{Sent}
 use Rattle.sr_ask.specs.declared.environment.Service.{Service}
 use Rattle.sr_ask.specs.declared.environment.Spot.{Spot}
-use Rattle.sr_ask.specs.declared.environment.Spot.TheVariants.{Own as an_own, Shared as a_shared}
 use Rattle.sr_ask.specs.declared.request.Request.TheVariants.{Invoke, Select, Write as write_request, Destroy as destroy_request, Stop as stop_request, Wake, Age}
 use Rattle.sr_core.specs.Formals.{sent_to, sent_after, result_vars}
 use Rattle.sr_core.specs.Values.{truth_of, number_of, cap_of, count_of, values_of, texts_of, written, bounded_by, formal_shape}
@@ -39,26 +37,21 @@ use Rattle.sr_core.specs.declared.expression.Argument.{Argument}
 use Rattle.sr_core.specs.declared.expression.Expr.{Expr}
 use Rattle.sr_core.specs.declared.expression.PlaceExpr.{PlaceExpr}
 use Rattle.sr_core.specs.declared.formal.Formal.{Formal}
-use Rattle.sr_core.specs.declared.formal.Mode.{Mode}
-use Rattle.sr_core.specs.declared.formal.Mode.TheVariants.{Val, Var, Res}
+use Rattle.sr_core.specs.declared.formal.Mode.TheVariants.{Res}
 use Rattle.sr_core.specs.declared.formal.Returned.{Returned}
 use Rattle.sr_core.specs.declared.site.Arm.{Arm}
 use Rattle.sr_core.specs.declared.site.Named.{Named}
-use Rattle.sr_core.specs.declared.site.Named.TheVariants.{Own as named_own, Home as named_home, Machine as named_machine}
 use Rattle.sr_core.specs.declared.site.Site.{Site}
 use Rattle.sr_core.specs.declared.statement.Action.{Action}
-use Rattle.sr_core.specs.declared.statement.Action.TheVariants.{Skip, Evaluate, Send, Forward, Assign, Swap, Bump, Write, Stop, Destroy, Until, Exit, Next, Return, Reply as reply_action}
+use Rattle.sr_core.specs.declared.statement.Action.TheVariants.{Skip, Evaluate, Send, Forward, Assign, Swap, Bump, Write, Stop, Destroy, Until, Exit, Next, Return}
 use Rattle.sr_core.specs.declared.statement.Bump.{Bump as Bumps}
 use Rattle.sr_core.specs.declared.statement.Bump.TheVariants.{Increase, Decrease}
 use Rattle.sr_core.specs.declared.statement.CoCall.{CoCall}
 use Rattle.sr_core.specs.declared.statement.Declaration.{Declaration}
 use Rattle.sr_core.specs.declared.statement.DimsExpr.{DimsExpr}
-use Rattle.sr_core.specs.declared.statement.DimsExpr.TheVariants.{None as no_dims, One as one_range, Two as two_ranges}
 use Rattle.sr_core.specs.declared.statement.ItemShape.{ItemShape}
-use Rattle.sr_core.specs.declared.statement.ItemShape.TheVariants.{Fixed as fixed_item, Str as string_item}
 use Rattle.sr_core.specs.declared.statement.Quantifier.{Quantifier}
 use Rattle.sr_core.specs.declared.statement.Scope.{Scope}
-use Rattle.sr_core.specs.declared.statement.Scope.TheVariants.{Own as own_scope, Shared as shared_scope}
 use Rattle.sr_core.specs.declared.statement.Setup.{Setup}
 use Rattle.sr_core.specs.declared.statement.Setup.TheVariants.{Typed, Untyped}
 use Rattle.sr_core.specs.declared.statement.ShapeExpr.{ShapeExpr}
@@ -66,7 +59,7 @@ use Rattle.sr_core.specs.declared.statement.Statement.{Statement}
 use Rattle.sr_core.specs.declared.statement.Statement.TheFolds.{fold-Statement}
 use Rattle.sr_core.specs.declared.statement.Statement.TheOpen.{CoArm-F, Guarded-F, Statement-F}
 use Rattle.sr_meaning.specs.declared.ending.Ending.{Ending}
-use Rattle.sr_meaning.specs.declared.ending.Ending.TheVariants.{Through, Left, Turned, Returned as returned}
+use Rattle.sr_meaning.specs.declared.ending.Ending.TheVariants.{Through, Left, Turned}
 use Rattle.sr_meaning.specs.Expressions.{Meaning, in_order, choice, expr_meaning, place_of_expr, argument_of, give_back, taken}
 use Rattle.sr_meaning.specs.Here.{Here, asker, at_line, request, settle}
 use Rattle.sr_meaning.specs.Places.{load_place, store_place}
@@ -83,7 +76,7 @@ abbrev pub after_turn : Ending → Option Ending
 after_turn Through = None
 after_turn Turned = None
 after_turn Left = Some Left
-after_turn returned = Some returned
+after_turn Ending.Returned = Some Ending.Returned
 
 abbrev pub continue : Option Ending → Doing Ending → Doing Ending
 continue None next = next
@@ -96,7 +89,7 @@ left ending = ending
 
 -- `return` goes no further than the service that it ends
 abbrev pub served : Ending → Ending
-served returned = Through
+served Ending.Returned = Through
 served ending = ending
 
 abbrev pub block_meaning : List (Meaning Ending) → Meaning Ending
@@ -125,16 +118,16 @@ string_shape (pos most) = Ok (a_string most)
 string_shape (negsuc n) = Err Range
 
 abbrev pub item_shape : ItemShape → Meaning Shape
-item_shape (fixed_item shape) here = give shape
-item_shape (string_item most) here = number_expr most here >>= λ n. settle (string_shape n) here
+item_shape (ItemShape.Fixed shape) here = give shape
+item_shape (ItemShape.Str most) here = number_expr most here >>= λ n. settle (string_shape n) here
 
 -- the bounds from left to right, and then the length of a string
 abbrev pub dims_shape : DimsExpr → ItemShape → Meaning Shape
-dims_shape no_dims item here = item_shape item here
-dims_shape (one_range range) item here =
+dims_shape DimsExpr.None item here = item_shape item here
+dims_shape (DimsExpr.One range) item here =
     number_expr range.lo here >>= λ lo. number_expr range.hi here >>= λ hi.
     item_shape item here >>= λ shape. give (an_array (one_dim lo hi) shape)
-dims_shape (two_ranges range range2) item here =
+dims_shape (DimsExpr.Two range range2) item here =
     number_expr range.lo here >>= λ lo. number_expr range.hi here >>= λ hi.
     number_expr range2.lo here >>= λ lo2. number_expr range2.hi here >>= λ hi2.
     item_shape item here >>= λ shape. give (an_array (two_dims lo hi lo2 hi2) shape)
@@ -147,8 +140,8 @@ abbrev pub make : Spot → Shape → Meaning (Unit {0})
 make spot shape here = made_at spot shape (asker here)
 
 abbrev pub spot_in : Scope → ℕ → Here → Spot
-spot_in own_scope var here = an_own var
-spot_in shared_scope var here = a_shared here.start.instance var
+spot_in Scope.Own var here = Spot.Own var
+spot_in Scope.Shared var here = Spot.Shared here.start.instance var
 
 abbrev pub first_value : Option Expr → Spot → Meaning (Unit {0})
 first_value None spot here = give tt
@@ -181,7 +174,7 @@ make_formals scope (formal ∷ formals) args here =
 
 abbrev pub make_returned : Option Returned → Meaning (Unit {0})
 make_returned None here = give tt
-make_returned (Some name) here = make (an_own name.var) name.shape here
+make_returned (Some name) here = make (Spot.Own name.var) name.shape here
 
 -- ---- services
 
@@ -260,8 +253,8 @@ action_meaning (Until time) here =
     settle (wake_at now wait) here >>= λ until. through (request done (Wake until) here)
 action_meaning Exit here = give Left
 action_meaning Next here = give Turned
-action_meaning Return here = give returned
-action_meaning reply_action here = through (reply_meaning here)
+action_meaning Return here = give Ending.Returned
+action_meaning Action.Reply here = through (reply_meaning here)
 
 -- ---- parts of statements
 
@@ -335,13 +328,13 @@ quantified (q ∷ rest) inner here =
 
 -- what goes with a `Select` of what the guards name
 abbrev pub named_value : Named → Meaning Value
-named_value (named_own var) here stage = settle (with_ok (own_at stage.own var) (λ own. Ok own.value)) here stage
-named_value (named_home at) here stage = Came (Capa (a_resource (unwrap_or (slice_get here.start.homes at) 0))) stage
-named_value named_machine here stage = Came (Capa (Vm here.start.vm)) stage
+named_value (Named.Own var) here stage = settle (with_ok (own_at stage.own var) (λ own. Ok own.value)) here stage
+named_value (Named.Home at) here stage = Came (Capa (Cap.Res (unwrap_or (slice_get here.start.homes at) 0))) stage
+named_value Named.Machine here stage = Came (Capa (Vm here.start.vm)) stage
 
 -- what a site without number has: no arms
 abbrev pub no_site : Site
-no_site = record { scope = shared_scope; arms = []; has_else = false; names = []; reads = []; counts = [] }
+no_site = record { scope = Scope.Shared; arms = []; has_else = false; names = []; reads = []; counts = [] }
 
 abbrev pub site_at : ℕ → Here → Site
 site_at site here = unwrap_or (slice_get here.core.sites site) no_site
@@ -359,7 +352,7 @@ service_for pick arm = record {
 abbrev pub service_meaning : Pick → Option Arm → Option (List (Meaning Ending)) → Meaning Ending
 service_meaning pick (Some arm) (Some block) here stage =
     (set_service (service_for pick arm) >>= λ _.
-    make_formals own_scope arm.formals pick.args here >>= λ _.
+    make_formals Scope.Own arm.formals pick.args here >>= λ _.
     make_returned arm.returned here >>= λ _.
     block_meaning block here >>= λ ending.
     reply_meaning here >>= λ _.
@@ -368,7 +361,7 @@ service_meaning pick (Some arm) (Some block) here stage =
 service_meaning pick arm block here stage = give Through stage
 
 abbrev pub selection_meaning : Site → List (List (Meaning Ending)) → List (Meaning Ending) → Selection → Meaning Ending
-selection_meaning site blocks otherwise (a_service pick) here = service_meaning pick (slice_get site.arms pick.arm) (slice_get blocks pick.arm) here
+selection_meaning site blocks otherwise (Selection.Service pick) here = service_meaning pick (slice_get site.arms pick.arm) (slice_get blocks pick.arm) here
 selection_meaning site blocks otherwise Otherwise here = block_meaning otherwise here
 
 abbrev pub in_meaning : ℕ → List (List (Meaning Ending)) → List (Meaning Ending) → Meaning Ending
