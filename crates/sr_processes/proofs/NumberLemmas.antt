@@ -7,7 +7,6 @@ use Rattle.sr_ask.specs.declared.start.Start.{Start}
 use Rattle.sr_processes.specs.Living.{is_process, numbers_of, start_of, without_process}
 use Rattle.sr_processes.specs.Tables.{IsNumbered, starts_in}
 
-
 abbrev head_or_zero : List ℕ → ℕ
 head_or_zero [] = 0
 head_or_zero (n ∷ ns) = n

@@ -9,8 +9,8 @@ grown : (c : goal.After-put) → c.put.new.starts.entries ≡ c.self.inside.star
 grown c =
     c.put.ensures.entries
     ∙ insert_entry-new nat_eq c.self.inside.starts c.args.start.process c.args.start
-      (absent c.args.start.process c.self.inside.starts.entries c.self.invariant
-        (subst (λ living. ¬ IsLive living.starts c.args.start.process) (sym c.self.view_is) c.requires.new))
+    (absent c.args.start.process c.self.inside.starts.entries c.self.invariant
+    (subst (λ living. ¬ IsLive living.starts c.args.start.process) (sym c.self.view_is) c.requires.new))
 
 pub invariant_of-self : goal.invariant_of-self
 invariant_of-self c = subst IsNumbered (sym (grown c)) (numbered-push c.self.inside.starts.entries c.args.start c.self.invariant)
