@@ -2,7 +2,7 @@
 ghost use Rattle.std.specs.Prelude.{◌≡◌, ◌==◌, IfOk, map, option_to_list, position};
 ghost use Rattle.sr_core.specs.declared.statement.Scope.TheVariants.{Shared};
 ghost use Rattle.sr_desugar.specs.Places as places;
-ghost use Rattle.sr_tables.specs.Tables.{number_in};
+ghost use Rattle.sr_tables.specs.Tables.{found_at, number_in};
 
 use crate::scene::{Lowered, Scene};
 use sr_core::{
@@ -11,7 +11,7 @@ use sr_core::{
 };
 use sr_names::Spot;
 use sr_outline::copy_shape;
-use sr_tables::{Spots, number_of};
+use sr_tables::{SpotMap, Spots, number_of};
 use sr_value::{Boxed, Duplicate, NoMemory, Row, Shape, Value};
 use std::alloc::Global;
 
@@ -92,6 +92,17 @@ pub fn own_place(alloc: Global, scene: &Scene, spot: Spot) -> Result<PlaceExpr, 
     ensures { IfOk result (λ place. place ≡ places.own_place scene.now spot) }
 {
     Ok(place_at(alloc, own_root(scene, spot)?))
+}
+
+/// Whether an operation belongs to the instance or to the process. One that isn't there, as in no accepted program,
+/// counts as the instance's.
+pub fn scope_of_operation(operations: &SpotMap<Operation>, spot: Spot) -> Scope
+    ensures { result ≡ places.scope_in (found_at operations.now spot) }
+{
+    match operations.get(spot) {
+        None => Scope::Shared,
+        Some(operation) => operation.scope,
+    }
 }
 
 /// Whose an operation of a component is.

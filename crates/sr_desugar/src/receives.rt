@@ -3,7 +3,7 @@ ghost use Rattle.std.specs.Prelude.{◌≡◌, ◌++◌, IfOk, OnOk, map};
 ghost use Rattle.sr_desugar.specs.Statements as statements;
 
 use crate::exprs::core_place;
-use crate::places::{own_formals, own_place, own_returned};
+use crate::places::{own_formals, own_place, own_returned, scope_of_operation};
 use crate::scene::Scene;
 use crate::simple::act;
 use sr_core::{Action, Arm, Expr, Site, Statement};
@@ -68,7 +68,8 @@ pub fn receive(
     let site = scene.tables.sites.number(Spot::of(span))?;
     let mut arms = Row::new(alloc);
     arms.push(receive_arm(alloc, span, operation, places, scene)?)?;
-    sites.push(site_of(alloc, arms, false)?)?;
+    let scope = scope_of_operation(&scene.tables.operations, operation);
+    sites.push(site_of(alloc, scope, arms, false)?)?;
     let mut blocks = Row::new(alloc);
     blocks.push(assigns(alloc, span, places, scene)?)?;
     Ok(Statement::In {
