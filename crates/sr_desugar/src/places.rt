@@ -163,7 +163,10 @@ pub fn place_of(alloc: Global, lowered: Lowered) -> PlaceExpr
 {
     match lowered {
         Lowered::Place(place) => place,
-        Lowered::Value(_) => place_at(alloc, nowhere()),
+        Lowered::Value(value) => {
+            drop(value);
+            place_at(alloc, nowhere())
+        }
     }
 }
 

@@ -42,12 +42,15 @@ fn receive_arm(
     ensures { IfOk result (λ arm. arm ≡ statements.receive_arm scene.now span operation places.now) }
 {
     let spots = receive_spots(alloc, places)?;
+    let op = scene.tables.operations.number(operation)?;
+    let formals = own_formals(alloc, scene, spots.as_slice(), operation)?;
     let returned = receive_returned(span, operation, &scene.facts);
+    let returned = own_returned(alloc, scene, returned, operation)?;
     Ok(Arm {
         place: line_of(span),
-        op: scene.tables.operations.number(operation)?,
-        formals: own_formals(alloc, scene, spots.as_slice(), operation)?,
-        returned: own_returned(alloc, scene, returned, operation)?,
+        op,
+        formals,
+        returned,
         guard: None,
         by: None,
     })

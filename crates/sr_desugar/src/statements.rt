@@ -125,7 +125,7 @@ fn co_call(
         place,
         target: target.into_inner(),
         args,
-        returns,
+        returns: returns.into_inner(),
     })
 }
 
@@ -191,14 +191,22 @@ fn action(alloc: Global, tree: &sr_tree::Statement, scene: &Scene) -> Result<Act
         }),
         sr_tree::Statement::Send { invocation, .. } => send(alloc, invocation, scene),
         sr_tree::Statement::Forward { invocation, .. } => forward(alloc, invocation, scene),
-        sr_tree::Statement::Assign { place, value, .. } => Ok(Action::Assign {
-            place: core_place(alloc, place, scene)?,
-            value: core_value(alloc, value, scene)?,
-        }),
-        sr_tree::Statement::Exchange { left, right, .. } => Ok(Action::Swap {
-            left: core_place(alloc, left, scene)?,
-            right: core_place(alloc, right, scene)?,
-        }),
+        sr_tree::Statement::Assign { place, value, .. } => {
+            let place = Boxed::new(alloc, core_place(alloc, place, scene)?)?;
+            let value = core_value(alloc, value, scene)?;
+            Ok(Action::Assign {
+                place: place.into_inner(),
+                value,
+            })
+        }
+        sr_tree::Statement::Exchange { left, right, .. } => {
+            let left = Boxed::new(alloc, core_place(alloc, left, scene)?)?;
+            let right = core_place(alloc, right, scene)?;
+            Ok(Action::Swap {
+                left: left.into_inner(),
+                right,
+            })
+        }
         sr_tree::Statement::Increment { place, .. } => Ok(Action::Bump {
             place: core_place(alloc, place, scene)?,
             bump: Bump::Increase,
