@@ -6,6 +6,7 @@ pub mod DeclNumbers
 pub mod Each
 pub mod ExprNumbers
 pub mod ExprRules
+pub mod FirstArm
 pub mod Formals
 pub mod Numbered
 pub mod Outputs

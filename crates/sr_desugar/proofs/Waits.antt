@@ -46,8 +46,8 @@ use Rattle.sr_value.specs.declared.place.Place.{Place}
 use Rattle.sr_value.specs.declared.place.Span.{Span}
 use Rattle.sr_desugar.specs.declared.scene.Scene.{Scene}
 use Rattle.sr_desugar.specs.Declarations.{after_first, const_core, declare, first_of, typed, typed_vars, untyped, untyped_vars, var_core}
-use Rattle.sr_desugar.specs.Places.{site_number}
-use Rattle.sr_desugar.specs.Statements.{LoweredArm, Block, WithSites, all_made, all_sites, alone, arm_made, arms_of, block_made, blocks_of, branch_made, call_action, call_made, co_arm_made, core_arm, core_block_item, core_branch, core_co_arm, core_statement, item_made, quantifiers_core, receive_arm, receive_assign, receive_made, statement_made}
+use Rattle.sr_desugar.specs.Places.{scope_of_operation, site_number}
+use Rattle.sr_desugar.specs.Statements.{LoweredArm, Block, WithSites, all_made, all_sites, alone, arm_made, arms_of, block_made, blocks_of, branch_made, call_action, call_made, co_arm_made, core_arm, core_block_item, core_branch, core_co_arm, core_statement, item_made, quantifiers_core, receive_arm, receive_assign, receive_made, scope_of_arms, statement_made}
 use Rattle.sr_desugar.proofs.Numbered.{At, Waits, none_waits, waits_both, waits_by}
 
 -- ---- lists of tests
@@ -182,7 +182,7 @@ receive_waits scene span operation places =
     (λ sites fits.
     rolled sites _ (Core-F.In (line_of span) (site_number scene (spot_of span)) (map (receive_assign scene span) places ∷ []) []) (core.rolls-In _ _ _ _)
     (both (site_ok sites (site_number scene (spot_of span)) 1) _ fits.0 (both _ true (both (block_waits sites (map (receive_assign scene span) places)) true fits.1 refl) refl)))
-    (in_waits (spot_of span) (site_of (receive_arm scene span operation places ∷ []) false) 1 refl (none_waits (λ sites. assigns_fit sites scene span places)))
+    (in_waits (spot_of span) (site_of (scope_of_operation scene operation) (receive_arm scene span operation places ∷ []) false) 1 refl (none_waits (λ sites. assigns_fit sites scene span places)))
 
 -- it waits where it calls `P`
 call_waits : (scene : Scene) (span : Span) (invocation : Invocation) (function : Option Predefined) (wait : Bool) → is_p function ≡ wait
@@ -321,13 +321,13 @@ module _ (facts : Facts) (scene : Scene) (agree : (invocation : Invocation) → 
       (λ sites fits.
       rolled sites _ (Core-F.In (line_of span) (site_number scene (spot_of span)) (blocks_of (arms_core arms)) []) (core.rolls-In _ _ _ _)
       (both _ _ (subst (λ count. IsTrue (site_ok sites (site_number scene (spot_of span)) count)) (one_block_each (map (waits sites)) (arms_core arms)) fits.0) (both _ true fits.1.0 refl)))
-      (in_waits (spot_of span) (site_of (arms_of (arms_core arms)) false) (length (arms_of (arms_core arms))) refl (waits_both (arms_good arms) (nothing_waits table)))
+      (in_waits (spot_of span) (site_of (scope_of_arms (arms_core arms)) (arms_of (arms_core arms)) false) (length (arms_of (arms_core arms))) refl (waits_both (arms_good arms) (nothing_waits table)))
   statement_good (Statement-F.In span arms (Some otherwise)) =
       waits_by
       (λ sites fits.
       rolled sites _ (Core-F.In (line_of span) (site_number scene (spot_of span)) (blocks_of (arms_core arms)) (items_core otherwise).made) (core.rolls-In _ _ _ _)
       (both _ _ (subst (λ count. IsTrue (site_ok sites (site_number scene (spot_of span)) count)) (one_block_each (map (waits sites)) (arms_core arms)) fits.0) (both _ _ fits.1.0 fits.1.1)))
-      (in_waits (spot_of span) (site_of (arms_of (arms_core arms)) true) (length (arms_of (arms_core arms))) refl (waits_both (arms_good arms) (items_good otherwise)))
+      (in_waits (spot_of span) (site_of (scope_of_arms (arms_core arms)) (arms_of (arms_core arms)) true) (length (arms_of (arms_core arms))) refl (waits_both (arms_good arms) (items_good otherwise)))
   statement_good (Statement-F.Co span arms) =
       waits_by (λ sites fits. rolled sites _ (Core-F.Co (line_of span) (all_made (co_arms_core arms))) (core.rolls-Co _ _) fits) (co_arms_good arms)
   statement_good (Statement-F.Destroy span target) = none_waits (λ sites. act_fits sites _ _)

@@ -96,6 +96,14 @@ whose_by scene Shared component = if component == scene.component then whose.Min
 abbrev pub operation_at : Scene → Spot → Option Operation
 operation_at scene spot = found_at scene.tables.operations spot
 
+-- the instance's or the process's; an operation that isn't there, as in no accepted program, counts as the instance's
+abbrev pub scope_in : Option Operation → Scope
+scope_in None = Shared
+scope_in (Some operation) = operation.scope
+
+abbrev pub scope_of_operation : Scene → Spot → Scope
+scope_of_operation scene spot = scope_in (operation_at scene spot)
+
 -- an expression that names the operation which is declared at a spot
 abbrev pub naming : Scene → Spot → (Operation → ℕ → Expr) → Expr
 naming scene spot made = by (operation_at scene spot)

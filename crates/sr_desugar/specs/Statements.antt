@@ -14,7 +14,8 @@ use Rattle.sr_core.specs.declared.statement.Direction.{Direction}
 use Rattle.sr_core.specs.declared.statement.Direction.TheVariants.{Up, Down}
 use Rattle.sr_core.specs.declared.statement.Guarded.{Guarded, roll-Guarded}
 use Rattle.sr_core.specs.declared.statement.Quantifier.{Quantifier}
-use Rattle.sr_core.specs.declared.statement.Scope.TheVariants.{Own}
+use Rattle.sr_core.specs.declared.statement.Scope.{Scope}
+use Rattle.sr_core.specs.declared.statement.Scope.TheVariants.{Own, Shared}
 use Rattle.sr_core.specs.declared.statement.Statement.{Statement}
 use Rattle.sr_core.specs.declared.statement.Statement.TheVariants as statement
 use Rattle.sr_names.specs.declared.predefined.Predefined.{Predefined}
@@ -45,7 +46,7 @@ use Rattle.sr_outline.specs.Meanings.{function_called, meant_by}
 use Rattle.sr_tables.specs.Lists.{lists, maybe}
 use Rattle.sr_outline.specs.Numbers.{is_p, receive_returned, returned_names, wait_operation}
 use Rattle.sr_tables.specs.Parts.{line_of, spot_named}
-use Rattle.sr_desugar.specs.Places.{own_number, own_place, own_formals, own_returned, operation_expr, operation_number, site_number, value_of, nothing}
+use Rattle.sr_desugar.specs.Places.{own_number, own_place, own_formals, own_returned, operation_expr, operation_number, scope_of_operation, site_number, value_of, nothing}
 use Rattle.sr_tables.specs.Sites.{site_of}
 
 -- What a construct is in the core, with the sites of the statements in it that wait.
@@ -107,7 +108,7 @@ receive_arm scene span operation places = record {
 abbrev pub receive_made : Scene → Span → Spot → List Expr → WithSites Statement
 receive_made scene span operation places = record {
   made = statement.In (line_of span) (site_number scene (spot_of span)) (map (receive_assign scene span) places ∷ []) [];
-  sites = site_of (receive_arm scene span operation places ∷ []) false ∷ [];
+  sites = site_of (scope_of_operation scene operation) (receive_arm scene span operation places ∷ []) false ∷ [];
 }
 
 -- ---- invocations as statements
@@ -182,9 +183,10 @@ semaphores_core scene span semaphores = flat_map (semaphore_sends scene (line_of
 
 -- ---- parts of statements
 
--- an arm of an `in`, and its block
+-- an arm of an `in`, whether its operation belongs to the instance or to the process, and its block
 pub record LoweredArm : Type 0 where
   pub arm : Arm
+  pub scope : Scope
   pub block : Block
 
 abbrev pub condition_of : Scene → Option ArmCondition → Option CoreExpr
@@ -205,6 +207,7 @@ abbrev pub arm_made : Scene → Arm-F (WithSites Block) (WithSites Statement) (W
 arm_made scene arm = record {
   made = record {
     arm = arm_core scene arm.span (meant_by scene.facts arm.operation) arm.formals arm.returned arm.condition arm.order;
+    scope = scope_of_operation scene (meant_by scene.facts arm.operation);
     block = (block_made arm.block).made;
   };
   sites = (block_made arm.block).sites;
@@ -246,11 +249,16 @@ blocks_of arms = map (λ arm. arm.made.block) arms
 abbrev pub arms_of : List (WithSites LoweredArm) → List Arm
 arms_of arms = map (λ arm. arm.made.arm) arms
 
+-- The scope of an `in` is that of its first arm, since scopes are never mixed. The parser gives no `in` without arms.
+abbrev pub scope_of_arms : List (WithSites LoweredArm) → Scope
+scope_of_arms [] = Shared
+scope_of_arms (arm ∷ arms) = arm.made.scope
+
 -- the site of an `in` goes before those in its blocks
 abbrev pub in_made : Scene → Span → List (WithSites LoweredArm) → Option (List (WithSites Block)) → WithSites Statement
 in_made scene span arms otherwise = record {
   made = statement.In (line_of span) (site_number scene (spot_of span)) (blocks_of arms) (maybe_made otherwise).made;
-  sites = site_of (arms_of arms) (is_some otherwise) ∷ all_sites arms ++ (maybe_made otherwise).sites;
+  sites = site_of (scope_of_arms arms) (arms_of arms) (is_some otherwise) ∷ all_sites arms ++ (maybe_made otherwise).sites;
 }
 
 -- `do` knows whether an `else` is written

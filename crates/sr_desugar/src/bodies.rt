@@ -137,10 +137,11 @@ fn push_proc(
     ensures gathered { OnOk result (gathered.new ≡ bodies.with_proc gathered.old (bodies.proc_made scene.old proc.now)) }
     ensures scene { OnOk result (scene.new ≡ scene.old) }
 {
+    let formals = name_spots(alloc, proc.formals.as_slice())?;
     let service = Service {
         span: proc.span,
         operation: meant_by(&scene.facts, &proc.name),
-        formals: name_spots(alloc, proc.formals.as_slice())?,
+        formals,
         returned: returned_spot(&proc.returned),
     };
     push_service(alloc, &service, proc.block.as_slice(), scene, gathered)
@@ -156,10 +157,11 @@ fn push_procedure(
     ensures gathered { OnOk result (gathered.new ≡ bodies.with_proc gathered.old (bodies.procedure_made scene.old procedure.now)) }
     ensures scene { OnOk result (scene.new ≡ scene.old) }
 {
+    let formals = formal_spots(alloc, procedure.signature.formals.as_slice())?;
     let service = Service {
         span: procedure.span,
         operation: spot_named(&procedure.name),
-        formals: formal_spots(alloc, procedure.signature.formals.as_slice())?,
+        formals,
         returned: signature_returned(&procedure.signature),
     };
     push_service(alloc, &service, procedure.block.as_slice(), scene, gathered)
@@ -175,10 +177,11 @@ fn push_process(
     ensures gathered { OnOk result (gathered.new ≡ bodies.with_proc gathered.old (bodies.process_made scene.old process.now)) }
     ensures scene { OnOk result (scene.new ≡ scene.old) }
 {
+    let formals = quantifier_spots(alloc, process.quantifiers.as_slice())?;
     let service = Service {
         span: process.span,
         operation: spot_named(&process.name),
-        formals: quantifier_spots(alloc, process.quantifiers.as_slice())?,
+        formals,
         returned: None,
     };
     push_service(alloc, &service, process.block.as_slice(), scene, gathered)

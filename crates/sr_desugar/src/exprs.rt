@@ -30,7 +30,7 @@ pub struct Sent {
     pub target: Boxed<sr_core::Expr>,
     pub args: Row<Argument>,
     /// The type of the value, where the operation returns.
-    pub returns: Option<Shape>,
+    pub returns: Boxed<Option<Shape>>,
 }
 
 /// What is known of a value before the run.
@@ -406,6 +406,7 @@ pub fn core_sent(alloc: Global, tree: &Invocation, scene: &Scene) -> Result<Sent
     let lowered = all_lowered(alloc, tree.arguments.as_slice(), scene)?;
     let args = arguments_of(alloc, &scene.facts, &typed_expr.get().typed.ty, lowered)?;
     let returns = returned_by_call(alloc, scene, &typed_expr.get().typed.ty, target.get())?;
+    let returns = Boxed::new(alloc, returns)?;
     Ok(Sent {
         target,
         args,
@@ -426,7 +427,7 @@ fn core_called(alloc: Global, tree: &Invocation, scene: &Scene) -> Result<sr_cor
     Ok(sr_core::Expr::Call {
         target,
         args,
-        returns,
+        returns: returns.into_inner(),
     })
 }
 

@@ -15,7 +15,7 @@ use sr_outline::{infer, literals_of, shape_of_type, type_of};
 use sr_tables::SpotMap;
 use sr_tree::Expr;
 use sr_types::Ty;
-use sr_value::{Fault, NoMemory, Row, Shape, Value, highest, lowest};
+use sr_value::{Boxed, Fault, NoMemory, Row, Shape, Value, highest, lowest};
 use std::alloc::Global;
 
 fn values(alloc: Global, lowered: Row<Lowered>) -> Result<Row<sr_core::Expr>, NoMemory>
@@ -62,8 +62,8 @@ fn end_of(
 ) -> Result<sr_core::Expr, NoMemory>
     ensures { IfOk result (λ expr. expr ≡ exprs.end_or_nothing (exprs.end_value is_high (shape_of_type table.now ty.now))) }
 {
-    let shape = shape_of_type(alloc, ty, table)?;
-    match end_value(&shape, is_high) {
+    let shape = Boxed::new(alloc, shape_of_type(alloc, ty, table)?)?;
+    match end_value(shape.get(), is_high) {
         Ok(value) => Ok(sr_core::Expr::Leaf(Leaf::Constant(value))),
         Err(_) => Ok(nothing()),
     }
@@ -79,8 +79,8 @@ fn ends(
     ensures { IfOk result (λ expr. expr ≡ exprs.ends_core scene.now is_high (exprs.named_types scene.now.facts trees.now)) }
 {
     for tree in trees {
-        let typed_expr = infer(alloc, tree, &scene.facts)?;
-        if let Named::Type(ty) = &typed_expr.named {
+        let typed_expr = Boxed::new(alloc, infer(alloc, tree, &scene.facts)?)?;
+        if let Named::Type(ty) = &typed_expr.get().named {
             return end_of(alloc, &scene.tables.shapes, ty, is_high);
         }
     }
@@ -102,8 +102,8 @@ fn is_second(alloc: Global, trees: &[Expr], facts: &Facts) -> Result<bool, NoMem
 {
     match trees {
         [_, number] => {
-            let typed_expr = infer(alloc, number, facts)?;
-            Ok(is_two(&typed_expr.named))
+            let typed_expr = Boxed::new(alloc, infer(alloc, number, facts)?)?;
+            Ok(is_two(&typed_expr.get().named))
         }
         [] | [_] | [_, _, _, ..] => Ok(false),
     }
@@ -148,7 +148,10 @@ fn literals_in(alloc: Global, trees: &[Expr], facts: &Facts) -> Result<u32, NoMe
 {
     match trees {
         [] => Ok(0),
-        [tree, ..] => Ok(literals_of(facts, &type_of(alloc, tree, facts)?)),
+        [tree, ..] => {
+            let ty = Boxed::new(alloc, type_of(alloc, tree, facts)?)?;
+            Ok(literals_of(facts, ty.get()))
+        }
     }
 }
 
@@ -163,13 +166,20 @@ fn readable(ty: &Ty) -> Readable
     }
 }
 
+/// What an item is read as, by the type of its place.
+fn readable_at(alloc: Global, tree: &Expr, facts: &Facts) -> Result<Readable, NoMemory>
+    ensures { IfOk result (λ kind. kind ≡ exprs.readable_of (type_of facts.now tree.now)) }
+{
+    Ok(readable(&type_of(alloc, tree, facts)?))
+}
+
 /// What items are read as, by the types of their places.
 fn readables(alloc: Global, trees: &[Expr], facts: &Facts) -> Result<Row<Readable>, NoMemory>
     ensures { IfOk result (λ kinds. kinds ≡ map (λ tree. exprs.readable_of (type_of facts.now tree)) trees.now) }
 {
     let mut kinds = Row::new(alloc);
     for tree in trees {
-        kinds.push(readable(&type_of(alloc, tree, facts)?))?;
+        kinds.push(readable_at(alloc, tree, facts)?)?;
     }
     Ok(kinds)
 }

@@ -2,7 +2,7 @@
 ghost use Rattle.std.specs.Prelude.{◌≡◌, ◌==◌, IfOk, map, option_to_list, position};
 ghost use Rattle.sr_core.specs.declared.statement.Scope.TheVariants.{Shared};
 ghost use Rattle.sr_desugar.specs.Places as places;
-ghost use Rattle.sr_tables.specs.Tables.{number_in};
+ghost use Rattle.sr_tables.specs.Tables.{found_at, number_in};
 
 use crate::scene::{Lowered, Scene};
 use sr_core::{
@@ -11,7 +11,7 @@ use sr_core::{
 };
 use sr_names::Spot;
 use sr_outline::copy_shape;
-use sr_tables::{Spots, number_of};
+use sr_tables::{SpotMap, Spots, number_of};
 use sr_value::{Boxed, Duplicate, NoMemory, Row, Shape, Value};
 use std::alloc::Global;
 
@@ -94,6 +94,17 @@ pub fn own_place(alloc: Global, scene: &Scene, spot: Spot) -> Result<PlaceExpr, 
     Ok(place_at(alloc, own_root(scene, spot)?))
 }
 
+/// Whether an operation belongs to the instance or to the process. One that isn't there, as in no accepted program,
+/// counts as the instance's.
+pub fn scope_of_operation(operations: &SpotMap<Operation>, spot: Spot) -> Scope
+    ensures { result ≡ places.scope_in (found_at operations.now spot) }
+{
+    match operations.get(spot) {
+        None => Scope::Shared,
+        Some(operation) => operation.scope,
+    }
+}
+
 /// Whose an operation of a component is.
 fn shared_whose(scene: &Scene, component: u32) -> Result<OperationOwner, NoMemory>
     ensures { IfOk result (λ whose. whose ≡ places.whose_by scene.now Shared component) }
@@ -152,7 +163,10 @@ pub fn place_of(alloc: Global, lowered: Lowered) -> PlaceExpr
 {
     match lowered {
         Lowered::Place(place) => place,
-        Lowered::Value(_) => place_at(alloc, nowhere()),
+        Lowered::Value(value) => {
+            drop(value);
+            place_at(alloc, nowhere())
+        }
     }
 }
 

@@ -27,7 +27,7 @@ use sr_outline::{
 };
 use sr_tables::{SpotMap, Spots, component_decl, kind_of, line_of, number_of};
 use sr_tree::{File, Item, SpecItem};
-use sr_value::{Duplicate, NoMemory, Row};
+use sr_value::{Boxed, Duplicate, NoMemory, Row};
 use std::alloc::Global;
 use std::mem;
 
@@ -91,17 +91,18 @@ fn codes_of(
     component: &sr_tree::Component,
     scene: &mut Scene,
     gathered: &mut Gathered,
-) -> Result<Codes, NoMemory>
+) -> Result<Boxed<Codes>, NoMemory>
     ensures codes { IfOk result (λ codes. codes ≡ whole.component_codes scene.old component.now) }
     ensures gathered { OnOk result (gathered.new ≡ bodies.with_outputs gathered.old (bodies.item_outputs scene.old (body_of component.now))) }
     ensures scene { OnOk result (scene.new ≡ scene.old) }
 {
+    let initial = spec_code(alloc, component.spec(), scene)?;
     let mut codes = Codes {
-        initial: spec_code(alloc, component.spec(), scene)?,
+        initial,
         last: None,
     };
     push_items(alloc, component.body(), scene, &mut codes, gathered)?;
-    Ok(codes)
+    Boxed::new(alloc, codes)
 }
 
 fn copied(alloc: Global, numbers: &[u32]) -> Result<Row<u32>, NoMemory>
@@ -178,12 +179,12 @@ fn component_with(
     component: &sr_tree::Component,
     imports: &[Row<u32>],
     scene: &Scene,
-    codes: Codes,
+    codes: Boxed<Codes>,
 ) -> Result<Component, NoMemory>
     ensures { IfOk result (λ made. made ≡ whole.component_with scene.now imports.now component.now codes) }
 {
     let bare = bare_component(alloc, component, imports, scene)?;
-    Ok(with_code(bare, codes))
+    Ok(with_code(bare, codes.into_inner()))
 }
 
 /// A component, where the scene stands at it.

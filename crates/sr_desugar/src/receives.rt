@@ -3,7 +3,7 @@ ghost use Rattle.std.specs.Prelude.{◌≡◌, ◌++◌, IfOk, OnOk, map};
 ghost use Rattle.sr_desugar.specs.Statements as statements;
 
 use crate::exprs::core_place;
-use crate::places::{own_formals, own_place, own_returned};
+use crate::places::{own_formals, own_place, own_returned, scope_of_operation};
 use crate::scene::Scene;
 use crate::simple::act;
 use sr_core::{Action, Arm, Expr, Site, Statement};
@@ -42,12 +42,15 @@ fn receive_arm(
     ensures { IfOk result (λ arm. arm ≡ statements.receive_arm scene.now span operation places.now) }
 {
     let spots = receive_spots(alloc, places)?;
+    let op = scene.tables.operations.number(operation)?;
+    let formals = own_formals(alloc, scene, spots.as_slice(), operation)?;
     let returned = receive_returned(span, operation, &scene.facts);
+    let returned = own_returned(alloc, scene, returned, operation)?;
     Ok(Arm {
         place: line_of(span),
-        op: scene.tables.operations.number(operation)?,
-        formals: own_formals(alloc, scene, spots.as_slice(), operation)?,
-        returned: own_returned(alloc, scene, returned, operation)?,
+        op,
+        formals,
+        returned,
         guard: None,
         by: None,
     })
@@ -68,7 +71,8 @@ pub fn receive(
     let site = scene.tables.sites.number(Spot::of(span))?;
     let mut arms = Row::new(alloc);
     arms.push(receive_arm(alloc, span, operation, places, scene)?)?;
-    sites.push(site_of(alloc, arms, false)?)?;
+    let scope = scope_of_operation(&scene.tables.operations, operation);
+    sites.push(site_of(alloc, scope, arms, false)?)?;
     let mut blocks = Row::new(alloc);
     blocks.push(assigns(alloc, span, places, scene)?)?;
     Ok(Statement::In {

@@ -15,7 +15,7 @@ ghost use Rattle.sr_tree.specs.declared.statement.Statement.{out-Statement};
 
 use crate::declarations::{push_const, push_vars};
 use crate::exprs::{Sent, core_create, core_place, core_sent, core_value, optional_value};
-use crate::places::{own_formals, own_returned};
+use crate::places::{own_formals, own_returned, scope_of_operation};
 use crate::quantifiers::quantifiers_of;
 use crate::receives::receive;
 use crate::scene::Scene;
@@ -73,6 +73,24 @@ fn arms_of(alloc: Global, trees: &[Arm], scene: &Scene) -> Result<Row<sr_core::A
     Ok(arms)
 }
 
+/// Whether the operation of an arm belongs to the instance or to the process.
+fn scope_of_arm(tree: &Arm, scene: &Scene) -> Scope
+    ensures { result ≡ (statements.core_arm scene.now tree.now).made.scope }
+{
+    let operation = meant_by(&scene.facts, &tree.operation);
+    scope_of_operation(&scene.tables.operations, operation)
+}
+
+/// Whether the operations of an `in` belong to the instance or to the process. That of its first arm shows it.
+fn scope_of_arms(trees: &[Arm], scene: &Scene) -> Scope
+    ensures { result ≡ statements.scope_of_arms (map (statements.core_arm scene.now) trees.now) }
+{
+    match trees {
+        [] => Scope::Shared,
+        [tree, ..] => scope_of_arm(tree, scene),
+    }
+}
+
 /// The place of the value of an arm of a `co`.
 fn target_of(
     alloc: Global,
@@ -107,7 +125,7 @@ fn co_call(
         place,
         target: target.into_inner(),
         args,
-        returns,
+        returns: returns.into_inner(),
     })
 }
 
@@ -173,14 +191,22 @@ fn action(alloc: Global, tree: &sr_tree::Statement, scene: &Scene) -> Result<Act
         }),
         sr_tree::Statement::Send { invocation, .. } => send(alloc, invocation, scene),
         sr_tree::Statement::Forward { invocation, .. } => forward(alloc, invocation, scene),
-        sr_tree::Statement::Assign { place, value, .. } => Ok(Action::Assign {
-            place: core_place(alloc, place, scene)?,
-            value: core_value(alloc, value, scene)?,
-        }),
-        sr_tree::Statement::Exchange { left, right, .. } => Ok(Action::Swap {
-            left: core_place(alloc, left, scene)?,
-            right: core_place(alloc, right, scene)?,
-        }),
+        sr_tree::Statement::Assign { place, value, .. } => {
+            let place = Boxed::new(alloc, core_place(alloc, place, scene)?)?;
+            let value = core_value(alloc, value, scene)?;
+            Ok(Action::Assign {
+                place: place.into_inner(),
+                value,
+            })
+        }
+        sr_tree::Statement::Exchange { left, right, .. } => {
+            let left = Boxed::new(alloc, core_place(alloc, left, scene)?)?;
+            let right = core_place(alloc, right, scene)?;
+            Ok(Action::Swap {
+                left: left.into_inner(),
+                right,
+            })
+        }
         sr_tree::Statement::Increment { place, .. } => Ok(Action::Bump {
             place: core_place(alloc, place, scene)?,
             bump: Bump::Increase,
@@ -421,10 +447,10 @@ fn in_blocks(
     sites: &mut Row<Site>,
 ) -> Result<Row<Row<Statement>>, NoMemory>
     ensures value { IfOk result (λ all. all ≡ statements.blocks_of (map (statements.core_arm scene.now) trees.now)) }
-    ensures sites { OnOk result (sites.new ≡ sites.old ++ site_of (statements.arms_of (map (statements.core_arm scene.now) trees.now)) has_else ∷ statements.all_sites (map (statements.core_arm scene.now) trees.now)) }
+    ensures sites { OnOk result (sites.new ≡ sites.old ++ site_of (statements.scope_of_arms (map (statements.core_arm scene.now) trees.now)) (statements.arms_of (map (statements.core_arm scene.now) trees.now)) has_else ∷ statements.all_sites (map (statements.core_arm scene.now) trees.now)) }
 {
     let arms = arms_of(alloc, trees, scene)?;
-    sites.push(site_of(alloc, arms, has_else)?)?;
+    sites.push(site_of(alloc, scope_of_arms(trees, scene), arms, has_else)?)?;
     blocks(alloc, trees, scene, sites)
 }
 

@@ -1,6 +1,5 @@
 -- The components, procs and sites are those of all components.
 use Rattle.std.proofs.Common.{◌≡◌, List, [], ap, ◌∙◌}
-use Rattle.std.proofs.lemmas.Result.{err_from_is_err_and}
 use Rattle.sr_check_expr.specs.declared.facts.Facts.{Facts}
 use Rattle.sr_tables.specs.declared.tables.Tables.{Tables}
 use Rattle.sr_tables.specs.Parts.{components_in}
