@@ -5,7 +5,7 @@ use Rattle.sr_value.specs.declared.value.Value.{Value}
 use Rattle.sr_ask.specs.declared.answer.Answer.{Answer}
 use Rattle.sr_ask.specs.declared.answer.Answer.TheVariants.{Done, Got, Made, Ready, Picked, Else, Took, Number, Bad, End}
 use Rattle.sr_ask.specs.declared.forms.InputItem.{InputItem}
-use Rattle.sr_ask.specs.declared.forms.InputItem.TheVariants.{Value as read_value, NotOfKind, NoMore}
+use Rattle.sr_ask.specs.declared.forms.InputItem.TheVariants.{NotOfKind, NoMore}
 use Rattle.sr_ask.specs.declared.forms.Selection.{Selection}
 use Rattle.sr_ask.specs.declared.forms.Selection.TheVariants.{Service, Otherwise}
 use Rattle.sr_ask.specs.declared.forms.Taken.{Taken}
@@ -61,7 +61,7 @@ took ids _ = None
 
 -- `Got`, `Bad` or `End`
 abbrev pub read_item : Answer → Option InputItem
-read_item (Got value) = Some (read_value value)
+read_item (Got value) = Some (InputItem.Value value)
 read_item Bad = Some NotOfKind
 read_item End = Some NoMore
 read_item _ = None

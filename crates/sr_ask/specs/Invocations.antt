@@ -15,7 +15,7 @@ use Rattle.sr_ask.specs.declared.environment.ReadTarget.{ReadTarget}
 use Rattle.sr_ask.specs.declared.environment.Located.{Located}
 use Rattle.sr_ask.specs.declared.environment.Sent.{Sent}
 use Rattle.sr_ask.specs.declared.forms.InputItem.{InputItem}
-use Rattle.sr_ask.specs.declared.forms.InputItem.TheVariants.{Value as read_value, NotOfKind, NoMore}
+use Rattle.sr_ask.specs.declared.forms.InputItem.TheVariants.{NotOfKind, NoMore}
 use Rattle.sr_ask.specs.declared.request.Request.TheVariants.{Take, Read as read_request, EnsureGlobal, Create as create_request}
 
 -- ---- arguments and results
@@ -85,7 +85,7 @@ at_end zero here = give (Int (negsuc 0))
 at_end (suc n) here = number_read (suc n) here
 
 abbrev pub read_next : ℕ → ReadTarget → (Here → Doing Value) → InputItem → Here → Doing Value
-read_next count read_target next (read_value value) here = store_place read_target.place value here >>= λ _. next here
+read_next count read_target next (InputItem.Value value) here = store_place read_target.place value here >>= λ _. next here
 read_next count read_target next NotOfKind here = number_read count here
 read_next count read_target next NoMore here = at_end count here
 

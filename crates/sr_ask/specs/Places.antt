@@ -14,7 +14,6 @@ use Rattle.sr_ask.specs.Here.{Here, request, settle}
 use Rattle.sr_ask.specs.declared.environment.Located.{Located}
 use Rattle.sr_ask.specs.declared.environment.Own.{Own}
 use Rattle.sr_ask.specs.declared.environment.Spot.{Spot}
-use Rattle.sr_ask.specs.declared.environment.Spot.TheVariants.{Own as an_own, Shared as a_shared}
 use Rattle.sr_ask.specs.declared.request.Request.TheVariants.{Declare, Load, Store}
 
 -- ---- own variables
@@ -53,15 +52,15 @@ own_store var path value here stage =
 
 -- a shared place is loaded by one request, with its whole path
 abbrev pub load_at : Spot → List Sel → Here → Doing Value
-load_at (an_own var) path here = own_load var path here
-load_at (a_shared block var) path here = request got (Load block var path) here
+load_at (Spot.Own var) path here = own_load var path here
+load_at (Spot.Shared block var) path here = request got (Load block var path) here
 
 abbrev pub load_place : Located → Here → Doing Value
 load_place place here = load_at place.spot place.path here
 
 abbrev pub store_at : Spot → List Sel → Value → Here → Doing (Unit {0})
-store_at (an_own var) path value here = own_store var path value here
-store_at (a_shared block var) path value here = request done (Store block var path value) here
+store_at (Spot.Own var) path value here = own_store var path value here
+store_at (Spot.Shared block var) path value here = request done (Store block var path value) here
 
 abbrev pub store_place : Located → Value → Here → Doing (Unit {0})
 store_place place value here = store_at place.spot place.path value here
@@ -75,8 +74,8 @@ store_results places values here = give values
 
 -- an own variable is made with its default; a shared one is declared
 abbrev pub make : Spot → Shape → Here → Doing (Unit {0})
-make (an_own var) shape here = settle (default_value shape) here >>= λ value. declare_own var (record { shape = shape; value = value })
-make (a_shared block var) shape here = request done (Declare block var shape) here
+make (Spot.Own var) shape here = settle (default_value shape) here >>= λ value. declare_own var (record { shape = shape; value = value })
+make (Spot.Shared block var) shape here = request done (Declare block var shape) here
 
 -- a whole variable
 abbrev pub whole : Spot → Located

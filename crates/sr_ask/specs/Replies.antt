@@ -1,8 +1,7 @@
 -- The invocation in service, and the replies that a `co` waits for.
-use Rattle.std.specs.Prelude.{ℕ, Bool, true, false, not, List, [], ◌∷◌, ◌++◌, map, filter, Option, Some, None, ◌==◌}
+use Rattle.std.specs.Prelude.{Bool, true, false, List, [], ◌∷◌, ◌++◌, map, Option, Some, None, ◌==◌}
 use Rattle.std.specs.List.{find}
 use Rattle.sr_value.specs.declared.capability.Cap.{Cap}
-use Rattle.sr_value.specs.declared.capability.Cap.TheVariants.{Res as a_resource}
 use Rattle.sr_value.specs.declared.value.Value.{Value}
 use Rattle.sr_value.specs.declared.value.Value.TheVariants.{Capa}
 use Rattle.sr_ask.specs.Asking.{done, made}
@@ -25,7 +24,7 @@ set_service service stage = Came tt (record stage { service = service })
 
 abbrev pub gives_now : Gives → List (Option Own) → Here → List Value
 gives_now (Values vars) own here = map (λ var. own_or_nothing (own_at own var)) vars
-gives_now Instance own here = Capa (a_resource here.start.instance) ∷ []
+gives_now Instance own here = Capa (Cap.Res here.start.instance) ∷ []
 
 -- the present results of the invocation in service
 abbrev pub results_now : Here → Stage → List Value
