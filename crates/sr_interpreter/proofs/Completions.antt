@@ -1,8 +1,7 @@
 -- The next reply of a `co`, by the place of its invocation among those that are out.
-use Rattle.std.proofs.Common.{◌≡◌, ℕ, ◌<◌, ◌≤◌, List, length, map, Option, option_map, Some, None, Result, Ok, Err, refl, sym, ap, ◌∙◌, inl, inr, subst, arith}
+use Rattle.std.proofs.Common.{◌≡◌, ℕ, ◌<◌, List, length, map, Option, option_map, Some, None, Result, Err, refl, sym, ap, ◌∙◌, inl, inr, subst, arith}
 use Rattle.std.specs.List.{slice_get}
 use Rattle.std.proofs.lemmas.Option.{slice_get-map, slice_get_cases}
-use Rattle.sr_value.specs.declared.value.Value.{Value}
 use Rattle.sr_ask.specs.Behaviors.{Stage, Outcome, Came, Stops, and_then}
 use Rattle.sr_ask.specs.declared.ask.Asks.{Asks}
 use Rattle.sr_ask.specs.declared.environment.Out.{Out}
@@ -12,7 +11,7 @@ use Rattle.sr_interpreter_parts.specs.declared.co.PlacedReply.{PlacedReply}
 use Rattle.sr_meaning.specs.declared.ending.Ending.{Ending}
 use Rattle.sr_meaning.specs.Here.{Here, ask_of}
 use Rattle.sr_meaning.specs.Pieces.{co_part_of}
-use Rattle.sr_interpreter_parts.specs.StatementParts.{take_place}
+use Rattle.sr_interpreter_parts.specs.StatementParts.{IsFirstOut, take_place}
 use Rattle.sr_interpreter.specs.Blocks.{completing, next_completion}
 use Rattle.sr_meaning.specs.Statements.{CoPart, take_one}
 use Rattle.sr_interpreter_expr.specs.Interpreters.{Agrees}
@@ -62,11 +61,11 @@ out_at outs at within =
 
 -- what the reference interpreter gives for a reply that it took
 pub reply_given : (arms : List CoArm) (here : Here) (stage after : Stage) (reply : PlacedReply) (result : Result (Option Ending) Stop) (last : Stage)
-    → take_place here stage ≡ Came reply after → reply.at < length after.out
+    → take_place here stage ≡ Came reply after → IsFirstOut after.out reply.at
     → ((out : Out) → slice_get after.out reply.at ≡ Some out → Agrees (completing out reply.results (option_map co_part_of (slice_get arms out.arm)) here after) result last)
     → Agrees (next_completion (map co_part_of arms) here stage) result last
-reply_given arms here stage after reply result last e within each =
-    let found = out_at after.out reply.at within in
+reply_given arms here stage after reply result last e first each =
+    let found = out_at after.out reply.at first.within in
     let P : Outcome (Option Ending) → Type 0 = λ o. Agrees o result last in
     subst P (sym (next_came arms here stage after reply found.0 e found.1)) (each found.0 found.1)
 

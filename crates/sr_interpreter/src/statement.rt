@@ -1,10 +1,11 @@
-ghost use Rattle.std.specs.Prelude.{◌≡◌, ◌<◌, IfOk, length, map, option_map, slice_get};
+ghost use Rattle.std.specs.Prelude.{◌≡◌, IfOk, map, option_map, slice_get};
 ghost use Rattle.sr_ask.specs.Behaviors.{looped};
 ghost use Rattle.sr_ask.specs.declared.environment.Out.{Out};
 ghost use Rattle.sr_core.specs.declared.statement.Statement.TheOpen.{Statement-F};
 ghost use Rattle.sr_meaning.specs.Pieces.{co_part_of, guarded_of, optional_block};
 ghost use Rattle.sr_interpreter.specs.Blocks.{completing, each_block, inner_meaning, next_completion, value_turn};
 ghost use Rattle.sr_meaning.specs.Statements.{block_of, complete_outs, do_turn, first_true, for_values, meaning_of, quantified, service_meaning, site_at, start_calls, statement_meaning};
+ghost use Rattle.sr_interpreter_parts.specs.StatementParts.{IsFirstOut};
 ghost use Rattle.sr_interpreter_parts.specs.Turns.{AllFit, listed};
 ghost use Rattle.sr_interpreter_expr.specs.Interpreters.{Agrees, here_of, stage_of};
 
@@ -519,7 +520,7 @@ fn complete_reply(
     reply: PlacedReply,
     arms: &[CoArm],
 ) -> Result<Option<Ending>, Stop>
-    requires { reply.at < length interpreter.old.out }
+    requires { IsFirstOut interpreter.old.out reply.at }
     ensures { (out : Out) → slice_get interpreter.old.out reply.at ≡ Some out → Agrees (completing out reply.results (option_map co_part_of (slice_get arms.now out.arm)) (here_of scene.now) (stage_of interpreter.old)) result (stage_of interpreter.new) }
 {
     match arms.get(arm_out(interpreter, reply.at) as usize) {
@@ -537,7 +538,7 @@ fn complete_arm(
     reply: PlacedReply,
     arm: &CoArm,
 ) -> Result<Option<Ending>, Stop>
-    requires { reply.at < length interpreter.old.out }
+    requires { IsFirstOut interpreter.old.out reply.at }
     ensures { (out : Out) → slice_get interpreter.old.out reply.at ≡ Some out → Agrees (completing out reply.results (Some (co_part_of arm.now)) (here_of scene.now) (stage_of interpreter.old)) result (stage_of interpreter.new) }
 {
     let PlacedReply { at, results } = reply;

@@ -3,7 +3,7 @@ ghost use Rattle.std.specs.List.{position};
 ghost use Rattle.std.specs.Option.{option_copied};
 ghost use Rattle.sr_ask.specs.Behaviors.{Came};
 ghost use Rattle.sr_meaning.specs.Statements.{drop_out, optional_place, own_number, set_turn, start_call, store_value, turn_now};
-ghost use Rattle.sr_interpreter_parts.specs.StatementParts.{call_part, take_place, took_place};
+ghost use Rattle.sr_interpreter_parts.specs.StatementParts.{IsFirstOut, call_part, take_place, took_place};
 ghost use Rattle.sr_interpreter_expr.specs.Interpreters.{Agrees, here_of, stage_of};
 ghost use Rattle.sr_ask.specs.Replies.{push_out, set_out};
 
@@ -160,7 +160,7 @@ fn ids_out(alloc: Global, outs: &[Out]) -> Result<Row<u32>, NoMemory>
 /// Takes the earliest reply to one of the invocations that are out.
 pub fn take_reply(scene: &Scene, interpreter: &mut Interpreter) -> Result<PlacedReply, Stop>
     ensures taken { Agrees (take_place (here_of scene.now) (stage_of interpreter.old)) result (stage_of interpreter.new) }
-    ensures within { IfOk result (λ reply. reply.at < length interpreter.new.out) }
+    ensures first { IfOk result (λ reply. IsFirstOut interpreter.new.out reply.at) }
 {
     let ids = ids_out(scene.alloc, interpreter.out.as_slice())?;
     let request = Request::Take {
@@ -177,35 +177,13 @@ pub fn arm_out(interpreter: &Interpreter, at: usize) -> u32
     interpreter.out.as_slice()[at].arm
 }
 
-/// The first invocation of a number that is out.
-fn place_out(interpreter: &Interpreter, id: u32) -> Option<usize>
-    ensures { result ≡ position (λ out. out.id == id) interpreter.now.out }
-{
-    interpreter
-        .out
-        .as_slice()
-        .iter()
-        .position(|out| out.id == id)
-}
-
-/// No invocation of this number is out any more.
-fn drop_out(interpreter: &mut Interpreter, id: u32)
-    ensures { drop_out id (stage_of interpreter.old) ≡ Came tt (stage_of interpreter.new) }
-{
-    'drops: while let Some(at) = place_out(interpreter, id) {
-        let _ = interpreter.out.remove(at);
-    }
-}
-
-/// Returns an invocation that is out, and drops all of its number.
+/// Takes out an invocation, the first of its number.
 pub fn take_out(interpreter: &mut Interpreter, at: usize) -> Out
-    requires { at < length interpreter.old.out }
+    requires { IsFirstOut interpreter.old.out at }
     ensures dropped { drop_out result.id (stage_of interpreter.old) ≡ Came tt (stage_of interpreter.new) }
     ensures out { slice_get interpreter.old.out at ≡ Some result }
 {
-    let out = interpreter.out.remove(at);
-    drop_out(interpreter, out.id);
-    out
+    interpreter.out.remove(at)
 }
 
 /// Gives quantifiers the values of an invocation again.

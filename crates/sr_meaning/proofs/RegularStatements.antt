@@ -1,5 +1,5 @@
 -- The pieces of statements are regular.
-use Rattle.std.proofs.Common.{◌≡◌, ℕ, zero, suc, ℤ, pos, Bool, true, false, not, eqb, List, [], ◌∷◌, ◌++◌, length, filter, Option, Some, None, Ok, refl, ap, map}
+use Rattle.std.proofs.Common.{◌≡◌, ℕ, zero, suc, ℤ, pos, Bool, true, false, List, [], ◌∷◌, ◌++◌, length, Option, Some, None, Ok, refl, ap, map}
 use Rattle.std.specs.List.{slice_get}
 use Rattle.sr_value.specs.declared.capability.Cap.{Cap}
 use Rattle.sr_value.specs.declared.shape.Dims.TheVariants.{One as one_dim, Two as two_dims}
@@ -49,7 +49,7 @@ use Rattle.sr_meaning.specs.declared.ending.Ending.{Ending}
 use Rattle.sr_meaning.specs.declared.ending.Ending.TheVariants.{Through, Left, Turned, Returned as returned}
 use Rattle.sr_meaning.specs.Expressions.{Meaning, choice}
 use Rattle.sr_meaning.specs.Here.{Here, request, settle}
-use Rattle.sr_meaning.specs.Statements.{forward_unless, gives_now, CoPart, action_meaning, after_turn, arguments, before, block_meaning, bump_operator, cap_expr, complete, complete_all, complete_outs, condition_meaning, continue, declaration_meaning, dims_shape, drop_out, first_true, first_value, for_values, forward_meaning, in_meaning, int_own, item_shape, make, make_formals, make_returned, named_value, no_guard, do_meaning, do_turn, co_meaning, if_meaning, left, number_expr, optional_place, or_try, own_number, quantified, reply_meaning, reply_unless, selection_meaning, sends, sends_meaning, served, service_for, service_meaning, set_turn, setup_meaning, site_at, spot_in, start_call, start_calls, status_meaning, store_sent, store_value, string_shape, take_one, through, time_of, truth_expr, turn_end, turn_now, wake_at}
+use Rattle.sr_meaning.specs.Statements.{forward_unless, gives_now, CoPart, action_meaning, after_turn, arguments, before, block_meaning, bump_operator, cap_expr, complete, complete_all, complete_outs, condition_meaning, continue, declaration_meaning, dims_shape, drop_out, first_true, first_value, for_values, forward_meaning, in_meaning, int_own, item_shape, make, make_formals, make_returned, named_value, no_guard, do_meaning, do_turn, co_meaning, if_meaning, left, number_expr, optional_place, or_try, own_number, quantified, reply_meaning, reply_unless, selection_meaning, sends, sends_meaning, served, service_for, service_meaning, set_turn, setup_meaning, site_at, spot_in, start_call, start_calls, status_meaning, store_sent, store_value, string_shape, take_one, through, time_of, truth_expr, turn_end, turn_now, wake_at, without_out}
 use Rattle.sr_core.specs.Values.{truth_of, number_of, cap_of, count_of, values_of, texts_of, written, bounded_by, formal_shape}
 use Rattle.sr_meaning.proofs.Regular.{Regular, RegularMeaning, AllRegular, with_limit, regular_then, regular_give, regular_equal, regular_choice, regular_service, regular_out, regular_by, regular_tick, regular_request, regular_last, regular_settle, regular_looped, regular_in_order}
 use Rattle.sr_meaning.proofs.RegularExpressions.{regular_declare, regular_load, regular_store, regular_give_back, regular_taken}
@@ -397,7 +397,7 @@ regular_take_one here =
     regular_by (λ own service out limit. request (took_one out) (Take (map (λ o. o.id) out)) (with_limit limit here)) (λ own service out. regular_request here (took_one out) (Take (map (λ o. o.id) out)) refl)
 
 regular_drop_out : (id : ℕ) → Regular (λ limit. drop_out id)
-regular_drop_out id = regular_out (λ outs. filter (λ out. not (eqb out.id id)) outs)
+regular_drop_out id = regular_out (λ outs. without_out outs id)
 
 regular_set_turn : (quantifiers : List Quantifier) (turn : List ℤ) → Regular (λ limit. set_turn quantifiers turn)
 regular_set_turn [] turn = regular_give tt

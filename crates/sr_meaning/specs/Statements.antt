@@ -1,5 +1,5 @@
 -- What a statement asks, and how it ends: of each node, from what its parts ask and how they end.
-use Rattle.std.specs.Prelude.{ℕ, zero, suc, ℤ, pos, negsuc, ◌+◌, ◌+ℤ◌, Bool, true, false, not, List, [], ◌∷◌, length, map, filter, Option, Some, None, Result, Ok, Err, ◌==◌, if◌then◌else◌, nat_le, unwrap_or, slice_get}
+use Rattle.std.specs.Prelude.{ℕ, zero, suc, ℤ, pos, negsuc, ◌+◌, ◌+ℤ◌, Bool, true, false, List, [], ◌∷◌, length, map, Option, Some, None, Result, Ok, Err, ◌==◌, if◌then◌else◌, nat_le, unwrap_or, slice_get}
 use Rattle.sr_value.specs.declared.capability.Cap.{Cap}
 use Rattle.sr_value.specs.declared.capability.Cap.TheVariants.{Vm}
 use Rattle.sr_value.specs.declared.fault.Fault.{Fault}
@@ -404,8 +404,13 @@ start_calls arm (part ∷ parts) here = quantified part.quantifiers (start_call 
 abbrev pub take_one : Meaning Completion
 take_one here = take_at (asker here)
 
+-- those that are out, without the first of this number
+abbrev pub without_out : List Out → ℕ → List Out
+without_out [] id = []
+without_out (out ∷ outs) id = if out.id == id then outs else out ∷ without_out outs id
+
 abbrev pub drop_out : ℕ → Doing (Unit {0})
-drop_out id stage = Came tt (record stage { out = filter (λ out. not (out.id == id)) stage.out })
+drop_out id stage = Came tt (record stage { out = without_out stage.out id })
 
 abbrev pub set_turn : List Quantifier → List ℤ → Doing (Unit {0})
 set_turn (q ∷ quantifiers) (n ∷ turn) = declare_own q.var (int_own n) >>= λ _. set_turn quantifiers turn

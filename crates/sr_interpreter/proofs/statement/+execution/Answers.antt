@@ -15,7 +15,7 @@ use Rattle.sr_interpreter.proofs.statement.+execution.Goals as goal
 pub complete_next-returns-in-Ok : goal.complete_next-returns-in-Ok
 complete_next-returns-in-Ok t c =
     reply_given c.args.arms.now (here_of c.args.scene.now) (stage_of c.args.interpreter.now) (stage_of c.take_reply.new.interpreter) c.in-Ok.reply c.complete_reply.result (stage_of c.complete_reply.new.interpreter)
-    c.in-Ok.ensures.taken c.in-Ok.ensures.within c.complete_reply.ensures
+    c.in-Ok.ensures.taken c.in-Ok.ensures.first c.complete_reply.ensures
 
 pub complete_next-returns-in-Err : goal.complete_next-returns-in-Err
 complete_next-returns-in-Err t c =
