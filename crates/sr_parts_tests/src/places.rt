@@ -94,13 +94,13 @@ fn lists(rt: HostRuntime) -> Result<(), Fail> {
     Ok(())
 }
 
-/// A global and a resource that imports it on the machine of main, and then both on a new machine.
+/// A global and a resource that imports it on the machine of main, and then both on another.
 fn on_two_machines(alloc: Global, second: bool) -> Result<Places, NoMemory> {
     let mut places = Places::new(alloc);
+    places.add_vm(4)?;
     add(&mut places, 1, 10, 0)?;
     add(&mut places, 2, 11, 0)?;
     add(&mut places, 3, 12, 0)?;
-    places.add_vm(4)?;
     if second {
         add(&mut places, 5, 11, 4)?;
         add(&mut places, 6, 12, 4)?;
