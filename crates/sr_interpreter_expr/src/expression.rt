@@ -8,7 +8,6 @@ use crate::call::call;
 use crate::globals::create;
 use crate::interpreter::Interpreter;
 use crate::leaf::leaf_value;
-use crate::letting_go::let_go;
 use crate::places::{load, part, spot_of};
 use crate::reading::{kind_of, read_from};
 use crate::scene::Scene;
@@ -31,27 +30,19 @@ pub fn evaluate(scene: &Scene, interpreter: &mut Interpreter, expr: &Expr) -> Re
         }
         Expr::Unary { op, operand } => {
             let x = evaluate(scene, interpreter, operand.get())?;
-            let found = operated_on(scene, interpreter, *op, &x);
-            let_go(x);
-            found
+            operated_on(scene, interpreter, *op, &x)
         }
         Expr::Binary { op, left, right } => {
             let x = evaluate(scene, interpreter, left.get())?;
-            let found = operate(scene, interpreter, right.get(), *op, &x);
-            let_go(x);
-            found
+            operate(scene, interpreter, right.get(), *op, &x)
         }
         Expr::And { left, right } => {
             let x = evaluate(scene, interpreter, left.get())?;
-            let found = after_and(scene, interpreter, right.get(), &x);
-            let_go(x);
-            found
+            after_and(scene, interpreter, right.get(), &x)
         }
         Expr::Or { left, right } => {
             let x = evaluate(scene, interpreter, left.get())?;
-            let found = after_or(scene, interpreter, right.get(), &x);
-            let_go(x);
-            found
+            after_or(scene, interpreter, right.get(), &x)
         }
         Expr::Apply { function, args } => {
             let values = evaluate_all(scene, interpreter, args.as_slice())?;
@@ -63,15 +54,11 @@ pub fn evaluate(scene: &Scene, interpreter: &mut Interpreter, expr: &Expr) -> Re
         }
         Expr::Of { whole, step } => {
             let value = evaluate(scene, interpreter, whole.get())?;
-            let found = select_part(scene, interpreter, step.get(), &value);
-            let_go(value);
-            found
+            select_part(scene, interpreter, step.get(), &value)
         }
         Expr::Member { of, op } => {
             let value = evaluate(scene, interpreter, of.get())?;
-            let found = member_in(scene, interpreter, *op, &value);
-            let_go(value);
-            found
+            member_in(scene, interpreter, *op, &value)
         }
         Expr::Call {
             target,
@@ -79,9 +66,7 @@ pub fn evaluate(scene: &Scene, interpreter: &mut Interpreter, expr: &Expr) -> Re
             returns,
         } => {
             let value = evaluate(scene, interpreter, target.get())?;
-            let found = call_with(scene, interpreter, args.as_slice(), &value, returns);
-            let_go(value);
-            found
+            call_with(scene, interpreter, args.as_slice(), &value, returns)
         }
         Expr::Create {
             resource,
@@ -110,9 +95,7 @@ fn operate(
     ensures { Agrees (after_operand op x.now (expr_meaning right.now) (here_of scene.now) (stage_of interpreter.old)) result (stage_of interpreter.new) }
 {
     let y = evaluate(scene, interpreter, right)?;
-    let found = operated(scene, interpreter, op, x, &y);
-    let_go(y);
-    found
+    operated(scene, interpreter, op, x, &y)
 }
 
 /// `and` doesn't evaluate the right side after false.
@@ -204,9 +187,8 @@ fn create_on(
     ensures { Agrees (after_values resource values (expr_meaning machine.now) (here_of scene.now) (stage_of interpreter.old)) result (stage_of interpreter.new) }
 {
     let value = evaluate(scene, interpreter, machine)?;
-    let vm = capability(scene, interpreter, &value);
-    let_go(value);
-    create(scene, interpreter, resource, values, vm?)
+    let vm = capability(scene, interpreter, &value)?;
+    create(scene, interpreter, resource, values, vm)
 }
 
 /// What expressions ask, and what they give, from left to right.
@@ -265,19 +247,15 @@ fn evaluate_step(scene: &Scene, interpreter: &mut Interpreter, step: &Step) -> R
     match step {
         Step::At(index) => {
             let x = evaluate(scene, interpreter, index)?;
-            let i = number(scene, interpreter, &x);
-            let_go(x);
-            Ok(Sel::At(i?))
+            let i = number(scene, interpreter, &x)?;
+            Ok(Sel::At(i))
         }
         Step::At2(row, column) => {
             let x = evaluate(scene, interpreter, row)?;
-            let i = number(scene, interpreter, &x);
-            let_go(x);
-            let i = i?;
+            let i = number(scene, interpreter, &x)?;
             let y = evaluate(scene, interpreter, column)?;
-            let j = number(scene, interpreter, &y);
-            let_go(y);
-            Ok(Sel::At2(i, j?))
+            let j = number(scene, interpreter, &y)?;
+            Ok(Sel::At2(i, j))
         }
         Step::Field(field) => Ok(Sel::Field(*field)),
     }
@@ -313,17 +291,10 @@ fn evaluate_part(scene: &Scene, interpreter: &mut Interpreter, part: &Part) -> R
             value,
         } => {
             let n = evaluate(scene, interpreter, times)?;
-            let number = number(scene, interpreter, &n);
-            let_go(n);
-            let number = number?;
+            let n = number(scene, interpreter, &n)?;
             let value = evaluate(scene, interpreter, value)?;
-            match count(scene, interpreter, number) {
-                Ok(count) => Ok(Piece { count, value }),
-                Err(stop) => {
-                    let_go(value);
-                    Err(stop)
-                }
-            }
+            let count = count(scene, interpreter, n)?;
+            Ok(Piece { count, value })
         }
     }
 }

@@ -9,7 +9,6 @@ mod globals;
 mod interpreter;
 mod invoke;
 mod leaf;
-mod letting_go;
 mod listening;
 mod places;
 mod reading;

@@ -6,7 +6,6 @@ ghost use Rattle.sr_meaning.specs.Here.{request as ask_by};
 ghost use Rattle.sr_interpreter_expr.specs.Interpreters.{Agrees, HearsAnswer, UsesNextAnswer, here_of, stage_of};
 
 use crate::interpreter::Interpreter;
-use crate::letting_go::let_go;
 use crate::scene::Scene;
 use crate::stop::Stop;
 use sr_ask::{Answer, Ask, Asks, InputItem, Request, Taken};
@@ -30,10 +29,7 @@ impl Takes<()> for IsDone {
     fn take(&self, answer: Answer) -> Option<()> {
         match answer {
             Answer::Done => Some(()),
-            other => {
-                let_go(other);
-                None
-            }
+            _ => None,
         }
     }
 }
@@ -47,10 +43,7 @@ impl Takes<Value> for IsGot {
     fn take(&self, answer: Answer) -> Option<Value> {
         match answer {
             Answer::Got(value) => Some(value),
-            other => {
-                let_go(other);
-                None
-            }
+            _ => None,
         }
     }
 }
@@ -64,10 +57,7 @@ impl Takes<u32> for IsMade {
     fn take(&self, answer: Answer) -> Option<u32> {
         match answer {
             Answer::Made(name) => Some(name),
-            other => {
-                let_go(other);
-                None
-            }
+            _ => None,
         }
     }
 }
@@ -81,10 +71,7 @@ impl Takes<()> for IsReady {
     fn take(&self, answer: Answer) -> Option<()> {
         match answer {
             Answer::Ready => Some(()),
-            other => {
-                let_go(other);
-                None
-            }
+            _ => None,
         }
     }
 }
@@ -98,10 +85,7 @@ impl Takes<i32> for IsNumber {
     fn take(&self, answer: Answer) -> Option<i32> {
         match answer {
             Answer::Number(number) => Some(number),
-            other => {
-                let_go(other);
-                None
-            }
+            _ => None,
         }
     }
 }
@@ -115,10 +99,7 @@ impl Takes<i32> for IsMoment {
     fn take(&self, answer: Answer) -> Option<i32> {
         match answer {
             Answer::Number(number) => moment_of(number),
-            other => {
-                let_go(other);
-                None
-            }
+            _ => None,
         }
     }
 }
@@ -140,10 +121,7 @@ impl Takes<InputItem> for IsItem {
             Answer::Got(value) => Some(InputItem::Value(value)),
             Answer::Bad => Some(InputItem::NotOfKind),
             Answer::End => Some(InputItem::NoMore),
-            other => {
-                let_go(other);
-                None
-            }
+            _ => None,
         }
     }
 }
@@ -168,10 +146,7 @@ impl Takes<Taken> for IsReply {
                     None
                 }
             }
-            other => {
-                let_go(other);
-                None
-            }
+            _ => None,
         }
     }
 }
@@ -207,10 +182,7 @@ fn asked<T, F: Takes<T>>(
     ensures { Agrees (asking (F.takes form.now) asks limit (stage_of interpreter.old)) result (stage_of interpreter.new) }
 {
     match heard(interpreter, form, limit) {
-        Some(got) => {
-            let_go(asks);
-            Ok(got)
-        }
+        Some(got) => Ok(got),
         None => Err(Stop::Asks(asks)),
     }
 }

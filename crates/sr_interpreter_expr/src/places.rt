@@ -7,7 +7,6 @@ ghost use Rattle.sr_interpreter_expr.specs.Interpreters.{Agrees, here_of, stage_
 ghost use Rattle.sr_ask.specs.Places.{own_at, own_after, declare_own};
 
 use crate::interpreter::Interpreter;
-use crate::letting_go::let_go;
 use crate::listening::{IsDone, IsGot, ask};
 use crate::scene::Scene;
 use crate::settle::failed;
@@ -105,13 +104,10 @@ fn own_after(
             path.as_slice(),
             value,
         ) {
-            Ok(value) => match own.shape.copy(scene.alloc) {
-                Ok(shape) => Ok(Own { shape, value }),
-                Err(_) => {
-                    let_go(value);
-                    Err(Stop::NoMemory)
-                }
-            },
+            Ok(held) => Ok(Own {
+                shape: own.shape.copy(scene.alloc)?,
+                value: held,
+            }),
             Err(ValueFail::Fault(fault)) => failed(scene, interpreter, fault),
             Err(ValueFail::NoMemory) => Err(Stop::NoMemory),
         },
@@ -146,21 +142,13 @@ pub fn store(
     match place.spot {
         Spot::Own(var) => store_own(scene, interpreter, var, &place.path, &value),
         Spot::Shared { block, var } => {
-            match place.path.copy(scene.alloc) {
-                Ok(path) => {
-                    let request = Request::Store {
-                        block,
-                        var,
-                        path,
-                        value,
-                    };
-                    ask(scene, interpreter, &IsDone, request)
-                }
-                Err(_) => {
-                    let_go(value);
-                    Err(Stop::NoMemory)
-                }
-            }
+            let request = Request::Store {
+                block,
+                var,
+                path: place.path.copy(scene.alloc)?,
+                value,
+            };
+            ask(scene, interpreter, &IsDone, request)
         }
     }
 }
