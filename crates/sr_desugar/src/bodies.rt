@@ -5,7 +5,7 @@ ghost use Rattle.std.specs.Prelude.{◌≡◌, [], ◌∷◌, ◌++◌, IfOk, On
 ghost use Rattle.sr_desugar.specs.Bodies as bodies;
 
 use crate::declarations::{push_const, push_vars};
-use crate::places::{own_formals, own_returned};
+use crate::places::{operation_number, own_formals, own_returned};
 use crate::quantifiers::{process_sends, push_semaphores};
 use crate::scene::Scene;
 use crate::statements::statement;
@@ -96,7 +96,7 @@ fn served(
     ensures value { IfOk result (λ proc. proc ≡ (bodies.served scene.now service.now.span service.now.operation service.now.formals (option_to_list service.now.returned) block.now).made) }
     ensures sites { OnOk result (sites.new ≡ sites.old ++ (bodies.served scene.now service.now.span service.now.operation service.now.formals (option_to_list service.now.returned) block.now).sites) }
 {
-    let op = scene.tables.operations.number(service.operation)?;
+    let op = operation_number(scene, service.operation)?;
     let formals = own_formals(alloc, scene, service.formals.as_slice(), service.operation)?;
     let body = body(alloc, block, scene, sites)?;
     let returned = own_returned(alloc, scene, service.returned, service.operation)?;
@@ -137,11 +137,10 @@ fn push_proc(
     ensures gathered { OnOk result (gathered.new ≡ bodies.with_proc gathered.old (bodies.proc_made scene.old proc.now)) }
     ensures scene { OnOk result (scene.new ≡ scene.old) }
 {
-    let formals = name_spots(alloc, proc.formals.as_slice())?;
     let service = Service {
         span: proc.span,
         operation: meant_by(&scene.facts, &proc.name),
-        formals,
+        formals: name_spots(alloc, proc.formals.as_slice())?,
         returned: returned_spot(&proc.returned),
     };
     push_service(alloc, &service, proc.block.as_slice(), scene, gathered)
@@ -157,11 +156,10 @@ fn push_procedure(
     ensures gathered { OnOk result (gathered.new ≡ bodies.with_proc gathered.old (bodies.procedure_made scene.old procedure.now)) }
     ensures scene { OnOk result (scene.new ≡ scene.old) }
 {
-    let formals = formal_spots(alloc, procedure.signature.formals.as_slice())?;
     let service = Service {
         span: procedure.span,
         operation: spot_named(&procedure.name),
-        formals,
+        formals: formal_spots(alloc, procedure.signature.formals.as_slice())?,
         returned: signature_returned(&procedure.signature),
     };
     push_service(alloc, &service, procedure.block.as_slice(), scene, gathered)
@@ -177,11 +175,10 @@ fn push_process(
     ensures gathered { OnOk result (gathered.new ≡ bodies.with_proc gathered.old (bodies.process_made scene.old process.now)) }
     ensures scene { OnOk result (scene.new ≡ scene.old) }
 {
-    let formals = quantifier_spots(alloc, process.quantifiers.as_slice())?;
     let service = Service {
         span: process.span,
         operation: spot_named(&process.name),
-        formals,
+        formals: quantifier_spots(alloc, process.quantifiers.as_slice())?,
         returned: None,
     };
     push_service(alloc, &service, process.block.as_slice(), scene, gathered)

@@ -9,7 +9,7 @@ ghost use Rattle.sr_tables.specs.Parts.{line_of};
 ghost use Rattle.sr_core.specs.declared.statement.Statement.TheVariants as statements;
 
 use crate::exprs::core_value;
-use crate::places::nothing;
+use crate::places::{nothing, own_number};
 use crate::scene::Scene;
 use sr_core::{Declaration, DimsExpr, ItemShape, Leaf, Range, Scope, Setup, ShapeExpr, Statement};
 use sr_names::Spot;
@@ -154,7 +154,7 @@ pub fn var_number(scene: &Scene, scope: Scope, spot: Spot) -> Result<u32, NoMemo
     ensures { IfOk result (λ var. var ≡ declarations.var_number scene.now scope spot) }
 {
     match scope {
-        Scope::Own => scene.own.number(spot),
+        Scope::Own => own_number(scene, spot),
         Scope::Shared => match scene.tables.shared.get(spot) {
             None => Ok(0),
             Some(variable) => Ok(variable.var),

@@ -12,7 +12,9 @@ ghost use Rattle.sr_types.specs.declared.ty.Ty.{out-Ty};
 
 use crate::functions::function;
 use crate::invoked::{arguments_of, returned_by_call};
-use crate::places::{nothing, operation_expr, part_of, place_at, place_of, root_of, value_of};
+use crate::places::{
+    nothing, operation_expr, operation_number, part_of, place_at, place_of, root_of, value_of,
+};
 use crate::scene::{Lowered, Scene};
 use sr_check_expr::{Facts, FieldInfo, Info, Named, name_spot};
 use sr_core::{Argument, Function, Leaf, PlaceExpr, Step};
@@ -30,7 +32,7 @@ pub struct Sent {
     pub target: Boxed<sr_core::Expr>,
     pub args: Row<Argument>,
     /// The type of the value, where the operation returns.
-    pub returns: Boxed<Option<Shape>>,
+    pub returns: Option<Shape>,
 }
 
 /// What is known of a value before the run.
@@ -80,10 +82,10 @@ fn field_place(fields: &[FieldInfo], name: &[u8]) -> Option<usize>
 }
 
 /// The number of the field of this name; 0 where there is none.
-fn field_number(facts: &Facts, spot: sr_types::Spot, name: &[u8]) -> Result<u32, NoMemory>
-    ensures { IfOk result (λ number. number ≡ exprs.field_number facts.now spot name.now) }
+fn field_number(scene: &Scene, spot: sr_types::Spot, name: &[u8]) -> Result<u32, NoMemory>
+    ensures { IfOk result (λ number. number ≡ exprs.field_number scene.now.facts spot name.now) }
 {
-    match facts.infos.get(name_spot(spot)) {
+    match scene.facts.infos.get(name_spot(spot)) {
         Some(Info::Record(fields)) => {
             number_of(field_place(fields.as_slice(), name).unwrap_or(0))
         }
@@ -114,7 +116,7 @@ fn member_expr(
         None => Ok(nothing()),
         Some(_) => Ok(sr_core::Expr::Member {
             of: Boxed::new(alloc, value_of(owner.into_inner()))?,
-            op: scene.tables.operations.number(operation)?,
+            op: operation_number(scene, operation)?,
         }),
     }
 }
@@ -126,7 +128,7 @@ fn pending(scene: &Scene, operation: Spot) -> Result<sr_core::Expr, NoMemory>
     match scene.tables.operations.get(operation) {
         None => Ok(nothing()),
         Some(_) => Ok(sr_core::Expr::Leaf(Leaf::Count {
-            op: scene.tables.operations.number(operation)?,
+            op: operation_number(scene, operation)?,
         })),
     }
 }
@@ -162,7 +164,7 @@ fn member(
 {
     match ty {
         Ty::Rec(spot) => {
-            let field = field_number(&scene.facts, *spot, name)?;
+            let field = field_number(scene, *spot, name)?;
             let step = Boxed::new(alloc, Step::Field(field))?;
             part_of(alloc, owner.into_inner(), step)
         }
@@ -175,10 +177,10 @@ fn member(
 }
 
 /// The value of a literal.
-fn literal(alloc: Global, tree: &Expr, facts: &Facts) -> Result<sr_core::Expr, NoMemory>
-    ensures { IfOk result (λ expr. expr ≡ exprs.static_expr (typed_expr facts.now tree.now).typed.value) }
+fn literal(alloc: Global, tree: &Expr, scene: &Scene) -> Result<sr_core::Expr, NoMemory>
+    ensures { IfOk result (λ expr. expr ≡ exprs.static_expr (typed_expr scene.now.facts tree.now).typed.value) }
 {
-    let typed_expr = infer(alloc, tree, facts)?;
+    let typed_expr = infer(alloc, tree, &scene.facts)?;
     Ok(static_expr(typed_expr.typed.value))
 }
 
@@ -189,7 +191,7 @@ pub fn lowered(alloc: Global, tree: &Expr, scene: &Scene) -> Result<Lowered, NoM
     ensures { IfOk result (λ lowered. lowered ≡ exprs.core_expr scene.now tree.now) }
 {
     match tree {
-        Expr::Literal { .. } => Ok(Lowered::Value(literal(alloc, tree, &scene.facts)?)),
+        Expr::Literal { .. } => Ok(Lowered::Value(literal(alloc, tree, scene)?)),
         Expr::Name(name) => named(alloc, scene, name.span),
         Expr::BasicType { .. } => Ok(Lowered::Value(nothing())),
         Expr::Conversion {
@@ -406,7 +408,6 @@ pub fn core_sent(alloc: Global, tree: &Invocation, scene: &Scene) -> Result<Sent
     let lowered = all_lowered(alloc, tree.arguments.as_slice(), scene)?;
     let args = arguments_of(alloc, &scene.facts, &typed_expr.get().typed.ty, lowered)?;
     let returns = returned_by_call(alloc, scene, &typed_expr.get().typed.ty, target.get())?;
-    let returns = Boxed::new(alloc, returns)?;
     Ok(Sent {
         target,
         args,
@@ -427,7 +428,7 @@ fn core_called(alloc: Global, tree: &Invocation, scene: &Scene) -> Result<sr_cor
     Ok(sr_core::Expr::Call {
         target,
         args,
-        returns: returns.into_inner(),
+        returns,
     })
 }
 

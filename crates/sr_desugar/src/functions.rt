@@ -4,7 +4,6 @@ ghost use Rattle.std.specs.Prelude.{◌≡◌, IfOk, map, zip};
 ghost use Rattle.sr_core.specs.declared.expression.Expr.TheVariants as nodes;
 ghost use Rattle.sr_desugar.specs.Expressions as exprs;
 ghost use Rattle.sr_outline.specs.Meanings.{type_of};
-ghost use Rattle.sr_outline.specs.Shapes.{shape_of_type};
 
 use crate::places::{nothing, place_of, value_of};
 use crate::scene::{Lowered, Scene};
@@ -12,10 +11,9 @@ use sr_check_expr::{Facts, Named};
 use sr_core::{Function, Leaf, Readable, Reading};
 use sr_names::Predefined;
 use sr_outline::{infer, literals_of, shape_of_type, type_of};
-use sr_tables::SpotMap;
 use sr_tree::Expr;
 use sr_types::Ty;
-use sr_value::{Boxed, Fault, NoMemory, Row, Shape, Value, highest, lowest};
+use sr_value::{Fault, NoMemory, Row, Shape, Value, highest, lowest};
 use std::alloc::Global;
 
 fn values(alloc: Global, lowered: Row<Lowered>) -> Result<Row<sr_core::Expr>, NoMemory>
@@ -54,16 +52,11 @@ fn end_value(shape: &Shape, is_high: bool) -> Result<Value, Fault>
 }
 
 /// The least or the greatest value of a type.
-fn end_of(
-    alloc: Global,
-    table: &SpotMap<Shape>,
-    ty: &Ty,
-    is_high: bool,
-) -> Result<sr_core::Expr, NoMemory>
-    ensures { IfOk result (λ expr. expr ≡ exprs.end_or_nothing (exprs.end_value is_high (shape_of_type table.now ty.now))) }
+fn end_of(alloc: Global, scene: &Scene, ty: &Ty, is_high: bool) -> Result<sr_core::Expr, NoMemory>
+    ensures { IfOk result (λ expr. expr ≡ exprs.end_core scene.now is_high ty.now) }
 {
-    let shape = Boxed::new(alloc, shape_of_type(alloc, ty, table)?)?;
-    match end_value(shape.get(), is_high) {
+    let shape = shape_of_type(alloc, ty, &scene.tables.shapes)?;
+    match end_value(&shape, is_high) {
         Ok(value) => Ok(sr_core::Expr::Leaf(Leaf::Constant(value))),
         Err(_) => Ok(nothing()),
     }
@@ -79,9 +72,9 @@ fn ends(
     ensures { IfOk result (λ expr. expr ≡ exprs.ends_core scene.now is_high (exprs.named_types scene.now.facts trees.now)) }
 {
     for tree in trees {
-        let typed_expr = Boxed::new(alloc, infer(alloc, tree, &scene.facts)?)?;
-        if let Named::Type(ty) = &typed_expr.get().named {
-            return end_of(alloc, &scene.tables.shapes, ty, is_high);
+        let typed_expr = infer(alloc, tree, &scene.facts)?;
+        if let Named::Type(ty) = &typed_expr.named {
+            return end_of(alloc, scene, ty, is_high);
         }
     }
     Ok(nothing())
@@ -102,8 +95,8 @@ fn is_second(alloc: Global, trees: &[Expr], facts: &Facts) -> Result<bool, NoMem
 {
     match trees {
         [_, number] => {
-            let typed_expr = Boxed::new(alloc, infer(alloc, number, facts)?)?;
-            Ok(is_two(&typed_expr.get().named))
+            let typed_expr = infer(alloc, number, facts)?;
+            Ok(is_two(&typed_expr.named))
         }
         [] | [_] | [_, _, _, ..] => Ok(false),
     }
@@ -126,15 +119,15 @@ fn without_number(trees: &[Expr], lowered: Row<Lowered>) -> Row<Lowered>
 /// `lb(a)`, `lb(a, 1)` or `lb(a, 2)`.
 fn bound(
     alloc: Global,
-    facts: &Facts,
+    scene: &Scene,
     functions: (Function, Function),
     trees: &[Expr],
     lowered: Row<Lowered>,
 ) -> Result<sr_core::Expr, NoMemory>
-    ensures { IfOk result (λ expr. expr ≡ exprs.bound_core facts.now functions.0 functions.1 trees.now lowered) }
+    ensures { IfOk result (λ expr. expr ≡ exprs.bound_core scene.now.facts functions.0 functions.1 trees.now lowered) }
 {
     let (first, second) = functions;
-    let function = if is_second(alloc, trees, facts)? {
+    let function = if is_second(alloc, trees, &scene.facts)? {
         second
     } else {
         first
@@ -148,10 +141,7 @@ fn literals_in(alloc: Global, trees: &[Expr], facts: &Facts) -> Result<u32, NoMe
 {
     match trees {
         [] => Ok(0),
-        [tree, ..] => {
-            let ty = Boxed::new(alloc, type_of(alloc, tree, facts)?)?;
-            Ok(literals_of(facts, ty.get()))
-        }
+        [tree, ..] => Ok(literals_of(facts, &type_of(alloc, tree, facts)?)),
     }
 }
 
@@ -166,20 +156,13 @@ fn readable(ty: &Ty) -> Readable
     }
 }
 
-/// What an item is read as, by the type of its place.
-fn readable_at(alloc: Global, tree: &Expr, facts: &Facts) -> Result<Readable, NoMemory>
-    ensures { IfOk result (λ kind. kind ≡ exprs.readable_of (type_of facts.now tree.now)) }
-{
-    Ok(readable(&type_of(alloc, tree, facts)?))
-}
-
 /// What items are read as, by the types of their places.
 fn readables(alloc: Global, trees: &[Expr], facts: &Facts) -> Result<Row<Readable>, NoMemory>
     ensures { IfOk result (λ kinds. kinds ≡ map (λ tree. exprs.readable_of (type_of facts.now tree)) trees.now) }
 {
     let mut kinds = Row::new(alloc);
     for tree in trees {
-        kinds.push(readable_at(alloc, tree, facts)?)?;
+        kinds.push(readable(&type_of(alloc, tree, facts)?))?;
     }
     Ok(kinds)
 }
@@ -243,7 +226,7 @@ pub fn function(
         Predefined::Lb => {
             bound(
                 alloc,
-                &scene.facts,
+                scene,
                 (Function::LowBound, Function::LowBound2),
                 trees,
                 lowered,
@@ -252,7 +235,7 @@ pub fn function(
         Predefined::Ub => {
             bound(
                 alloc,
-                &scene.facts,
+                scene,
                 (Function::HighBound, Function::HighBound2),
                 trees,
                 lowered,

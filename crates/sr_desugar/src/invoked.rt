@@ -1,16 +1,14 @@
 //! The arguments and the value of invocations.
-ghost use Rattle.std.specs.Prelude.{◌≡◌, IfOk, option_and_then, slice_get};
+ghost use Rattle.std.specs.Prelude.{◌≡◌, IfOk};
 ghost use Rattle.sr_desugar.specs.Expressions as exprs;
 ghost use Rattle.sr_outline.specs.Meanings as meanings;
 ghost use Rattle.sr_core.specs.declared.expression.Expr.{out-Expr};
-ghost use Rattle.sr_tables.specs.Tables.{things_in};
 
 use crate::places::{place_of, value_of};
 use crate::scene::{Lowered, Scene};
 use sr_check_expr::Facts;
-use sr_core::{Argument, Expr, Leaf, Operation};
+use sr_core::{Argument, Expr, Leaf};
 use sr_outline::{copy_shape, shape_of_type};
-use sr_tables::SpotMap;
 use sr_types::{Mode, Param, Ty};
 use sr_value::{NoMemory, Row, Shape};
 use std::alloc::Global;
@@ -54,14 +52,10 @@ pub fn arguments_of(
 }
 
 /// What an operation of a number returns.
-fn returns_numbered(
-    alloc: Global,
-    operations: &SpotMap<Operation>,
-    op: u32,
-) -> Result<Option<Shape>, NoMemory>
-    ensures { IfOk result (λ shape. shape ≡ option_and_then (λ operation. operation.returns) (slice_get (things_in operations.now) op)) }
+fn returns_numbered(alloc: Global, scene: &Scene, op: u32) -> Result<Option<Shape>, NoMemory>
+    ensures { IfOk result (λ shape. shape ≡ exprs.returns_numbered scene.now op) }
 {
-    match operations.at(op) {
+    match scene.tables.operations.at(op) {
         None => Ok(None),
         Some(operation) => copy_shape(alloc, &operation.returns),
     }
@@ -91,7 +85,7 @@ pub fn returned_by_call(
 {
     match target {
         Expr::Leaf(Leaf::Operation { op, .. }) | Expr::Member { op, .. } => {
-            returns_numbered(alloc, &scene.tables.operations, *op)
+            returns_numbered(alloc, scene, *op)
         }
         _ => returns_typed(alloc, scene, ty),
     }

@@ -1,8 +1,8 @@
 //! Whose variables and operations names mean, and the places that are made of them.
-ghost use Rattle.std.specs.Prelude.{◌≡◌, ◌==◌, IfOk, map, option_to_list, position};
+ghost use Rattle.std.specs.Prelude.{◌≡◌, ◌==◌, IfOk, option_to_list, position};
 ghost use Rattle.sr_core.specs.declared.statement.Scope.TheVariants.{Shared};
 ghost use Rattle.sr_desugar.specs.Places as places;
-ghost use Rattle.sr_tables.specs.Tables.{found_at, number_in};
+ghost use Rattle.sr_tables.specs.Tables.{found_at};
 
 use crate::scene::{Lowered, Scene};
 use sr_core::{
@@ -11,9 +11,23 @@ use sr_core::{
 };
 use sr_names::Spot;
 use sr_outline::copy_shape;
-use sr_tables::{SpotMap, Spots, number_of};
+use sr_tables::{SpotMap, number_of};
 use sr_value::{Boxed, Duplicate, NoMemory, Row, Shape, Value};
 use std::alloc::Global;
+
+/// The number of an own variable.
+pub fn own_number(scene: &Scene, spot: Spot) -> Result<u32, NoMemory>
+    ensures { IfOk result (λ number. number ≡ places.own_number scene.now spot) }
+{
+    scene.own.number(spot)
+}
+
+/// The number of an operation.
+pub fn operation_number(scene: &Scene, spot: Spot) -> Result<u32, NoMemory>
+    ensures { IfOk result (λ number. number ≡ places.operation_number scene.now spot) }
+{
+    scene.tables.operations.number(spot)
+}
 
 /// The place of a global among others.
 fn import_place(imports: &[u32], global: u32) -> Option<usize>
@@ -23,10 +37,10 @@ fn import_place(imports: &[u32], global: u32) -> Option<usize>
 }
 
 /// The place of a global in the list of those that the component imports.
-fn import_number(imports: &[u32], global: u32) -> Result<Option<u32>, NoMemory>
-    ensures { IfOk result (λ number. number ≡ position (λ import. import == global) imports.now) }
+fn import_number(scene: &Scene, global: u32) -> Result<Option<u32>, NoMemory>
+    ensures { IfOk result (λ number. number ≡ places.import_place scene.now global) }
 {
-    match import_place(imports, global) {
+    match import_place(scene.imports.as_slice(), global) {
         None => Ok(None),
         Some(place) => Ok(Some(number_of(place)?)),
     }
@@ -38,7 +52,7 @@ fn home_of(scene: &Scene, component: u32) -> Result<Home, NoMemory>
     if component == scene.component {
         return Ok(Home::Mine);
     }
-    match import_number(scene.imports.as_slice(), component)? {
+    match import_number(scene, component)? {
         None => Ok(Home::Mine),
         Some(import) => Ok(Home::Imported(import)),
     }
@@ -112,7 +126,7 @@ fn shared_whose(scene: &Scene, component: u32) -> Result<OperationOwner, NoMemor
     if component == scene.component {
         return Ok(OperationOwner::Mine);
     }
-    match import_number(scene.imports.as_slice(), component)? {
+    match import_number(scene, component)? {
         None => Ok(OperationOwner::Mine),
         Some(import) => Ok(OperationOwner::Imported(import)),
     }
@@ -135,7 +149,7 @@ pub fn operation_expr(scene: &Scene, spot: Spot) -> Result<Expr, NoMemory>
         None => Ok(nothing()),
         Some(operation) => Ok(Expr::Leaf(Leaf::Operation {
             whose: whose_of(scene, operation)?,
-            op: scene.tables.operations.number(spot)?,
+            op: operation_number(scene, spot)?,
         })),
     }
 }
@@ -163,10 +177,7 @@ pub fn place_of(alloc: Global, lowered: Lowered) -> PlaceExpr
 {
     match lowered {
         Lowered::Place(place) => place,
-        Lowered::Value(value) => {
-            drop(value);
-            place_at(alloc, nowhere())
-        }
+        Lowered::Value(_) => place_at(alloc, nowhere()),
     }
 }
 
@@ -199,12 +210,12 @@ fn parameters_at(scene: &Scene, operation: Spot) -> &[Parameter]
 }
 
 /// The numbers of own variables.
-fn own_numbers(alloc: Global, own: &Spots, spots: &[Spot]) -> Result<Row<u32>, NoMemory>
-    ensures { IfOk result (λ numbers. numbers ≡ map (number_in own.now) spots.now) }
+fn own_numbers(alloc: Global, scene: &Scene, spots: &[Spot]) -> Result<Row<u32>, NoMemory>
+    ensures { IfOk result (λ numbers. numbers ≡ places.own_numbers scene.now spots.now) }
 {
     let mut numbers = Row::new(alloc);
     for spot in spots {
-        numbers.push(own.number(*spot)?)?;
+        numbers.push(own_number(scene, *spot)?)?;
     }
     Ok(numbers)
 }
@@ -265,7 +276,7 @@ pub fn own_formals(
 ) -> Result<Row<Formal>, NoMemory>
     ensures { IfOk result (λ formals. formals ≡ places.own_formals scene.now spots.now operation) }
 {
-    let vars = own_numbers(alloc, &scene.own, spots)?;
+    let vars = own_numbers(alloc, scene, spots)?;
     formals_of(alloc, vars.as_slice(), parameters_at(scene, operation))
 }
 
@@ -280,12 +291,12 @@ fn returns_at(alloc: Global, scene: &Scene, operation: Spot) -> Result<Option<Sh
 }
 
 /// The number of the variable that a name means; where there is none, as in a program that is refused, 0.
-fn optional_number(own: &Spots, spot: Option<Spot>) -> Result<u32, NoMemory>
-    ensures { IfOk result (λ var. var ≡ places.first_var (map (number_in own.now) (option_to_list spot))) }
+fn optional_number(scene: &Scene, spot: Option<Spot>) -> Result<u32, NoMemory>
+    ensures { IfOk result (λ var. var ≡ places.first_var (places.own_numbers scene.now (option_to_list spot))) }
 {
     match spot {
         None => Ok(0),
-        Some(spot) => own.number(spot),
+        Some(spot) => own_number(scene, spot),
     }
 }
 
@@ -298,7 +309,7 @@ pub fn own_returned(
 ) -> Result<Option<Returned>, NoMemory>
     ensures { IfOk result (λ returned. returned ≡ places.own_returned scene.now (option_to_list spot) operation) }
 {
-    let var = optional_number(&scene.own, spot)?;
+    let var = optional_number(scene, spot)?;
     match returns_at(alloc, scene, operation)? {
         None => Ok(None),
         Some(shape) => Ok(Some(Returned { var, shape })),

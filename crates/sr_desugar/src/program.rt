@@ -1,17 +1,14 @@
 //! The core of a program.
 #![tactic(auto, using(crate::proofs::Appends::first_kept, crate::proofs::Appends::first_more, sr_outline::proofs::Appends::enumerate_append))]
 
-ghost use Rattle.std.specs.Prelude.{◌≡◌, [], ◌∷◌, ◌+◌, ◌++◌, IfOk, OnOk, None, length, map};
+ghost use Rattle.std.specs.Prelude.{◌≡◌, [], ◌∷◌, ◌+◌, ◌++◌, IfOk, OnOk, length, map};
 ghost use Rattle.sr_desugar.specs.Core as whole;
 ghost use Rattle.sr_desugar.specs.Bodies as bodies;
 ghost use Rattle.sr_desugar.specs.Declarations.{var_number};
-ghost use Rattle.sr_desugar.specs.Places.{formals_of as formals_in};
 ghost use Rattle.sr_core.specs.declared.statement.Scope.TheVariants.{Shared};
-ghost use Rattle.sr_outline.specs.Heads.{parameters_of};
 ghost use Rattle.sr_outline.specs.Outline as outline;
 ghost use Rattle.sr_outline.specs.Numbers as numbers;
 ghost use Rattle.sr_tables.specs.Parts.{components_in};
-ghost use Rattle.sr_tables.specs.Tables.{things_in};
 ghost use Rattle.sr_tree.specs.Parts.{body_of};
 
 use crate::bodies::{Codes, Gathered, push_item, push_spec_item};
@@ -19,15 +16,15 @@ use crate::declarations::var_number;
 use crate::places::formals_of;
 use crate::scene::Scene;
 use sr_check_expr::{Facts, Here};
-use sr_core::{Body, Component, Core, Formal, Operation, Parameter, Scope, Statement};
+use sr_core::{Body, Component, Core, Formal, Parameter, Scope, Statement};
 use sr_names::Spot;
 use sr_outline::{
     all_imports, enumerations_of, formal_spots, imports_at, initial_spots, needs_of, parameters_of,
     tables_of,
 };
-use sr_tables::{SpotMap, Spots, component_decl, kind_of, line_of, number_of};
+use sr_tables::{Spots, component_decl, kind_of, line_of, number_of};
 use sr_tree::{File, Item, SpecItem};
-use sr_value::{Boxed, Duplicate, NoMemory, Row};
+use sr_value::{Duplicate, NoMemory, Row};
 use std::alloc::Global;
 use std::mem;
 
@@ -46,10 +43,11 @@ fn shared_numbers(alloc: Global, scene: &Scene, spots: &[Spot]) -> Result<Row<u3
 fn component_formals(
     alloc: Global,
     scene: &Scene,
-    formals: &[sr_tree::Formal],
+    component: &sr_tree::Component,
 ) -> Result<Row<Formal>, NoMemory>
-    ensures { IfOk result (λ made. made ≡ formals_in (map (var_number scene.now Shared) (numbers.formal_names formals.now)) (parameters_of scene.now.facts scene.now.tables.shapes formals.now)) }
+    ensures { IfOk result (λ formals. formals ≡ whole.component_formals scene.now component.now) }
 {
+    let formals = component.formals();
     let parameters = parameters_of(alloc, formals, &scene.facts, &scene.tables.shapes)?;
     let spots = formal_spots(alloc, formals)?;
     let vars = shared_numbers(alloc, scene, spots.as_slice())?;
@@ -91,18 +89,17 @@ fn codes_of(
     component: &sr_tree::Component,
     scene: &mut Scene,
     gathered: &mut Gathered,
-) -> Result<Boxed<Codes>, NoMemory>
+) -> Result<Codes, NoMemory>
     ensures codes { IfOk result (λ codes. codes ≡ whole.component_codes scene.old component.now) }
     ensures gathered { OnOk result (gathered.new ≡ bodies.with_outputs gathered.old (bodies.item_outputs scene.old (body_of component.now))) }
     ensures scene { OnOk result (scene.new ≡ scene.old) }
 {
-    let initial = spec_code(alloc, component.spec(), scene)?;
     let mut codes = Codes {
-        initial,
+        initial: spec_code(alloc, component.spec(), scene)?,
         last: None,
     };
     push_items(alloc, component.body(), scene, &mut codes, gathered)?;
-    Boxed::new(alloc, codes)
+    Ok(codes)
 }
 
 fn copied(alloc: Global, numbers: &[u32]) -> Result<Row<u32>, NoMemory>
@@ -133,20 +130,22 @@ fn stand(
     Ok(())
 }
 
-/// A component without code, where the scene stands at it.
-fn bare_component(
+/// A component with this code, where the scene stands at it.
+fn component_with(
     alloc: Global,
     component: &sr_tree::Component,
     imports: &[Row<u32>],
     scene: &Scene,
+    codes: Codes,
 ) -> Result<Component, NoMemory>
-    ensures { IfOk result (λ made. made ≡ whole.component_with scene.now imports.now component.now (record { initial = []; last = None })) }
+    ensures { IfOk result (λ made. made ≡ whole.component_with scene.now imports.now component.now codes) }
 {
-    let formals = component_formals(alloc, scene, component.formals())?;
+    let formals = component_formals(alloc, scene, component)?;
     let name = component.name().text.copy(alloc)?;
     let globals = copied(alloc, scene.imports.as_slice())?;
     let needs = needs_of(alloc, imports, scene.component)?;
     let owns = scene.own.count()?;
+    let Codes { initial, last } = codes;
     Ok(Component {
         name,
         place: line_of(component.span()),
@@ -156,35 +155,10 @@ fn bare_component(
         needs,
         initial: Body {
             owns,
-            block: Row::new(alloc),
+            block: initial,
         },
-        final_code: None,
+        final_code: last,
     })
-}
-
-/// The component with this code.
-fn with_code(component: Component, codes: Codes) -> Component
-    ensures { result ≡ record component { initial = record { owns = component.initial.owns; block = codes.initial }; final_code = codes.last } }
-{
-    let mut component = component;
-    let Codes { initial, last } = codes;
-    component.initial.block = initial;
-    component.final_code = last;
-    component
-}
-
-/// A component with this code, where the scene stands at it.
-fn component_with(
-    alloc: Global,
-    component: &sr_tree::Component,
-    imports: &[Row<u32>],
-    scene: &Scene,
-    codes: Boxed<Codes>,
-) -> Result<Component, NoMemory>
-    ensures { IfOk result (λ made. made ≡ whole.component_with scene.now imports.now component.now codes) }
-{
-    let bare = bare_component(alloc, component, imports, scene)?;
-    Ok(with_code(bare, codes.into_inner()))
 }
 
 /// A component, where the scene stands at it.
@@ -282,42 +256,20 @@ fn components_of(
     Ok(components)
 }
 
-/// The components of all files. Their procs and sites are appended.
-fn all_components(
-    alloc: Global,
-    files: &[File],
-    scene: &mut Scene,
-    gathered: &mut Gathered,
-) -> Result<Row<Component>, NoMemory>
-    ensures value { IfOk result (λ all. all ≡ whole.all_components (whole.wholes_of scene.old.facts (components_in files.now) scene.old.tables)) }
-    ensures gathered { OnOk result (gathered.new ≡ whole.with_wholes gathered.old (whole.wholes_of scene.old.facts (components_in files.now) scene.old.tables)) }
-    ensures tables { OnOk result (scene.new.tables ≡ scene.old.tables) }
+/// The core of a program whose tables the scene has.
+fn core_in(alloc: Global, files: &[File], scene: Scene) -> Result<Core, NoMemory>
+    ensures { IfOk result (λ program. program ≡ whole.core_by scene.facts (components_in files.now) scene.tables) }
 {
-    let imports = all_imports(alloc, files, &scene.facts, &scene.tables.components)?;
-    components_of(alloc, files, imports.as_slice(), scene, gathered)
-}
-
-/// The operations, taken out of the table.
-fn take_operations(
-    alloc: Global,
-    operations: &mut SpotMap<Operation>,
-) -> Result<Row<Operation>, NoMemory>
-    ensures { IfOk result (λ things. things ≡ things_in operations.old) }
-{
-    mem::replace(operations, SpotMap::new(alloc)).into_things(alloc)
-}
-
-/// The core of a program whose tables the scene has. The operations are taken out of them.
-fn core_in(alloc: Global, files: &[File], scene: &mut Scene) -> Result<Core, NoMemory>
-    ensures { IfOk result (λ program. program ≡ whole.core_by scene.old.facts (components_in files.now) scene.old.tables) }
-{
+    let mut scene = scene;
     let mut gathered = Gathered {
         procs: Row::new(alloc),
         sites: Row::new(alloc),
     };
-    let components = all_components(alloc, files, scene, &mut gathered)?;
+    let imports = all_imports(alloc, files, &scene.facts, &scene.tables.components)?;
+    let components = components_of(alloc, files, imports.as_slice(), &mut scene, &mut gathered)?;
     let names = enumerations_of(alloc, files)?;
-    let operations = take_operations(alloc, &mut scene.tables.operations)?;
+    let Scene { tables, .. } = scene;
+    let operations = tables.operations.into_things(alloc)?;
     let Gathered { procs, sites } = gathered;
     Ok(Core {
         components,
@@ -333,12 +285,12 @@ pub fn to_core(alloc: Global, files: &[File], facts: Facts) -> Result<Core, NoMe
     ensures { IfOk result (λ program. program ≡ whole.core_of files.now facts) }
 {
     let tables = tables_of(alloc, files, &facts)?;
-    let mut scene = Scene {
+    let scene = Scene {
         facts,
         component: 0,
         imports: Row::new(alloc),
         own: Spots::new(alloc),
         tables,
     };
-    core_in(alloc, files, &mut scene)
+    core_in(alloc, files, scene)
 }

@@ -5,7 +5,7 @@ ghost use Rattle.sr_desugar.specs.Statements as statements;
 
 use crate::declarations::int_constant;
 use crate::exprs::{core_value, optional_value};
-use crate::places::{operation_expr, own_place};
+use crate::places::{operation_expr, own_number, own_place};
 use crate::scene::Scene;
 use crate::simple::act;
 use sr_core::{Action, Argument, Direction, Expr, Quantifier, Statement};
@@ -41,7 +41,7 @@ fn quantifier(
 ) -> Result<Quantifier, NoMemory>
     ensures { IfOk result (λ quantifier. quantifier ≡ statements.quantifier_core scene.now tree.now) }
 {
-    let var = scene.own.number(spot_named(&tree.name))?;
+    let var = own_number(scene, spot_named(&tree.name))?;
     let from = Boxed::new(alloc, core_value(alloc, &tree.first, scene)?)?;
     let to = Boxed::new(alloc, core_value(alloc, &tree.last, scene)?)?;
     let by = Boxed::new(alloc, step_of(alloc, &tree.step, scene)?)?;

@@ -3,7 +3,7 @@ ghost use Rattle.std.specs.Prelude.{◌≡◌, ◌++◌, IfOk, OnOk, map};
 ghost use Rattle.sr_desugar.specs.Statements as statements;
 
 use crate::exprs::core_place;
-use crate::places::{own_formals, own_place, own_returned, scope_of_operation};
+use crate::places::{operation_number, own_formals, own_place, own_returned, scope_of_operation};
 use crate::scene::Scene;
 use crate::simple::act;
 use sr_core::{Action, Arm, Expr, Site, Statement};
@@ -42,15 +42,12 @@ fn receive_arm(
     ensures { IfOk result (λ arm. arm ≡ statements.receive_arm scene.now span operation places.now) }
 {
     let spots = receive_spots(alloc, places)?;
-    let op = scene.tables.operations.number(operation)?;
-    let formals = own_formals(alloc, scene, spots.as_slice(), operation)?;
     let returned = receive_returned(span, operation, &scene.facts);
-    let returned = own_returned(alloc, scene, returned, operation)?;
     Ok(Arm {
         place: line_of(span),
-        op,
-        formals,
-        returned,
+        op: operation_number(scene, operation)?,
+        formals: own_formals(alloc, scene, spots.as_slice(), operation)?,
+        returned: own_returned(alloc, scene, returned, operation)?,
         guard: None,
         by: None,
     })

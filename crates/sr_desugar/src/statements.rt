@@ -2,11 +2,11 @@
 ghost use Rattle.std.specs.Prelude.{◌≡◌, ◌∷◌, ◌++◌, IfOk, OnOk, map};
 ghost use Rattle.sr_core.specs.declared.statement.CoArm.{roll-CoArm};
 ghost use Rattle.sr_core.specs.declared.statement.Statement.TheVariants as variants;
+ghost use Rattle.sr_desugar.specs.Places.{site_number};
 ghost use Rattle.sr_desugar.specs.Statements as statements;
 ghost use Rattle.sr_names.specs.Spots.{spot_of};
 ghost use Rattle.sr_tables.specs.Parts.{line_of};
 ghost use Rattle.sr_tables.specs.Sites.{site_of};
-ghost use Rattle.sr_tables.specs.Tables.{number_in};
 ghost use Rattle.std.specs.Option.{option_map};
 ghost use Rattle.sr_desugar.specs.Expressions.{core_place, core_sending};
 ghost use Rattle.sr_outline.specs.Meanings.{function_called, meant_by};
@@ -15,7 +15,7 @@ ghost use Rattle.sr_tree.specs.declared.statement.Statement.{out-Statement};
 
 use crate::declarations::{push_const, push_vars};
 use crate::exprs::{Sent, core_create, core_place, core_sent, core_value, optional_value};
-use crate::places::{own_formals, own_returned, scope_of_operation};
+use crate::places::{operation_number, own_formals, own_returned, scope_of_operation};
 use crate::quantifiers::quantifiers_of;
 use crate::receives::receive;
 use crate::scene::Scene;
@@ -23,7 +23,7 @@ use crate::simple::{act, call, first_token, forward, send};
 use sr_core::{Action, Bump, CoCall, Guarded, Quantifier, Scope, Site, Statement};
 use sr_names::{Predefined, Spot};
 use sr_outline::{function_called, meant_by, name_spots, returned_spot, wait_operation};
-use sr_tables::{Spots, line_of, site_of};
+use sr_tables::{line_of, site_of};
 use sr_tree::{Arm, ArmCondition, BlockItem, Branch, CoArm, Expr, Invocation, Name};
 use sr_value::{Boxed, NoMemory, Row, Span};
 use std::alloc::Global;
@@ -47,7 +47,7 @@ fn arm(alloc: Global, tree: &Arm, scene: &Scene) -> Result<sr_core::Arm, NoMemor
 {
     let operation = meant_by(&scene.facts, &tree.operation);
     let spots = name_spots(alloc, tree.formals.as_slice())?;
-    let op = scene.tables.operations.number(operation)?;
+    let op = operation_number(scene, operation)?;
     let formals = own_formals(alloc, scene, spots.as_slice(), operation)?;
     let returned = own_returned(alloc, scene, returned_spot(&tree.returned), operation)?;
     let returned = Boxed::new(alloc, returned)?;
@@ -125,7 +125,7 @@ fn co_call(
         place,
         target: target.into_inner(),
         args,
-        returns: returns.into_inner(),
+        returns,
     })
 }
 
@@ -191,22 +191,14 @@ fn action(alloc: Global, tree: &sr_tree::Statement, scene: &Scene) -> Result<Act
         }),
         sr_tree::Statement::Send { invocation, .. } => send(alloc, invocation, scene),
         sr_tree::Statement::Forward { invocation, .. } => forward(alloc, invocation, scene),
-        sr_tree::Statement::Assign { place, value, .. } => {
-            let place = Boxed::new(alloc, core_place(alloc, place, scene)?)?;
-            let value = core_value(alloc, value, scene)?;
-            Ok(Action::Assign {
-                place: place.into_inner(),
-                value,
-            })
-        }
-        sr_tree::Statement::Exchange { left, right, .. } => {
-            let left = Boxed::new(alloc, core_place(alloc, left, scene)?)?;
-            let right = core_place(alloc, right, scene)?;
-            Ok(Action::Swap {
-                left: left.into_inner(),
-                right,
-            })
-        }
+        sr_tree::Statement::Assign { place, value, .. } => Ok(Action::Assign {
+            place: core_place(alloc, place, scene)?,
+            value: core_value(alloc, value, scene)?,
+        }),
+        sr_tree::Statement::Exchange { left, right, .. } => Ok(Action::Swap {
+            left: core_place(alloc, left, scene)?,
+            right: core_place(alloc, right, scene)?,
+        }),
         sr_tree::Statement::Increment { place, .. } => Ok(Action::Bump {
             place: core_place(alloc, place, scene)?,
             bump: Bump::Increase,
@@ -261,14 +253,14 @@ fn do_of(span: Span, guards: Row<Guarded>, otherwise: Option<Row<Statement>>) ->
 
 /// An `in` of these parts.
 fn in_of(
-    sites: &Spots,
+    scene: &Scene,
     span: Span,
     arms: Row<Row<Statement>>,
     otherwise: Row<Statement>,
 ) -> Result<Statement, NoMemory>
-    ensures { IfOk result (λ statement. statement ≡ variants.In (line_of span) (number_in sites.now (spot_of span)) arms otherwise) }
+    ensures { IfOk result (λ statement. statement ≡ variants.In (line_of span) (site_number scene.now (spot_of span)) arms otherwise) }
 {
-    let site = sites.number(Spot::of(span))?;
+    let site = scene.tables.sites.number(Spot::of(span))?;
     Ok(Statement::In {
         place: line_of(span),
         site,
@@ -547,12 +539,12 @@ pub fn statement(
         } => match otherwise {
             None => {
                 let arms = in_blocks(alloc, arms.as_slice(), false, scene, sites)?;
-                in_of(&scene.tables.sites, *span, arms, Row::new(alloc))
+                in_of(scene, *span, arms, Row::new(alloc))
             }
             Some(items) => {
                 let arms = in_blocks(alloc, arms.as_slice(), true, scene, sites)?;
                 let otherwise = block(alloc, items.as_slice(), scene, sites)?;
-                in_of(&scene.tables.sites, *span, arms, otherwise)
+                in_of(scene, *span, arms, otherwise)
             }
         },
         sr_tree::Statement::Co { span, arms } => {

@@ -1,12 +1,12 @@
 -- One number more is appended.
 use Rattle.std.proofs.Common.{◌+◌, ℕ, List, ◌++◌, map, drop, ap, ◌∙◌}
-use Rattle.sr_tables.specs.Tables.{number_in}
+use Rattle.sr_desugar.specs.Places.{own_number}
 use Rattle.sr_desugar.proofs.Outputs.{map_next}
 use Rattle.sr_desugar.proofs.places.own_numbers.Goals as goal
 
 pub loop-spot-preserved : goal.loop-spot-preserved
 loop-spot-preserved c =
-    ap (λ (made : List ℕ). made ++ map (number_in c.args.own.now) (drop (c.loop-spot.spot-index + 1) c.args.spots.now)) c.in_ok-push.ensures.ok
-    ∙ map_next (number_in c.args.own.now) c.loop-spot.numbers c.in_ok-number.field-0 c.args.spots.now c.loop-spot.spot-index (record { file = 0; from = 0 })
-    c.loop-spot-test.true c.in_ok-number.ensures
+    ap (λ (made : List ℕ). made ++ map (own_number c.args.scene.now) (drop (c.loop-spot.spot-index + 1) c.args.spots.now)) c.in_ok-push.ensures.ok
+    ∙ map_next (own_number c.args.scene.now) c.loop-spot.numbers c.in_ok-own_number.field-0 c.args.spots.now c.loop-spot.spot-index (record { file = 0; from = 0 })
+    c.loop-spot-test.true c.in_ok-own_number.ensures
     ∙ c.loop-spot.invariant
