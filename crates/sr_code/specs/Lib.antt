@@ -1,0 +1,6 @@
+pub mod Acts
+pub mod Laws
+pub mod Operands
+pub mod Owners
+pub mod Runs
+pub mod Stacks
