@@ -24,6 +24,7 @@ use Rattle.sr_core.specs.Formals.{sent_to}
 use Rattle.sr_core.specs.Values.{formal_shape}
 use Rattle.sr_core.specs.declared.component.Core.{Core}
 use Rattle.sr_code.specs.Acts.{Point, point, goes, act, and_skip, or_skip, store_one, store_some, after_item, ask_item, store_item, store_argument}
+use Rattle.sr_code.specs.Laws.{Falls, InstructionsFall}
 use Rattle.sr_code.specs.Operands.{put_targets, put_list, list_on, put_value, reading_on, drop_reading}
 use Rattle.sr_code.specs.Owners.{variable_in}
 use Rattle.sr_code.specs.declared.instruction.Instruction.{Instruction}
@@ -45,11 +46,6 @@ Lessens limit (Stops asks) most = Unit {0}
 -- work that leaves no more room for ticks than there was
 pub record Keeps {A : Type 0} (limit : ℕ) (doing : Doing A) : Type 0 where
   pub leaves : (stage : Stage) → Leaves limit (doing stage) (room limit stage)
-
--- less room than so much, or no more and an address that is no higher than this
-abbrev pub Falls : ℕ → ℕ → Outcome Point → ℕ → Type 0
-Falls limit next (Came at stage) most = (room limit stage < most) ⊎ ((room limit stage ≤ most) × (at.address ≤ next))
-Falls limit next (Stops asks) most = Unit {0}
 
 -- work that goes no higher than an address, or leaves less room than there was
 pub record Lowers (limit next : ℕ) (doing : Doing Point) : Type 0 where
@@ -308,3 +304,6 @@ act_lowers core (MakeFormal scope var mode shape) here next on =
     lowers_then (keeps_settle here (formal_shape shape (sent_to mode (list_on on)))) (λ found. lowers_past here next (λ _. on) (keeps_make (variable_in scope var here) found here))
 act_lowers core (StoreFormal scope var mode) here next on = lowers_past here next _ (keeps_argument _ _ here)
 act_lowers core DropList here next on = lowers_next here next _
+
+pub instructions_lower : InstructionsFall
+instructions_lower core instruction here next on stage = (act_lowers core instruction here next on).falls stage

@@ -7,11 +7,11 @@ use Rattle.sr_ask.specs.Behaviors.{Stage, Outcome, Came, Stops, heard, room}
 use Rattle.sr_ask.specs.declared.answer.Answer.{Answer}
 use Rattle.sr_ask.specs.declared.ask.Asks.{Asks}
 use Rattle.sr_code.specs.Acts.{Point}
-use Rattle.sr_code.specs.Laws.{OneInstructionThenTheRest}
+use Rattle.sr_code.specs.Laws.{Falls, OneInstructionThenTheRest}
 use Rattle.sr_code.specs.Runs.{Machine, go, here_at, step, step_at, steps, then_asks, carried, work, finish}
 use Rattle.sr_code.specs.declared.code.Coded.{Coded}
 use Rattle.sr_code.specs.declared.operands.Operands.{Operands}
-use Rattle.sr_code.proofs.Lowering.{Falls, Lowers, act_lowers}
+use Rattle.sr_code.proofs.Lowering.{act_lowers}
 
 -- less work than so much
 abbrev Less : Machine → Outcome Point → ℕ → Type 0

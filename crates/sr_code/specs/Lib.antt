@@ -4,3 +4,4 @@ pub mod Operands
 pub mod Owners
 pub mod Runs
 pub mod Stacks
+pub mod Stretches
