@@ -87,17 +87,24 @@ extends_one {code = code} e = record {
   kept = record { same = λ at low high. ap (λ c. slice_get c at) e.is ∙ got_before code _ at high };
 }
 
+-- the instruction is carried out
+pub runs_act : (m : Machine) {line : Place} {instruction : Instruction} {code longer : List Coded} → Emits line instruction code longer
+    → Has longer (length code) (length longer) m.code → (on : Operands)
+    → Follows (go m (point (length longer) on)) (act m.core instruction (here_at m line) (length code) on) (go m)
+runs_act m {line = line} {instruction = instruction} {code = code} {longer = longer} e h on =
+    let length_is = emitted_length e in
+    let found = h.same (length code) (omega arith) (omega arith) ∙ ap (λ c. slice_get c (length code)) e.is ∙ got_last code (record { place = line; instruction = instruction }) in
+    let one = runs_found m (length code) (record { place = line; instruction = instruction }) on found in
+    record { same = λ stage. ap (λ n. go m (point n on) stage) length_is ∙ one.same stage }
+
 -- an instruction that leads to an address
 pub runs_to : {A : Type 0} (m : Machine) {line : Place} {instruction : Instruction} {code longer : List Coded} → Emits line instruction code longer
     → Has longer (length code) (length longer) m.code → (on : Operands) (doing : Doing A) (after : A → Point)
     → act m.core instruction (here_at m line) (length code) on ≡ (doing >>= λ a. give (after a))
     → Follows (go m (point (length longer) on)) doing (λ a. go m (after a))
-runs_to m {line = line} {instruction = instruction} {code = code} {longer = longer} e h on doing after is =
-    let length_is = emitted_length e in
-    let found = h.same (length code) (omega arith) (omega arith) ∙ ap (λ c. slice_get c (length code)) e.is ∙ got_last code (record { place = line; instruction = instruction }) in
-    let one = runs_found m (length code) (record { place = line; instruction = instruction }) on found in
+runs_to m e h on doing after is =
     record { same = λ stage.
-      ap (λ n. go m (point n on) stage) length_is ∙ one.same stage ∙ ap (λ d. then_asks (d stage) (go m)) is ∙ sym (then_bound (doing stage) (λ a. go m (after a)) (λ a. give (after a)) (go m) (λ a after. refl)) }
+      (runs_act m e h on).same stage ∙ ap (λ d. then_asks (d stage) (go m)) is ∙ sym (then_bound (doing stage) (λ a. go m (after a)) (λ a. give (after a)) (go m) (λ a after. refl)) }
 
 -- an instruction that goes on with the next
 pub runs_past : {A : Type 0} (m : Machine) {line : Place} {instruction : Instruction} {code longer : List Coded} → Emits line instruction code longer

@@ -1,0 +1,5 @@
+pub mod Calls
+pub mod Forms
+pub mod Joining
+pub mod Stretching
+pub mod Trees
