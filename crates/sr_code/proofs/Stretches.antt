@@ -42,9 +42,11 @@ follows_as {start = start} {doing = doing} {other = other} {next = next} is h =
 -- what is found at an address is carried out
 pub runs_found : (m : Machine) (at : ℕ) (coded : Coded) (on : Operands) → slice_get m.code at ≡ Some coded
     → Follows (go m (point (suc at) on)) (act m.core coded.instruction (here_at m coded.place) at on) (go m)
-runs_found m at coded on is = record { same = λ stage.
-    let P : Option Coded → Type 0 = λ found. go m (point (suc at) on) stage ≡ then_asks (carried found m at on stage) (go m) in
-    subst P is (one_by_one m (point (suc at) on) stage) }
+runs_found m at coded on is = record {
+  same = λ stage.
+      let P : Option Coded → Type 0 = λ found. go m (point (suc at) on) stage ≡ then_asks (carried found m at on stage) (go m) in
+      subst P is (one_by_one m (point (suc at) on) stage);
+}
 
 -- ---- where stretches stand
 
@@ -103,8 +105,10 @@ pub runs_to : {A : Type 0} (m : Machine) {line : Place} {instruction : Instructi
     → act m.core instruction (here_at m line) (length code) on ≡ (doing >>= λ a. give (after a))
     → Follows (go m (point (length longer) on)) doing (λ a. go m (after a))
 runs_to m e h on doing after is =
-    record { same = λ stage.
-      (runs_act m e h on).same stage ∙ ap (λ d. then_asks (d stage) (go m)) is ∙ sym (then_bound (doing stage) (λ a. go m (after a)) (λ a. give (after a)) (go m) (λ a after. refl)) }
+    record {
+      same = λ stage.
+          (runs_act m e h on).same stage ∙ ap (λ d. then_asks (d stage) (go m)) is ∙ sym (then_bound (doing stage) (λ a. go m (after a)) (λ a. give (after a)) (go m) (λ a after. refl));
+    }
 
 -- an instruction that goes on with the next
 pub runs_past : {A : Type 0} (m : Machine) {line : Place} {instruction : Instruction} {code longer : List Coded} → Emits line instruction code longer

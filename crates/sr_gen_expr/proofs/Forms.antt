@@ -1,5 +1,5 @@
 -- Each form of expression: its code asks what it asks.
-use Rattle.std.proofs.Common.{◌≡◌, ℕ, ℤ, zero, suc, ◌+◌, ◌≤◌, ◌<◌, min, Bool, true, false, List, [], ◌∷◌, ◌++◌, length, Option, Some, None, refl, sym, ◌∙◌, ap, arith}
+use Rattle.std.proofs.Common.{◌≡◌, ℕ, ℤ, zero, suc, ◌+◌, ◌≤◌, ◌<◌, min, Bool, true, false, List, [], ◌∷◌, ◌++◌, length, Option, Some, None, refl, sym, subst, ◌∙◌, ap, arith}
 use Rattle.sr_value.specs.declared.capability.Cap.{Cap}
 use Rattle.sr_value.specs.declared.capability.Cap.TheVariants.{Op, Vm}
 use Rattle.sr_value.specs.declared.operator.Operator.{Operator}
@@ -46,7 +46,7 @@ use Rattle.sr_code.proofs.Stretches.{follows_then, follows_give, follows_from, f
 use Rattle.sr_meaning.specs.Expressions.{Meaning, in_order, choice, leaf_meaning, node_meaning, place_meaning, step_meaning, part_meaning, argument_meaning, reading_meaning, kind_of, owner_of}
 use Rattle.sr_meaning.specs.Here.{Here, request, settle}
 use Rattle.sr_meaning.specs.Places.{load_place, spot_of}
-use Rattle.sr_gen_expr.specs.Emitting.{Gives, Takes, instruction_of, join_all, join_sent, part_meaning_of, put_only, tree_here}
+use Rattle.sr_gen_expr.specs.Emitting.{Gives, Takes, instruction_of, join_all, join_sent, and_meaning, operand_meaning, or_meaning, part_meaning_of, put_only, tree_here}
 use Rattle.sr_gen_expr.proofs.Joining.{joined_values, joined_pieces, joined_sels}
 use Rattle.sr_gen_expr.proofs.Stretching.{follows_regroup, follows_ungroup, follows_within, gives_first, gives_then, gives_before, gives_changed, gives_regroup, gives_taken, gives_wrapped}
 
@@ -81,14 +81,18 @@ gives_machine e = gives_wrapped e (λ here. request made MakeVm here) (λ name. 
 pub gives_moment : {core : Core} {line : Place} {c0 c1 : List Coded} → Emits line Moment c0 c1 → Gives put_value core line (leaf_meaning leaf_moment) c0 c1
 gives_moment e = gives_wrapped e (λ here. request moment Age here) Int (λ m on. refl)
 
-pub gives_leaf : {line : Place} (leaf : Leaf) {c0 c1 : List Coded} → Emits line (instruction_of leaf) c0 c1 → (core : Core) → Gives put_value core line (leaf_meaning leaf) c0 c1
-gives_leaf (leaf_constant value) e core = gives_constant e
-gives_leaf (leaf_operation whose op) e core = gives_operation e
-gives_leaf leaf_resource e core = gives_my_resource e
-gives_leaf leaf_machine e core = gives_my_machine e
-gives_leaf (leaf_count op) e core = gives_count e
-gives_leaf leaf_make e core = gives_machine e
-gives_leaf leaf_moment e core = gives_moment e
+leaf_gives : {line : Place} (leaf : Leaf) {c0 c1 : List Coded} → Emits line (instruction_of leaf) c0 c1 → (core : Core) → Gives put_value core line (leaf_meaning leaf) c0 c1
+leaf_gives (leaf_constant value) e core = gives_constant e
+leaf_gives (leaf_operation whose op) e core = gives_operation e
+leaf_gives leaf_resource e core = gives_my_resource e
+leaf_gives leaf_machine e core = gives_my_machine e
+leaf_gives (leaf_count op) e core = gives_count e
+leaf_gives leaf_make e core = gives_machine e
+leaf_gives leaf_moment e core = gives_moment e
+
+pub gives_leaf : {line : Place} (leaf : Leaf) {instruction : Instruction} {c0 c1 : List Coded} → instruction ≡ instruction_of leaf → Emits line instruction c0 c1 → (core : Core)
+    → Gives put_value core line (leaf_meaning leaf) c0 c1
+gives_leaf {line = line} leaf {c0 = c0} {c1 = c1} is e core = let P : Instruction → Type 0 = λ i. Emits line i c0 c1 in leaf_gives leaf (subst P is e) core
 
 -- ---- operators
 
@@ -96,61 +100,47 @@ pub gives_unary : {core : Core} {line : Place} {op : Operator} {x : Meaning Valu
     → Gives put_value core line (node_meaning (Expr-F.Unary op x)) c0 c2
 gives_unary {op = op} e x = gives_then e x (λ v. settle (value_of_one op v)) (λ m v on. refl)
 
-pub gives_binary : {core : Core} {line : Place} {op : Operator} {x y : Meaning Value} {c0 c1 c2 c3 : List Coded} → Emits line (Operate op) c0 c1
-    → Gives put_value core line y c1 c2 → Gives put_value core line x c2 c3 → Gives put_value core line (node_meaning (Expr-F.Binary op x y)) c0 c3
-gives_binary {line = line} {op = op} e right left = record {
-  grows = extends_then (extends_one e) (extends_then right.grows left.grows);
-  runs = λ m same h on.
-      let below = lower_part left.grows h in
-      follows_then (left.runs m same (upper_part (extends_then (extends_one e) right.grows) h) on) (λ v.
-      follows_then (right.runs m same (upper_part (extends_one e) below) (put_value v on)) (λ w.
-      runs_past m e (lower_part right.grows below) (put_value w (put_value v on)) (settle (value_of op v w) (tree_here m line)) (λ u. put_value u on) refl));
+-- an operator whose left operand is there
+pub takes_operand : {core : Core} {line : Place} {op : Operator} {y : Meaning Value} {c0 c1 c2 : List Coded} → Emits line (Operate op) c0 c1 → Gives put_value core line y c1 c2
+    → Takes put_value (put_only put_value) core line (operand_meaning op y) c0 c2
+takes_operand {line = line} {op = op} e right = record {
+  grows = extends_then (extends_one e) right.grows;
+  runs = λ m same h v on. follows_then (right.runs m same (upper_part (extends_one e) h) (put_value v on)) (λ w.
+      runs_past m e (lower_part right.grows h) (put_value w (put_value v on)) (settle (value_of op v w) (tree_here m line)) (λ u. put_value u on) refl);
 }
 
 jump_to : (to next : ℕ) → to ≤ next → min to next ≡ to
 jump_to to next h = omega arith
 
 -- the right side of `and` comes where the left is true
-pub gives_and : {core : Core} {line : Place} {x y : Meaning Value} {c0 c1 c2 c3 c4 : List Coded} → Emits line (Operate both) c0 c1 → Gives put_value core line y c1 c2
-    → Emits line (AndSkip (length c0)) c2 c3 → Gives put_value core line x c3 c4 → Gives put_value core line (node_meaning (Expr-F.And x y)) c0 c4
-gives_and {core = core} {line = line} {y = y} {c0 = c0} {c2 = c2} e right skip left = record {
-  grows = extends_then (extends_then (extends_one e) right.grows) (extends_then (extends_one skip) left.grows);
-  runs = λ m same h on.
-      let base = extends_then (extends_one e) right.grows in
-      let top = lower_part left.grows h in
-      let below = lower_part (extends_one skip) top in
-      follows_then (left.runs m same (upper_part (extends_then base (extends_one skip)) h) on) (λ v.
-      follows_then (runs_to m skip (upper_part base top) (put_value v on) (settle (truth_of v) (tree_here m line)) (λ truth. and_skip truth (length c0) (length c2) (put_value v on)) refl) (λ truth.
-      chosen m same below on v truth base.above));
+pub takes_and : {core : Core} {line : Place} (y : Meaning Value) {c0 c2 c3 : List Coded} → Takes put_value (put_only put_value) core line (operand_meaning both y) c0 c2
+    → Emits line (AndSkip (length c0)) c2 c3 → Takes put_value (put_only put_value) core line (and_meaning y) c0 c3
+takes_and {core = core} {line = line} y {c0 = c0} {c2 = c2} right skip = record {
+  grows = extends_then right.grows (extends_one skip);
+  runs = λ m same h v on.
+      follows_then (runs_to m skip (upper_part right.grows h) (put_value v on) (settle (truth_of v) (tree_here m line)) (λ truth. and_skip truth (length c0) (length c2) (put_value v on)) refl) (λ truth.
+      chosen m same (lower_part (extends_one skip) h) on v truth right.grows.above);
 } where
   chosen : (m : Machine) → m.core ≡ core → Has c2 (length c0) (length c2) m.code → (on : Operands) (v : Value) (truth : Bool) → length c0 ≤ length c2
       → Follows (go m (and_skip truth (length c0) (length c2) (put_value v on)))
-      (choice truth (y (tree_here m line) >>= λ w. settle (value_of both v w) (tree_here m line)) (give (truth_value false))) (λ w. go m (point (length c0) (put_value w on)))
-  chosen m same h on v true low =
-      follows_then (right.runs m same (upper_part (extends_one e) h) (put_value v on)) (λ w.
-      runs_past m e (lower_part right.grows h) (put_value w (put_value v on)) (settle (value_of both v w) (tree_here m line)) (λ u. put_value u on) refl)
+      (choice truth (operand_meaning both y v (tree_here m line)) (give (truth_value false))) (λ w. go m (point (length c0) (put_value w on)))
+  chosen m same h on v true low = right.runs m same h v on
   chosen m same h on v false low =
       record { same = λ stage. ap (λ n. go m (point n (put_value (truth_value false) on)) stage) (jump_to (length c0) (length c2) low) }
 
 -- the right side of `or` comes where the left is false
-pub gives_or : {core : Core} {line : Place} {x y : Meaning Value} {c0 c1 c2 c3 c4 : List Coded} → Emits line (Operate either) c0 c1 → Gives put_value core line y c1 c2
-    → Emits line (OrSkip (length c0)) c2 c3 → Gives put_value core line x c3 c4 → Gives put_value core line (node_meaning (Expr-F.Or x y)) c0 c4
-gives_or {core = core} {line = line} {y = y} {c0 = c0} {c2 = c2} e right skip left = record {
-  grows = extends_then (extends_then (extends_one e) right.grows) (extends_then (extends_one skip) left.grows);
-  runs = λ m same h on.
-      let base = extends_then (extends_one e) right.grows in
-      let top = lower_part left.grows h in
-      let below = lower_part (extends_one skip) top in
-      follows_then (left.runs m same (upper_part (extends_then base (extends_one skip)) h) on) (λ v.
-      follows_then (runs_to m skip (upper_part base top) (put_value v on) (settle (truth_of v) (tree_here m line)) (λ truth. or_skip truth (length c0) (length c2) (put_value v on)) refl) (λ truth.
-      chosen m same below on v truth base.above));
+pub takes_or : {core : Core} {line : Place} (y : Meaning Value) {c0 c2 c3 : List Coded} → Takes put_value (put_only put_value) core line (operand_meaning either y) c0 c2
+    → Emits line (OrSkip (length c0)) c2 c3 → Takes put_value (put_only put_value) core line (or_meaning y) c0 c3
+takes_or {core = core} {line = line} y {c0 = c0} {c2 = c2} right skip = record {
+  grows = extends_then right.grows (extends_one skip);
+  runs = λ m same h v on.
+      follows_then (runs_to m skip (upper_part right.grows h) (put_value v on) (settle (truth_of v) (tree_here m line)) (λ truth. or_skip truth (length c0) (length c2) (put_value v on)) refl) (λ truth.
+      chosen m same (lower_part (extends_one skip) h) on v truth right.grows.above);
 } where
   chosen : (m : Machine) → m.core ≡ core → Has c2 (length c0) (length c2) m.code → (on : Operands) (v : Value) (truth : Bool) → length c0 ≤ length c2
       → Follows (go m (or_skip truth (length c0) (length c2) (put_value v on)))
-      (choice truth (give (truth_value true)) (y (tree_here m line) >>= λ w. settle (value_of either v w) (tree_here m line))) (λ w. go m (point (length c0) (put_value w on)))
-  chosen m same h on v false low =
-      follows_then (right.runs m same (upper_part (extends_one e) h) (put_value v on)) (λ w.
-      runs_past m e (lower_part right.grows h) (put_value w (put_value v on)) (settle (value_of either v w) (tree_here m line)) (λ u. put_value u on) refl)
+      (choice truth (give (truth_value true)) (operand_meaning either y v (tree_here m line))) (λ w. go m (point (length c0) (put_value w on)))
+  chosen m same h on v false low = right.runs m same h v on
   chosen m same h on v true low =
       record { same = λ stage. ap (λ n. go m (point n (put_value (truth_value true) on)) stage) (jump_to (length c0) (length c2) low) }
 
@@ -176,10 +166,9 @@ pub gives_list : {core : Core} {line : Place} (parts : List (Meaning Value)) {c0
     → Gives (join_all join_value) core line (in_order parts) c0 c1 → Gives put_list core line (in_order parts) c0 c2
 gives_list parts e g = gives_before e g (put_list []) (λ m on. refl) (λ values on. joined_values values [] on)
 
-pub gives_apply : {core : Core} {line : Place} {function : Function} (args : List (Meaning Value)) {c0 c1 c2 c3 : List Coded} → Emits line (Apply function) c0 c1
-    → Gives (join_all join_value) core line (in_order args) c1 c2 → Emits line NoValues c2 c3 → Gives put_value core line (node_meaning (Expr-F.Apply function args)) c0 c3
-gives_apply {function = function} args e g begin =
-    gives_then e (gives_list args begin g) (λ values here. settle (applied here.core.names function values) here) (λ m values on. refl)
+pub gives_apply : {core : Core} {line : Place} {function : Function} (args : List (Meaning Value)) {c0 c1 c2 : List Coded} → Emits line (Apply function) c0 c1
+    → Gives put_list core line (in_order args) c1 c2 → Gives put_value core line (node_meaning (Expr-F.Apply function args)) c0 c2
+gives_apply {function = function} args e g = gives_then e g (λ values here. settle (applied here.core.names function values) here) (λ m values on. refl)
 
 pub joins_value : {core : Core} {line : Place} {x : Meaning Value} {c0 c1 c2 : List Coded} → Emits line Collect c0 c1 → Gives put_value core line x c1 c2 → Gives join_value core line x c0 c2
 joins_value e g = gives_changed e g (λ m v on. refl)
@@ -228,9 +217,11 @@ gives_place {line = line} root path {c0 = c0} {c1 = c1} e g = record {
   runs = λ m same h on.
       let whole_place : Located = record { spot = root_in root (here_at m line); path = [] } in
       runs_first m e (upper_part g.grows h) on (point (length c1) (put_place whole_place on)) refl
-      (follows_then (g.runs m same (lower_part (extends_one e) h) (put_place whole_place on)) (λ sels. record { same = λ stage.
-      ap (λ o. go m (point (length c0) o) stage) (joined_sels sels (root_in root (here_at m line)) [] on)
-      ∙ ap (λ spot. go m (point (length c0) (put_place (record { spot = spot; path = sels }) on)) stage) (same_root root m line) }));
+      (follows_then (g.runs m same (lower_part (extends_one e) h) (put_place whole_place on)) (λ sels. record {
+        same = λ stage.
+            ap (λ o. go m (point (length c0) o) stage) (joined_sels sels (root_in root (here_at m line)) [] on)
+            ∙ ap (λ spot. go m (point (length c0) (put_place (record { spot = spot; path = sels }) on)) stage) (same_root root m line);
+      }));
 }
 
 pub joins_at : {core : Core} {line : Place} {index : Meaning Value} {c0 c1 c2 c3 : List Coded} → Emits line At c0 c1 → Emits line ToNumber c1 c2 → Gives put_value core line index c2 c3
@@ -265,10 +256,6 @@ pub joins_field : {core : Core} {line : Place} {field : ℕ} {c0 c1 : List Coded
 joins_field {field = field} e = gives_first e (step_meaning (Step-F.Field field)) (λ m on. refl)
 
 -- ---- parts of values
-
-pub gives_of : {core : Core} {line : Place} {whole : Meaning Value} (step : Meaning Sel) {c0 c1 c2 : List Coded} → Takes put_value (put_only put_value) core line (part_meaning_of step) c0 c1
-    → Gives put_value core line whole c1 c2 → Gives put_value core line (node_meaning (Expr-F.Of whole step)) c0 c2
-gives_of step t g = gives_taken (λ v. part_meaning_of step v) t g
 
 pub selects_field : {core : Core} {line : Place} {field : ℕ} {c0 c1 : List Coded} → Emits line (PartField field) c0 c1
     → Takes put_value (put_only put_value) core line (part_meaning_of (step_meaning (Step-F.Field field))) c0 c1

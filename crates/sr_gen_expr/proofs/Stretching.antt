@@ -39,10 +39,15 @@ follows_within first mid third last {next = next} f = record { same = λ stage. 
       → then_asks (and_then o (λ b. third b >>= last)) next ≡ then_asks (and_then (and_then o third) last) next
   regrouped_one (Came b stage) third last next = refl
   regrouped_one (Stops asks) third last next = refl
+
   regrouped : {A B C D : Type 0} (o : Outcome A) (mid : A → Doing B) (third : B → Doing C) (last : C → Doing D) (next : D → Stage → Asks)
       → then_asks (and_then (and_then o mid) (λ b. third b >>= last)) next ≡ then_asks (and_then o (λ a. (mid a >>= third) >>= last)) next
   regrouped (Came a stage) mid third last next = regrouped_one (mid a stage) third last next
   regrouped (Stops asks) mid third last next = refl
+
+-- the same from where another start leads to
+pub follows_at : {A : Type 0} {start other : Stage → Asks} {doing : Doing A} {next : A → Stage → Asks} → ((stage : Stage) → start stage ≡ other stage) → Follows other doing next → Follows start doing next
+follows_at is f = record { same = λ stage. is stage ∙ f.same stage }
 
 -- what comes after in another form
 pub follows_last : {A : Type 0} {start : Stage → Asks} {doing : Doing A} {next other : A → Stage → Asks} → ((a : A) (stage : Stage) → next a stage ≡ other a stage)
@@ -63,6 +68,11 @@ pub gives_as : {A : Type 0} {put : A → Operands → Operands} {core : Core} {l
 gives_as {put = put} {core = core} {line = line} {c0 = c0} {c1 = c1} is g =
     let P : Meaning _ → Type 0 = λ d. Gives put core line d c0 c1 in subst P (sym is) g
 
+pub takes_as : {A B : Type 0} {held : A → Operands → Operands} {put : A → B → Operands → Operands} {core : Core} {line : Place} {work other : A → Meaning B} {c0 c1 : List Coded} → work ≡ other
+    → Takes held put core line other c0 c1 → Takes held put core line work c0 c1
+takes_as {held = held} {put = put} {core = core} {line = line} {c0 = c0} {c1 = c1} is t =
+    let P : (_ → Meaning _) → Type 0 = λ w. Takes held put core line w c0 c1 in subst P (sym is) t
+
 pub gives_regroup : {A B C : Type 0} {put : C → Operands → Operands} {core : Core} {line : Place} (first : Meaning A) (mid : A → Meaning B) (last : B → Meaning C) {c0 c1 : List Coded}
     → Gives put core line (λ here. (first here >>= λ a. mid a here) >>= λ b. last b here) c0 c1
     → Gives put core line (λ here. first here >>= λ a. mid a here >>= λ b. last b here) c0 c1
@@ -81,6 +91,10 @@ gives_wrapped {put = put} {line = line} {c0 = c0} e first wrap is = record {
   runs = λ m same h on. follows_then (runs_past m e h on (first (tree_here m line)) (λ a. put (wrap a) on) (is m on)) (λ a.
       follows_give (λ b. go m (point (length c0) (put b on))) (wrap a));
 }
+
+-- an instruction that is known in another form
+pub emits_as : {line : Place} {instruction other : Instruction} {c0 c1 : List Coded} → instruction ≡ other → Emits line instruction c0 c1 → Emits line other c0 c1
+emits_as {line = line} {c0 = c0} {c1 = c1} is e = let P : Instruction → Type 0 = λ i. Emits line i c0 c1 in subst P is e
 
 -- an instruction that needs no operand
 pub gives_first : {A : Type 0} {put : A → Operands → Operands} {core : Core} {line : Place} {instruction : Instruction} {c0 c1 : List Coded} → Emits line instruction c0 c1
