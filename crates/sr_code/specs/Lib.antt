@@ -1,0 +1,7 @@
+pub mod Acts
+pub mod Laws
+pub mod Operands
+pub mod Owners
+pub mod Runs
+pub mod Stacks
+pub mod Stretches

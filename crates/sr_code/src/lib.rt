@@ -1,0 +1,17 @@
+//! The flat code of a program, and what running code asks.
+//!
+//! An address counts the instructions from there down to the end of the row: the instruction at address `n`
+//! stands at index `n - 1`, and running goes from higher addresses to lower ones. Address 0 is the end of
+//! every process.
+#![tactic(auto)]
+
+mod code;
+mod instruction;
+pub mod laws;
+mod operands;
+mod stack;
+
+pub use code::{Code, Coded, Entry, Program};
+pub use instruction::Instruction;
+pub use operands::{Call, Operands, Reading};
+pub use stack::Stack;

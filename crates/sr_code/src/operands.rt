@@ -1,0 +1,66 @@
+use crate::stack::Stack;
+use sr_ask::{Located, ReadTarget};
+use sr_core::Piece;
+use sr_value::{Cap, Row, Shape, Value};
+use std::alloc::Global;
+
+/// An invocation that is being made.
+#[derive(Drop)]
+pub struct Call {
+    pub target: Cap,
+    /// The arguments so far.
+    pub values: Row<Value>,
+    /// The places that results go to, so far.
+    pub places: Row<Located>,
+}
+
+/// A `read` that is being carried out.
+#[derive(Drop)]
+pub struct Reading {
+    /// The places that are still to be read into.
+    pub targets: Row<ReadTarget>,
+    /// How many items have been read.
+    pub count: u32,
+}
+
+/// The operands of a process: a stack for each kind.
+#[derive(Drop)]
+pub struct Operands {
+    pub values: Stack<Value>,
+    pub numbers: Stack<i32>,
+    pub caps: Stack<Cap>,
+    /// The numbers of invocations whose replies are wanted.
+    pub names: Stack<u32>,
+    pub places: Stack<Located>,
+    pub shapes: Stack<Shape>,
+    /// Lists of values: arguments, results.
+    pub lists: Stack<Row<Value>>,
+    pub pieces: Stack<Row<Piece>>,
+    pub calls: Stack<Call>,
+    /// The places that the results of a reply go to.
+    pub targets: Stack<Row<Located>>,
+    pub readings: Stack<Reading>,
+}
+
+impl Operands {
+    ghost use Rattle.std.specs.Prelude.{◌≡◌};
+    ghost use Rattle.sr_code.specs.Operands.{no_operands};
+
+    pub fn new(alloc: Global) -> Self
+        ensures { result ≡ no_operands }
+    {
+        Operands {
+            values: Stack::new(alloc),
+            numbers: Stack::new(alloc),
+            caps: Stack::new(alloc),
+            names: Stack::new(alloc),
+            places: Stack::new(alloc),
+            shapes: Stack::new(alloc),
+            lists: Stack::new(alloc),
+            pieces: Stack::new(alloc),
+            calls: Stack::new(alloc),
+            targets: Stack::new(alloc),
+            readings: Stack::new(alloc),
+        }
+    }
+}

@@ -1,0 +1,6 @@
+pub mod Calls
+pub mod Forms
+pub mod Joining
+pub mod Rows
+pub mod Stretching
+pub mod Trees
