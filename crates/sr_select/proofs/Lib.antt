@@ -1,0 +1,6 @@
+pub mod ChoiceLemmas
+pub mod CountedLemmas
+pub mod LawProofs
+pub mod LeastLemmas
+pub mod NameLemmas
+pub mod PlaceLemmas

@@ -1,0 +1,9 @@
+pub mod Choices
+pub mod Guards
+pub mod Laws
+pub mod Leasts
+pub mod Looks
+pub mod Readings
+pub mod Selections
+pub mod Sights
+pub mod Steps

@@ -1,0 +1,163 @@
+ghost use Rattle.std.specs.Prelude.{◌≡◌, ◌++◌, IfOk, OnOk};
+ghost use Rattle.sr_select.specs.Choices.{choice, choice_seen, owner_in};
+ghost use Rattle.sr_select.specs.Selections.{choice_from, pairs_at, pairs_in, seen_by, seen_from, serviced_by};
+
+use crate::arm::passes_one;
+use crate::choice::Choice;
+use crate::least::least_from;
+use crate::reads::Reads;
+use crate::selection::Selection;
+use crate::sight::Scene;
+use sr_ask::Seen;
+use sr_core::{Arm, Me, Scope, Site};
+use sr_queue::{Pending, Queue};
+use sr_value::{NoMemory, Owner, Row, Value, ValueFail};
+use std::alloc::Global;
+
+/// A choice, and the cells and counts that it read, in order.
+#[derive(Drop)]
+pub struct Chosen {
+    pub choice: Choice,
+    pub seen: Row<Seen>,
+}
+
+/// Whose invocations a statement services.
+fn owner_in(scope: Scope, me: Me) -> Owner
+    ensures { result ≡ owner_in scope me }
+{
+    match scope {
+        Scope::Own => Owner::Proc(me.process),
+        Scope::Shared => Owner::Inst(me.instance),
+    }
+}
+
+/// Which invocation an arm services that was fixed at a place.
+fn serviced<'a, R: Reads>(
+    selection: &Selection<'a>,
+    reads: &R,
+    seen: &mut Row<Seen>,
+    place: u32,
+    number: u32,
+    arm: &'a Arm,
+) -> Result<Choice, NoMemory>
+    ensures choice { IfOk result (λ chosen. chosen ≡ serviced_by (R.reading reads.now) selection.now place number arm.now) }
+    ensures seen { OnOk result (seen.new ≡ seen.old ++ seen_by (R.reading reads.now) selection.now place arm.now) }
+{
+    let Some(by) = &arm.by else {
+        return Ok(Choice::Service { place, arm: number });
+    };
+    let owner = selection.owner;
+    match least_from(
+        &selection.scene,
+        reads,
+        seen,
+        selection.queue,
+        owner,
+        arm,
+        by,
+        place,
+    ) {
+        Ok(Some(best)) => Ok(Choice::Service {
+            place: best.place,
+            arm: number,
+        }),
+        Ok(None) => Ok(Choice::Service { place, arm: number }),
+        Err(ValueFail::Fault(fault)) => Ok(Choice::Bad { fault, arm: number }),
+        Err(ValueFail::NoMemory) => Err(NoMemory),
+    }
+}
+
+/// The choice where an arm is fixed by an invocation: the first arm of its operation whose `and` isn't false.
+fn choice_at<'a, R: Reads>(
+    selection: &Selection<'a>,
+    reads: &R,
+    seen: &mut Row<Seen>,
+    place: u32,
+    pending: &'a Pending,
+) -> Result<Option<Choice>, NoMemory>
+    ensures choice { IfOk result (λ chosen. chosen ≡ choice_from (R.reading reads.now) selection.now (pairs_at selection.now place pending.now)) }
+    ensures seen { OnOk result (seen.new ≡ seen.old ++ seen_from (R.reading reads.now) selection.now (pairs_at selection.now place pending.now)) }
+{
+    let scene = &selection.scene;
+    let mut number: u32 = 0;
+    for arm in selection.arms {
+        match passes_one(scene, reads, seen, selection.owner, arm, pending) {
+            Ok(true) => {
+                let choice = serviced(selection, reads, seen, place, number, arm)?;
+                return Ok(Some(choice));
+            }
+            Ok(false) => {}
+            Err(ValueFail::Fault(fault)) => return Ok(Some(Choice::Bad { fault, arm: number })),
+            Err(ValueFail::NoMemory) => return Err(NoMemory),
+        }
+        number = number.checked_add(1).ok_or(NoMemory)?;
+    }
+    Ok(None)
+}
+
+/// The choice where an arm is fixed, by the first invocation that does.
+fn first_choice<'a, R: Reads>(
+    selection: &Selection<'a>,
+    reads: &R,
+    seen: &mut Row<Seen>,
+) -> Result<Option<Choice>, NoMemory>
+    ensures choice { IfOk result (λ chosen. chosen ≡ choice_from (R.reading reads.now) selection.now (pairs_in selection.now)) }
+    ensures seen { OnOk result (seen.new ≡ seen.old ++ seen_from (R.reading reads.now) selection.now (pairs_in selection.now)) }
+{
+    for place in 0..selection.queue.len() {
+        let pending = selection.queue.at(place);
+        if let Some(choice) = choice_at(selection, reads, seen, place, pending)? {
+            return Ok(Some(choice));
+        }
+    }
+    Ok(None)
+}
+
+/// What an `in` statement of a process does, and what the choice reads. `env` has the values of what the
+/// statement's guards name of the process.
+pub fn choose_and_see<R: Reads>(
+    alloc: Global,
+    queue: &Queue,
+    site: &Site,
+    me: Me,
+    env: &Row<Value>,
+    reads: &R,
+) -> Result<Chosen, NoMemory>
+    ensures choice { IfOk result (λ chosen. chosen.choice ≡ choice (R.reading reads.now) site.now me env.now queue.now.items) }
+    ensures seen { IfOk result (λ chosen. chosen.seen ≡ choice_seen (R.reading reads.now) site.now me env.now queue.now.items) }
+{
+    let selection = Selection {
+        scene: Scene {
+            alloc,
+            me,
+            names: site.names.as_slice(),
+            env: env.as_slice(),
+        },
+        queue,
+        arms: site.arms.as_slice(),
+        owner: owner_in(site.scope, me),
+    };
+    let mut seen = Row::new(alloc);
+    let found = first_choice(&selection, reads, &mut seen)?;
+    let choice = match found {
+        Some(choice) => choice,
+        None if site.has_else => Choice::Else,
+        None => Choice::Nothing,
+    };
+    Ok(Chosen { choice, seen })
+}
+
+/// What an `in` statement of a process does: it services an invocation, runs its `else`, waits, or faults.
+pub fn choose<R: Reads>(
+    alloc: Global,
+    queue: &Queue,
+    site: &Site,
+    me: Me,
+    env: &Row<Value>,
+    reads: &R,
+) -> Result<Choice, NoMemory>
+    ensures { IfOk result (λ chosen. chosen ≡ choice (R.reading reads.now) site.now me env.now queue.now.items) }
+{
+    let chosen = choose_and_see(alloc, queue, site, me, env, reads)?;
+    Ok(chosen.choice)
+}

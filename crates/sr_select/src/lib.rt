@@ -1,0 +1,22 @@
+//! Which pending invocation an `in` statement services: the guards of its arms, and the choice.
+#![tactic(auto)]
+
+mod arm;
+mod choice;
+mod choosing;
+mod counted;
+mod expression;
+mod formals;
+mod laws;
+mod leaf;
+mod least;
+mod letting_go;
+mod names;
+mod reads;
+mod selection;
+mod sight;
+
+pub use choice::Choice;
+pub use choosing::{Chosen, choose, choose_and_see};
+pub use laws::oldest_goes_first;
+pub use reads::Reads;
