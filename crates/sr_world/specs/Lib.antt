@@ -1,0 +1,9 @@
+pub mod Answering
+pub mod Does
+pub mod Endings
+pub mod Inputs
+pub mod Invoking
+pub mod Making
+pub mod Steps
+pub mod Updates
+pub mod Worlds
