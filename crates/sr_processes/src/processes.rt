@@ -1,5 +1,5 @@
-ghost use Rattle.std.specs.Prelude.{◌≡◌, ◌↔◌, ◌<◌, ◌≤◌, ◌++◌, ◌∷◌, [], IfOk, IsOk, IsTrue, OnErr, OnOk, length, option_copied, slice_get};
-ghost use Rattle.std.specs.Option.{option_map};
+ghost use Rattle.std.specs.Prelude.{◌≡◌, ◌↔◌, ◌<◌, ◌≤◌, ◌++◌, ◌∷◌, [], IfOk, IsOk, IsTrue, OnErr, OnOk, length, nat_eq, option_copied, slice_get};
+ghost use Rattle.indexmap.specs.IndexMap.{insert_entry, spare};
 ghost use Rattle.sr_processes.specs.Living.{IsLive, numbers_in, start_of, without_process};
 
 use indexmap::IndexMap;
@@ -59,7 +59,7 @@ impl Processes {
         requires new { ¬ IsLive self.old.starts start.process }
         ensures { self.new.starts ≡ self.old.starts ++ start ∷ [] }
     {
-        let _ = self.starts.insert(start.process, start);
+        put(&mut self.starts, start);
     }
 
     /// What a process was started with, where it lives.
@@ -97,9 +97,7 @@ impl Processes {
     {
         let mut numbers = Row::new(alloc);
         for start in self.starts.values() {
-            if instance == start.instance {
-                numbers.push(start.process)?;
-            }
+            note_number(start, instance, &mut numbers)?;
         }
         Ok(numbers)
     }
@@ -119,4 +117,22 @@ impl Processes {
     {
         self.starts.clear();
     }
+}
+
+/// Puts a process under its number into a table that has room for it.
+fn put(starts: &mut IndexMap<u32, Start>, start: Start)
+    requires { 0 < spare starts.old }
+    ensures entries { starts.new.entries ≡ insert_entry nat_eq starts.old.entries start.process start }
+{
+    let _ = starts.insert(start.process, start);
+}
+
+/// Appends the number of a process of this instance.
+fn note_number(start: &Start, instance: u32, numbers: &mut Row<u32>) -> Result<(), NoMemory>
+    ensures { OnOk result (numbers.new ≡ numbers.old ++ numbers_in (start.now ∷ []) instance) }
+{
+    if instance == start.instance {
+        return numbers.push(start.process);
+    }
+    Ok(())
 }
