@@ -1,3 +1,4 @@
 pub mod InputLemmas
 pub mod NameLemmas
+pub mod PassLemmas
 pub mod StepLemmas

@@ -20,6 +20,8 @@ use Rattle.sr_value.specs.declared.capability.Cap.{Cap}
 use Rattle.sr_value.specs.declared.capability.Cap.TheVariants as cap
 use Rattle.sr_value.specs.declared.fault.Fault.TheVariants as fault
 use Rattle.sr_value.specs.declared.place.Place.{Place}
+use Rattle.sr_value.specs.declared.shape.Sel.{Sel}
+use Rattle.sr_value.specs.declared.shape.Shape.{Shape}
 use Rattle.sr_value.specs.declared.value.Value.{Value}
 use Rattle.sr_world.specs.Answering.{Duty, answer_held, duty_held, held_of, no_duty}
 use Rattle.sr_world.specs.Does.{Does, Did, Makes, Cannot, Undecided, done_or, failed, where_some}
@@ -29,6 +31,18 @@ use Rattle.sr_world.specs.Invoking.{instance_of_process, invoke, owner_for}
 use Rattle.sr_world.specs.Making.{is_ready, make_ready, needs_ready, run_initial}
 use Rattle.sr_world.specs.Updates.{add_machine, drop_reply, hold, release, use_name, with_rest, with_variables, write}
 use Rattle.sr_world.specs.Worlds.{World}
+
+-- ---- shared variables
+
+abbrev pub declare : Place → ℕ → ℕ → Shape → World → Does
+declare place block var shape world = done_or place (declared_in world.variables block var shape) (λ variables. Did (with_variables variables world) answer.Done)
+
+abbrev pub load : Place → ℕ → ℕ → List Sel → World → Does
+load place block var path world = done_or place (loaded_in world.variables block var path) (λ value. Did world (answer.Got value))
+
+abbrev pub store : Place → ℕ → ℕ → List Sel → Value → World → Does
+store place block var path value world =
+    done_or place (stored_in world.variables block var path value) (λ variables. Did (with_variables variables world) answer.Done)
 
 -- ---- invocations
 
@@ -96,16 +110,21 @@ abbrev pub create : Core → Place → ℕ → ℕ → ℕ → List Value → Ca
 create core place actor name resource args target world =
     where_some (slice_get core.components resource) (λ component. on_machine place target (create_on core actor name resource args world))
 
+abbrev pub make_machine : ℕ → World → Does
+make_machine name world = Makes (add_machine name (use_name name world)) (answer.Made name)
+
+-- ---- time
+
+abbrev pub wake : ℕ → World → Does
+wake until world = if nat_lt world.moment until then Cannot else Did world answer.Done
+
 -- ---- the table
 
 -- what a request of `actor` does whose step has the number `name`; a `Select` is decided by the choice
 abbrev pub done_by : Core → World → ℕ → ℕ → Place → Role → Request → Does
-done_by core world actor name place role (request.Declare block var shape) =
-    done_or place (declared_in world.variables block var shape) (λ variables. Did (with_variables variables world) answer.Done)
-done_by core world actor name place role (request.Load block var path) =
-    done_or place (loaded_in world.variables block var path) (λ value. Did world (answer.Got value))
-done_by core world actor name place role (request.Store block var path value) =
-    done_or place (stored_in world.variables block var path value) (λ variables. Did (with_variables variables world) answer.Done)
+done_by core world actor name place role (request.Declare block var shape) = declare place block var shape world
+done_by core world actor name place role (request.Load block var path) = load place block var path world
+done_by core world actor name place role (request.Store block var path value) = store place block var path value world
 done_by core world actor name place role (request.Invoke target args wants) = invoke core place name target args (duty_for wants actor name) world
 done_by core world actor name place role (request.Select site env) = Cannot
 done_by core world actor name place role (request.Take ids) = take actor ids world
@@ -116,13 +135,13 @@ done_by core world actor name place role (request.Write bytes) = Did (write byte
 done_by core world actor name place role (request.Read kind) = read kind world
 done_by core world actor name place role (request.EnsureGlobal global vm) = ensure_global core place name global vm world
 done_by core world actor name place role (request.Create resource args vm) = create core place actor name resource args vm world
-done_by core world actor name place role request.MakeVm = Makes (add_machine name (use_name name world)) (answer.Made name)
+done_by core world actor name place role request.MakeVm = make_machine name world
 done_by core world actor name place role (request.Destroy target) = destroy core place name target (duty_for true actor name) world
 done_by core world actor name place role (request.Finish answered back results) = Did (finish role actor answered back results world) answer.Done
 done_by core world actor name place role (request.Stop status) = stop core place name status world
 done_by core world actor name place role (request.Fail fault) = failed place fault
 done_by core world actor name place role request.Age = Did world (answer.Number (pos world.moment))
-done_by core world actor name place role (request.Wake until) = if nat_lt world.moment until then Cannot else Did world answer.Done
+done_by core world actor name place role (request.Wake until) = wake until world
 
 abbrev pub does : Core → World → ℕ → Ask → ℕ → Does
 does core world actor ask name = done_by core world actor name ask.place ask.role ask.request

@@ -6,9 +6,7 @@ use Rattle.sr_ask.specs.declared.start.Start.{Start}
 use Rattle.sr_calls.specs.Calls.{ByProcess}
 use Rattle.sr_calls.specs.declared.held.Held.{Held}
 use Rattle.sr_calls.specs.declared.held.Reply.{Reply}
-use Rattle.sr_core.specs.declared.component.Core.{Core}
 use Rattle.sr_instances.specs.Instances.{Placed}
-use Rattle.sr_meaning.specs.Processes.{main_of}
 use Rattle.sr_processes.specs.Living.{start_of}
 use Rattle.sr_queue.specs.declared.pending.Pending.{Pending}
 use Rattle.sr_store.specs.Variables.{Variables}
@@ -36,14 +34,14 @@ pub record World : Type 0 where
 
 -- ---- the beginning
 
--- the boot process makes main
-abbrev pub boot : Core → Start
-boot core = record { process = 1; instance = 0; vm = 1; homes = []; role = Boot; code = main_of core; args = []; back = 0 }
+-- the boot process makes main, whatever the number of its code says
+abbrev pub boot : Start
+boot = record { process = 1; instance = 0; vm = 1; homes = []; role = Boot; code = 0; args = []; back = 0 }
 
 -- a run begins with machine 1 and process 1, the boot process
-abbrev pub beginning : Core → World
-beginning core = record {
-  live = boot core ∷ [];
+abbrev pub beginning : World
+beginning = record {
+  live = boot ∷ [];
   places = record { instances = []; machines = 1 ∷ [] };
   variables = map.empty;
   pending = [];
