@@ -10,7 +10,7 @@ use Rattle.sr_value.specs.declared.capability.Cap.{Cap}
 use Rattle.sr_value.specs.declared.capability.Cap.TheVariants as cap
 use Rattle.sr_value.specs.declared.place.Place.{Place}
 use Rattle.sr_value.specs.declared.value.Value.{Value}
-use Rattle.sr_world.specs.Answering.{Duty, duty_held}
+use Rattle.sr_world.specs.Answering.{duty_held}
 use Rattle.sr_world.specs.Does.{Does, comes_to}
 use Rattle.sr_world.specs.Endings.{close_or, destroy, main_instance, may_close, rest_of, status_in, stop_with}
 use Rattle.sr_world.specs.Invoking.{invoke, is_gone}
@@ -21,6 +21,7 @@ use Rattle.sr_world.specs.Worlds.{World}
 use Rattle.sr_world.specs.declared.ends.End.{End}
 use Rattle.sr_world.specs.declared.ends.End.TheVariants as end
 use Rattle.sr_world.proofs.NameLemmas.{same-if, same-where}
+use Rattle.sr_world.specs.declared.duty.Duty.{Duty}
 
 module _ (core : Core) (world : World) (place : Place) (name other : ℕ) where
   same-invoke : (at : World) (target : Cap) (args : List Value) (duty duty' : Duty)
@@ -77,10 +78,10 @@ module _ (core : Core) (world : World) (place : Place) (name other : ℕ) where
   same-step actor role (request.Read kind) = refl
   same-step actor role (request.EnsureGlobal global vm) =
       same-where (slice_get core.components global) _ _
-        (λ component. same-machine vm _ _ (λ machine. same-found global machine (global_in world.places global machine)))
+      (λ component. same-machine vm _ _ (λ machine. same-found global machine (global_in world.places global machine)))
   same-step actor role (request.Create resource args vm) =
       same-where (slice_get core.components resource) _ _
-        (λ component. same-machine vm _ _ (λ machine. same-if (needs_ready core world resource machine) _ _ _ _ refl refl))
+      (λ component. same-machine vm _ _ (λ machine. same-if (needs_ready core world resource machine) _ _ _ _ refl refl))
   same-step actor role request.MakeVm = refl
   same-step actor role (request.Destroy target) = same-destroy target _ _
   same-step actor role (request.Finish answered back results) = refl

@@ -7,13 +7,9 @@ use Rattle.sr_calls.specs.declared.held.Held.{Held}
 use Rattle.sr_value.specs.declared.value.Value.{Value}
 use Rattle.sr_world.specs.Updates.{add_reply, release}
 use Rattle.sr_world.specs.Worlds.{World, is_live}
+use Rattle.sr_world.specs.declared.duty.Duty.{Duty}
 
--- who waits for the answer, and the number that it waits under; process 0, which never lives, where nobody waits
-pub record Duty : Type 0 where
-  pub back : ℕ
-  pub back_id : ℕ
-
--- nobody waits for this invocation
+-- nobody waits for this invocation: process 0 never lives
 abbrev pub no_duty : ℕ → Duty
 no_duty id = record { back = 0; back_id = id }
 

@@ -1,5 +1,5 @@
 -- What a request can come to.
-use Rattle.std.specs.Prelude.{Result, Ok, Err, Option, Some, None}
+use Rattle.std.specs.Prelude.{Bool, true, false, Result, Ok, Err, Option, Some, None}
 use Rattle.sr_ask.specs.declared.answer.Answer.{Answer}
 use Rattle.sr_value.specs.declared.fault.Fault.{Fault}
 use Rattle.sr_value.specs.declared.place.Place.{Place}
@@ -48,3 +48,15 @@ comes_to (Makes world answer) = IsMade
 comes_to Cannot = IsNot
 comes_to (Ends ending) = IsEnd ending
 comes_to Undecided = IsOpen
+
+abbrev pub is_made : Outcome → Bool
+is_made IsMade = true
+is_made _ = false
+
+abbrev pub is_undecided : Outcome → Bool
+is_undecided IsOpen = true
+is_undecided _ = false
+
+abbrev pub is_possible : Outcome → Bool
+is_possible IsNot = false
+is_possible _ = true

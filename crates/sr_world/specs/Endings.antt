@@ -13,7 +13,7 @@ use Rattle.sr_value.specs.declared.capability.Cap.TheVariants as cap
 use Rattle.sr_value.specs.declared.fault.Fault.TheVariants as fault
 use Rattle.sr_value.specs.declared.place.Place.{Place}
 use Rattle.sr_value.specs.declared.value.Value.{Value}
-use Rattle.sr_world.specs.Answering.{Duty, answer as answered, duty_held, held_of}
+use Rattle.sr_world.specs.Answering.{answer as answered, duty_held, held_of}
 use Rattle.sr_world.specs.Does.{Does, Did, Makes, Cannot, Ends, failed}
 use Rattle.sr_world.specs.Invoking.{instance_of_process}
 use Rattle.sr_world.specs.Making.{component_at, has_final_code, is_open, make_ready, run_final}
@@ -21,6 +21,7 @@ use Rattle.sr_world.specs.Updates.{end_all, end_instance, end_process, fix, hold
 use Rattle.sr_world.specs.Worlds.{World}
 use Rattle.sr_world.specs.declared.ends.End.{End}
 use Rattle.sr_world.specs.declared.ends.End.TheVariants as end
+use Rattle.sr_world.specs.declared.duty.Duty.{Duty}
 
 -- ---- `destroy`
 

@@ -16,11 +16,12 @@ use Rattle.sr_value.specs.declared.capability.Owner.TheVariants.{Inst, Proc}
 use Rattle.sr_value.specs.declared.fault.Fault.TheVariants as fault
 use Rattle.sr_value.specs.declared.place.Place.{Place}
 use Rattle.sr_value.specs.declared.value.Value.{Value}
-use Rattle.sr_world.specs.Answering.{Duty, answer as answered}
+use Rattle.sr_world.specs.Answering.{answer as answered}
 use Rattle.sr_world.specs.Does.{Does, Cannot, Makes, failed, where_some}
 use Rattle.sr_world.specs.Making.{run_proc}
 use Rattle.sr_world.specs.Updates.{add_pending, use_name}
 use Rattle.sr_world.specs.Worlds.{World, is_live, started}
+use Rattle.sr_world.specs.declared.duty.Duty.{Duty}
 
 -- ---- owners
 

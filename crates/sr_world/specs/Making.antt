@@ -11,9 +11,10 @@ use Rattle.sr_instances.specs.Instances.{Placed, component_of, global_in, machin
 use Rattle.sr_instances.specs.declared.state.State.{State}
 use Rattle.sr_instances.specs.declared.state.State.TheVariants.{Starting, Ready, Closing, Gone}
 use Rattle.sr_value.specs.declared.value.Value.{Value}
-use Rattle.sr_world.specs.Answering.{Duty, held_of}
+use Rattle.sr_world.specs.Answering.{held_of}
 use Rattle.sr_world.specs.Updates.{add_instance, add_process, hold, set_state, use_name}
 use Rattle.sr_world.specs.Worlds.{World}
+use Rattle.sr_world.specs.declared.duty.Duty.{Duty}
 
 -- ---- what is there
 

@@ -23,7 +23,7 @@ use Rattle.sr_value.specs.declared.place.Place.{Place}
 use Rattle.sr_value.specs.declared.shape.Sel.{Sel}
 use Rattle.sr_value.specs.declared.shape.Shape.{Shape}
 use Rattle.sr_value.specs.declared.value.Value.{Value}
-use Rattle.sr_world.specs.Answering.{Duty, answer_held, duty_held, held_of, no_duty}
+use Rattle.sr_world.specs.Answering.{answer_held, duty_held, held_of, no_duty}
 use Rattle.sr_world.specs.Does.{Does, Did, Makes, Cannot, Undecided, done_or, failed, where_some}
 use Rattle.sr_world.specs.Endings.{destroy, finish, stop}
 use Rattle.sr_world.specs.Inputs.{is_decided, item_read}
@@ -31,6 +31,7 @@ use Rattle.sr_world.specs.Invoking.{instance_of_process, invoke, owner_for}
 use Rattle.sr_world.specs.Making.{is_ready, make_ready, needs_ready, run_initial}
 use Rattle.sr_world.specs.Updates.{add_machine, drop_reply, hold, release, use_name, with_rest, with_variables, write}
 use Rattle.sr_world.specs.Worlds.{World}
+use Rattle.sr_world.specs.declared.duty.Duty.{Duty}
 
 -- ---- shared variables
 

@@ -40,6 +40,13 @@ impl Input {
         &self.bytes.as_bytes()[self.at..]
     }
 
+    /// How many bytes haven't been read.
+    pub fn len(&self) -> usize
+        ensures { result ≡ length self.now }
+    {
+        self.rest().len()
+    }
+
     /// Adds bytes after all others.
     pub fn give(&mut self, bytes: &[u8]) -> Result<(), NoMemory>
         ensures ok { OnOk result (self.new ≡ self.old ++ bytes.now) }

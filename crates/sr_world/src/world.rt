@@ -1,9 +1,12 @@
-ghost use Rattle.std.specs.Prelude.{◌≡◌, ◌++◌, ◌∷◌, [], IfOk, IsTrue, OnErr, OnOk, length, option_copied, slice_get, true};
+ghost use Rattle.std.specs.Prelude.{◌≡◌, ◌↔◌, ◌++◌, ◌∷◌, [], IfOk, IsTrue, OnErr, OnOk, length, option_copied, slice_get, true};
 ghost use Rattle.std.specs.Option.{option_map};
 ghost use Rattle.sr_processes.specs.Living.{IsLive};
+ghost use Rattle.sr_world.specs.Acting.{IsNew, NeedsNew};
+ghost use Rattle.sr_world.specs.Does.{Does};
 ghost use Rattle.sr_world.specs.Worlds as worlds;
 
 use crate::input::Input;
+use crate::used::Used;
 use sr_ask::{Role, Start};
 use sr_calls::Calls;
 use sr_instances::Places;
@@ -29,8 +32,7 @@ pub struct World {
     pub(crate) output: Text,
     /// The status that a `stop` fixed.
     pub(crate) fixed: Option<u8>,
-    /// The numbers that were given out, in order.
-    pub(crate) used: Row<u32>,
+    pub(crate) used: Used,
     pub(crate) moment: u32,
 }
 
@@ -47,22 +49,27 @@ impl Model for World {
     ghost use Rattle.sr_store.specs.contracts.variable.Variable as variable;
     ghost use Rattle.sr_value.specs.contracts.value.Value as value;
 
-    ghost coded = { Prim.hlevel (codes, value.the_row.coded, map.code {R = nat_cmp} coded_ℕ (map.code {R = nat_cmp} coded_ℕ variable.the_row.coded),
-        map.code {R = nat_cmp} coded_ℕ (coded_list held.the_row.coded), map.code {R = nat_cmp} coded_ℕ (coded_list reply.the_row.coded)) };
+    ghost coded = { Prim.hlevel (
+      codes,
+      value.the_row.coded,
+      map.code {R = nat_cmp} coded_ℕ (map.code {R = nat_cmp} coded_ℕ variable.the_row.coded),
+      map.code {R = nat_cmp} coded_ℕ (coded_list held.the_row.coded),
+      map.code {R = nat_cmp} coded_ℕ (coded_list reply.the_row.coded),
+    ) };
 
     ghost view = { λ world. record {
-        live = world.processes.starts;
-        places = world.places;
-        variables = world.blocks.variables;
-        pending = world.queue.items;
-        held = world.calls.held;
-        replies = world.calls.replies;
-        rest = world.input;
-        ended = world.ended;
-        output = world.output;
-        fixed = world.fixed;
-        used = world.used;
-        moment = world.moment;
+      live = world.processes.starts;
+      places = world.places;
+      variables = world.blocks.variables;
+      pending = world.queue.items;
+      held = world.calls.held;
+      replies = world.calls.replies;
+      rest = world.input;
+      ended = world.ended;
+      output = world.output;
+      fixed = world.fixed;
+      used = world.used.names;
+      moment = world.moment;
     } };
 }
 
@@ -92,8 +99,9 @@ impl World {
         processes.add(boot(alloc));
         let mut places = Places::new(alloc);
         places.add_vm(1)?;
-        let mut used = Row::new(alloc);
-        used.push(1)?;
+        let mut used = Used::new(alloc);
+        used.reserve()?;
+        used.push(1);
         Ok(World {
             alloc,
             processes,
@@ -144,6 +152,22 @@ impl World {
         ensures { option_copied result ≡ worlds.started self.now process }
     {
         self.processes.start(process)
+    }
+
+    /// Whether no process, instance or machine has this number.
+    pub fn is_new(&self, name: u32) -> bool
+        ensures new { IsTrue result ↔ IsNew self.now name }
+        ensures needed { IsTrue result → (meant : Does) → NeedsNew meant self.now name }
+    {
+        self.is_unused(name)
+    }
+
+    fn is_unused(&self, name: u32) -> bool
+        ensures { IsTrue result ↔ IsNew self.now name }
+    {
+        !self.processes.is_live(name)
+            && !self.places.is_added(name)
+            && !self.places.machines().as_slice().contains(&name)
     }
 
     /// The machine's moment, in milliseconds.
