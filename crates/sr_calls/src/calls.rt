@@ -90,6 +90,16 @@ impl Calls {
         Ok(())
     }
 
+    /// What a process holds under a number.
+    pub fn holding(&self, actor: u32, id: u32) -> Option<Held>
+        ensures { result ≡ held_as self.now.held actor id }
+    {
+        match self.by_process.get(&actor) {
+            Some(process_calls) => process_calls.holding(id),
+            None => None,
+        }
+    }
+
     /// Takes an invocation from a process that holds it, and says who waits for the reply.
     pub fn release(&mut self, actor: u32, id: u32) -> Option<(u32, u32)>
         ensures found { result ≡ option_map (λ held. (held.back, held.back_id)) (held_as self.old.held actor id) }

@@ -89,6 +89,13 @@ impl ProcessCalls {
         Some(self.held.remove(at))
     }
 
+    /// What it holds under a number.
+    pub fn holding(&self, id: u32) -> Option<Held>
+        ensures { result ≡ find (is_held_as id) self.now.held }
+    {
+        held_in(self.held.as_slice(), id)
+    }
+
     /// Puts a reply after the others.
     pub fn answer(&mut self, reply: Reply) -> Result<(), NoMemory>
         ensures ok { OnOk result (self.new.replies ≡ self.old.replies ++ reply ∷ []) }
@@ -130,6 +137,20 @@ impl ProcessCalls {
         let at = place_among(&self.replies, ids.as_slice())?;
         self.replies.remove(at)
     }
+}
+
+/// An invocation among those that are held.
+fn held_in(held: &[Held], id: u32) -> Option<Held>
+    ensures { result ≡ find (is_held_as id) held.now }
+{
+    let mut rest = held;
+    while let [first, others @ ..] = rest {
+        if first.id == id {
+            return Some(*first);
+        }
+        rest = others;
+    }
+    None
 }
 
 /// Where an invocation stands among those that are held.

@@ -1,9 +1,10 @@
 -- Instances in lists: by name, and the first of a component on a machine.
-use Rattle.std.proofs.Common.{◌≡◌, ◌≢◌, ℕ, Bool, true, false, cond, ◌==◌, List, [], ◌∷◌, ◌++◌, None, Some, IsSome, map, refl, ap, sym, ◌∙◌, true≢false}
+use Rattle.std.proofs.Common.{◌≡◌, ◌≢◌, ℕ, Bool, true, false, cond, ◌==◌, List, [], ◌∷◌, ◌++◌, Option, None, Some, IsSome, map, refl, ap, sym, ◌∙◌, true≢false}
 use Rattle.std.proofs.lemmas.Bool.{eqb-true, false_from_ne_true}
+use Rattle.std.proofs.lemmas.List.Folds.{find-append}
 use Rattle.std.specs.Prelude.{find}
-use Rattle.std.specs.Option.{option_map}
-use Rattle.sr_instances.specs.Instances.{Instance, in_state, is_global}
+use Rattle.std.specs.Option.{option_map, option_or}
+use Rattle.sr_instances.specs.Instances.{Instance, first_among, in_state, is_global}
 use Rattle.sr_instances.specs.Tables.{first_of}
 use Rattle.sr_instances.specs.declared.state.State.{State}
 
@@ -86,3 +87,13 @@ found-push test (x ∷ is) i = by (test x) (found-push test is i)
         → option_map (λ (y : Instance). y.name) (cond b (Some x) (find test (is ++ i ∷ []))) ≡ first_of (option_map (λ y. y.name) (cond b (Some x) (find test is))) (cond (test i) (Some i.name) None)
     by true more = refl
     by false more = more
+
+-- the first of a component, where one more is looked at
+pub first_more : (component : ℕ) (is js : List Instance) → first_among component (is ++ js) ≡ option_or (first_among component is) (first_among component js)
+first_more component is js =
+    ap (option_map (λ (i : Instance). (i.name, i.state))) (find-append (λ (i : Instance). i.component == component) is js)
+    ∙ by (find (λ (i : Instance). i.component == component) is)
+  where
+    by : (o : Option Instance) → option_map (λ (i : Instance). (i.name, i.state)) (option_or o (find (λ (i : Instance). i.component == component) js)) ≡ option_or (option_map (λ (i : Instance). (i.name, i.state)) o) (first_among component js)
+    by None = refl
+    by (Some i) = refl

@@ -42,6 +42,10 @@ is_global global machine i = (global == i.component) && (machine == i.machine)
 abbrev pub global_in : Placed → ℕ → ℕ → Option ℕ
 global_in places global machine = option_map (λ i. i.name) (find (is_global global machine) places.instances)
 
+-- the first instance of a component, on whatever machine, and its state
+abbrev pub first_among : ℕ → List Instance → Option (ℕ × State)
+first_among component instances = option_map (λ i. (i.name, i.state)) (find (λ i. i.component == component) instances)
+
 -- an instance that is made goes after all others, and is starting
 abbrev pub with_instance : Placed → ℕ → ℕ → ℕ → Placed
 with_instance places name component machine =

@@ -1,9 +1,9 @@
 ghost use Rattle.std.specs.Prelude.{◌≡◌, ◌↔◌, [], IsTrue, OnErr, OnOk};
 ghost use Rattle.std.specs.List.{Contains};
-ghost use Rattle.sr_instances.specs.Instances.{IsAdded, component_of, global_in, machine_of, names_of, state_of, with_instance, with_machine, with_state};
+ghost use Rattle.sr_instances.specs.Instances.{IsAdded, component_of, first_among, global_in, machine_of, names_of, state_of, with_instance, with_machine, with_state};
 
 use crate::state::State;
-use crate::tables::{InstanceInfo, Spot, note_first, put};
+use crate::tables::{InstanceInfo, Spot, note_first, note_first_of, put};
 use indexmap::IndexMap;
 use sr_value::{Duplicate, NoMemory, Row};
 use std::alloc::Global;
@@ -95,6 +95,17 @@ impl Places {
             machine: vm,
         };
         self.globals.get(&spot).copied()
+    }
+
+    /// The first instance of a component that was added, and how far it has come.
+    pub fn first_of(&self, component: usize) -> Option<(u32, State)>
+        ensures { result ≡ first_among component self.now.instances }
+    {
+        let mut first = None;
+        for (name, info) in self.instances.iter() {
+            note_first_of(&mut first, *name, *info, component);
+        }
+        first
     }
 
     /// How far an instance has come.

@@ -1,7 +1,9 @@
-ghost use Rattle.std.specs.Prelude.{◌≡◌, ◌<◌, None, Some, if◌then◌else◌};
+ghost use Rattle.std.specs.Prelude.{◌≡◌, ◌<◌, [], ◌∷◌, None, Some, if◌then◌else◌};
 ghost use Rattle.std.specs.Map.{lookup};
+ghost use Rattle.std.specs.Option.{option_or};
 ghost use Rattle.indexmap.specs.IndexMap.{Updates, insert_entry, spare};
-ghost use Rattle.sr_instances.specs.Tables.{first_of, same_spot};
+ghost use Rattle.sr_instances.specs.Instances.{first_among};
+ghost use Rattle.sr_instances.specs.Tables.{first_of, instance_in, same_spot};
 ghost use Rattle.sr_instances.specs.declared.tables.Spot.{Spot};
 
 use crate::state::State;
@@ -39,5 +41,19 @@ pub fn note_first(globals: &mut IndexMap<Spot, u32>, spot: Spot, name: u32)
 {
     if !globals.contains_key(&spot) {
         put(globals, spot, name);
+    }
+}
+
+/// Notes an instance and its state, where it is the first of a component.
+pub fn note_first_of(
+    first: &mut Option<(u32, State)>,
+    name: u32,
+    info: InstanceInfo,
+    component: usize,
+)
+    ensures { first.new ≡ option_or first.old (first_among component (instance_in (name, info) ∷ [])) }
+{
+    if first.is_none() && info.component as usize == component {
+        *first = Some((name, info.state));
     }
 }

@@ -1,0 +1,10 @@
+pub mod DecideLemmas
+pub mod EndLemmas
+pub mod InputLemmas
+pub mod NameLemmas
+pub mod PartLemmas
+pub mod PassLemmas
+pub mod PlaceLemmas
+pub mod StartLemmas
+pub mod StepLemmas
+pub mod TokenLemmas

@@ -1,0 +1,12 @@
+pub mod Acting
+pub mod Answering
+pub mod Deciding
+pub mod Does
+pub mod Endings
+pub mod Inputs
+pub mod Invoking
+pub mod Making
+pub mod Parts
+pub mod Steps
+pub mod Updates
+pub mod Worlds

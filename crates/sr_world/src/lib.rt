@@ -1,0 +1,26 @@
+//! The machine of SR: a world, and what each request of a process does to it.
+#![tactic(auto)]
+
+mod act;
+mod acted;
+mod answering;
+mod closing;
+mod deciding;
+mod duty;
+mod ending;
+mod ends;
+mod input;
+mod invoking;
+pub mod laws;
+mod making;
+mod places;
+mod reading;
+mod starting;
+mod storing;
+mod tokens;
+mod used;
+mod world;
+
+pub use acted::Acted;
+pub use ends::End;
+pub use world::World;

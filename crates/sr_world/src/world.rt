@@ -1,0 +1,186 @@
+ghost use Rattle.std.specs.Prelude.{◌≡◌, ◌↔◌, ◌++◌, ◌∷◌, [], IfOk, IsTrue, OnErr, OnOk, length, option_copied, slice_get, true};
+ghost use Rattle.std.specs.Option.{option_map};
+ghost use Rattle.sr_processes.specs.Living.{IsLive};
+ghost use Rattle.sr_world.specs.Acting.{IsNew, NeedsNew};
+ghost use Rattle.sr_world.specs.Does.{Does};
+ghost use Rattle.sr_world.specs.Worlds as worlds;
+
+use crate::input::Input;
+use crate::used::Used;
+use sr_ask::{Role, Start};
+use sr_calls::Calls;
+use sr_instances::Places;
+use sr_processes::Processes;
+use sr_queue::Queue;
+use sr_store::Blocks;
+use sr_value::{NoMemory, Row, Text};
+use std::alloc::Global;
+use std::marker::Model;
+
+/// All that the machine of a run has at one moment.
+#[derive(Drop)]
+pub struct World {
+    pub(crate) alloc: Global,
+    pub(crate) processes: Processes,
+    pub(crate) places: Places,
+    pub(crate) blocks: Blocks,
+    pub(crate) queue: Queue,
+    pub(crate) calls: Calls,
+    pub(crate) input: Input,
+    /// Whether no more input will come.
+    pub(crate) ended: bool,
+    pub(crate) output: Text,
+    /// The status that a `stop` fixed.
+    pub(crate) fixed: Option<u8>,
+    pub(crate) used: Used,
+    pub(crate) moment: u32,
+}
+
+impl Model for World {
+    ghost use Rattle.sr_world.specs.Worlds.{World};
+
+    ghost Value = { World };
+
+    ghost use Rattle.std.specs.Coded.{codes, coded_list, coded_ℕ};
+    ghost use Rattle.std.specs.FinMap as map;
+    ghost use Rattle.std.specs.Ordering.{nat_cmp};
+    ghost use Rattle.sr_calls.specs.contracts.held.Held as held;
+    ghost use Rattle.sr_calls.specs.contracts.held.Reply as reply;
+    ghost use Rattle.sr_store.specs.contracts.variable.Variable as variable;
+    ghost use Rattle.sr_value.specs.contracts.value.Value as value;
+
+    ghost coded = { Prim.hlevel (
+      codes,
+      value.the_row.coded,
+      map.code {R = nat_cmp} coded_ℕ (map.code {R = nat_cmp} coded_ℕ variable.the_row.coded),
+      map.code {R = nat_cmp} coded_ℕ (coded_list held.the_row.coded),
+      map.code {R = nat_cmp} coded_ℕ (coded_list reply.the_row.coded),
+    ) };
+
+    ghost view = { λ world. record {
+      live = world.processes.starts;
+      places = world.places;
+      variables = world.blocks.variables;
+      pending = world.queue.items;
+      held = world.calls.held;
+      replies = world.calls.replies;
+      rest = world.input;
+      ended = world.ended;
+      output = world.output;
+      fixed = world.fixed;
+      used = world.used.names;
+      moment = world.moment;
+    } };
+}
+
+/// What the boot process is started with. It runs on machine 1.
+fn boot(alloc: Global) -> Start
+    ensures { result ≡ worlds.boot }
+{
+    Start {
+        process: 1,
+        instance: 0,
+        vm: 1,
+        homes: Row::new(alloc),
+        role: Role::Boot,
+        code: 0,
+        args: Row::new(alloc),
+        back: 0,
+    }
+}
+
+impl World {
+    /// The world in which a run of a program begins: machine 1 and the boot process, which makes main.
+    pub fn begin(alloc: Global) -> Result<World, NoMemory>
+        ensures { IfOk result (λ world. world ≡ worlds.beginning) }
+    {
+        let mut processes = Processes::new(alloc);
+        processes.reserve()?;
+        processes.add(boot(alloc));
+        let mut places = Places::new(alloc);
+        places.add_vm(1)?;
+        let mut used = Used::new(alloc);
+        used.reserve()?;
+        used.push(1);
+        Ok(World {
+            alloc,
+            processes,
+            places,
+            blocks: Blocks::new(alloc),
+            queue: Queue::new(alloc),
+            calls: Calls::new(alloc),
+            input: Input::new(alloc),
+            ended: false,
+            output: Text::new(alloc),
+            fixed: None,
+            used,
+            moment: 0,
+        })
+    }
+
+    /// Adds bytes to the input. Whatever was read already stays so.
+    pub fn give(&mut self, bytes: &[u8]) -> Result<(), NoMemory>
+        ensures ok { OnOk result (self.new ≡ record self.old { rest = self.old.rest ++ bytes.now }) }
+        ensures err { OnErr result (self.new ≡ self.old) }
+    {
+        self.input.give(bytes)
+    }
+
+    /// Says that no more input will come.
+    pub fn end_input(&mut self)
+        ensures { self.new ≡ record self.old { ended = true } }
+    {
+        self.ended = true;
+    }
+
+    /// How many processes live.
+    pub fn len(&self) -> usize
+        ensures { result ≡ length self.now.live }
+    {
+        self.processes.len()
+    }
+
+    /// What the process was started with that stands at a place in the order of their making, from 0.
+    pub fn live_at(&self, place: usize) -> Option<&Start>
+        ensures { option_copied result ≡ slice_get self.now.live place }
+    {
+        self.processes.at(place)
+    }
+
+    /// What a process was started with, where it lives.
+    pub fn started(&self, process: u32) -> Option<&Start>
+        ensures { option_copied result ≡ worlds.started self.now process }
+    {
+        self.processes.start(process)
+    }
+
+    /// Whether no process, instance or machine has this number.
+    pub fn is_new(&self, name: u32) -> bool
+        ensures new { IsTrue result ↔ IsNew self.now name }
+        ensures needed { IsTrue result → (meant : Does) → NeedsNew meant self.now name }
+    {
+        self.is_unused(name)
+    }
+
+    fn is_unused(&self, name: u32) -> bool
+        ensures { IsTrue result ↔ IsNew self.now name }
+    {
+        !self.processes.is_live(name)
+            && !self.places.is_added(name)
+            && !self.places.machines().as_slice().contains(&name)
+    }
+
+    /// The machine's moment, in milliseconds.
+    pub fn moment(&self) -> u32
+        ensures { result ≡ self.now.moment }
+    {
+        self.moment
+    }
+
+    /// What was written.
+    pub fn output(&self) -> &Text
+        ensures { result.now ≡ self.now.output }
+    {
+        &self.output
+    }
+}
