@@ -1,5 +1,4 @@
 pub mod Expressions
-pub mod Guards
 pub mod Here
 pub mod Laws
 pub mod Pieces
