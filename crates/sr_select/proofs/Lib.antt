@@ -4,3 +4,4 @@ pub mod LawProofs
 pub mod LeastLemmas
 pub mod NameLemmas
 pub mod PlaceLemmas
+pub mod TwinLemmas
