@@ -1,5 +1,5 @@
 -- Proofs of the laws of choices.
-use Rattle.std.proofs.Common.{◌≡◌, ℕ, ◌+◌, Bool, true, false, List, [], ◌∷◌, ◌++◌, refl, ap, sym, ◌∙◌, cond}
+use Rattle.std.proofs.Common.{◌≡◌, ℕ, zero, suc, ◌+◌, ℤ, Bool, true, false, List, [], ◌∷◌, ◌++◌, refl, ap, sym, ◌∙◌, cond}
 use Rattle.std.specs.Prelude.{Option, Some, None, Result, Ok, is_none, option_map, ◌&&◌, ◌||◌, ◌==◌, filter, slice_get}
 use Rattle.std.specs.List.{cons_option, enumerate_from, list_all}
 use Rattle.std.proofs.Common.{true≢false, subst, eqb-true}
@@ -9,6 +9,7 @@ use Rattle.sr_value.specs.declared.fault.Fault.{Fault}
 use Rattle.sr_value.specs.declared.value.Value.{Value}
 use Rattle.sr_value.specs.Operators.{owner_eq}
 use Rattle.sr_core.specs.Formals.{first_of}
+use Rattle.sr_core.specs.declared.expression.Expr.{Expr}
 use Rattle.sr_core.specs.declared.owner.Me.{Me}
 use Rattle.sr_core.specs.declared.site.Arm.{Arm}
 use Rattle.sr_core.specs.declared.site.Site.{Site}
@@ -16,12 +17,14 @@ use Rattle.sr_queue.specs.declared.pending.Pending.{Pending}
 use Rattle.sr_queue.specs.Queues.{is_of}
 use Rattle.sr_select.specs.declared.choice.Choice.{Choice}
 use Rattle.sr_select.specs.declared.choice.Choice.TheVariants.{Service, Else, Nothing, Bad}
-use Rattle.sr_select.specs.Choices.{Pair, Seeing, all_pairs, choice, choice_among, decides, fixed, is_not_false, otherwise, owner_in, pairs, pairs_of, passes, sees_of, serviced}
-use Rattle.sr_select.specs.Guards.{truth_of_guard}
-use Rattle.sr_select.specs.Laws.{is_plain, oldest, GuardsAgree, Services, Services_it, chosen_in, is_in_class, is_named}
-use Rattle.sr_select.specs.Looks.{result_of}
+use Rattle.sr_select.specs.Choices.{Pair, Seeing, all_pairs, choice, choice_among, decides, fixed, is_not_false, key_with, otherwise, owner_in, pairs, pairs_of, passes, passes_with, sees_of, serviced}
+use Rattle.sr_select.specs.Guards.{home_seen, machine_seen, own_seen, truth_of_guard}
+use Rattle.sr_select.specs.Laws.{is_plain, oldest, Services, Services_it, chosen_in, is_in_class, is_named}
+use Rattle.sr_select.specs.Looks.{Looked, result_of}
 use Rattle.sr_select.specs.Readings.{Reading}
+use Rattle.sr_select.specs.Worlds.{SameWatched, Watched, arm_names_only, maybe_names_only, reads_only}
 use Rattle.sr_select.proofs.ChoiceLemmas.{choice-take}
+use Rattle.sr_select.proofs.WatchedLemmas.{key-alike, truth-alike}
 use Rattle.sr_select.proofs.TwinLemmas.{SameChoice, same-otherwise, same-queues}
 
 -- every pair of a list has an arm without `and` and `by`
@@ -101,6 +104,36 @@ same-chosen owner arms items items' (Bad found number) (Service there number') s
 same-chosen owner arms items items' (Bad found number) Else same = absurd same
 same-chosen owner arms items items' (Bad found number) Nothing same = absurd same
 
+-- In two worlds the guards of a statement come to the same, each for whatever arguments.
+pub record GuardsAgree (site : Site) (me : Me) (env : List Value) (reading reading' : Reading) : Type 0 where
+  pub conditions : (number : ℕ) (arm : Arm) → slice_get site.arms number ≡ Some arm → (args : List Value)
+      → result_of (passes_with (sees_of reading site me env) arm args) ≡ result_of (passes_with (sees_of reading' site me env) arm args)
+  pub keys : (number : ℕ) (arm : Arm) (by : Expr) → slice_get site.arms number ≡ Some arm → arm.by ≡ Some by → (args : List Value)
+      → result_of (key_with (sees_of reading site me env) arm by args) ≡ result_of (key_with (sees_of reading' site me env) arm by args)
+
+-- an arm of a list passes what all pass
+listed-passes : (test : Arm → Bool) (arms : List Arm) (number : ℕ) (arm : Arm) → list_all test arms ≡ true → slice_get arms number ≡ Some arm → test arm ≡ true
+listed-passes test [] number arm all found = absurd (cc found)
+listed-passes test (first ∷ arms) zero arm all found = let same : first ≡ arm = cc found in sym (ap test same) ∙ (both-true (test first) (list_all test arms) all).0
+listed-passes test (first ∷ arms) (suc number) arm all found = listed-passes test arms number arm (both-true (test first) (list_all test arms) all).1 found
+
+-- so they do where the worlds hold the same in all that the guards name
+guards-agree : (watched : Watched) (site : Site) (me : Me) (env : List Value) (reading reading' : Reading) → reads_only watched site ≡ true → SameWatched watched site me env reading reading'
+    → GuardsAgree site me env reading reading'
+guards-agree watched site me env reading reading' within same =
+    let parts : (number : ℕ) (arm : Arm) → slice_get site.arms number ≡ Some arm → (maybe_names_only watched arm.guard ≡ true) × (maybe_names_only watched arm.by ≡ true) =
+    λ number arm found. both-true (maybe_names_only watched arm.guard) (maybe_names_only watched arm.by) (listed-passes (arm_names_only watched) site.arms number arm within found) in
+    record {
+      conditions = λ number arm found args.
+          ap (λ (look : Looked Bool). result_of look)
+          (truth-alike watched reading reading' me (own_seen arm args site.names env) (home_seen site.names env) (machine_seen site.names env) same.cells same.counts same.literals
+          arm.guard (parts number arm found).0 []);
+      keys = λ number arm by found its args.
+          ap (λ (look : Looked (Option ℤ)). result_of look)
+          (key-alike watched reading reading' me (own_seen arm args site.names env) (home_seen site.names env) (machine_seen site.names env) same.cells same.counts same.literals
+          arm.guard by (parts number arm found).0 (sym (ap (maybe_names_only watched) its) ∙ (parts number arm found).1) []);
+    }
+
 -- the choices of two queues with the same named invocations, where the guards agree
 same-choice : (site : Site) (me : Me) (env : List Value) (reading reading' : Reading) (items items' : List Pending) → GuardsAgree site me env reading reading'
     → filter (is_named (owner_in site.scope me) site.arms) items ≡ filter (is_named (owner_in site.scope me) site.arms) items'
@@ -174,12 +207,12 @@ narrower test wide (p ∷ items) within = narrower-step test wide p items (wide 
 pub one-class-decides : (reading reading' : Reading) (site : Site) (me : Me) (env : List Value) (items items' : List Pending) (class : ℕ → Bool)
     → list_all (λ (arm : Arm). class arm.op) site.arms ≡ true
     → filter (is_in_class (owner_in site.scope me) class) items ≡ filter (is_in_class (owner_in site.scope me) class) items'
-    → GuardsAgree site me env reading reading'
+    → (watched : Watched) → reads_only watched site ≡ true → SameWatched watched site me env reading reading'
     → chosen_in items (choice reading site me env items) ≡ chosen_in items' (choice reading' site me env items')
-one-class-decides reading reading' site me env items items' class all e agree =
+one-class-decides reading reading' site me env items items' class all e watched within_watched same_watched =
     let owner : Owner = owner_in site.scope me in
     let named : Pending → Bool = is_named owner site.arms in
     let within : (p : Pending) → named p ≡ true → is_in_class owner class p ≡ true = λ p h. class-of-named owner class site.arms p all h in
     same-chosen owner site.arms items items' (choice reading site me env items) (choice reading' site me env items')
-    (same-choice site me env reading reading' items items' agree
+    (same-choice site me env reading reading' items items' (guards-agree watched site me env reading reading' within_watched same_watched)
     (sym (narrower named (is_in_class owner class) items within) ∙ ap (λ (l : List Pending). filter named l) e ∙ narrower named (is_in_class owner class) items' within))

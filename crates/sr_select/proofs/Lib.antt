@@ -5,3 +5,4 @@ pub mod LeastLemmas
 pub mod NameLemmas
 pub mod PlaceLemmas
 pub mod TwinLemmas
+pub mod WatchedLemmas

@@ -3,9 +3,7 @@ use Rattle.std.specs.Prelude.{◌≡◌, ℕ, ◌&&◌, Bool, true, List, Option
 use Rattle.std.specs.List.{list_any}
 use Rattle.sr_value.specs.declared.capability.Owner.{Owner}
 use Rattle.sr_value.specs.declared.fault.Fault.{Fault}
-use Rattle.sr_value.specs.declared.value.Value.{Value}
 use Rattle.sr_value.specs.Operators.{owner_eq}
-use Rattle.sr_core.specs.declared.expression.Expr.{Expr}
 use Rattle.sr_core.specs.declared.owner.Me.{Me}
 use Rattle.sr_core.specs.declared.site.Arm.{Arm}
 use Rattle.sr_core.specs.declared.site.Site.{Site}
@@ -14,9 +12,7 @@ use Rattle.sr_queue.specs.declared.pending.Pending.{Pending}
 use Rattle.sr_queue.specs.Queues.{is_of}
 use Rattle.sr_select.specs.declared.choice.Choice.{Choice}
 use Rattle.sr_select.specs.declared.choice.Choice.TheVariants.{Service, Else, Nothing, Bad}
-use Rattle.sr_select.specs.Choices.{all_pairs, key_with, owner_in, passes_with, sees_of}
-use Rattle.sr_select.specs.Looks.{result_of}
-use Rattle.sr_select.specs.Readings.{Reading}
+use Rattle.sr_select.specs.Choices.{all_pairs, owner_in}
 
 -- no `and` and no `by`
 abbrev pub is_plain : Arm → Bool
@@ -54,10 +50,3 @@ chosen_in items (Service place number) = Services_it (slice_get items place) num
 chosen_in items Else = Runs_else
 chosen_in items Nothing = Waits
 chosen_in items (Bad found number) = Faults found number
-
--- In two worlds the guards of a statement come to the same, each for whatever arguments: they find the same in what they read.
-pub record GuardsAgree (site : Site) (me : Me) (env : List Value) (reading reading' : Reading) : Type 0 where
-  pub conditions : (number : ℕ) (arm : Arm) → slice_get site.arms number ≡ Some arm → (args : List Value)
-      → result_of (passes_with (sees_of reading site me env) arm args) ≡ result_of (passes_with (sees_of reading' site me env) arm args)
-  pub keys : (number : ℕ) (arm : Arm) (by : Expr) → slice_get site.arms number ≡ Some arm → arm.by ≡ Some by → (args : List Value)
-      → result_of (key_with (sees_of reading site me env) arm by args) ≡ result_of (key_with (sees_of reading' site me env) arm by args)

@@ -1,5 +1,5 @@
 -- What one invocation adds to the choice; one of another operation adds nothing.
-use Rattle.std.specs.Prelude.{ℕ, ℤ, Bool, false, [], Option, Some, None, if◌then◌else◌}
+use Rattle.std.specs.Prelude.{ℕ, ℤ, Bool, true, false, [], Option, Some, None, if◌then◌else◌}
 use Rattle.sr_value.specs.declared.capability.Owner.{Owner}
 use Rattle.sr_core.specs.declared.expression.Expr.{Expr}
 use Rattle.sr_core.specs.declared.site.Arm.{Arm}

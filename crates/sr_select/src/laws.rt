@@ -6,8 +6,9 @@ ghost use Rattle.sr_core.specs.declared.site.Site.{Site};
 ghost use Rattle.sr_queue.specs.declared.pending.Pending.{Pending};
 ghost use Rattle.sr_select.specs.declared.choice.Choice.TheVariants.{Service};
 ghost use Rattle.sr_select.specs.Choices.{choice, otherwise, owner_in};
-ghost use Rattle.sr_select.specs.Laws.{GuardsAgree, Services, chosen_in, is_in_class, is_named, is_plain, oldest};
+ghost use Rattle.sr_select.specs.Laws.{Services, chosen_in, is_in_class, is_named, is_plain, oldest};
 ghost use Rattle.sr_select.specs.Readings.{Reading};
+ghost use Rattle.sr_select.specs.Worlds.{SameWatched, Watched, reads_only};
 
 /// A law of choices: where no arm has `and` or `by`, the oldest invocation is serviced.
 pub fn oldest_goes_first()
@@ -29,12 +30,12 @@ pub fn others_change_nothing()
         → chosen_in (front ++ p ∷ later) (choice reading site me env (front ++ p ∷ later)) ≡ chosen_in (front ++ later) (choice reading site me env (front ++ later)) }
 {}
 
-/// A law of choices: where two queues have the same invocations of the statement's class and owner, and the guards find
-/// the same in both worlds, the choice is the same but for the place in the queue.
+/// A law of choices: where two queues have the same invocations of the statement's class and owner, and two worlds hold the
+/// same in what its guards name, the choice is the same but for the place in the queue.
 pub fn one_class_decides()
     ensures { (reading reading' : Reading) (site : Site) (me : Me) (env : List Value) (items items' : List Pending) (class : ℕ → Bool)
         → list_all (λ arm. class arm.op) site.arms ≡ true
         → filter (is_in_class (owner_in site.scope me) class) items ≡ filter (is_in_class (owner_in site.scope me) class) items'
-        → GuardsAgree site me env reading reading'
+        → (watched : Watched) → reads_only watched site ≡ true → SameWatched watched site me env reading reading'
         → chosen_in items (choice reading site me env items) ≡ chosen_in items' (choice reading' site me env items') }
 {}
