@@ -10,3 +10,4 @@ pub mod StartLemmas
 pub mod StepLemmas
 pub mod TokenLemmas
 pub mod UsedLemmas
+pub mod WakingLemmas

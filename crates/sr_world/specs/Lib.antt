@@ -11,4 +11,5 @@ pub mod Parts
 pub mod Selecting
 pub mod Steps
 pub mod Updates
+pub mod Waking
 pub mod Worlds
