@@ -3,8 +3,8 @@ use Rattle.std.proofs.Common.{◌≡◌, ℕ, suc, ◌+◌, ◌<◌, ◌≤◌, 
 use Rattle.std.proofs.lemmas.Bool.{ltb-false, ltb-true}
 use Rattle.std.proofs.lemmas.List.Folds.{find_at}
 use Rattle.std.proofs.lemmas.Option.{slice_get_past}
-use Rattle.std.specs.Prelude.{find, position, remove, slice_get, nat_lt}
-use Rattle.std.specs.List.{position_or_len}
+use Rattle.std.specs.Prelude.{◌||◌, find, position, remove, slice_get, nat_lt}
+use Rattle.std.specs.List.{list_any, position_or_len}
 use Rattle.sr_calls.specs.Calls.{without_first}
 
 module _ {A : Type 0} (test : A → Bool) where
@@ -74,3 +74,13 @@ module _ {A : Type 0} (test : A → Bool) where
       by : (b : Bool) → (find test xs ≡ None → find test (xs ++ y ∷ []) ≡ Some y) → cond b (Some z) (find test xs) ≡ None → cond b (Some z) (find test (xs ++ y ∷ [])) ≡ Some y
       by true more h = absurd (true≢false (ap is_some h))
       by false more h = more h
+
+-- ---- whether one passes
+
+pub some_found : {A : Type 0} (test : A → Bool) (xs : List A) → is_some (find test xs) ≡ list_any test xs
+some_found test [] = refl
+some_found test (x ∷ xs) = by (test x) (some_found test xs)
+  where
+    by : (b : Bool) → is_some (find test xs) ≡ list_any test xs → is_some (cond b (Some x) (find test xs)) ≡ (b || list_any test xs)
+    by true more = refl
+    by false more = more

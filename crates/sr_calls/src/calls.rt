@@ -1,4 +1,4 @@
-ghost use Rattle.std.specs.Prelude.{◌≡◌, IfNone, IsOk, OnErr, OnOk};
+ghost use Rattle.std.specs.Prelude.{◌≡◌, IfNone, IsOk, OnErr, OnOk, is_some};
 ghost use Rattle.std.specs.Option.{option_map};
 ghost use Rattle.std.specs.FinMap as map;
 ghost use Rattle.sr_calls.specs.Calls.{CanAnswer, CanHold, KeepsAnswers, KeepsHolds, KeepsOtherAnswers, KeepsOtherHolds, earliest_reply, held_as, with_item, without_held, without_reply};
@@ -147,6 +147,16 @@ impl Calls {
         process_calls.answer(reply)?;
         self.by_process.insert(caller, process_calls)?;
         Ok(())
+    }
+
+    /// Whether there is a reply to a caller whose number is among `ids`.
+    pub fn has_reply(&self, caller: u32, ids: &Row<u32>) -> bool
+        ensures { result ≡ is_some (earliest_reply self.now.replies caller ids.now) }
+    {
+        match self.by_process.get(&caller) {
+            Some(process_calls) => process_calls.has_reply(ids),
+            None => false,
+        }
     }
 
     /// Takes the earliest reply to a caller whose number is among `ids`.

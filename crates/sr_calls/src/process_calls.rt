@@ -1,4 +1,5 @@
-ghost use Rattle.std.specs.Prelude.{◌≡◌, ◌<◌, ◌≤◌, [], ◌∷◌, ◌++◌, IfNone, IsOk, OnErr, OnOk, Some, find, position};
+ghost use Rattle.std.specs.Prelude.{◌≡◌, ◌<◌, ◌≤◌, [], ◌∷◌, ◌++◌, IfNone, IsOk, OnErr, OnOk, Some, find, is_some, position};
+ghost use Rattle.std.specs.List.{list_any};
 ghost use Rattle.sr_calls.specs.Calls.{answers_one, is_held_as, without_first};
 ghost use Rattle.sr_calls.specs.PerProcess.{KeepsRoom};
 
@@ -126,6 +127,14 @@ impl ProcessCalls {
         Ok(())
     }
 
+    /// Whether there is a reply whose number is among `ids`.
+    #[tactic(auto, using(crate::proofs::FirstLemmas::some_found))]
+    pub fn has_reply(&self, ids: &Row<u32>) -> bool
+        ensures { result ≡ is_some (find (answers_one ids.now) self.now.replies) }
+    {
+        is_any_among(&self.replies, ids.as_slice())
+    }
+
     /// Takes the earliest reply out whose number is among `ids`.
     pub fn take(&mut self, ids: &Row<u32>) -> Option<Reply>
         ensures found { result ≡ find (answers_one ids.now) self.old.replies }
@@ -165,4 +174,11 @@ fn place_among(replies: &VecDeque<Reply>, ids: &[u32]) -> Option<usize>
     ensures { result ≡ position (answers_one ids.now) replies.now.items }
 {
     replies.iter().position(|reply| ids.contains(&reply.id))
+}
+
+/// Whether the number of a reply is among `ids`.
+fn is_any_among(replies: &VecDeque<Reply>, ids: &[u32]) -> bool
+    ensures { result ≡ list_any (answers_one ids.now) replies.now.items }
+{
+    replies.iter().any(|reply| ids.contains(&reply.id))
 }

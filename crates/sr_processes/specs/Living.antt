@@ -1,5 +1,6 @@
 -- The processes that haven't ended.
 use Rattle.std.specs.Prelude.{ℕ, Bool, not, ◌==◌, List, find, filter, map, Option, IsSome}
+use Rattle.std.specs.List.{list_any}
 use Rattle.sr_ask.specs.declared.start.Start.{Start}
 
 -- the processes in the order of their making, and how many more are added without memory
@@ -27,3 +28,7 @@ numbers_in starts instance = map (λ start. start.process) (filter (λ start. in
 
 abbrev pub numbers_of : List Start → List ℕ
 numbers_of starts = map (λ start. start.process) starts
+
+-- a process whose number stands in a list
+abbrev pub is_among : List ℕ → Start → Bool
+is_among numbers start = list_any (λ n. n == start.process) numbers

@@ -1,6 +1,6 @@
-ghost use Rattle.std.specs.Prelude.{◌≡◌, ◌↔◌, ◌<◌, ◌≤◌, ◌++◌, ◌∷◌, [], IfOk, IsOk, IsTrue, OnErr, OnOk, length, nat_eq, option_copied, slice_get};
+ghost use Rattle.std.specs.Prelude.{◌≡◌, ◌↔◌, ◌<◌, ◌≤◌, ◌++◌, ◌∷◌, [], IfOk, IsOk, IsTrue, OnErr, OnOk, length, nat_eq, option_copied, position, slice_get};
 ghost use Rattle.indexmap.specs.IndexMap.{insert_entry, spare};
-ghost use Rattle.sr_processes.specs.Living.{IsLive, numbers_in, start_of, without_process};
+ghost use Rattle.sr_processes.specs.Living.{IsLive, is_among, numbers_in, start_of, without_process};
 
 use indexmap::IndexMap;
 use sr_ask::Start;
@@ -89,6 +89,15 @@ impl Processes {
     {
         let (_, start) = self.starts.get_index(place)?;
         Some(start)
+    }
+
+    /// The place of the first process whose number stands in a list. It takes no memory.
+    pub fn first_among(&self, numbers: &[u32]) -> Option<usize>
+        ensures { result ≡ position (is_among numbers.now) self.now.starts }
+    {
+        self.starts
+            .values()
+            .position(|start| numbers.contains(&start.process))
     }
 
     /// The processes that run the code of an instance, in the order of their making.

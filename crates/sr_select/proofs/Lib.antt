@@ -4,3 +4,5 @@ pub mod LawProofs
 pub mod LeastLemmas
 pub mod NameLemmas
 pub mod PlaceLemmas
+pub mod TwinLemmas
+pub mod WatchedLemmas

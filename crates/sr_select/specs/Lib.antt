@@ -7,3 +7,4 @@ pub mod Readings
 pub mod Selections
 pub mod Sights
 pub mod Steps
+pub mod Worlds

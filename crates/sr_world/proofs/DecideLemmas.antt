@@ -7,7 +7,10 @@ use Rattle.sr_ask.specs.declared.request.Request.{Request}
 use Rattle.sr_ask.specs.declared.request.Request.TheVariants as request
 use Rattle.sr_calls.specs.Calls.{earliest_reply}
 use Rattle.sr_core.specs.declared.component.Core.{Core}
+use Rattle.sr_core.specs.declared.site.Site.{Site}
 use Rattle.sr_instances.specs.Instances.{Instance, global_in, state_of}
+use Rattle.sr_select.specs.declared.choice.Choice.{Choice}
+use Rattle.sr_select.specs.declared.choice.Choice.TheVariants as choice
 use Rattle.sr_store.specs.Variables.{declared_in, loaded_in, stored_in}
 use Rattle.sr_value.specs.declared.capability.Cap.{Cap}
 use Rattle.sr_value.specs.declared.capability.Cap.TheVariants as cap
@@ -22,6 +25,7 @@ use Rattle.sr_world.specs.Inputs.{is_decided, item_read}
 use Rattle.sr_world.specs.Invoking.{invoke, is_gone}
 use Rattle.sr_world.specs.Making.{component_at, has_final_code, is_open, is_ready, needs_ready}
 use Rattle.sr_world.specs.Parts.{can_close}
+use Rattle.sr_world.specs.Selecting.{by_choice, choice_of, select}
 use Rattle.sr_world.specs.Steps.{create, done_by, ensure_found, ensure_global, on_machine}
 use Rattle.sr_world.specs.Updates.{release, with_rest}
 use Rattle.sr_world.specs.Worlds.{World}
@@ -95,6 +99,15 @@ module _ (core : Core) (world : World) (place : Place) (name : ℕ) where
       by None = refl
       by (Some n) = made_close (Some n) (end.Stopped n) (main_instance core world)
 
+  never_choice : (actor : ℕ) (site : Site) (chosen : Choice) → makes (by_choice world actor site chosen) ≡ false
+  never_choice actor site (choice.Service at arm) = never_where (slice_get world.pending at) _ (λ invocation. refl)
+  never_choice actor site choice.Else = refl
+  never_choice actor site choice.Nothing = refl
+  never_choice actor site (choice.Bad fault arm) = never_where (slice_get site.arms arm) _ (λ a. refl)
+
+  pub never_select : (actor site : ℕ) (env : List Value) → makes (select core world actor site env) ≡ false
+  never_select actor site env = never_where (slice_get core.sites site) _ (λ s. never_choice actor s (choice_of core world actor env s))
+
 -- ---- input
 
 abbrev pub waits : Does → Bool
@@ -149,12 +162,21 @@ module _ (core : Core) (place : Place) (name : ℕ) where
     sure_stop None = refl
     sure_stop (Some n) = sure_close (Some n) (end.Stopped n) (main_instance core world)
 
+    sure_choice : (actor : ℕ) (site : Site) (chosen : Choice) → waits (by_choice world actor site chosen) ≡ false
+    sure_choice actor site (choice.Service at arm) = sure_where (slice_get world.pending at) _ (λ invocation. refl)
+    sure_choice actor site choice.Else = refl
+    sure_choice actor site choice.Nothing = refl
+    sure_choice actor site (choice.Bad fault arm) = sure_where (slice_get site.arms arm) _ (λ a. refl)
+
+    sure_select : (actor site : ℕ) (env : List Value) → waits (select core world actor site env) ≡ false
+    sure_select actor site env = sure_where (slice_get core.sites site) _ (λ s. sure_choice actor s (choice_of core world actor env s))
+
     pub waits_is : (actor : ℕ) (role : Role) (r : Request) → waits (done_by core world actor name place role r) ≡ awaits_input world r
     waits_is actor role (request.Declare block var shape) = sure_done place (declared_in world.variables block var shape) _ (λ variables. refl)
     waits_is actor role (request.Load block var path) = sure_done place (loaded_in world.variables block var path) _ (λ value. refl)
     waits_is actor role (request.Store block var path value) = sure_done place (stored_in world.variables block var path value) _ (λ variables. refl)
     waits_is actor role (request.Invoke target args wants) = sure_invoke target args _ world
-    waits_is actor role (request.Select site env) = refl
+    waits_is actor role (request.Select site env) = sure_select actor site env
     waits_is actor role (request.Take ids) = sure_where (earliest_reply world.replies actor ids) _ (λ reply. refl)
     waits_is actor role (request.Reply held back results) = refl
     waits_is actor role (request.Forward held back target args) = sure_invoke target args _ (release actor held world)
@@ -214,7 +236,7 @@ module _ (core : Core) (place : Place) (name : ℕ) where
     makes_is actor role (request.Load block var path) = never_done place (loaded_in world.variables block var path) _ (λ value. refl)
     makes_is actor role (request.Store block var path value) = never_done place (stored_in world.variables block var path value) _ (λ variables. refl)
     makes_is actor role (request.Invoke target args wants) = makes_called target args _ world
-    makes_is actor role (request.Select site env) = refl
+    makes_is actor role (request.Select site env) = never_select core world place name actor site env
     makes_is actor role (request.Take ids) = never_where (earliest_reply world.replies actor ids) _ (λ reply. refl)
     makes_is actor role (request.Reply held back results) = refl
     makes_is actor role (request.Forward held back target args) = makes_called target args _ (release actor held world)

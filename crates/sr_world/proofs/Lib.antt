@@ -5,6 +5,9 @@ pub mod NameLemmas
 pub mod PartLemmas
 pub mod PassLemmas
 pub mod PlaceLemmas
+pub mod ReadyLemmas
 pub mod StartLemmas
 pub mod StepLemmas
 pub mod TokenLemmas
+pub mod UsedLemmas
+pub mod WakingLemmas

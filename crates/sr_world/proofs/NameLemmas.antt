@@ -1,10 +1,6 @@
 -- The number of a step decides nothing; a new one serves every step.
-use Rattle.std.proofs.Common.{◌≡◌, ℕ, Bool, true, false, List, Option, None, Some, refl}
-use Rattle.std.specs.Prelude.{if◌then◌else◌, slice_get}
-use Rattle.sr_core.specs.declared.component.Core.{Core}
-use Rattle.sr_core.specs.declared.component.Operation.{Operation}
-use Rattle.sr_value.specs.declared.capability.Cap.{Cap}
-use Rattle.sr_value.specs.declared.capability.Cap.TheVariants as cap
+use Rattle.std.proofs.Common.{◌≡◌, ℕ, Bool, true, false, Option, None, Some, refl}
+use Rattle.std.specs.Prelude.{if◌then◌else◌}
 use Rattle.sr_world.specs.Acting.{IsNew, NeedsNew}
 use Rattle.sr_world.specs.Does.{Does, Did, Makes, Cannot, Ends, Undecided, comes_to, where_some}
 use Rattle.sr_world.specs.Worlds.{World}

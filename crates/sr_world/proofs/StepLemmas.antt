@@ -1,5 +1,5 @@
 -- What each request comes to doesn't depend on the number of its step.
-use Rattle.std.proofs.Common.{◌≡◌, ℕ, Bool, List, Option, None, Some, refl}
+use Rattle.std.proofs.Common.{◌≡◌, ℕ, List, Option, None, Some, refl}
 use Rattle.std.specs.Prelude.{slice_get}
 use Rattle.sr_ask.specs.declared.ask.Role.{Role}
 use Rattle.sr_ask.specs.declared.request.Request.{Request}
@@ -10,12 +10,11 @@ use Rattle.sr_value.specs.declared.capability.Cap.{Cap}
 use Rattle.sr_value.specs.declared.capability.Cap.TheVariants as cap
 use Rattle.sr_value.specs.declared.place.Place.{Place}
 use Rattle.sr_value.specs.declared.value.Value.{Value}
-use Rattle.sr_world.specs.Answering.{duty_held}
 use Rattle.sr_world.specs.Does.{Does, comes_to}
-use Rattle.sr_world.specs.Endings.{close_or, destroy, main_instance, may_close, rest_of, status_in, stop_with}
+use Rattle.sr_world.specs.Endings.{close_or, destroy, main_instance, may_close, status_in, stop_with}
 use Rattle.sr_world.specs.Invoking.{invoke, is_gone}
-use Rattle.sr_world.specs.Making.{component_at, has_final_code, is_open, is_ready, needs_ready}
-use Rattle.sr_world.specs.Steps.{create_on, done_by, duty_for, ensure_found, ensure_on, on_machine}
+use Rattle.sr_world.specs.Making.{component_at, has_final_code, is_open, needs_ready}
+use Rattle.sr_world.specs.Steps.{done_by, ensure_found, on_machine}
 use Rattle.sr_world.specs.Updates.{release}
 use Rattle.sr_world.specs.Worlds.{World}
 use Rattle.sr_world.specs.declared.ends.End.{End}

@@ -1,5 +1,5 @@
 -- What a call that carries a request out leaves.
-use Rattle.std.specs.Prelude.{◌≡◌, ℕ, List, Result, Ok, Err}
+use Rattle.std.specs.Prelude.{◌≡◌, ℕ, Result, Ok, Err}
 use Rattle.std.specs.List.{Contains}
 use Rattle.sr_instances.specs.Instances.{IsAdded}
 use Rattle.sr_processes.specs.Living.{IsLive}

@@ -1,6 +1,6 @@
 -- Who answers whom. A call makes the duty to answer its caller; so do `create` and `destroy`. The duty stands with the
 -- invocation, moves with `forward`, and ends with a reply.
-use Rattle.std.specs.Prelude.{ℕ, ◌==◌, Bool, List, Option, Some, None, unwrap_or, if◌then◌else◌}
+use Rattle.std.specs.Prelude.{ℕ, List, Option, Some, unwrap_or, if◌then◌else◌}
 use Rattle.std.specs.Option.{option_map}
 use Rattle.sr_calls.specs.Calls.{held_as}
 use Rattle.sr_calls.specs.declared.held.Held.{Held}

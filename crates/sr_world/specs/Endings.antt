@@ -1,12 +1,10 @@
 -- How instances, processes and the run end.
-use Rattle.std.specs.Prelude.{ℕ, zero, suc, ℤ, pos, negsuc, ◌==◌, Bool, true, false, ◌&&◌, List, [], ◌∷◌, find, nat_le, Option, Some, None, Result, Ok, Err, if◌then◌else◌}
-use Rattle.std.specs.Option.{option_map}
+use Rattle.std.specs.Prelude.{ℕ, zero, suc, ℤ, pos, negsuc, ◌==◌, Bool, true, false, ◌&&◌, List, [], find, nat_le, Option, Some, None, if◌then◌else◌}
 use Rattle.sr_ask.specs.declared.answer.Answer.TheVariants as answer
 use Rattle.sr_ask.specs.declared.ask.Role.{Role}
-use Rattle.sr_ask.specs.declared.ask.Role.TheVariants.{Boot, Initial, Proc as proc_role, Final}
+use Rattle.sr_ask.specs.declared.ask.Role.TheVariants.{Initial, Final}
 use Rattle.sr_core.specs.declared.component.Core.{Core}
 use Rattle.sr_instances.specs.Instances.{Instance, state_of}
-use Rattle.sr_instances.specs.declared.state.State.{State}
 use Rattle.sr_meaning.specs.Processes.{main_of}
 use Rattle.sr_value.specs.declared.capability.Cap.{Cap}
 use Rattle.sr_value.specs.declared.capability.Cap.TheVariants as cap
@@ -14,7 +12,7 @@ use Rattle.sr_value.specs.declared.fault.Fault.TheVariants as fault
 use Rattle.sr_value.specs.declared.place.Place.{Place}
 use Rattle.sr_value.specs.declared.value.Value.{Value}
 use Rattle.sr_world.specs.Answering.{answer as answered, duty_held, held_of}
-use Rattle.sr_world.specs.Does.{Does, Did, Makes, Cannot, Ends, failed}
+use Rattle.sr_world.specs.Does.{Does, Makes, Cannot, Ends, failed}
 use Rattle.sr_world.specs.Invoking.{instance_of_process}
 use Rattle.sr_world.specs.Making.{component_at, has_final_code, is_open, make_ready, run_final}
 use Rattle.sr_world.specs.Updates.{end_all, end_instance, end_process, fix, hold, use_name}

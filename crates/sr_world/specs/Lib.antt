@@ -6,7 +6,10 @@ pub mod Endings
 pub mod Inputs
 pub mod Invoking
 pub mod Making
+pub mod Names
 pub mod Parts
+pub mod Selecting
 pub mod Steps
 pub mod Updates
+pub mod Waking
 pub mod Worlds

@@ -1,15 +1,14 @@
 -- How processes and instances are made.
-use Rattle.std.specs.Prelude.{ℕ, ◌==◌, Bool, true, false, List, [], ◌∷◌, map, Option, Some, None, unwrap_or, slice_get, is_some, if◌then◌else◌}
+use Rattle.std.specs.Prelude.{ℕ, Bool, true, false, List, [], map, Option, Some, unwrap_or, slice_get, is_some}
 use Rattle.std.specs.List.{list_all}
 use Rattle.std.specs.Option.{option_and_then, option_map}
 use Rattle.sr_ask.specs.declared.ask.Role.{Role}
 use Rattle.sr_ask.specs.declared.ask.Role.TheVariants.{Initial, Final, Proc as proc_role}
 use Rattle.sr_ask.specs.declared.start.Start.{Start}
-use Rattle.sr_core.specs.declared.component.Component.{Component}
 use Rattle.sr_core.specs.declared.component.Core.{Core}
-use Rattle.sr_instances.specs.Instances.{Placed, component_of, global_in, machine_of, state_of}
+use Rattle.sr_instances.specs.Instances.{component_of, global_in, machine_of, state_of}
 use Rattle.sr_instances.specs.declared.state.State.{State}
-use Rattle.sr_instances.specs.declared.state.State.TheVariants.{Starting, Ready, Closing, Gone}
+use Rattle.sr_instances.specs.declared.state.State.TheVariants.{Starting, Ready, Closing}
 use Rattle.sr_value.specs.declared.value.Value.{Value}
 use Rattle.sr_world.specs.Answering.{held_of}
 use Rattle.sr_world.specs.Updates.{add_instance, add_process, hold, set_state, use_name}

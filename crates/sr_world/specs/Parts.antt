@@ -1,6 +1,7 @@
 -- What the code does to the parts of a world, one after another.
-use Rattle.std.specs.Prelude.{◌≡◌, ℕ, zero, suc, pos, Bool, true, false, List, [], Option, Some, None, Result, Ok, Err, is_some, unwrap_or, if◌then◌else◌, fold}
+use Rattle.std.specs.Prelude.{◌≡◌, ◌==◌, ◌&&◌, ◌+◌, ◌<◌, nat_lt, ℕ, zero, suc, pos, Bool, true, false, List, [], Option, Some, None, Result, Ok, Err, is_some, unwrap_or, if◌then◌else◌, fold}
 use Rattle.std.specs.FinMap as map
+use Rattle.std.specs.List.{Contains}
 use Rattle.std.specs.Option.{option_and_then}
 use Rattle.sr_ask.specs.declared.answer.Answer.TheVariants as answer
 use Rattle.sr_ask.specs.declared.ask.Role.{Role}
@@ -28,6 +29,7 @@ use Rattle.sr_world.specs.Does.{Does, Did, Makes, failed}
 use Rattle.sr_world.specs.Endings.{may_close}
 use Rattle.sr_world.specs.Invoking.{arrive, instance_of_process, is_gone, owner_for}
 use Rattle.sr_world.specs.Making.{is_ready, run_initial}
+use Rattle.sr_world.specs.Names.{IsGreatest}
 use Rattle.sr_world.specs.Updates.{add_pending, use_name}
 use Rattle.sr_world.specs.Worlds.{World}
 use Rattle.sr_world.specs.declared.acted.Acted.{Acted}
@@ -40,6 +42,23 @@ use Rattle.sr_world.specs.declared.ends.End.TheVariants as end
 pub record Numbers : Type 0 where
   pub names : List ℕ
   pub room : ℕ
+
+-- each number from 1 below this one was given out
+pub record AreUsedBelow (names : List ℕ) (next : ℕ) : Type 0 where
+  pub positive : 0 < next
+  pub below : (k : ℕ) → 0 < k → k < next → Contains names k
+
+-- what is kept of the numbers: each below `next` was given out, and this is the greatest
+pub record Bounds (names : List ℕ) (next greatest : ℕ) : Type 0 where
+  pub low : AreUsedBelow names next
+  pub high : IsGreatest names greatest
+
+-- one more number below which each was given out, where the next of them is
+abbrev pub next_after : ℕ → ℕ → ℕ
+next_after next name = if next == name && nat_lt name 4294967295 then name + 1 else next
+
+abbrev pub greater : ℕ → ℕ → ℕ
+greater greatest name = if nat_lt greatest name then name else greatest
 
 -- ---- variables
 

@@ -1,7 +1,5 @@
 -- What a request of a process does to a world: one line for each request.
-use Rattle.std.specs.Prelude.{ℕ, pos, ◌==◌, Bool, true, false, List, [], ◌∷◌, Option, Some, None, is_some, nat_lt, slice_get, if◌then◌else◌}
-use Rattle.std.specs.Option.{option_and_then, option_map}
-use Rattle.sr_ask.specs.declared.answer.Answer.{Answer}
+use Rattle.std.specs.Prelude.{ℕ, pos, ◌==◌, Bool, true, false, List, [], Option, Some, None, nat_lt, slice_get, if◌then◌else◌}
 use Rattle.sr_ask.specs.declared.answer.Answer.TheVariants as answer
 use Rattle.sr_ask.specs.declared.ask.Ask.{Ask}
 use Rattle.sr_ask.specs.declared.ask.Role.{Role}
@@ -10,9 +8,7 @@ use Rattle.sr_ask.specs.declared.request.Request.{Request}
 use Rattle.sr_ask.specs.declared.request.ReadKind.{ReadKind}
 use Rattle.sr_ask.specs.declared.request.Request.TheVariants as request
 use Rattle.sr_calls.specs.Calls.{earliest_reply}
-use Rattle.sr_calls.specs.declared.held.Reply.{Reply}
 use Rattle.sr_core.specs.declared.component.Core.{Core}
-use Rattle.sr_core.specs.declared.component.Operation.{Operation}
 use Rattle.sr_instances.specs.Instances.{global_in, state_of}
 use Rattle.sr_queue.specs.Queues.{waiting}
 use Rattle.sr_store.specs.Variables.{declared_in, loaded_in, stored_in}
@@ -29,6 +25,7 @@ use Rattle.sr_world.specs.Endings.{destroy, finish, stop}
 use Rattle.sr_world.specs.Inputs.{is_decided, item_read}
 use Rattle.sr_world.specs.Invoking.{instance_of_process, invoke, owner_for}
 use Rattle.sr_world.specs.Making.{is_ready, make_ready, needs_ready, run_initial}
+use Rattle.sr_world.specs.Selecting.{select}
 use Rattle.sr_world.specs.Updates.{add_machine, drop_reply, hold, release, use_name, with_rest, with_variables, write}
 use Rattle.sr_world.specs.Worlds.{World}
 use Rattle.sr_world.specs.declared.duty.Duty.{Duty}
@@ -121,13 +118,13 @@ wake until world = if nat_lt world.moment until then Cannot else Did world answe
 
 -- ---- the table
 
--- what a request of `actor` does whose step has the number `name`; a `Select` is decided by the choice
+-- what a request of `actor` does whose step has the number `name`
 abbrev pub done_by : Core → World → ℕ → ℕ → Place → Role → Request → Does
 done_by core world actor name place role (request.Declare block var shape) = declare place block var shape world
 done_by core world actor name place role (request.Load block var path) = load place block var path world
 done_by core world actor name place role (request.Store block var path value) = store place block var path value world
 done_by core world actor name place role (request.Invoke target args wants) = invoke core place name target args (duty_for wants actor name) world
-done_by core world actor name place role (request.Select site env) = Cannot
+done_by core world actor name place role (request.Select site env) = select core world actor site env
 done_by core world actor name place role (request.Take ids) = take actor ids world
 done_by core world actor name place role (request.Reply held back results) = Did (reply role actor held results world) answer.Done
 done_by core world actor name place role (request.Forward held back target args) = forward core place actor name held target args world

@@ -48,7 +48,7 @@ impl World {
                 };
                 self.invoke(core, place, *target, args, sending)
             }
-            Request::Select { .. } => Ok(Acted::Cannot),
+            Request::Select { site, env } => self.select(core, actor, *site, env),
             Request::Take { ids } => self.take(actor, ids),
             Request::Reply { held, results, .. } => self.reply(ask.role, actor, *held, results),
             Request::Forward {

@@ -1,5 +1,6 @@
 ghost use Rattle.std.specs.Prelude.{◌≡◌, ◌++◌, ◌∷◌, [], None, OnErr, OnOk};
 ghost use Rattle.sr_processes.specs.Living.{IsLive};
+ghost use Rattle.sr_queue.specs.Queues.{waiting as waiting_in};
 ghost use Rattle.sr_world.specs.Acting.{Acts, NeedsNew};
 ghost use Rattle.sr_world.specs.Invoking.{arrive as arrive_of, invoke as invoke_of, is_gone as gone_in, owner_instance as instance_of_owner, owner_for as owner_in};
 ghost use Rattle.sr_world.specs.Making.{run_proc as proc_run};
@@ -191,6 +192,14 @@ impl World {
         }
     }
 
+    /// How many invocations of an operation of this scope are pending, as a process sees them.
+    pub(crate) fn waiting(&self, process: u32, op: u32, scope: Scope) -> u32
+        ensures { result ≡ waiting_in (owner_in self.now process scope) op self.now.pending }
+    {
+        let owner = self.owner_for(process, scope);
+        self.queue.count(owner, op)
+    }
+
     /// Tells how many invocations of an operation are pending.
     pub(crate) fn count(&mut self, core: &Core, actor: u32, op: u32) -> Result<Acted, NoMemory>
         ensures { Acts (count_of core.now actor op self.old) self.old self.new result }
@@ -206,8 +215,7 @@ impl World {
     fn count_in(&mut self, actor: u32, op: u32, scope: Scope) -> Result<Acted, NoMemory>
         ensures { Acts (count_found actor op scope self.old) self.old self.new result }
     {
-        let owner = self.owner_for(actor, scope);
-        match i32::try_from(self.queue.count(owner, op)) {
+        match i32::try_from(self.waiting(actor, op, scope)) {
             Ok(number) => Ok(Acted::Done(Answer::Number(number))),
             Err(_) => Err(NoMemory),
         }

@@ -1,8 +1,9 @@
-ghost use Rattle.std.specs.Prelude.{◌≡◌, ◌↔◌, ◌++◌, ◌∷◌, [], IfOk, IsTrue, OnErr, OnOk, length, option_copied, slice_get, true};
+ghost use Rattle.std.specs.Prelude.{◌≡◌, ◌↔◌, ◌++◌, ◌∷◌, [], IfNone, IfOk, IfSome, IsTrue, OnErr, OnOk, length, option_copied, slice_get, true};
 ghost use Rattle.std.specs.Option.{option_map};
 ghost use Rattle.sr_processes.specs.Living.{IsLive};
 ghost use Rattle.sr_world.specs.Acting.{IsNew, NeedsNew};
 ghost use Rattle.sr_world.specs.Does.{Does};
+ghost use Rattle.sr_world.specs.Names.{AreAllUsed, IsGreatest, IsLeastUnused, made_after as made_after_in};
 ghost use Rattle.sr_world.specs.Worlds as worlds;
 
 use crate::input::Input;
@@ -168,6 +169,36 @@ impl World {
         !self.processes.is_live(name)
             && !self.places.is_added(name)
             && !self.places.machines().as_slice().contains(&name)
+    }
+
+    /// The least number from 1 on that no process, instance, machine or invocation has got; none where each
+    /// has been given out. Where a run takes this number at each step, it is found without a search.
+    pub fn least_unused(&self) -> Option<u32>
+        ensures some { IfSome result (IsLeastUnused self.now.used) }
+        ensures none { IfNone result (AreAllUsed self.now.used) }
+    {
+        self.used.least_unused()
+    }
+
+    /// The greatest number that was given out, or 0.
+    pub fn greatest_used(&self) -> u32
+        ensures { IsGreatest self.now.used result }
+    {
+        self.used.greatest()
+    }
+
+    /// The place in the order of making of the first living process that was made after this one, which may
+    /// have ended; how many live, where there is none. All were made after 0. It takes no memory.
+    pub fn made_after(&self, process: u32) -> usize
+        ensures { result ≡ made_after_in self.now process }
+    {
+        if process == 0 {
+            return 0;
+        }
+        match self.processes.first_among(self.used.after(process)) {
+            Some(place) => place,
+            None => self.processes.len(),
+        }
     }
 
     /// The machine's moment, in milliseconds.

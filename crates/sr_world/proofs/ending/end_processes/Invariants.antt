@@ -1,4 +1,4 @@
-use Rattle.std.proofs.Common.{◌≡◌, ◌≤◌, ℕ, take}
+use Rattle.std.proofs.Common.{◌≡◌, ◌≤◌, take}
 use Rattle.sr_world.specs.Parts.{KeepsReplies, people_of, without_all}
 use Rattle.sr_world.proofs.ending.end_processes.Given as goal
 

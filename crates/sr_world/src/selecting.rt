@@ -1,0 +1,118 @@
+ghost use Rattle.std.specs.Prelude.{◌≡◌, IfOk};
+ghost use Rattle.sr_calls.specs.Calls.{CanHold, with_item};
+ghost use Rattle.sr_world.specs.Acting.{Acts};
+ghost use Rattle.sr_world.specs.Selecting.{choice_of, fault_at, select as select_of, select_at as select_of_at, service_at as service_of_at};
+
+use crate::acted::Acted;
+use crate::ends::End;
+use crate::reads::GuardReads;
+use crate::world::World;
+use sr_ask::Answer;
+use sr_calls::{Calls, Held};
+use sr_core::{Core, Me, Site};
+use sr_queue::Pending;
+use sr_select::{Choice, choose};
+use sr_value::{Fault, NoMemory, Row, Value};
+
+/// Notes that a process services an invocation. It takes no memory.
+fn take_over(calls: &mut Calls, process: u32, held: Held)
+    requires { CanHold calls.old process }
+    ensures held { calls.new.held ≡ with_item calls.old.held process held }
+    ensures replies { calls.new.replies ≡ calls.old.replies }
+{
+    let _ = calls.hold(process, held.id, held.back, held.back_id);
+}
+
+impl World {
+    /// What an `in` statement of a process does. It takes memory only where guards do.
+    pub(crate) fn choice(
+        &self,
+        core: &Core,
+        process: u32,
+        site: &Site,
+        env: &Row<Value>,
+    ) -> Result<Choice, NoMemory>
+        ensures { IfOk result (λ chosen. chosen ≡ choice_of core.now self.now process env.now site.now) }
+    {
+        let me = Me {
+            process,
+            instance: self.instance_of_process(process),
+        };
+        let reads = GuardReads {
+            core,
+            world: self,
+            process,
+        };
+        choose(self.alloc, &self.queue, site, me, env, &reads)
+    }
+
+    /// A process services the invocation at a place of the list by an arm.
+    fn service(&mut self, process: u32, place: u32, arm: u32) -> Result<Acted, NoMemory>
+        ensures { Acts (service_of_at self.old process place arm) self.old self.new result }
+    {
+        if place >= self.queue.len() {
+            return Ok(Acted::Cannot);
+        }
+        self.calls.reserve(process)?;
+        let Pending {
+            id,
+            args,
+            back,
+            back_id,
+            ..
+        } = self.queue.remove_at(place);
+        take_over(&mut self.calls, process, Held { id, back, back_id });
+        Ok(Acted::Done(Answer::Picked {
+            id,
+            arm,
+            args,
+            back,
+        }))
+    }
+
+    /// The run ends by the fault of a guard, at its arm.
+    fn fail_at(&self, site: &Site, fault: Fault, arm: u32) -> Result<Acted, NoMemory>
+        ensures { Acts (fault_at site.now fault arm) self.now self.now result }
+    {
+        match site.arms.get(arm as usize) {
+            Some(arm) => Ok(Acted::Ends(End::Failed {
+                fault,
+                place: arm.place,
+            })),
+            None => Ok(Acted::Cannot),
+        }
+    }
+
+    fn select_at(
+        &mut self,
+        core: &Core,
+        process: u32,
+        site: &Site,
+        env: &Row<Value>,
+    ) -> Result<Acted, NoMemory>
+        ensures { Acts (select_of_at core.now self.old process env.now site.now) self.old self.new result }
+    {
+        match self.choice(core, process, site, env)? {
+            Choice::Service { place, arm } => self.service(process, place, arm),
+            Choice::Else => Ok(Acted::Done(Answer::Else)),
+            Choice::Nothing => Ok(Acted::Cannot),
+            Choice::Bad { fault, arm } => self.fail_at(site, fault, arm),
+        }
+    }
+
+    /// Chooses an invocation for an `in` statement of a process, which services it.
+    pub(crate) fn select(
+        &mut self,
+        core: &Core,
+        process: u32,
+        site: u32,
+        env: &Row<Value>,
+    ) -> Result<Acted, NoMemory>
+        ensures { Acts (select_of core.now self.old process site env.now) self.old self.new result }
+    {
+        match core.sites.get(site as usize) {
+            Some(site) => self.select_at(core, process, site, env),
+            None => Ok(Acted::Cannot),
+        }
+    }
+}
