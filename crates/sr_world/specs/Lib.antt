@@ -9,6 +9,9 @@ pub mod Making
 pub mod Names
 pub mod Parts
 pub mod Selecting
+pub mod Runs
+pub mod Sound
+pub mod Spots
 pub mod Steps
 pub mod Updates
 pub mod Worlds

@@ -1,0 +1,6 @@
+pub mod CallLemmas
+pub mod CountLemmas
+pub mod KeepLemmas
+pub mod MoveLemmas
+pub mod RequestLemmas
+pub mod StandLemmas
