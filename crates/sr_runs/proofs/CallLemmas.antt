@@ -45,7 +45,7 @@ module _ {A : Type 0} where
         by : (b : Bool) → (p == q) ≡ b → count_by t (items_of (with_item all p x) q) ≤ count_by t (items_of all q) + one (t x && b)
         by true is =
             let grown : count_by t (items_of (with_item all p x) q) ≡ count_by t (items_of all p) + one (t x) =
-                ap (count_by t) (items-at all p q (items_of all p ++ x ∷ []) is) ∙ count-push t (items_of all p) x in
+            ap (count_by t) (items-at all p q (items_of all p ++ x ∷ []) is) ∙ count-push t (items_of all p) x in
             let here : count_by t (items_of all p) ≡ count_by t (items_of all q) = ap (λ n. count_by t (items_of all n)) (eqb-true p q is) in
             let one-is : one (t x && true) ≡ one (t x) = and-true (t x) in
             omega (arith, grown, here, one-is)

@@ -78,7 +78,7 @@ in_hand-fewer calls old new duty fewer hand = record {
 
 -- nobody waits for it
 pub no-hand : (calls : Calls) (state : State) (id : ℕ) → InHand calls state (no_duty id)
-no-hand calls state id = record { clear = λ some. absurd (true≢false some); used = λ some. absurd (true≢false some); known = λ some. absurd (true≢false some); }
+no-hand calls state id = record { clear = λ some. absurd (true≢false some); used = λ some. absurd (true≢false some); known = λ some. absurd (true≢false some) }
 
 pub duty-marked : (id back back_id : ℕ) → is_duty id back back_id ≡ true → ((back == 0) ≡ false) × (back_id ≡ id)
 duty-marked id back back_id is = by (back == 0) refl (back_id == id) refl is
@@ -118,15 +118,15 @@ fresh-fewer name old new fewer fresh = λ thing is. clear-fewer old new thing fe
 
 pub fresh-is : (calls : Calls) (state : State) (name : ℕ) → HasSoundDuties calls state → times_used state.world name ≡ 0 → IsFresh name state
 fresh-is calls state name sound none = λ thing is spot.
-  let unused : times_used state.world (number_of thing) ≡ 0 = subst (λ n. times_used state.world n ≡ 0) (sym is) none in
-  omega (arith, sound.numbers thing spot, unused)
+    let unused : times_used state.world (number_of thing) ≡ 0 = subst (λ n. times_used state.world n ≡ 0) (sym is) none in
+    omega (arith, sound.numbers thing spot, unused)
 
 -- ---- updates that take nothing that stands anywhere
 
 module _ (given : ℕ → List Answer) where
   -- the same lists
   pub same-fewer : (w w' : World) → w'.pending ≡ w.pending → w'.held ≡ w.held → w'.replies ≡ w.replies → w'.used ≡ w.used → Fewer (at w given) (at w' given)
-  same-fewer w w' pending held replies used = record { spots = same; used = λ n. let e = ap (count_by (λ u. u == n)) used in omega (arith, e); }
+  same-fewer w w' pending held replies used = record { spots = same; used = λ n. let e = ap (count_by (λ u. u == n)) used in omega (arith, e) }
     where
       same : (tests : Tests) (spot : Spot) → stands tests (at w' given) spot ≤ stands tests (at w given) spot
       same tests Waiting = let e = ap (count_by tests.pending) pending in omega (arith, e)
@@ -189,9 +189,9 @@ module _ (calls : Calls) (given : ℕ → List Answer) where
       once = k.numbers.once;
       zero_never = k.numbers.zero_never;
       processes = λ n.
-        let more = one-more (count_by (λ s. s.process == n) w.live) (times_used w n) start.process n (start.process == n) refl
-            (λ e. subst (λ m. suc (count_by (λ s. s.process == m) w.live) ≤ times_used w m) e room) (k.numbers.processes n) in
-        omega (arith, more, count-push (λ s. s.process == n) w.live start);
+          let more = one-more (count_by (λ s. s.process == n) w.live) (times_used w n) start.process n (start.process == n) refl
+          (λ e. subst (λ m. suc (count_by (λ s. s.process == m) w.live) ≤ times_used w m) e room) (k.numbers.processes n) in
+          omega (arith, more, count-push (λ s. s.process == n) w.live start);
       instances = k.numbers.instances;
       machines = k.numbers.machines;
     };
@@ -210,10 +210,10 @@ module _ (calls : Calls) (given : ℕ → List Answer) where
       zero_never = k.numbers.zero_never;
       processes = k.numbers.processes;
       instances = λ n.
-        let more = one-more (count_by (λ i. i.name == n) w.places.instances) (times_used w n) name n (name == n) refl
-            (λ e. subst (λ m. suc (count_by (λ i. i.name == m) w.places.instances) ≤ times_used w m) e room) (k.numbers.instances n) in
-        let made : Instance = record { name = name; component = component; machine = machine; state = Starting } in
-        omega (arith, more, count-push (λ (i : Instance). i.name == n) w.places.instances made);
+          let more = one-more (count_by (λ i. i.name == n) w.places.instances) (times_used w n) name n (name == n) refl
+          (λ e. subst (λ m. suc (count_by (λ i. i.name == m) w.places.instances) ≤ times_used w m) e room) (k.numbers.instances n) in
+          let made : Instance = record { name = name; component = component; machine = machine; state = Starting } in
+          omega (arith, more, count-push (λ (i : Instance). i.name == n) w.places.instances made);
       machines = k.numbers.machines;
     };
     processes = record { holders = k.processes.holders; callers = k.processes.callers; hearers = k.processes.hearers };
@@ -228,9 +228,9 @@ module _ (calls : Calls) (given : ℕ → List Answer) where
       processes = k.numbers.processes;
       instances = k.numbers.instances;
       machines = λ n.
-        let more = one-more (count_by (λ m. m == n) w.places.machines) (times_used w n) name n (name == n) refl
-            (λ e. subst (λ m. suc (count_by (λ i. i == m) w.places.machines) ≤ times_used w m) e room) (k.numbers.machines n) in
-        omega (arith, more, count-push (λ m. m == n) w.places.machines name);
+          let more = one-more (count_by (λ m. m == n) w.places.machines) (times_used w n) name n (name == n) refl
+          (λ e. subst (λ m. suc (count_by (λ i. i == m) w.places.machines) ≤ times_used w m) e room) (k.numbers.machines n) in
+          omega (arith, more, count-push (λ m. m == n) w.places.machines name);
     };
     processes = record { holders = k.processes.holders; callers = k.processes.callers; hearers = k.processes.hearers };
     duties = duties-fewer calls (at w given) (at (add_machine name w) given) k.duties (same-fewer given w (add_machine name w) refl refl refl refl);

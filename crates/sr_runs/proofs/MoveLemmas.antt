@@ -135,8 +135,8 @@ module _ (calls : Calls) (given : ℕ → List Answer) where
         clear = λ some. clear-taken calls (at w given) (at w' given) (DutyOf h.back_id) (HeldBy process) k.duties fewer (k.numbers.once h.back_id)
             (taken (tests_of (DutyOf h.back_id)) h found (marked h some));
         used = λ some.
-          let less = taken (tests_of (DutyOf h.back_id)) h found (marked h some) in
-          omega (arith, less, k.duties.numbers (DutyOf h.back_id) (HeldBy process), fewer.used h.back_id);
+            let less = taken (tests_of (DutyOf h.back_id)) h found (marked h some) in
+            omega (arith, less, k.duties.numbers (DutyOf h.back_id) (HeldBy process), fewer.used h.back_id);
         known = known h found;
       }
 
@@ -149,8 +149,8 @@ module _ (calls : Calls) (given : ℕ → List Answer) where
   ended-hand w process id k =
       held-hand w (end_process process w) process id k (end_process-fewer given process w)
       (λ tests h found marked.
-        let none = ap (count_by tests.held) (removed-at w.held process process (eq-eqb process process refl)) in
-        omega (arith, count-without_first tests.held (is_held_as id) (items_of w.held process) h found, ap one marked, none))
+      let none = ap (count_by tests.held) (removed-at w.held process process (eq-eqb process process refl)) in
+      omega (arith, count-without_first tests.held (is_held_as id) (items_of w.held process) h found, ap one marked, none))
 
   -- ---- what gets a new number
 
@@ -191,7 +191,7 @@ module _ (calls : Calls) (given : ℕ → List Answer) where
       let began : K (add_process start used) = add_process-kept calls given start used named (omega (arith, new, k.numbers.processes name, used-once w name)) in
       let before = same-fewer given used (add_process start used) refl refl refl refl in
       let fresh : IsFresh name (at (add_process start used) given) =
-          fresh-fewer name (at used given) (at (add_process start used) given) before (fresh-fewer name (at w given) (at used given) (use_name-fewer given name w) (new-fresh w name k new)) in
+      fresh-fewer name (at used given) (at (add_process start used) given) before (fresh-fewer name (at w given) (at used given) (use_name-fewer given name w) (new-fresh w name k new)) in
       hold-kept calls given (add_process start used) name name duty began (began-live used start name refl) (in_hand-fewer calls (at used given) (at (add_process start used) given) duty before hand)
       (fresh (OpenInvocation name) refl) (omega (arith, used-once w name))
 
@@ -221,7 +221,7 @@ module _ (calls : Calls) (given : ℕ → List Answer) where
       let after : World = add_process start before in
       let later = fewer-then (at used given) (at before given) (at after given) fewer (same-fewer given before after refl refl refl refl) in
       let fresh : IsFresh name (at after given) =
-          fresh-fewer name (at used given) (at after given) later (fresh-fewer name (at w given) (at used given) (use_name-fewer given name w) (new-fresh w name k new)) in
+      fresh-fewer name (at used given) (at after given) later (fresh-fewer name (at w given) (at used given) (use_name-fewer given name w) (new-fresh w name k new)) in
       hold-kept calls given after name name duty began (began-live before start name is) (in_hand-fewer calls (at used given) (at after given) duty later hand)
       (fresh (OpenInvocation name) refl) (omega (arith, used-once w name, later.used name))
 

@@ -130,8 +130,8 @@ module _ (calls : Calls) (given : ℕ → List Answer) (actor name : ℕ) where
     made : (w' : World) (a : Answer) → (IsNamed calls given w actor name → K calls given w') → w'.used ≡ w.used ++ name ∷ [] → w'.output ≡ w.output → IsPlain a → Well w (Makes w' a)
     made w' a kept used output plain = record {
       kept = λ named.
-        plain-kept calls given w' actor a (kept named)
-        (let e = ap (count_by (λ u. u == actor)) used in omega (arith, acts, e, (use_name-fewer given name w).used actor)) plain.0 plain.1 plain.2;
+          plain-kept calls given w' actor a (kept named)
+          (let e = ap (count_by (λ u. u == actor)) used in omega (arith, acts, e, (use_name-fewer given name w).used actor)) plain.0 plain.1 plain.2;
       used = used;
       output = output;
     }
@@ -155,9 +155,9 @@ module _ (calls : Calls) (given : ℕ → List Answer) (actor name : ℕ) where
         well-arrive core owner op args None =
             made (arrive core name owner op args duty None from) (answer.Made name)
             (λ named.
-              add_pending-kept calls given (use_name name from) name op owner args duty (use_name-kept calls given name from kept (from-new named) named.nonzero) (hand named)
-              (fresh-fewer name (at from given) (at (use_name name from) given) (use_name-fewer given name from) (new-fresh calls given from name kept (from-new named)))
-              (omega (arith, used-once calls given from name))) from-used same.output
+            add_pending-kept calls given (use_name name from) name op owner args duty (use_name-kept calls given name from kept (from-new named) named.nonzero) (hand named)
+            (fresh-fewer name (at from given) (at (use_name name from) given) (use_name-fewer given name from) (new-fresh calls given from name kept (from-new named)))
+            (omega (arith, used-once calls given from name))) from-used same.output
             (λ id. refl, λ id. refl, refl)
 
         well-at-once : (results : Option (List Value)) → Well w (Makes (answered duty results (use_name name from)) (answer.Made name))
@@ -199,9 +199,10 @@ module _ (calls : Calls) (given : ℕ → List Answer) (actor name : ℕ) where
 
         clear : (thing : Thing) → (tests_of thing).answer actor (answer.Took reply.id reply.results) ≡ true → IsClear thing (at after given) × (1 ≤ times_used after (number_of thing))
         clear (DutyOf id) is =
-            let less = reply-of (tests_of (DutyOf id)) is in
-            (clear-taken calls (at w given) (at after given) (DutyOf id) (RepliedTo actor) k.duties (drop_reply-fewer given actor ids w) (k.numbers.once id) less,
-            omega (arith, less, k.duties.numbers (DutyOf id) (RepliedTo actor)))
+            let less = reply-of (tests_of (DutyOf id)) is in (
+              clear-taken calls (at w given) (at after given) (DutyOf id) (RepliedTo actor) k.duties (drop_reply-fewer given actor ids w) (k.numbers.once id) less,
+              omega (arith, less, k.duties.numbers (DutyOf id) (RepliedTo actor)),
+            )
         clear (OpenInvocation id) is = absurd (true≢false (sym is))
         clear (ServiceOf id) is = absurd (true≢false (sym is))
 
@@ -251,8 +252,8 @@ module _ (calls : Calls) (given : ℕ → List Answer) (actor name : ℕ) where
         well-if w (needs_ready core w resource machine) _ _
         (made (hold name (held_of name (duty_for true actor name)) (run_initial core name resource machine args actor w)) (answer.Made name)
         (λ named.
-          hold-new calls given name (duty_for true actor name) (start_in core placed name name Initial resource args actor) w placed refl k named.new (new-hand calls given w actor name true k named)
-          (same-fewer given used placed refl refl refl refl) (run_initial-kept calls given core name resource machine args actor w k named.new named.nonzero)) refl refl
+        hold-new calls given name (duty_for true actor name) (start_in core placed name name Initial resource args actor) w placed refl k named.new (new-hand calls given w actor name true k named)
+        (same-fewer given used placed refl refl refl refl) (run_initial-kept calls given core name resource machine args actor w k named.new named.nonzero)) refl refl
         (λ id. refl, λ id. refl, refl)) tt
 
     well-open : (core : Core) (instance : ℕ) → Well w (cond (has_final_code core (component_at w instance)) (Makes (close core name instance (duty_for true actor name) w) (answer.Made name))
@@ -266,13 +267,13 @@ module _ (calls : Calls) (given : ℕ → List Answer) (actor name : ℕ) where
         well-if w (has_final_code core (component_at w instance)) _ _
         (made (close core name instance duty w) (answer.Made name)
         (λ named.
-          hold-new calls given name duty (start_in core used name instance Final (component_at w instance) [] actor) w closing refl k named.new (new-hand calls given w actor name true k named)
-          (same-fewer given used closing refl refl refl refl) (run_final-kept calls given core name instance actor w k named.new named.nonzero)) refl refl
+        hold-new calls given name duty (start_in core used name instance Final (component_at w instance) [] actor) w closing refl k named.new (new-hand calls given w actor name true k named)
+        (same-fewer given used closing refl refl refl refl) (run_final-kept calls given core name instance actor w k named.new named.nonzero)) refl refl
         (λ id. refl, λ id. refl, refl))
         (made (answered duty (Some []) (end_instance instance used)) (answer.Made name)
         (λ named.
-          answered-kept calls given (end_instance instance used) duty (Some []) (ends.kept (use_name-kept calls given name w k named.new named.nonzero))
-          (in_hand-fewer calls (at used given) (at (end_instance instance used) given) duty ends.fewer (new-hand calls given w actor name true k named)))
+        answered-kept calls given (end_instance instance used) duty (Some []) (ends.kept (use_name-kept calls given name w k named.new named.nonzero))
+        (in_hand-fewer calls (at used given) (at (end_instance instance used) given) duty ends.fewer (new-hand calls given w actor name true k named)))
         (same'.used ∙ ends.same.used) (same'.output ∙ ends.same.output) (λ id. refl, λ id. refl, refl))
 
     same-world : Same w w
@@ -348,8 +349,8 @@ module _ (calls : Calls) (given : ℕ → List Answer) (actor name : ℕ) where
     well core place role request.MakeVm =
         made (add_machine name (use_name name w)) (answer.Made name)
         (λ named.
-          add_machine-kept calls given name (use_name name w) (use_name-kept calls given name w k named.new named.nonzero)
-          (omega (arith, named.new, k.numbers.machines name, used-once calls given w name))) refl refl
+        add_machine-kept calls given name (use_name name w) (use_name-kept calls given name w k named.new named.nonzero)
+        (omega (arith, named.new, k.numbers.machines name, used-once calls given w name))) refl refl
         (λ id. refl, λ id. refl, refl)
     well core place role (request.Destroy target) = well-destroy core place target
     well core place role (request.Finish answered back results) = well-finish role answered back results

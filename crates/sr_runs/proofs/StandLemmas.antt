@@ -90,7 +90,7 @@ module _ (calls : Calls) (old new : State) (sound : HasSoundDuties calls old) wh
   duties-fewer fewer = record {
     numbers = λ thing spot. omega (arith, fewer.spots (tests_of thing) spot, sound.numbers thing spot, fewer.used (number_of thing));
     places = λ thing spot other here there.
-      sound.places thing spot other (omega (arith, here, fewer.spots (tests_of thing) spot)) (omega (arith, there, fewer.spots (tests_of thing) other));
+        sound.places thing spot other (omega (arith, here, fewer.spots (tests_of thing) spot)) (omega (arith, there, fewer.spots (tests_of thing) other));
     callers = λ spot. omega (arith, fewer.spots (astray calls) spot, sound.callers spot);
   }
 
@@ -144,7 +144,7 @@ module _ (given : ℕ → List Answer) where
   used-same w name = omega arith
 
   pub use_name-fewer : (name : ℕ) (w : World) → Fewer (at w given) (at (use_name name w) given)
-  use_name-fewer name w = record { spots = λ tests spot. same tests spot; used = λ n. omega (arith, count-push (λ used. used == n) w.used name); }
+  use_name-fewer name w = record { spots = λ tests spot. same tests spot; used = λ n. omega (arith, count-push (λ used. used == n) w.used name) }
     where
       same : (tests : Tests) (spot : Spot) → stands tests (at (use_name name w) given) spot ≤ stands tests (at w given) spot
       same tests Waiting = omega arith
@@ -153,7 +153,7 @@ module _ (given : ℕ → List Answer) where
       same tests (TakenBy p) = omega arith
 
   pub add_pending-gains : (p : Pending) (w : World) → Gains (at w given) (at (add_pending p w) given) Waiting (λ tests. tests.pending p)
-  add_pending-gains p w = record { spots = more; used = λ n. omega arith; }
+  add_pending-gains p w = record { spots = more; used = λ n. omega arith }
     where
       more : (tests : Tests) (other : Spot) → stands tests (at (add_pending p w) given) other ≤ stands tests (at w given) other + one (tests.pending p && same_spot Waiting other)
       more tests Waiting = omega (arith, count-push tests.pending w.pending p, and-true (tests.pending p))
@@ -162,7 +162,7 @@ module _ (given : ℕ → List Answer) where
       more tests (TakenBy q) = omega arith
 
   pub drop_pending-fewer : (place : ℕ) (p : Pending) (w : World) → slice_get w.pending place ≡ Some p → Fewer (at w given) (at (drop_pending place w) given)
-  drop_pending-fewer place p w is = record { spots = less; used = λ n. omega arith; }
+  drop_pending-fewer place p w is = record { spots = less; used = λ n. omega arith }
     where
       less : (tests : Tests) (spot : Spot) → stands tests (at (drop_pending place w) given) spot ≤ stands tests (at w given) spot
       less tests Waiting = omega (arith, count-remove tests.pending w.pending place p is)
@@ -175,7 +175,7 @@ module _ (given : ℕ → List Answer) where
   drop_pending-takes place p w is tests marked = omega (arith, count-remove tests.pending w.pending place p is, ap one marked)
 
   pub hold-gains : (process : ℕ) (h : Held) (w : World) → Gains (at w given) (at (hold process h w) given) (HeldBy process) (λ tests. tests.held h)
-  hold-gains process h w = record { spots = more; used = λ n. omega arith; }
+  hold-gains process h w = record { spots = more; used = λ n. omega arith }
     where
       more : (tests : Tests) (other : Spot) → stands tests (at (hold process h w) given) other ≤ stands tests (at w given) other + one (tests.held h && same_spot (HeldBy process) other)
       more tests Waiting = omega arith
@@ -184,7 +184,7 @@ module _ (given : ℕ → List Answer) where
       more tests (TakenBy q) = omega arith
 
   pub release-fewer : (process id : ℕ) (w : World) → Fewer (at w given) (at (release process id w) given)
-  release-fewer process id w = record { spots = less; used = λ n. omega arith; }
+  release-fewer process id w = record { spots = less; used = λ n. omega arith }
     where
       less : (tests : Tests) (spot : Spot) → stands tests (at (release process id w) given) spot ≤ stands tests (at w given) spot
       less tests Waiting = omega arith
@@ -193,7 +193,7 @@ module _ (given : ℕ → List Answer) where
       less tests (TakenBy q) = omega arith
 
   pub add_reply-gains : (process : ℕ) (r : Reply) (w : World) → Gains (at w given) (at (add_reply process r w) given) (RepliedTo process) (λ tests. tests.reply process r)
-  add_reply-gains process r w = record { spots = more; used = λ n. omega arith; }
+  add_reply-gains process r w = record { spots = more; used = λ n. omega arith }
     where
       more : (tests : Tests) (other : Spot)
           → stands tests (at (add_reply process r w) given) other ≤ stands tests (at w given) other + one (tests.reply process r && same_spot (RepliedTo process) other)
@@ -209,7 +209,7 @@ module _ (given : ℕ → List Answer) where
       more tests (TakenBy q) = omega arith
 
   pub drop_reply-fewer : (process : ℕ) (ids : List ℕ) (w : World) → Fewer (at w given) (at (drop_reply process ids w) given)
-  drop_reply-fewer process ids w = record { spots = less; used = λ n. omega arith; }
+  drop_reply-fewer process ids w = record { spots = less; used = λ n. omega arith }
     where
       less : (tests : Tests) (spot : Spot) → stands tests (at (drop_reply process ids w) given) spot ≤ stands tests (at w given) spot
       less tests Waiting = omega arith
@@ -218,7 +218,7 @@ module _ (given : ℕ → List Answer) where
       less tests (TakenBy q) = omega arith
 
   pub end_process-fewer : (process : ℕ) (w : World) → Fewer (at w given) (at (end_process process w) given)
-  end_process-fewer process w = record { spots = less; used = λ n. omega arith; }
+  end_process-fewer process w = record { spots = less; used = λ n. omega arith }
     where
       less : (tests : Tests) (spot : Spot) → stands tests (at (end_process process w) given) spot ≤ stands tests (at w given) spot
       less tests Waiting = omega arith
@@ -227,7 +227,7 @@ module _ (given : ℕ → List Answer) where
       less tests (TakenBy q) = omega arith
 
   pub end_all-fewer : (w : World) → Fewer (at w given) (at (end_all w) given)
-  end_all-fewer w = record { spots = less; used = λ n. omega arith; }
+  end_all-fewer w = record { spots = less; used = λ n. omega arith }
     where
       less : (tests : Tests) (spot : Spot) → stands tests (at (end_all w) given) spot ≤ stands tests (at w given) spot
       less tests Waiting = omega arith
@@ -237,7 +237,7 @@ module _ (given : ℕ → List Answer) where
 
 -- an answer to a process
 pub answer-gains : (actor : ℕ) (a : Answer) (w : World) (given : ℕ → List Answer) → Gains (at w given) (at w (with_answer actor a given)) (TakenBy actor) (λ tests. tests.answer actor a)
-answer-gains actor a w given = record { spots = more; used = λ n. omega arith; }
+answer-gains actor a w given = record { spots = more; used = λ n. omega arith }
   where
     more : (tests : Tests) (other : Spot) → stands tests (at w (with_answer actor a given)) other ≤ stands tests (at w given) other + one (tests.answer actor a && same_spot (TakenBy actor) other)
     more tests Waiting = omega arith
@@ -249,6 +249,6 @@ answer-gains actor a w given = record { spots = more; used = λ n. omega arith; 
         by true is =
             let same : q ≡ actor = eqb-true q actor is in
             let here : one (tests.answer actor a && (actor == q)) ≡ one (tests.answer q a) =
-                ap (λ b. one (tests.answer actor a && b)) (eq-eqb actor q (sym same)) ∙ and-true (tests.answer actor a) ∙ ap (λ n. one (tests.answer n a)) (sym same) in
+            ap (λ b. one (tests.answer actor a && b)) (eq-eqb actor q (sym same)) ∙ and-true (tests.answer actor a) ∙ ap (λ n. one (tests.answer n a)) (sym same) in
             omega (arith, count-push (tests.answer q) (given q) a, here)
         by false is = omega arith

@@ -1,0 +1,92 @@
+-- Laws of whole runs, in the language's own words.
+use Rattle.std.specs.Prelude.{◌≡◌, ℕ, ◌<◌, ◌≤◌, ◌==◌, Bool, true, false, List, [], ◌∷◌, ◌++◌, count_by}
+use Rattle.sr_ask.specs.declared.item.Item.{Item}
+use Rattle.sr_ask.specs.declared.item.Item.TheVariants.{Step}
+use Rattle.sr_calls.specs.Calls.{items_of}
+use Rattle.sr_core.specs.declared.component.Core.{Core}
+use Rattle.sr_world.specs.Runs.{Event, Goes, IsValid, State, is_legal, items_in, led, next, output_of, run, run_from}
+use Rattle.sr_world.specs.Sound.{IsSound, is_call, names_in}
+use Rattle.sr_world.specs.Spots.{IsOnce, Spot, TakenBy, Thing, DutyOf, is_picked, is_took, stands, tests_of}
+
+-- ---- runs
+
+-- A run's prefix is a run.
+abbrev pub PrefixIsARun : Type 0
+PrefixIsARun = (core : Core) (limit : ℕ) (input : List ℕ) (items more : List Item)
+    → is_legal (run core limit input (items ++ more)) ≡ true → is_legal (run core limit input items) ≡ true
+
+-- A longer run goes on where the shorter one led.
+abbrev pub RunGoesOn : Type 0
+RunGoesOn = (core : Core) (limit : ℕ) (input : List ℕ) (items more : List Item)
+    → run core limit input (items ++ more) ≡ run_from core limit (run core limit input items) more
+
+-- Output only grows.
+abbrev pub OutputGrows : Type 0
+OutputGrows = (core : Core) (limit : ℕ) (input : List ℕ) (items more : List Item) → is_legal (run core limit input (items ++ more)) ≡ true
+    → (rest : List ℕ) × (output_of (run core limit input (items ++ more)) ≡ output_of (run core limit input items) ++ rest)
+
+-- The states of runs are valid.
+abbrev pub RunsLeadToValidStates : Type 0
+RunsLeadToValidStates = (core : Core) (limit : ℕ) (input : List ℕ) (items : List Item) (state : State) → run core limit input items ≡ Goes state → IsValid core limit state
+
+-- ---- what every state keeps
+
+-- Each item keeps it.
+abbrev pub ItemsKeepSoundness : Type 0
+ItemsKeepSoundness = (core : Core) (limit : ℕ) (items : List Item) (state later : State) (item : Item)
+    → IsSound items state → next core limit state item ≡ Goes later → IsSound (items ++ item ∷ []) later
+
+-- Every state has it to which events lead.
+abbrev pub EveryStateIsSound : Type 0
+EveryStateIsSound = (core : Core) (limit : ℕ) (events : List Event) (state : State) → led core limit events ≡ Goes state → IsSound (items_in events) state
+
+-- ---- numbers
+
+-- how often a number was given out: 1 is the boot process's, and each item gives out its own
+abbrev pub times_given : ℕ → List Event → ℕ
+times_given name events = count_by (λ n. n == name) (1 ∷ names_in (items_in events))
+
+-- A number is given out once, and 0 never. Only what has got a number makes steps under it.
+pub record NumbersAreUsedOnce : Type 0 where
+  pub once : (core : Core) (limit : ℕ) (events : List Event) (state : State) (name : ℕ) → led core limit events ≡ Goes state → times_given name events ≤ 1
+  pub zero_never : (core : Core) (limit : ℕ) (events : List Event) (state : State) → led core limit events ≡ Goes state → times_given 0 events ≡ 0
+  pub made_before_use : (core : Core) (limit : ℕ) (events : List Event) (state : State) (actor name : ℕ) → led core limit events ≡ Goes state
+      → is_legal (next core limit state (Step actor name)) ≡ true → times_given actor events ≡ 1
+
+-- ---- at most once
+
+-- Whatever has a number stands in one place at most.
+abbrev pub EachStandsOnce : Type 0
+EachStandsOnce = (core : Core) (limit : ℕ) (state : State) (thing : Thing) → IsValid core limit state → IsOnce (tests_of thing) state
+
+-- how often a process took up the service of an invocation
+abbrev pub services : State → ℕ → ℕ → ℕ
+services state process id = count_by (is_picked id) (state.given process)
+
+-- An invocation is serviced at most once, by one process, and doesn't wait any more then.
+pub record ServicedOnce : Type 0 where
+  pub once : (core : Core) (limit : ℕ) (state : State) (process id : ℕ) → IsValid core limit state → services state process id ≤ 1
+  pub by_one : (core : Core) (limit : ℕ) (state : State) (process other id : ℕ) → IsValid core limit state → 0 < services state process id → 0 < services state other id → process ≡ other
+  pub waits_no_more : (core : Core) (limit : ℕ) (state : State) (process id : ℕ) → IsValid core limit state → 0 < services state process id
+      → count_by (λ p. p.id == id) state.world.pending ≡ 0
+
+-- how often a process took a reply of a number
+abbrev pub replies_taken : State → ℕ → ℕ → ℕ
+replies_taken state process id = count_by (is_took id) (state.given process)
+
+-- how many replies of a number wait for a process
+abbrev pub replies_waiting : State → ℕ → ℕ → ℕ
+replies_waiting state process id = count_by (λ r. r.id == id) (items_of state.world.replies process)
+
+-- A call gets at most one reply. Only the process gets it that made the call; and once it has it, the duty to give one
+-- stands nowhere else, however it was handed on.
+pub record AnsweredOnce : Type 0 where
+  pub once : (core : Core) (limit : ℕ) (state : State) (process id : ℕ) → IsValid core limit state → replies_waiting state process id ≤ 1 × (replies_taken state process id ≤ 1)
+  pub duty_ends : (core : Core) (limit : ℕ) (state : State) (process id : ℕ) (other : Spot) → IsValid core limit state → 0 < replies_taken state process id
+      → 0 < stands (tests_of (DutyOf id)) state other → other ≡ TakenBy process
+  pub to_its_caller : (core : Core) (limit : ℕ) (events : List Event) (state : State) (process id : ℕ) → led core limit events ≡ Goes state
+      → 0 < replies_taken state process id → is_call (items_in events) process id ≡ true
+  pub for_its_caller : (core : Core) (limit : ℕ) (events : List Event) (state : State) (process id : ℕ) → led core limit events ≡ Goes state
+      → 0 < replies_waiting state process id → is_call (items_in events) process id ≡ true
+  pub one_caller : (core : Core) (limit : ℕ) (events : List Event) (state : State) (process other id : ℕ) → led core limit events ≡ Goes state → (id == 0) ≡ false
+      → is_call (items_in events) process id ≡ true → is_call (items_in events) other id ≡ true → process ≡ other
