@@ -1,6 +1,6 @@
 -- What every state keeps, through each request.
 use Rattle.std.proofs.Common.{◌≡◌, ℕ, zero, suc, ◌+◌, ◌<◌, ◌≤◌, ◌==◌, ◌&&◌, not, Bool, true, false, cond, ℤ, pos, negsuc, List, [], ◌∷◌, ◌++◌, Option, None, Some, is_some, refl, ap, sym, ◌∙◌, subst, arith, eq-eqb, eqb-true, true≢false, append-nil}
-use Rattle.std.specs.Prelude.{Result, Ok, Err, count_by, find, nat_lt, slice_get}
+use Rattle.std.specs.Prelude.{Result, Ok, Err, count_by, nat_lt, remove, slice_get}
 use Rattle.sr_ask.specs.declared.answer.Answer.{Answer}
 use Rattle.sr_ask.specs.declared.answer.Answer.TheVariants as answer
 use Rattle.sr_ask.specs.declared.ask.Role.{Role}
@@ -12,7 +12,11 @@ use Rattle.sr_ask.specs.declared.request.Request.TheVariants as request
 use Rattle.sr_calls.specs.Calls.{answers_one, earliest_reply, items_of, without_first}
 use Rattle.sr_calls.specs.declared.held.Reply.{Reply}
 use Rattle.sr_core.specs.declared.component.Core.{Core}
+use Rattle.sr_core.specs.declared.site.Site.{Site}
 use Rattle.sr_instances.specs.Instances.{Instance, global_in, state_of}
+use Rattle.sr_queue.specs.declared.pending.Pending.{Pending}
+use Rattle.sr_select.specs.declared.choice.Choice.{Choice}
+use Rattle.sr_select.specs.declared.choice.Choice.TheVariants as chosen
 use Rattle.sr_store.specs.Variables.{Variables, declared_in, loaded_in, stored_in}
 use Rattle.sr_value.specs.declared.capability.Cap.{Cap}
 use Rattle.sr_value.specs.declared.capability.Cap.TheVariants as cap
@@ -26,8 +30,9 @@ use Rattle.sr_world.specs.Endings.{answer_unless, close, close_or, destroy, end_
 use Rattle.sr_world.specs.Inputs.{char_read, fitting_read, is_decided, item_read, token_in, token_read, token_value}
 use Rattle.sr_world.specs.Invoking.{arrive, instance_of_process, invoke, is_gone, owner_instance}
 use Rattle.sr_world.specs.Making.{component_at, has_final_code, is_open, is_ready, make_ready, needs_ready, run_final, run_initial, run_proc, start_in}
+use Rattle.sr_world.specs.Selecting.{by_choice, choice_of, held_from, service}
 use Rattle.sr_world.specs.Steps.{create_on, done_by, duty_for, ensure_found, on_machine, ready_after, reply}
-use Rattle.sr_world.specs.Updates.{add_instance, add_machine, add_pending, add_process, drop_reply, end_all, end_instance, end_process, fix, hold, release, set_state, use_name}
+use Rattle.sr_world.specs.Updates.{add_instance, add_machine, add_pending, add_process, drop_pending, drop_reply, end_all, end_instance, end_process, fix, hold, release, set_state, use_name}
 use Rattle.sr_world.specs.Worlds.{World, is_live}
 use Rattle.sr_world.specs.declared.duty.Duty.{Duty}
 use Rattle.sr_world.specs.declared.ends.End.{End}
@@ -35,11 +40,11 @@ use Rattle.sr_world.specs.declared.ends.End.TheVariants as end
 use Rattle.sr_instances.specs.declared.state.State.TheVariants.{Closing}
 use Rattle.sr_world.specs.Runs.{with_answer}
 use Rattle.sr_world.specs.Sound.{times_used}
-use Rattle.sr_world.specs.Spots.{Calls, Spot, RepliedTo, Tests, Thing, DutyOf, OpenInvocation, ServiceOf, astray, is_picked, is_took, number_of, stands, tests_of}
+use Rattle.sr_world.specs.Spots.{Calls, Spot, RepliedTo, Waiting, is_astray, Tests, Thing, DutyOf, OpenInvocation, ServiceOf, astray, is_picked, is_took, number_of, stands, tests_of}
 use Rattle.sr_runs.proofs.CallLemmas.{count-taken}
-use Rattle.sr_runs.proofs.CountLemmas.{count-without_first, one}
-use Rattle.sr_runs.proofs.StandLemmas.{Fewer, IsClear, at, clear-taken, drop_reply-fewer, fewer-then, release-fewer, use_name-fewer}
-use Rattle.sr_runs.proofs.KeepLemmas.{Keeps, add_machine-kept, add_pending-kept, answered-kept, drop_reply-kept, fresh-fewer, in_hand-fewer, live-used, none-marked, quiet-kept, release-kept, same-fewer, use_name-kept}
+use Rattle.sr_runs.proofs.CountLemmas.{count-remove, count-without_first, one}
+use Rattle.sr_runs.proofs.StandLemmas.{Fewer, IsClear, at, clear-taken, drop_pending-fewer, drop_pending-takes, drop_reply-fewer, hold-gains, fewer-then, release-fewer, use_name-fewer}
+use Rattle.sr_runs.proofs.KeepLemmas.{Keeps, add_machine-kept, add_pending-kept, answered-kept, drop_pending-kept, drop_reply-kept, fresh-fewer, hold-kept, in_hand-fewer, is-known, live-used, none-marked, quiet-kept, release-kept, same-fewer, use_name-kept}
 use Rattle.sr_runs.proofs.MoveLemmas.{Hand, IsNamed, K, Loses, Same, answered-same, end_after-loses, end_all-loses, end_instance-loses, end_process-loses, ended-hand, fix-kept, given-kept, hold-new, loses-then, make_ready-loses, new-fresh, new-hand, plain-kept, released-hand, run_final-kept, run_initial-kept, run_proc-kept, used-once}
 
 -- ---- what a step leaves
@@ -319,6 +324,64 @@ module _ (calls : Calls) (given : ℕ → List Answer) (actor name : ℕ) where
             (λ named. run_final-kept calls given core name main.name 0 (fix (Some n) (end_all w)) (fix-kept calls given (Some n) (end_all w) ((end_all-loses calls given w).kept k)) named.new named.nonzero) refl refl
             (λ id. refl, λ id. refl, refl)) tt
 
+    -- ---- choices
+
+    well-service : (place arm : ℕ) (o : Option Pending) → slice_get w.pending place ≡ o → Well w (where_some o (service w actor place arm))
+    well-service place arm None found = tt
+    well-service place arm (Some p) found = record {
+      kept = given-kept calls given serviced actor (answer.Picked p.id arm p.args p.back) held acts picked refl;
+      used = refl;
+      output = ([], same-text);
+    }
+      where
+        dropped : World
+        dropped = drop_pending place w
+
+        serviced : World
+        serviced = hold actor (held_from p) dropped
+
+        duty : Duty
+        duty = record { back = p.back; back_id = p.back_id }
+
+        fewer : Fewer (at w given) (at dropped given)
+        fewer = drop_pending-fewer given place p w found
+
+        clear : (thing : Thing) → (tests_of thing).pending p ≡ true → IsClear thing (at dropped given)
+        clear thing is = clear-taken calls (at w given) (at dropped given) thing Waiting k.duties fewer (k.numbers.once (number_of thing)) (drop_pending-takes given place p w found (tests_of thing) is)
+
+        used : (thing : Thing) → (tests_of thing).pending p ≡ true → 1 ≤ times_used w (number_of thing)
+        used thing is = let less = drop_pending-takes given place p w found (tests_of thing) is in omega (arith, less, k.duties.numbers thing Waiting)
+
+        marked : (p.back == 0) ≡ false → (tests_of (DutyOf p.back_id)).pending p ≡ true
+        marked some = ap (λ b. not b && (p.back_id == p.back_id)) some ∙ eq-eqb p.back_id p.back_id refl
+
+        hand : Hand calls given dropped duty
+        hand = record {
+          clear = λ some. clear (DutyOf p.back_id) (marked some);
+          used = λ some. used (DutyOf p.back_id) (marked some);
+          known = is-known calls p.back p.back_id
+              (none-marked (count_by (astray calls).pending (remove w.pending place)) (stands (astray calls) (at w given) Waiting) (is_astray calls p.back p.back_id)
+              (count-remove (astray calls).pending w.pending place p found) (k.duties.callers Waiting));
+        }
+
+        itself : (p.id == p.id) ≡ true
+        itself = eq-eqb p.id p.id refl
+
+        held : K calls given serviced
+        held = hold-kept calls given dropped actor p.id duty (drop_pending-kept calls given place p w found k) live hand (clear (OpenInvocation p.id) itself) (used (OpenInvocation p.id) itself)
+
+        picked : (thing : Thing) → (tests_of thing).answer actor (answer.Picked p.id arm p.args p.back) ≡ true → IsClear thing (at serviced given) × (1 ≤ times_used serviced (number_of thing))
+        picked (DutyOf id) is = absurd (true≢false (sym is))
+        picked (OpenInvocation id) is = absurd (true≢false (sym is))
+        picked (ServiceOf id) is =
+            ((λ spot. let none = clear (ServiceOf id) is spot in omega (arith, (hold-gains given actor (held_from p) dropped).spots (tests_of (ServiceOf id)) spot, none)), used (ServiceOf id) is)
+
+    well-chosen : (site : Site) (choice : Choice) → Well w (by_choice w actor site choice)
+    well-chosen site (chosen.Service place arm) = well-service place arm (slice_get w.pending place) refl
+    well-chosen site chosen.Else = nothing-new answer.Else (λ id. refl, λ id. refl, refl)
+    well-chosen site chosen.Nothing = tt
+    well-chosen site (chosen.Bad fault arm) = well-where w (slice_get site.arms arm) _ (λ a. tt)
+
     -- ---- the table
 
     pub well : (core : Core) (place : Place) (role : Role) (r : Request) → Well w (done_by core w actor name place role r)
@@ -330,7 +393,7 @@ module _ (calls : Calls) (given : ℕ → List Answer) (actor name : ℕ) where
         well-done w place (stored_in w.variables block var path value) _ (λ variables. only-variables variables answer.Done (λ id. refl, λ id. refl, refl))
     well core place role (request.Invoke target args wants) =
         well-invoke w k same-world (duty_for wants actor name) (new-hand calls given w actor name wants k) core place target args
-    well core place role (request.Select site env) = tt
+    well core place role (request.Select site env) = well-where w (slice_get core.sites site) _ (λ s. well-chosen s (choice_of core w actor env s))
     well core place role (request.Take ids) = well-take ids (earliest_reply w.replies actor ids) refl
     well core place role (request.Reply held back results) = well-reply role held results
     well core place role (request.Forward held back target args) =

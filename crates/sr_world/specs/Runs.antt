@@ -1,5 +1,5 @@
 -- Runs: which items lead from the beginning to which state, and how a run ends.
-use Rattle.std.specs.Prelude.{◌≡◌, ℕ, ◌==◌, ◌&&◌, Bool, true, false, not, List, [], ◌∷◌, ◌++◌, Option, Some, None, if◌then◌else◌}
+use Rattle.std.specs.Prelude.{◌≡◌, ℕ, ◌==◌, ◌&&◌, Bool, true, false, not, List, [], ◌∷◌, ◌++◌, map, Option, Some, None, if◌then◌else◌}
 use Rattle.std.specs.List.{list_all, list_any}
 use Rattle.sr_ask.specs.declared.answer.Answer.{Answer}
 use Rattle.sr_ask.specs.declared.ask.Asks.{Asks}
@@ -64,6 +64,10 @@ abbrev pub is_blocked : Core → World → ℕ → Asks → Bool
 is_blocked core world process (Asked request) = not (is_possible (comes_to (does core world process request 0)))
 is_blocked core world process OverTicks = false
 
+-- each living process, with what it asks
+abbrev pub asks_in : Core → ℕ → State → List (ℕ × Asks)
+asks_in core limit state = map (λ start. (start.process, asks_next core limit state start)) state.world.live
+
 -- no process can make a step
 abbrev pub no_step : Core → ℕ → State → Bool
 no_step core limit state = list_all (λ start. is_blocked core state.world start.process (asks_next core limit state start)) state.world.live
@@ -87,7 +91,7 @@ abbrev pub where_true : Bool → Next → Next
 where_true true next = next
 where_true false next = Illegal
 
--- how often a number was given out
+-- whether a number was given out
 abbrev pub is_used : World → ℕ → Bool
 is_used world name = list_any (λ used. used == name) world.used
 
