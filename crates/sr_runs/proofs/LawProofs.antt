@@ -15,6 +15,7 @@ use Rattle.sr_calls.specs.Calls.{items_of}
 use Rattle.sr_calls.specs.declared.held.Reply.{Reply}
 use Rattle.sr_core.specs.declared.component.Core.{Core}
 use Rattle.sr_instances.specs.Instances.{Instance}
+use Rattle.sr_world.specs.Deciding.{is_select}
 use Rattle.sr_world.specs.Does.{Does, Did, Makes, Cannot, Ends, Undecided}
 use Rattle.sr_world.specs.Endings.{close_or, main_instance, may_close, rest_of}
 use Rattle.sr_world.specs.Making.{run_final}
@@ -77,14 +78,14 @@ module _ (core : Core) (limit : ℕ) where
   same-text : (state : State) → (rest : List ℕ) × (state.world.output ≡ state.world.output ++ rest)
   same-text state = ([], sym (append-nil state.world.output))
 
-  grows-stepped : (items : List Item) (state : State) (actor name : ℕ) (d : Does) → Well (is_call items) state.given actor name state.world d
+  grows-stepped : (items : List Item) (state : State) (actor name : ℕ) (selects : Bool) (d : Does) → Well (is_call items) state.given actor name selects state.world d
       → is_legal (stepped state actor name d) ≡ true → Grows state (stepped state actor name d)
-  grows-stepped items state actor name (Did w a) h legal = grows-where (name == 0) state (Goes (record { world = w; given = with_answer actor a state.given })) legal h.output
-  grows-stepped items state actor name (Makes w a) h legal =
+  grows-stepped items state actor name selects (Did w a) h legal = grows-where (name == 0) state (Goes (record { world = w; given = with_answer actor a state.given })) legal h.output
+  grows-stepped items state actor name selects (Makes w a) h legal =
       grows-where (is_new state.world name) state (Goes (record { world = w; given = with_answer actor a state.given })) legal ([], h.output ∙ sym (append-nil state.world.output))
-  grows-stepped items state actor name Cannot h legal = absurd (true≢false (sym legal))
-  grows-stepped items state actor name (Ends ending) h legal = grows-where (name == 0) state (Over ending state) legal (same-text state)
-  grows-stepped items state actor name Undecided h legal = absurd (true≢false (sym legal))
+  grows-stepped items state actor name selects Cannot h legal = absurd (true≢false (sym legal))
+  grows-stepped items state actor name selects (Ends ending) h legal = grows-where (name == 0) state (Over ending state) legal (same-text state)
+  grows-stepped items state actor name selects Undecided h legal = absurd (true≢false (sym legal))
 
   grows-step : (items : List Item) (state : State) (actor name : ℕ) (o : Option Start) → IsSound items state → started state.world actor ≡ o
       → is_legal (step_of core limit state actor name o) ≡ true → Grows state (step_of core limit state actor name o)
@@ -93,7 +94,7 @@ module _ (core : Core) (limit : ℕ) where
     where
       by : (asks : Asks) → is_legal (stepped state actor name (asks_for core state.world actor name asks)) ≡ true → Grows state (stepped state actor name (asks_for core state.world actor name asks))
       by (Asked request) h =
-          grows-stepped items state actor name _ (well (is_call items) state.given actor name state.world (kept-of items state sound) (ap is_some found) core request.place request.role request.request) h
+          grows-stepped items state actor name (is_select request.request) _ (well (is_call items) state.given actor name (is_select request.request) state.world (kept-of items state sound) (ap is_some found) core request.place request.role request.request refl) h
       by OverTicks h = absurd (true≢false (sym h))
 
   grows-rested : (state : State) (name : ℕ) (main : Option Instance) → is_legal (rested state name (close_or core name None (rest_of state.world.fixed) state.world main)) ≡ true

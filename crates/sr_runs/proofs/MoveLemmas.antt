@@ -34,20 +34,22 @@ use Rattle.sr_runs.proofs.CountLemmas.{count-push, count-remove, count-without_f
 use Rattle.sr_runs.proofs.StandLemmas.{Fewer, IsClear, answer-gains, at, clear-fewer, clear-taken, drop_pending-fewer, drop_pending-takes, drop_reply-fewer, duties-gained, end_all-fewer, end_process-fewer, fewer-then, release-fewer, use_name-fewer}
 use Rattle.sr_runs.proofs.KeepLemmas.{InHand, IsFresh, Keeps, add_instance-kept, add_process-kept, duty-marked, end_all-kept, end_process-kept, fresh-fewer, fresh-is, hold-kept, in_hand-fewer, is-known, no-hand, none-marked, quiet-kept, release-kept, same-fewer, set_state-kept, use_name-kept}
 
--- what changes neither the numbers nor the output
+-- what changes neither the numbers nor the output nor what waits nor the end of the input
 pub record Same (w w' : World) : Type 0 where
   pub used : w'.used ≡ w.used
   pub output : w'.output ≡ w.output
+  pub pending : w'.pending ≡ w.pending
+  pub ended : w'.ended ≡ w.ended
 
 pub same-then : (a b c : World) → Same a b → Same b c → Same a c
-same-then a b c first second = record { used = second.used ∙ first.used; output = second.output ∙ first.output }
+same-then a b c first second = record { used = second.used ∙ first.used; output = second.output ∙ first.output; pending = second.pending ∙ first.pending; ended = second.ended ∙ first.ended }
 
 pub answered-same : (duty : Duty) (results : Option (List Value)) (w : World) → Same w (answered duty results w)
 answered-same duty results w = by (is_live w duty.back)
   where
     by : (b : Bool) → Same w (cond b (add_reply duty.back (record { id = duty.back_id; results = results }) w) w)
-    by true = record { used = refl; output = refl }
-    by false = record { used = refl; output = refl }
+    by true = record { used = refl; output = refl; pending = refl; ended = refl }
+    by false = record { used = refl; output = refl; pending = refl; ended = refl }
 
 module _ (calls : Calls) (given : ℕ → List Answer) where
   abbrev pub K : World → Type 0
@@ -64,7 +66,7 @@ module _ (calls : Calls) (given : ℕ → List Answer) where
     pub same : Same w w'
 
   pub loses-nothing : (w : World) → Loses w w
-  loses-nothing w = record { kept = λ k. k; fewer = same-fewer given w w refl refl refl refl; same = record { used = refl; output = refl } }
+  loses-nothing w = record { kept = λ k. k; fewer = same-fewer given w w refl refl refl refl; same = record { used = refl; output = refl; pending = refl; ended = refl } }
 
   pub loses-then : (a b c : World) → Loses a b → Loses b c → Loses a c
   loses-then a b c first second = record {
@@ -74,16 +76,16 @@ module _ (calls : Calls) (given : ℕ → List Answer) where
   }
 
   pub end_process-loses : (process : ℕ) (w : World) → Loses w (end_process process w)
-  end_process-loses process w = record { kept = end_process-kept calls given process w; fewer = end_process-fewer given process w; same = record { used = refl; output = refl } }
+  end_process-loses process w = record { kept = end_process-kept calls given process w; fewer = end_process-fewer given process w; same = record { used = refl; output = refl; pending = refl; ended = refl } }
 
   pub end_all-loses : (w : World) → Loses w (end_all w)
-  end_all-loses w = record { kept = end_all-kept calls given w; fewer = end_all-fewer given w; same = record { used = refl; output = refl } }
+  end_all-loses w = record { kept = end_all-kept calls given w; fewer = end_all-fewer given w; same = record { used = refl; output = refl; pending = refl; ended = refl } }
 
   pub set_state-loses : (instance : ℕ) (state : InstanceState) (w : World) → Loses w (set_state instance state w)
   set_state-loses instance state w = record {
     kept = set_state-kept calls given instance state w;
     fewer = same-fewer given w (set_state instance state w) refl refl refl refl;
-    same = record { used = refl; output = refl };
+    same = record { used = refl; output = refl; pending = refl; ended = refl };
   }
 
   pub end_processes-loses : (processes : List ℕ) (w : World) → Loses w (end_processes processes w)

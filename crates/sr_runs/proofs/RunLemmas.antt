@@ -17,6 +17,7 @@ use Rattle.sr_calls.specs.declared.held.Held.{Held}
 use Rattle.sr_calls.specs.declared.held.Reply.{Reply}
 use Rattle.sr_core.specs.declared.component.Core.{Core}
 use Rattle.sr_instances.specs.Instances.{Instance}
+use Rattle.sr_world.specs.Deciding.{is_select}
 use Rattle.sr_world.specs.Does.{Does, Did, Makes, Cannot, Ends, Undecided}
 use Rattle.sr_world.specs.Endings.{close_or, main_instance, may_close, quiesce, rest_of}
 use Rattle.sr_world.specs.Making.{run_final}
@@ -139,7 +140,7 @@ names-append items item = flat_map-append name_in items (item ∷ []) ∙ ap (λ
 
 -- ---- where_true
 
-goes-where : (b : Bool) (n : Next) (s : State) → where_true b n ≡ Goes s → (b ≡ true) × (n ≡ Goes s)
+pub goes-where : (b : Bool) (n : Next) (s : State) → where_true b n ≡ Goes s → (b ≡ true) × (n ≡ Goes s)
 goes-where true n s is = (refl, is)
 goes-where false n s is = absurd (cc)
 
@@ -170,29 +171,29 @@ module _ (items : List Item) (state : State) (sound : IsSound items state) where
     kept : Keeps (is_call (items ++ Step actor name ∷ [])) state
     kept = more-kept (is_call items) (is_call (items ++ Step actor name ∷ [])) (still-call items (Step actor name)) state (kept-of items state sound)
 
-    sound-stepped : (d : Does) (later : State) → Well (is_call (items ++ Step actor name ∷ [])) state.given actor name state.world d → stepped state actor name d ≡ Goes later → IsSound (items ++ Step actor name ∷ []) later
-    sound-stepped (Did w a) later h is =
+    sound-stepped : (selects : Bool) (d : Does) (later : State) → Well (is_call (items ++ Step actor name ∷ [])) state.given actor name selects state.world d → stepped state actor name d ≡ Goes later → IsSound (items ++ Step actor name ∷ []) later
+    sound-stepped selects (Did w a) later h is =
         let parts = goes-where (name == 0) (Goes (record { world = w; given = with_answer actor a state.given })) later is in
         let same : record { world = w; given = with_answer actor a state.given } ≡ later = cc in
         subst (IsSound (items ++ Step actor name ∷ [])) same
         (sound-of (items ++ Step actor name ∷ []) (record { world = w; given = with_answer actor a state.given }) (used-none (Step actor name) name w.used refl parts.0 h.used) h.kept)
-    sound-stepped (Makes w a) later h is =
+    sound-stepped selects (Makes w a) later h is =
         let parts = goes-where (is_new state.world name) (Goes (record { world = w; given = with_answer actor a state.given })) later is in
         let new = new-number state.world name parts.0 in
         let same : record { world = w; given = with_answer actor a state.given } ≡ later = cc in
         subst (IsSound (items ++ Step actor name ∷ [])) same
         (sound-of (items ++ Step actor name ∷ []) (record { world = w; given = with_answer actor a state.given }) (used-some (Step actor name) name w.used refl new.0 h.used)
         (h.kept (record { new = new.1; nonzero = new.0; called = last-call items actor name })))
-    sound-stepped Cannot later h is = absurd (cc)
-    sound-stepped (Ends ending) later h is = let parts = goes-where (name == 0) (Over ending state) later is in absurd (cc)
-    sound-stepped Undecided later h is = absurd (cc)
+    sound-stepped selects Cannot later h is = absurd (cc)
+    sound-stepped selects (Ends ending) later h is = let parts = goes-where (name == 0) (Over ending state) later is in absurd (cc)
+    sound-stepped selects Undecided later h is = absurd (cc)
 
     pub sound-step : (core : Core) (limit : ℕ) (later : State) (o : Option Start) → started state.world actor ≡ o → step_of core limit state actor name o ≡ Goes later → IsSound (items ++ Step actor name ∷ []) later
     sound-step core limit later None found is = absurd (cc)
     sound-step core limit later (Some start) found is = by (asks_next core limit state start) is
       where
         by : (asks : Asks) → stepped state actor name (asks_for core state.world actor name asks) ≡ Goes later → IsSound (items ++ Step actor name ∷ []) later
-        by (Asked request) h = sound-stepped _ later (well (is_call (items ++ Step actor name ∷ [])) state.given actor name state.world kept (ap is_some found) core request.place request.role request.request) h
+        by (Asked request) h = sound-stepped (is_select request.request) _ later (well (is_call (items ++ Step actor name ∷ [])) state.given actor name (is_select request.request) state.world kept (ap is_some found) core request.place request.role request.request refl) h
         by OverTicks h = absurd (cc)
 
   module _ (name : ℕ) where
@@ -260,7 +261,7 @@ sound-first = record {
 
 -- ---- events
 
-illegal-after : (core : Core) (limit : ℕ) (events : List Event) → after core limit Illegal events ≡ Illegal
+pub illegal-after : (core : Core) (limit : ℕ) (events : List Event) → after core limit Illegal events ≡ Illegal
 illegal-after core limit [] = refl
 illegal-after core limit (event ∷ events) = illegal-after core limit events
 

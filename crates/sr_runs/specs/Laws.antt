@@ -4,7 +4,10 @@ use Rattle.sr_ask.specs.declared.item.Item.{Item}
 use Rattle.sr_ask.specs.declared.item.Item.TheVariants.{Step}
 use Rattle.sr_calls.specs.Calls.{items_of}
 use Rattle.sr_core.specs.declared.component.Core.{Core}
-use Rattle.sr_world.specs.Runs.{Event, Goes, IsValid, State, is_legal, items_in, led, next, output_of, run, run_from}
+use Rattle.sr_value.specs.declared.capability.Owner.{Owner}
+use Rattle.sr_world.specs.Histories.{Class, IsLegalHistory, history}
+use Rattle.sr_world.specs.Runs.{Event, Closes, Goes, Illegal, IsValid, Next, Over, State, bytes_in, is_legal, items_in, led, next, output_of, run, run_from, with_input, without_more}
+use Rattle.sr_world.specs.Worlds.{World}
 use Rattle.sr_world.specs.Sound.{IsSound, is_call, names_in}
 use Rattle.sr_world.specs.Spots.{IsOnce, Spot, TakenBy, Thing, DutyOf, is_picked, is_took, stands, tests_of}
 
@@ -90,3 +93,36 @@ pub record AnsweredOnce : Type 0 where
       → 0 < replies_waiting state process id → is_call (items_in events) process id ≡ true
   pub one_caller : (core : Core) (limit : ℕ) (events : List Event) (state : State) (process other id : ℕ) → led core limit events ≡ Goes state → (id == 0) ≡ false
       → is_call (items_in events) process id ≡ true → is_call (items_in events) other id ≡ true → process ≡ other
+
+-- ---- histories
+
+-- Every history of a class of an owner in a run is legal.
+abbrev pub EveryHistoryIsLegal : Type 0
+EveryHistoryIsLegal = (core : Core) (limit : ℕ) (input : List ℕ) (items : List Item) (owner : Owner) (class : Class) → is_legal (run core limit input items) ≡ true
+    → IsLegalHistory core limit (history core limit input items owner class)
+
+-- ---- input
+
+-- a world with all of its input: these bytes come after what is there, and no more
+abbrev pub with_all : List ℕ → World → World
+with_all bytes world = without_more (with_input bytes world)
+
+abbrev pub with_all_in : List ℕ → State → State
+with_all_in bytes state = record state { world = with_all bytes state.world }
+
+abbrev pub next_with_all : List ℕ → Next → Next
+next_with_all bytes (Goes state) = Goes (with_all_in bytes state)
+next_with_all bytes (Over ending state) = Over ending (with_all_in bytes state)
+next_with_all bytes Illegal = Illegal
+
+-- whether the end of the input came
+abbrev pub closes : List Event → Bool
+closes [] = false
+closes (Closes ∷ events) = true
+closes (event ∷ events) = closes events
+
+-- The items and the whole input give the run: in whatever pieces the input came, what events lead to is what the run of
+-- their items leads to, with the bytes that haven't come yet after the rest.
+abbrev pub ItemsGiveTheRun : Type 0
+ItemsGiveTheRun = (core : Core) (limit : ℕ) (events : List Event) (more : List ℕ) → is_legal (led core limit events) ≡ true → (closes events ≡ true → more ≡ [])
+    → run core limit (bytes_in events ++ more) (items_in events) ≡ next_with_all more (led core limit events)

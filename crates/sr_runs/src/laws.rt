@@ -1,4 +1,4 @@
-ghost use Rattle.sr_runs.specs.Laws.{AnsweredOnce, EachStandsOnce, EveryStateIsSound, ItemsKeepSoundness, NumbersAreUsedOnce, OutputGrows, PrefixIsARun, RunGoesOn, RunsLeadToValidStates, ServicedOnce};
+ghost use Rattle.sr_runs.specs.Laws.{AnsweredOnce, EachStandsOnce, EveryHistoryIsLegal, EveryStateIsSound, ItemsGiveTheRun, ItemsKeepSoundness, NumbersAreUsedOnce, OutputGrows, PrefixIsARun, RunGoesOn, RunsLeadToValidStates, ServicedOnce};
 
 /// A run's prefix is a run, and the rest of a run goes on where the prefix led.
 pub fn prefixes_are_runs()
@@ -44,4 +44,14 @@ pub fn invocations_are_serviced_once()
 /// A call gets at most one reply, and it goes to the process that made the call.
 pub fn calls_are_answered_once()
     ensures { AnsweredOnce }
+{}
+
+/// Every class history of a run is legal.
+pub fn histories_are_legal()
+    ensures { EveryHistoryIsLegal }
+{}
+
+/// The items give the run, in whatever pieces the input came.
+pub fn items_give_the_run()
+    ensures { ItemsGiveTheRun }
 {}

@@ -3,6 +3,7 @@ pub mod Answering
 pub mod Deciding
 pub mod Does
 pub mod Endings
+pub mod Histories
 pub mod Inputs
 pub mod Invoking
 pub mod Making
