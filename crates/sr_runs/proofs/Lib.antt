@@ -1,4 +1,5 @@
 pub mod CallLemmas
+pub mod ClassLemmas
 pub mod CountLemmas
 pub mod HistoryLemmas
 pub mod InputLemmas

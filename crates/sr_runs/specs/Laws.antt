@@ -1,9 +1,21 @@
 -- Laws of whole runs, in the language's own words.
-use Rattle.std.specs.Prelude.{◌≡◌, ℕ, ◌<◌, ◌≤◌, ◌==◌, Bool, true, false, List, [], ◌∷◌, ◌++◌, count_by}
+use Rattle.std.specs.Prelude.{◌≡◌, ℕ, ◌<◌, ◌≤◌, ◌==◌, Bool, true, false, List, [], ◌∷◌, ◌++◌, Option, count_by, filter, slice_get}
+use Rattle.std.specs.List.{list_any}
 use Rattle.sr_ask.specs.declared.item.Item.{Item}
 use Rattle.sr_ask.specs.declared.item.Item.TheVariants.{Step}
 use Rattle.sr_calls.specs.Calls.{items_of}
 use Rattle.sr_core.specs.declared.component.Core.{Core}
+use Rattle.sr_core.specs.declared.owner.Me.{Me}
+use Rattle.sr_core.specs.declared.site.Arm.{Arm}
+use Rattle.sr_core.specs.declared.site.Site.{Site}
+use Rattle.sr_queue.specs.Queues.{is_of}
+use Rattle.sr_queue.specs.declared.pending.Pending.{Pending}
+use Rattle.sr_select.specs.Choices.{choice, owner_in}
+use Rattle.sr_select.specs.Readings.{Reading}
+use Rattle.sr_select.specs.declared.choice.Choice.{Choice}
+use Rattle.sr_select.specs.declared.choice.Choice.TheVariants as chosen
+use Rattle.sr_value.specs.declared.fault.Fault.{Fault}
+use Rattle.sr_value.specs.declared.value.Value.{Value}
 use Rattle.sr_value.specs.declared.capability.Owner.{Owner}
 use Rattle.sr_world.specs.Histories.{Class, IsLegalHistory, history}
 use Rattle.sr_world.specs.Runs.{Event, Closes, Goes, Illegal, IsValid, Next, Over, State, bytes_in, is_legal, items_in, led, next, output_of, run, run_from, with_input, without_more}
@@ -126,3 +138,29 @@ closes (event ∷ events) = closes events
 abbrev pub ItemsGiveTheRun : Type 0
 ItemsGiveTheRun = (core : Core) (limit : ℕ) (events : List Event) (more : List ℕ) → is_legal (led core limit events) ≡ true → (closes events ≡ true → more ≡ [])
     → run core limit (bytes_in events ++ more) (items_in events) ≡ next_with_all more (led core limit events)
+
+-- ---- classes
+
+-- whether a statement can service an invocation at all
+abbrev pub is_serviced : Owner → List Arm → Pending → Bool
+is_serviced owner arms p = list_any (λ arm. is_of owner arm.op p) arms
+
+-- what a choice comes to, wherever the invocation stands that it takes up
+pub data Taken : Type 0 where
+  Takes : Option Pending → ℕ → Taken
+  TakesElse : Taken
+  TakesNothing : Taken
+  Faults : Fault → ℕ → Taken
+
+abbrev pub taken : List Pending → Choice → Taken
+taken items (chosen.Service place arm) = Takes (slice_get items place) arm
+taken items chosen.Else = TakesElse
+taken items chosen.Nothing = TakesNothing
+taken items (chosen.Bad fault arm) = Faults fault arm
+
+-- Classes are separate: where two lists have the same invocations that a statement can service, in the same order, and
+-- its guards read the same, the statement makes the same choice.
+abbrev pub ClassesAreSeparate : Type 0
+ClassesAreSeparate = (reading : Reading) (site : Site) (me : Me) (env : List Value) (items others : List Pending)
+    → filter (is_serviced (owner_in site.scope me) site.arms) items ≡ filter (is_serviced (owner_in site.scope me) site.arms) others
+    → taken items (choice reading site me env items) ≡ taken others (choice reading site me env others)

@@ -1,4 +1,4 @@
-ghost use Rattle.sr_runs.specs.Laws.{AnsweredOnce, EachStandsOnce, EveryHistoryIsLegal, EveryStateIsSound, ItemsGiveTheRun, ItemsKeepSoundness, NumbersAreUsedOnce, OutputGrows, PrefixIsARun, RunGoesOn, RunsLeadToValidStates, ServicedOnce};
+ghost use Rattle.sr_runs.specs.Laws.{AnsweredOnce, ClassesAreSeparate, EachStandsOnce, EveryHistoryIsLegal, EveryStateIsSound, ItemsGiveTheRun, ItemsKeepSoundness, NumbersAreUsedOnce, OutputGrows, PrefixIsARun, RunGoesOn, RunsLeadToValidStates, ServicedOnce};
 
 /// A run's prefix is a run, and the rest of a run goes on where the prefix led.
 pub fn prefixes_are_runs()
@@ -54,4 +54,9 @@ pub fn histories_are_legal()
 /// The items give the run, in whatever pieces the input came.
 pub fn items_give_the_run()
     ensures { ItemsGiveTheRun }
+{}
+
+/// A choice doesn't depend on what waits in other classes.
+pub fn classes_are_separate()
+    ensures { ClassesAreSeparate }
 {}
