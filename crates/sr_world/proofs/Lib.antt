@@ -6,6 +6,7 @@ pub mod PartLemmas
 pub mod PassLemmas
 pub mod PlaceLemmas
 pub mod ReadyLemmas
+pub mod QuietLemmas
 pub mod StartLemmas
 pub mod StepLemmas
 pub mod TokenLemmas

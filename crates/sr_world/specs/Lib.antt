@@ -3,12 +3,16 @@ pub mod Answering
 pub mod Deciding
 pub mod Does
 pub mod Endings
+pub mod Histories
 pub mod Inputs
 pub mod Invoking
 pub mod Making
 pub mod Names
 pub mod Parts
 pub mod Selecting
+pub mod Runs
+pub mod Sound
+pub mod Spots
 pub mod Steps
 pub mod Updates
 pub mod Waking

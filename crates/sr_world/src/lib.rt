@@ -14,6 +14,7 @@ mod invoking;
 pub mod laws;
 mod making;
 mod places;
+mod quiet;
 mod reading;
 mod reads;
 mod ready;

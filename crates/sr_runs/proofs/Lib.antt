@@ -1,0 +1,13 @@
+pub mod CallLemmas
+pub mod ClassLemmas
+pub mod CountLemmas
+pub mod HistoryLemmas
+pub mod InputLemmas
+pub mod KeepLemmas
+pub mod LawProofs
+pub mod MoveLemmas
+pub mod OnceLemmas
+pub mod PieceLemmas
+pub mod RequestLemmas
+pub mod RunLemmas
+pub mod StandLemmas
