@@ -1,34 +1,39 @@
 -- Each instruction goes to a lower address, or takes a tick or an answer.
-use Rattle.std.proofs.Common.{◌≡◌, ℕ, zero, suc, ◌+◌, ◌*◌, ◌<◌, ◌≤◌, min, Bool, true, false, List, [], ◌∷◌, length, Option, Some, None, Result, Ok, Err, ◌⊎◌, inl, inr, refl, subst, arith}
+use Rattle.std.proofs.Common.{◌≡◌, ℕ, ℤ, ◌+ℤ◌, zero, suc, ◌*◌, ◌<◌, ◌≤◌, min, Bool, true, false, List, [], ◌∷◌, length, map, slice_get, Option, Some, None, Result, Ok, Err, inl, inr, refl, arith}
+use Rattle.sr_value.specs.declared.capability.Cap.{Cap}
 use Rattle.sr_value.specs.declared.fault.Fault.{Fault}
 use Rattle.sr_value.specs.declared.shape.Sel.{Sel}
 use Rattle.sr_value.specs.declared.shape.Shape.{Shape}
 use Rattle.sr_value.specs.declared.value.Value.{Value}
 use Rattle.sr_value.specs.Parts.{with_ok, loaded_at}
 use Rattle.sr_value.specs.Shapes.{default_value}
-use Rattle.sr_ask.specs.Asking.{none_takes, done, got, took, read_item}
-use Rattle.sr_ask.specs.Behaviors.{Stage, Outcome, Came, Stops, Doing, and_then, give, ◌>>=◌, hear, heard, asking, room}
+use Rattle.sr_ask.specs.Asking.{none_takes, done, got, made, took, read_item, selected}
+use Rattle.sr_ask.specs.Behaviors.{Stage, Outcome, Came, Stops, Doing, and_then, give, ◌>>=◌, hear, heard, asking, room, tick, ticked}
 use Rattle.sr_ask.specs.Here.{Here, ask_of, request, settle}
 use Rattle.sr_ask.specs.Invocations.{default_given, taken, at_end}
-use Rattle.sr_ask.specs.Places.{own_at, own_after, own_load, own_store, load_at, load_place, store_at, store_place, declare_own, make, whole}
+use Rattle.sr_ask.specs.Places.{own_at, own_after, own_store, load_at, load_place, store_at, store_place, declare_own, make, whole}
+use Rattle.sr_ask.specs.Replies.{Completion, forward_meaning, forward_unless, mark_answered, push_out, reply_meaning, reply_unless, results_now, take_one, took_one}
 use Rattle.sr_ask.specs.declared.answer.Answer.{Answer}
 use Rattle.sr_ask.specs.declared.ask.Asks.{Asks}
 use Rattle.sr_ask.specs.declared.environment.Located.{Located}
+use Rattle.sr_ask.specs.declared.environment.Out.{Out}
 use Rattle.sr_ask.specs.declared.environment.Own.{Own}
 use Rattle.sr_ask.specs.declared.environment.ReadTarget.{ReadTarget}
 use Rattle.sr_ask.specs.declared.environment.Spot.{Spot}
 use Rattle.sr_ask.specs.declared.environment.Spot.TheVariants.{Own as an_own, Shared as a_shared}
 use Rattle.sr_ask.specs.declared.request.Request.{Request}
-use Rattle.sr_ask.specs.declared.request.Request.TheVariants.{Declare, Load as load_request, Store as store_request, Take as take_request, Read as read_request, Fail}
+use Rattle.sr_ask.specs.declared.request.Request.TheVariants.{Declare, Load as load_request, Store as store_request, Take as take_request, Read as read_request, Fail, Invoke as invoke_request, Reply as reply_request, Forward as forward_request, Select as select_request, Write as write_request, Stop as stop_request, Wake as wake_request}
 use Rattle.sr_core.specs.Formals.{sent_to}
-use Rattle.sr_core.specs.Values.{formal_shape}
+use Rattle.sr_core.specs.Values.{formal_shape, texts_of, written}
 use Rattle.sr_core.specs.declared.component.Core.{Core}
-use Rattle.sr_code.specs.Acts.{Point, point, goes, act, and_skip, or_skip, store_one, store_some, after_item, ask_item, store_item, store_argument}
+use Rattle.sr_core.specs.declared.site.Named.{Named}
+use Rattle.sr_core.specs.declared.site.Named.TheVariants.{Own as named_own, Home as named_home, Machine as named_machine}
+use Rattle.sr_code.specs.Acts.{Point, point, goes, act, and_skip, or_skip, store_one, store_some, after_item, ask_item, store_item, store_argument, until_moment, number_own, each_of, repeat_of, unless, named_held, after_choice, turn_held, place_if, drop_place_if, after_completion, reply_of, set_vars, given_back, store_if}
 use Rattle.sr_code.specs.Laws.{Falls, InstructionsFall}
-use Rattle.sr_code.specs.Operands.{put_targets, put_list, list_on, put_value, reading_on, drop_reading}
+use Rattle.sr_code.specs.Operands.{call_on, completed_on, count_on, drop_call, drop_completed, drop_count, drop_list, drop_number, drop_numbers, drop_reading, drop_value, join_value, list_on, number_on, numbers_on, put_count, put_numbers, put_list, put_targets, put_value, reading_on, value_on}
 use Rattle.sr_code.specs.Owners.{variable_in}
 use Rattle.sr_code.specs.declared.instruction.Instruction.{Instruction}
-use Rattle.sr_code.specs.declared.instruction.Instruction.TheVariants.{Constant, Operation, MyResource, MyMachine, Count, MakeMachine, Moment, ToNumber, ToCap, OperateOne, Operate, AndSkip, OrSkip, NoValues, Collect, Apply, NoPieces, AddPiece, AddRepeated, MakeArray, PartAt, PartAt2, PartField, Member, Spot as spot_instruction, At, At2, Field, Load, ToCall, PassValue, PassVar, PassRes, Invoke, Take, StoreResults, Default, EnsureGlobal, Create, TakeInstance, NoReadings, AddReading, ReadNext, StoreRead, NumberRead, EndRead, Jump, FixedShape, StringShape, OneDimension, TwoDimensions, Make, MakeLike, StoreIn, Arguments, MakeFormal, StoreFormal, DropList}
+use Rattle.sr_code.specs.declared.instruction.Instruction.TheVariants.{Constant, Operation, MyResource, MyMachine, Count, MakeMachine, Moment, ToNumber, ToCap, OperateOne, Operate, AndSkip, OrSkip, NoValues, Collect, Apply, NoPieces, AddPiece, AddRepeated, MakeArray, PartAt, PartAt2, PartField, Member, Spot as spot_instruction, At, At2, Field, Load, ToCall, PassValue, PassVar, PassRes, Invoke, Take, StoreResults, Default, EnsureGlobal, Create, TakeInstance, NoReadings, AddReading, ReadNext, StoreRead, NumberRead, EndRead, Jump, FixedShape, StringShape, OneDimension, TwoDimensions, Make, MakeLike, StoreIn, Arguments, MakeFormal, StoreFormal, DropList, DropValue, Send, Forward, Store, LoadAgain, LoadSecond, StoreSecond, Write, Number, Stop, Destroy, TakeDone, ToWait, Age, Wake, Reply, Tick, JumpUnless, Again, Quantify, Each, DropNumbers, ToCount, Repeat, AddNamed, Select, OpenService, EndService, OpenCo, StartCall, CountOuts, TakeReply, SetTurn, GiveBack, StoreValue, CloseCo}
 use Rattle.sr_code.specs.declared.operands.Operands.{Operands}
 
 -- ---- room for ticks
@@ -152,6 +157,25 @@ pub lowers_used : {A : Type 0} {limit : ℕ} (next : ℕ) {first : Doing A} (the
 lowers_used {limit = limit} next {first = first} then u =
     record { falls = λ stage. falls_less limit next (first stage) (λ a. give (then a)) (room limit stage) (u.lessens stage) (λ a after. omega arith) }
 
+-- after an answer or a tick, to any address
+pub lowers_after : {A : Type 0} {limit : ℕ} (next : ℕ) {first : Doing A} {then : A → Doing Point} → Uses limit first → ((a : A) → Keeps limit (then a)) → Lowers limit next (first >>= then)
+lowers_after {limit = limit} next {first = first} {then = then} u k =
+    record { falls = λ stage. falls_less limit next (first stage) then (room limit stage) (u.lessens stage) (λ a after. (k a).leaves after) }
+
+lessens_ticked : (limit ticks : ℕ) (stage : Stage) → stage.ticks ≡ ticks → Lessens limit (ticked ticks stage) (room limit stage)
+lessens_ticked limit zero stage is = tt
+lessens_ticked limit (suc ticks) stage is = omega arith
+
+uses_tick : (limit : ℕ) → Uses limit tick
+uses_tick limit = record { lessens = λ stage. lessens_ticked limit stage.ticks stage refl }
+
+-- a request that is asked for good
+lowers_last : (here : Here) (next : ℕ) (asked : Request) → Lowers here.limit next (request none_takes asked here)
+lowers_last here next asked = record { falls = λ stage. came here.limit next (request none_takes asked here stage) (room here.limit stage) ((uses_request here none_takes asked).lessens stage) } where
+  came : (limit next : ℕ) (o : Outcome Point) (most : ℕ) → Lessens limit o most → Falls limit next o most
+  came limit next (Came at stage) most h = inl h
+  came limit next (Stops asks) most h = tt
+
 pub keeps_settle : {A : Type 0} (here : Here) (found : Result A Fault) → Keeps here.limit (settle found here)
 keeps_settle here (Ok a) = keeps_give here.limit a
 keeps_settle here (Err fault) = keeps_request here none_takes (Fail fault)
@@ -235,6 +259,76 @@ lowers_or : (truth : Bool) (limit to next : ℕ) (on : Operands) → Lowers limi
 lowers_or true limit to next on = lowers_goes limit next (min to next) _ (omega arith)
 lowers_or false limit to next on = lowers_goes limit next next _ (omega arith)
 
+-- ---- services
+
+keeps_reply : (here : Here) → Keeps here.limit (reply_meaning here)
+keeps_reply here = record { leaves = λ stage. unless_answered stage.service.answered stage } where
+  unless_answered : (answered : Bool) (stage : Stage) → Leaves here.limit (reply_unless answered here stage) (room here.limit stage)
+  unless_answered true stage = omega arith
+  unless_answered false stage =
+      let asked = reply_request stage.service.held stage.service.back (results_now here stage) in
+      leaves_then here.limit (request done asked here stage) (λ _. mark_answered) (room here.limit stage) ((keeps_request here done asked).leaves stage) (λ a after. omega arith)
+
+keeps_forward : (target : Cap) (args : List Value) (here : Here) → Keeps here.limit (forward_meaning target args here)
+keeps_forward target args here = record { leaves = λ stage. unless_answered stage.service.answered stage } where
+  unless_answered : (answered : Bool) (stage : Stage) → Leaves here.limit (forward_unless answered target args here stage) (room here.limit stage)
+  unless_answered true stage =
+      leaves_then here.limit (request made (invoke_request target args false) here stage) (λ _. give tt) (room here.limit stage) ((keeps_request here made (invoke_request target args false)).leaves stage) (λ a after. omega arith)
+  unless_answered false stage =
+      let asked = forward_request stage.service.held stage.service.back target args in
+      leaves_then here.limit (request made asked here stage) (λ _. mark_answered) (room here.limit stage) ((keeps_request here made asked).leaves stage) (λ a after. omega arith)
+
+keeps_named : (named : Named) (here : Here) → Keeps here.limit (named_held named here)
+keeps_named (named_own var) here = keeps_by {doing = λ own. settle (with_ok (own_at own var) (λ o. Ok o.value)) here} (λ own. keeps_settle here _)
+keeps_named (named_home at) here = record { leaves = λ stage. omega arith }
+keeps_named named_machine here = record { leaves = λ stage. omega arith }
+
+lowers_each : (numbers : List ℤ) (limit var head next : ℕ) (on : Operands) → Lowers limit next (each_of numbers var head next on)
+lowers_each [] limit var head next on = lowers_goes limit next next on (omega arith)
+lowers_each (n ∷ rest) limit var head next on =
+    lowers_after next (uses_tick limit) (λ _. keeps_then (keeps_declare limit var (number_own n)) (λ _. keeps_give limit (point head (put_numbers rest on))))
+
+lowers_repeat : (count limit head next : ℕ) (on : Operands) → Lowers limit next (repeat_of count head next on)
+lowers_repeat zero limit head next on = lowers_goes limit next next on (omega arith)
+lowers_repeat (suc count) limit head next on = lowers_after next (uses_tick limit) (λ _. keeps_give limit _)
+
+lowers_unless : (truth : Bool) (limit to next : ℕ) (on : Operands) → Lowers limit next (give (unless truth to next on))
+lowers_unless true limit to next on = lowers_goes limit next next on (omega arith)
+lowers_unless false limit to next on = lowers_goes limit next (min to next) on (omega arith)
+
+-- ---- co
+
+keeps_completion : (arm : Option ℕ) (completion : Completion) (limit again : ℕ) (on : Operands) → Keeps limit (after_completion arm completion again on)
+keeps_completion None completion limit again on = keeps_give limit _
+keeps_completion (Some arm) completion limit again on = record { leaves = λ stage. omega arith }
+
+uses_take_one : (here : Here) → Uses here.limit (take_one here)
+uses_take_one here = record { lessens = λ stage. (uses_request here (took_one stage.out) (take_request (map (λ out. out.id) stage.out))).lessens stage }
+
+lowers_reply : (count : ℕ) (arms : List ℕ) (here : Here) (next : ℕ) (on : Operands) → Lowers here.limit next (reply_of count arms here next on)
+lowers_reply zero arms here next on = lowers_goes here.limit next next on (omega arith)
+lowers_reply (suc count) arms here next on =
+    lowers_after next (uses_take_one here) (λ completion. keeps_completion (slice_get arms completion.out.arm) completion here.limit (suc next) (put_count count (drop_count on)))
+
+keeps_set_vars : (vars : List ℕ) (turn : List ℤ) (limit : ℕ) → Keeps limit (set_vars vars turn)
+keeps_set_vars [] turn limit = keeps_give limit tt
+keeps_set_vars (var ∷ vars) [] limit = keeps_give limit tt
+keeps_set_vars (var ∷ vars) (n ∷ turn) limit = keeps_then (keeps_declare limit var _) (λ _. keeps_set_vars vars turn limit)
+
+lowers_given : (results : Option (List Value)) (places : List Located) (limit none next : ℕ) (on : Operands) → Lowers limit next (give (given_back results places none next on))
+lowers_given None places limit none next on = lowers_goes limit next (min none next) on (omega arith)
+lowers_given (Some results) places limit none next on = lowers_goes limit next next _ (omega arith)
+
+keeps_store_if : (place : Option Located) (value : Value) (here : Here) → Keeps here.limit (store_if place value here)
+keeps_store_if None value here = keeps_give here.limit tt
+keeps_store_if (Some place) value here = keeps_store place value here
+
+keeps_own_change : (limit : ℕ) (vars : List ℕ) → Keeps limit (turn_held vars)
+keeps_own_change limit vars = record { leaves = λ stage. omega arith }
+
+keeps_push : (limit : ℕ) (out : Out) → Keeps limit (push_out out)
+keeps_push limit out = record { leaves = λ stage. omega arith }
+
 -- a piece of work, and then the next address
 lowers_past : {A : Type 0} (here : Here) (next : ℕ) {first : Doing A} (on : A → Operands) → Keeps here.limit first → Lowers here.limit next (first >>= λ a. goes next (on a))
 lowers_past here next on f = lowers_then f (λ a. lowers_goes here.limit next next (on a) (omega arith))
@@ -304,6 +398,49 @@ act_lowers core (MakeFormal scope var mode shape) here next on =
     lowers_then (keeps_settle here (formal_shape shape (sent_to mode (list_on on)))) (λ found. lowers_past here next (λ _. on) (keeps_make (variable_in scope var here) found here))
 act_lowers core (StoreFormal scope var mode) here next on = lowers_past here next _ (keeps_argument _ _ here)
 act_lowers core DropList here next on = lowers_next here next _
+act_lowers core DropValue here next on = lowers_next here next _
+act_lowers core Send here next on = lowers_past here next _ (keeps_request here _ _)
+act_lowers core Forward here next on = lowers_past here next _ (keeps_forward _ _ here)
+act_lowers core Store here next on = lowers_past here next _ (keeps_store _ _ here)
+act_lowers core LoadAgain here next on = lowers_past here next _ (keeps_load _ here)
+act_lowers core LoadSecond here next on = lowers_past here next _ (keeps_load _ here)
+act_lowers core StoreSecond here next on = lowers_past here next _ (keeps_store _ _ here)
+act_lowers core (Write line) here next on =
+    lowers_then (keeps_settle here (texts_of core.names (list_on on))) (λ texts. lowers_past here next (λ _. drop_list on) (keeps_request here done (write_request (written line texts))))
+act_lowers core (Number n) here next on = lowers_next here next _
+act_lowers core Stop here next on = lowers_last here next (stop_request (number_on on))
+act_lowers core Destroy here next on = lowers_past here next _ (keeps_request here _ _)
+act_lowers core TakeDone here next on = lowers_past here next _ (keeps_used (uses_taken _ here))
+act_lowers core ToWait here next on = lowers_past here next _ (keeps_settle here _)
+act_lowers core Age here next on = lowers_past here next _ (keeps_request here _ _)
+act_lowers core Wake here next on =
+    lowers_then (keeps_settle here (until_moment (number_on on +ℤ number_on (drop_number on)))) (λ until. lowers_past here next (λ _. drop_number (drop_number on)) (keeps_request here done (wake_request until)))
+act_lowers core Reply here next on = lowers_past here next (λ _. on) (keeps_reply here)
+act_lowers core Tick here next on = lowers_past here next (λ _. on) (keeps_used (uses_tick here.limit))
+act_lowers core (JumpUnless to) here next on = lowers_then (keeps_settle here _) (λ truth. lowers_unless truth here.limit to next _)
+act_lowers core (Again to) here next on = lowers_used next (λ _. point to on) (uses_tick here.limit)
+act_lowers core (Quantify direction) here next on = lowers_past here next _ (keeps_settle here _)
+act_lowers core (Each var head) here next on = lowers_each (numbers_on on) here.limit var head next (drop_numbers on)
+act_lowers core DropNumbers here next on = lowers_next here next _
+act_lowers core ToCount here next on = lowers_past here next _ (keeps_settle here _)
+act_lowers core (Repeat head) here next on = lowers_repeat (count_on on) here.limit head next (drop_count on)
+act_lowers core (AddNamed named) here next on = lowers_past here next (λ v. join_value v on) (keeps_named named here)
+act_lowers core (Select site count has_else arms otherwise end) here next on =
+    lowers_used next (λ selection. after_choice selection arms otherwise end (drop_list on)) (uses_request here (selected count has_else) (select_request site (list_on on)))
+act_lowers core (OpenService gives) here next on = record { falls = λ stage. inr (omega arith, omega arith) }
+act_lowers core EndService here next on = record { falls = λ stage. inr (omega arith, omega arith) }
+act_lowers core OpenCo here next on = record { falls = λ stage. inr (omega arith, omega arith) }
+act_lowers core (StartCall arm vars has_place) here next on =
+    lowers_then (keeps_request here made (invoke_request (call_on on).target (call_on on).values true)) (λ id.
+    lowers_then (keeps_own_change here.limit vars) (λ turn.
+    lowers_past here next (λ _. drop_place_if has_place (drop_call on))
+    (keeps_push here.limit (record { id = id; arm = arm; place = place_if has_place on; backs = (call_on on).places; turn = turn }))))
+act_lowers core CountOuts here next on = record { falls = λ stage. inr (omega arith, omega arith) }
+act_lowers core (TakeReply arms) here next on = lowers_reply (count_on on) arms here next on
+act_lowers core (SetTurn vars) here next on = lowers_past here next (λ _. on) (keeps_set_vars vars (completed_on on).out.turn here.limit)
+act_lowers core (GiveBack none) here next on = lowers_given (completed_on on).results (completed_on on).out.backs here.limit none next on
+act_lowers core StoreValue here next on = lowers_past here next (λ _. drop_value (drop_completed on)) (keeps_store_if (completed_on on).out.place (value_on on) here)
+act_lowers core CloseCo here next on = record { falls = λ stage. inr (omega arith, omega arith) }
 
 pub instructions_lower : InstructionsFall
 instructions_lower core instruction here next on stage = (act_lowers core instruction here next on).falls stage

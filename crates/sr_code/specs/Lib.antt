@@ -1,5 +1,6 @@
 pub mod Acts
 pub mod Laws
+pub mod Numbers
 pub mod Operands
 pub mod Owners
 pub mod Runs

@@ -1,5 +1,5 @@
 -- The operands of each kind: the last put, the others, and one more. A missing operand reads as a default.
-use Rattle.std.specs.Prelude.{ℕ, suc, ℤ, pos, List, [], ◌∷◌, ◌++◌}
+use Rattle.std.specs.Prelude.{ℕ, suc, ℤ, pos, true, List, [], ◌∷◌, ◌++◌, None}
 use Rattle.sr_value.specs.declared.capability.Cap.{Cap}
 use Rattle.sr_value.specs.declared.capability.Cap.TheVariants.{Null}
 use Rattle.sr_value.specs.declared.shape.Sel.{Sel}
@@ -7,13 +7,18 @@ use Rattle.sr_value.specs.declared.shape.Shape.{Shape}
 use Rattle.sr_value.specs.declared.shape.Shape.TheVariants.{Int as an_int}
 use Rattle.sr_value.specs.declared.value.Value.{Value}
 use Rattle.sr_ask.specs.Places.{nothing, whole}
+use Rattle.sr_ask.specs.declared.environment.Gives.TheVariants.{Values}
 use Rattle.sr_ask.specs.declared.environment.Located.{Located}
+use Rattle.sr_ask.specs.declared.environment.Out.{Out}
 use Rattle.sr_ask.specs.declared.environment.ReadTarget.{ReadTarget}
+use Rattle.sr_ask.specs.declared.environment.Service.{Service}
 use Rattle.sr_ask.specs.declared.environment.Spot.TheVariants.{Own as an_own}
+use Rattle.sr_ask.specs.declared.forms.Pick.{Pick}
 use Rattle.sr_core.specs.Formals.{after_first}
 use Rattle.sr_core.specs.declared.piece.Piece.{Piece}
 use Rattle.sr_code.specs.Stacks.{below, first_or}
 use Rattle.sr_code.specs.declared.operands.Call.{Call}
+use Rattle.sr_code.specs.declared.operands.Completed.{Completed}
 use Rattle.sr_code.specs.declared.operands.Operands.{Operands}
 use Rattle.sr_code.specs.declared.operands.Reading.{Reading}
 
@@ -31,6 +36,12 @@ no_operands = record {
   calls = [];
   targets = [];
   readings = [];
+  loops = [];
+  counts = [];
+  picks = [];
+  services = [];
+  outs = [];
+  completed = [];
 }
 
 -- ---- values
@@ -190,3 +201,72 @@ join_target target on =
 abbrev pub one_read : Operands → Operands
 one_read on =
     put_reading (record { targets = after_first (reading_on on).targets; count = suc (reading_on on).count }) (drop_reading on)
+
+-- ---- quantifiers and counts
+
+abbrev pub numbers_on : Operands → List ℤ
+numbers_on on = first_or [] on.loops
+
+abbrev pub drop_numbers : Operands → Operands
+drop_numbers on = record on { loops = below on.loops }
+
+abbrev pub put_numbers : List ℤ → Operands → Operands
+put_numbers numbers on = record on { loops = numbers ∷ on.loops }
+
+abbrev pub count_on : Operands → ℕ
+count_on on = first_or 0 on.counts
+
+abbrev pub drop_count : Operands → Operands
+drop_count on = record on { counts = below on.counts }
+
+abbrev pub put_count : ℕ → Operands → Operands
+put_count count on = record on { counts = count ∷ on.counts }
+
+-- ---- services
+
+abbrev pub no_pick : Pick
+no_pick = record { id = 0; arm = 0; args = []; back = 0 }
+
+abbrev pub pick_on : Operands → Pick
+pick_on on = first_or no_pick on.picks
+
+abbrev pub drop_pick : Operands → Operands
+drop_pick on = record on { picks = below on.picks }
+
+abbrev pub put_pick : Pick → Operands → Operands
+put_pick pick on = record on { picks = pick ∷ on.picks }
+
+abbrev pub no_service : Service
+no_service = record { held = 0; back = 0; answered = true; gives = Values [] }
+
+abbrev pub service_on : Operands → Service
+service_on on = first_or no_service on.services
+
+abbrev pub drop_service : Operands → Operands
+drop_service on = record on { services = below on.services }
+
+abbrev pub put_service : Service → Operands → Operands
+put_service service on = record on { services = service ∷ on.services }
+
+-- ---- co
+
+abbrev pub outs_on : Operands → List Out
+outs_on on = first_or [] on.outs
+
+abbrev pub drop_outs : Operands → Operands
+drop_outs on = record on { outs = below on.outs }
+
+abbrev pub put_outs : List Out → Operands → Operands
+put_outs outs on = record on { outs = outs ∷ on.outs }
+
+abbrev pub no_out : Out
+no_out = record { id = 0; arm = 0; place = None; backs = []; turn = [] }
+
+abbrev pub completed_on : Operands → Completed
+completed_on on = first_or (record { out = no_out; results = None }) on.completed
+
+abbrev pub drop_completed : Operands → Operands
+drop_completed on = record on { completed = below on.completed }
+
+abbrev pub put_completed : Completed → Operands → Operands
+put_completed completed on = record on { completed = completed ∷ on.completed }

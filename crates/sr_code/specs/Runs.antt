@@ -1,5 +1,5 @@
 -- What running code asks.
-use Rattle.std.specs.Prelude.{ℕ, zero, suc, ◌+◌, ◌*◌, min, false, List, [], length, replicate, Option, Some, None, unwrap_or, slice_get}
+use Rattle.std.specs.Prelude.{ℕ, zero, suc, ◌+◌, ◌*◌, min, false, List, [], ◌∷◌, length, replicate, Option, Some, None, unwrap_or, slice_get}
 use Rattle.sr_value.specs.declared.place.Place.{Place}
 use Rattle.sr_ask.specs.Asking.{none_takes}
 use Rattle.sr_ask.specs.Behaviors.{Stage, Outcome, Came, Stops, Doing, room}
@@ -78,15 +78,23 @@ abbrev pub gives_without : Role → Gives
 gives_without Initial = Instance
 gives_without role = Values []
 
-abbrev pub no_entry : Role → Entry
-no_entry role = record { address = 0; place = record { file = 0; line = 1 }; owns = 0; gives = gives_without role }
+abbrev pub ends_at : Place → Role → Entry
+ends_at line role = record { address = 0; place = line; owns = 0; gives = gives_without role }
+
+abbrev pub no_line : Place
+no_line = record { file = 0; line = 1 }
+
+-- a proc that isn't there ends at the line of the first component
+abbrev pub first_line : List Entry → Place
+first_line [] = no_line
+first_line (entry ∷ entries) = entry.place
 
 -- where the code of a process begins
 abbrev pub entry_of : Code → Role → ℕ → Entry
 entry_of code Boot number = code.boot
-entry_of code Initial number = unwrap_or (slice_get code.initial number) (no_entry Initial)
-entry_of code proc_role number = unwrap_or (slice_get code.procs number) (no_entry proc_role)
-entry_of code Final number = unwrap_or (slice_get code.final_code number) (no_entry Final)
+entry_of code Initial number = unwrap_or (slice_get code.initial number) (ends_at no_line Initial)
+entry_of code proc_role number = unwrap_or (slice_get code.procs number) (ends_at (first_line code.initial) proc_role)
+entry_of code Final number = unwrap_or (slice_get code.final_code number) (ends_at no_line Final)
 
 -- a process holds what it was made for under its own number
 abbrev pub service_at : Entry → Start → Service

@@ -1,5 +1,7 @@
-use sr_core::{FormalShape, Function, Mode, OperationOwner, Readable, Root, Scope};
-use sr_value::{Operator, Shape, Value};
+use sr_core::{
+    Direction, FormalShape, Function, Mode, Named, OperationOwner, Readable, Root, Scope,
+};
+use sr_value::{Operator, Row, Shape, Value};
 
 /// An instruction of the flat code. `to` and the like are addresses. An instruction that neither ticks nor asks
 /// never goes to a higher address than the next one's.
@@ -166,4 +168,107 @@ pub enum Instruction {
     },
     /// Drops a list.
     DropList,
+    /// Drops a value.
+    DropValue,
+    /// Asks for the invocation of a call, for whose reply nobody waits.
+    Send,
+    /// Hands the duty to answer to a call, or only sends it where the service has answered.
+    Forward,
+    /// Stores a value in a place; asks where it is shared.
+    Store,
+    /// Puts what the place holds, which stays; asks where it is shared.
+    LoadAgain,
+    /// Puts what the second place holds; both stay. It asks where that is shared.
+    LoadSecond,
+    /// Stores a value in the second place, which goes; asks where it is shared.
+    StoreSecond,
+    /// Asks to write a list, at the end with a newline where it is a `line`.
+    Write {
+        line: bool,
+    },
+    /// Puts a number.
+    Number(i32),
+    /// Asks to stop the run, for good.
+    Stop,
+    /// Asks to end an instance; the number of its last invocation stays.
+    Destroy,
+    /// Asks for a reply, and drops it.
+    TakeDone,
+    /// A number becomes a time to wait.
+    ToWait,
+    /// Asks for the moment of the machine, as a number.
+    Age,
+    /// Asks to go on at a moment: a time to wait, and a moment after which.
+    Wake,
+    /// Gives the present results, where none were given.
+    Reply,
+    /// One statement begun.
+    Tick,
+    /// Goes to `to` where a value is false.
+    JumpUnless {
+        to: usize,
+    },
+    /// One tick; goes to `to`, which may be higher.
+    Again {
+        to: usize,
+    },
+    /// Three numbers become the values of a quantifier.
+    Quantify(Direction),
+    /// Where a value is left, one tick; the variable gets it, and it goes to `head`, which may be higher.
+    Each {
+        var: u32,
+        head: usize,
+    },
+    /// Drops the values of a quantifier.
+    DropNumbers,
+    /// A number becomes a count.
+    ToCount,
+    /// Where the count isn't 0, one tick; it gets less, and it goes to `head`, which may be higher.
+    Repeat {
+        head: usize,
+    },
+    /// What a guard names of the process joins the list.
+    AddNamed(Named),
+    /// Asks for an invocation of one of `count` arms, or for `else`, with a list. It goes to the arm that was chosen,
+    /// to `otherwise`, or, where no address of the arm is there, to `end`.
+    Select {
+        site: u32,
+        count: usize,
+        has_else: bool,
+        arms: Row<usize>,
+        otherwise: usize,
+        end: usize,
+    },
+    /// Begins to service the invocation that was chosen; its arguments become a list.
+    OpenService {
+        gives: Row<u32>,
+    },
+    /// Goes back to the service around.
+    EndService,
+    /// Begins a `co`: what is out of the one around waits.
+    OpenCo,
+    /// Asks for the invocation of a call of a `co`, and notes it with the variables of its quantifiers.
+    StartCall {
+        arm: u32,
+        vars: Row<u32>,
+        has_place: bool,
+    },
+    /// Puts how many invocations are out.
+    CountOuts,
+    /// Where the count isn't 0, it gets less: asks for the next reply, and goes to its arm.
+    TakeReply {
+        arms: Row<usize>,
+    },
+    /// The quantifiers' variables get their values of the invocation that was answered.
+    SetTurn {
+        vars: Row<u32>,
+    },
+    /// The results of the reply become a list; where it has none, it goes to `none`.
+    GiveBack {
+        none: usize,
+    },
+    /// Stores a value in the place of the invocation that was answered, where it has one; asks where it is shared.
+    StoreValue,
+    /// Ends a `co`: its count goes.
+    CloseCo,
 }

@@ -8,10 +8,12 @@
 mod code;
 mod instruction;
 pub mod laws;
+mod numbers;
 mod operands;
 mod stack;
 
 pub use code::{Code, Coded, Entry, Program};
 pub use instruction::Instruction;
-pub use operands::{Call, Operands, Reading};
+pub use numbers::Numbers;
+pub use operands::{Call, Completed, Operands, Reading};
 pub use stack::Stack;

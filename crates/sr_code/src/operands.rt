@@ -1,5 +1,6 @@
+use crate::numbers::Numbers;
 use crate::stack::Stack;
-use sr_ask::{Located, ReadTarget};
+use sr_ask::{Located, Out, Pick, ReadTarget, Service};
 use sr_core::Piece;
 use sr_value::{Cap, Row, Shape, Value};
 use std::alloc::Global;
@@ -23,6 +24,14 @@ pub struct Reading {
     pub count: u32,
 }
 
+/// A reply of a `co` that was taken.
+#[derive(Drop)]
+pub struct Completed {
+    /// The invocation that it answers.
+    pub out: Out,
+    pub results: Option<Row<Value>>,
+}
+
 /// The operands of a process: a stack for each kind.
 #[derive(Drop)]
 pub struct Operands {
@@ -40,6 +49,17 @@ pub struct Operands {
     /// The places that the results of a reply go to.
     pub targets: Stack<Row<Located>>,
     pub readings: Stack<Reading>,
+    /// What the quantifiers around have still to take.
+    pub loops: Stack<Numbers>,
+    /// How often something is still to be done.
+    pub counts: Stack<u32>,
+    /// Invocations that were chosen.
+    pub picks: Stack<Pick>,
+    /// The services around.
+    pub services: Stack<Service>,
+    /// What is out of the `co`s around.
+    pub outs: Stack<Row<Out>>,
+    pub completed: Stack<Completed>,
 }
 
 impl Operands {
@@ -61,6 +81,12 @@ impl Operands {
             calls: Stack::new(alloc),
             targets: Stack::new(alloc),
             readings: Stack::new(alloc),
+            loops: Stack::new(alloc),
+            counts: Stack::new(alloc),
+            picks: Stack::new(alloc),
+            services: Stack::new(alloc),
+            outs: Stack::new(alloc),
+            completed: Stack::new(alloc),
         }
     }
 }
