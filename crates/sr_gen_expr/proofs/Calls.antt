@@ -1,11 +1,10 @@
 -- Calls, `create` and `read`: their code asks what they ask.
-use Rattle.std.proofs.Common.{◌≡◌, ℕ, zero, suc, ◌+◌, ◌≤◌, min, true, List, [], ◌∷◌, ◌++◌, length, Option, Some, None, refl, sym, ◌∙◌, ap, arith}
-use Rattle.sr_value.specs.declared.capability.Cap.{Cap}
+use Rattle.std.proofs.Common.{◌≡◌, ℕ, suc, ◌+◌, ◌≤◌, min, true, List, [], ◌∷◌, length, Option, Some, None, refl, sym, ◌∙◌, ap, arith}
 use Rattle.sr_value.specs.declared.place.Place.{Place}
 use Rattle.sr_value.specs.declared.shape.Shape.{Shape}
 use Rattle.sr_value.specs.declared.value.Value.{Value}
-use Rattle.sr_ask.specs.Asking.{done, made, read_item, ready}
-use Rattle.sr_ask.specs.Behaviors.{Stage, Outcome, Came, Stops, Doing, and_then, give, ◌>>=◌}
+use Rattle.sr_ask.specs.Asking.{made, read_item, ready}
+use Rattle.sr_ask.specs.Behaviors.{Stage, Outcome, Came, Stops, Doing, and_then, give}
 use Rattle.sr_ask.specs.Invocations.{at_end, default_given as default_at, instance_in, number_read as number_at, places_back, read_all as items_read, read_next, value_after, values_sent}
 use Rattle.sr_ask.specs.Here.{request as request_at}
 use Rattle.sr_ask.specs.Places.{own_store, store_at, store_place as place_store, store_results as results_store}
@@ -17,21 +16,20 @@ use Rattle.sr_ask.specs.declared.environment.Spot.{Spot}
 use Rattle.sr_ask.specs.declared.environment.Spot.TheVariants.{Own as an_own, Shared as a_shared}
 use Rattle.sr_ask.specs.declared.forms.InputItem.{InputItem}
 use Rattle.sr_ask.specs.declared.forms.InputItem.TheVariants.{Value as read_value, NotOfKind, NoMore}
-use Rattle.sr_ask.specs.declared.request.Request.TheVariants.{Invoke as invoke_request, Store as store_request, Create as create_request, EnsureGlobal as ensure_request, Read as read_request}
+use Rattle.sr_ask.specs.declared.request.Request.TheVariants.{Invoke as invoke_request, Create as create_request, EnsureGlobal as ensure_request, Read as read_request}
 use Rattle.sr_core.specs.Values.{cap_of}
 use Rattle.sr_core.specs.declared.component.Core.{Core}
 use Rattle.sr_core.specs.declared.expression.Argument.TheOpen.{Expr-F}
-use Rattle.sr_code.specs.Acts.{Point, point, goes, act, after_item, after_reply, ask_item, store_one, store_some}
-use Rattle.sr_code.specs.Operands.{call_of, join_target, one_read, put_call, put_cap, put_list, put_name, put_reading, put_targets, put_value}
+use Rattle.sr_code.specs.Acts.{Point, point, after_item, after_reply, store_one, store_some}
+use Rattle.sr_code.specs.Operands.{call_of, join_target, put_call, put_cap, put_list, put_name, put_reading, put_targets, put_value}
 use Rattle.sr_code.specs.Runs.{Machine, go, here_at, then_asks}
 use Rattle.sr_code.specs.Stretches.{Emits, Extends, Follows, Has}
 use Rattle.sr_code.specs.declared.code.Coded.{Coded}
-use Rattle.sr_code.specs.declared.instruction.Instruction.{Instruction}
 use Rattle.sr_code.specs.declared.instruction.Instruction.TheVariants.{ToCap, ToCall, Invoke, Take, StoreResults, Default, EnsureGlobal, Create, TakeInstance, NoReadings, ReadNext, StoreRead, NumberRead, EndRead, Jump}
 use Rattle.sr_code.specs.declared.operands.Operands.{Operands}
 use Rattle.sr_code.proofs.Stretches.{extends_one, extends_self, extends_then, follows_give, follows_then, lower_part, follows_as, follows_from, runs_act, runs_first, runs_past, runs_to, upper_part, emitted_length}
-use Rattle.sr_meaning.specs.Expressions.{Meaning, created, ensured, give_back, in_order, needs_of, node_meaning, read_all, taken}
-use Rattle.sr_meaning.specs.Here.{Here, asker, request, settle}
+use Rattle.sr_meaning.specs.Expressions.{Meaning, ensured, give_back, in_order, needs_of, node_meaning, read_all, taken}
+use Rattle.sr_meaning.specs.Here.{request, settle}
 use Rattle.sr_gen_expr.specs.Emitting.{Gives, Takes, answer_meaning, call_meaning, create_meaning, join_all, join_sent, keep_top, put_arguments, put_invoked, put_only, put_places, tree_here}
 use Rattle.sr_gen_expr.proofs.Joining.{joined_sent, joined_targets}
 use Rattle.sr_gen_expr.proofs.Stretching.{follows_at, follows_last, gives_before, gives_taken, passes}

@@ -1,6 +1,5 @@
 -- Each form of expression: its code asks what it asks.
-use Rattle.std.proofs.Common.{◌≡◌, ℕ, ℤ, zero, suc, ◌+◌, ◌≤◌, ◌<◌, min, Bool, true, false, List, [], ◌∷◌, ◌++◌, length, Option, Some, None, refl, sym, subst, ◌∙◌, ap, arith}
-use Rattle.sr_value.specs.declared.capability.Cap.{Cap}
+use Rattle.std.proofs.Common.{◌≡◌, ℕ, ℤ, ◌≤◌, min, Bool, true, false, List, [], length, Some, None, refl, subst, ◌∙◌, ap, arith}
 use Rattle.sr_value.specs.declared.capability.Cap.TheVariants.{Op, Vm}
 use Rattle.sr_value.specs.declared.operator.Operator.{Operator}
 use Rattle.sr_value.specs.declared.operator.Operator.TheVariants.{And as both, Or as either}
@@ -12,16 +11,13 @@ use Rattle.sr_value.specs.declared.value.Value.TheVariants.{Int, Bool as truth_v
 use Rattle.sr_value.specs.Operators.{value_of, value_of_one}
 use Rattle.sr_value.specs.Parts.{part_of}
 use Rattle.sr_ask.specs.Asking.{made, moment, number}
-use Rattle.sr_ask.specs.Behaviors.{Stage, Outcome, Came, Stops, Doing, and_then, give, ◌>>=◌}
-use Rattle.sr_ask.specs.declared.ask.Asks.{Asks}
+use Rattle.sr_ask.specs.Behaviors.{give, ◌>>=◌}
 use Rattle.sr_ask.specs.declared.environment.Located.{Located}
-use Rattle.sr_ask.specs.declared.environment.ReadTarget.{ReadTarget}
-use Rattle.sr_ask.specs.declared.environment.Sent.{Sent}
 use Rattle.sr_ask.specs.declared.request.Request.TheVariants.{Count as count_request, MakeVm, Age}
 use Rattle.sr_core.specs.Applied.{applied}
 use Rattle.sr_core.specs.Values.{truth_of, number_of, cap_of, member_of, count_of, array_of}
 use Rattle.sr_core.specs.declared.component.Core.{Core}
-use Rattle.sr_core.specs.declared.expression.Argument.TheOpen.{Argument-F, Expr-F, Part-F, Step-F, PlaceExpr-F, Reading-F}
+use Rattle.sr_core.specs.declared.expression.Argument.TheOpen.{Argument-F, Expr-F, Part-F, Step-F}
 use Rattle.sr_core.specs.declared.expression.Function.{Function}
 use Rattle.sr_core.specs.declared.expression.Leaf.{Leaf}
 use Rattle.sr_core.specs.declared.expression.Leaf.TheVariants.{Constant as leaf_constant, Operation as leaf_operation, MyResource as leaf_resource, MyMachine as leaf_machine, Count as leaf_count, MakeMachine as leaf_make, Moment as leaf_moment}
@@ -36,19 +32,19 @@ use Rattle.sr_core.specs.declared.piece.Piece.{Piece}
 use Rattle.sr_code.specs.Acts.{point, goes, act, and_skip, or_skip}
 use Rattle.sr_code.specs.Operands.{put_value, put_number, put_cap, put_list, join_value, put_pieces, join_piece, put_place, join_sel, join_target, join_place, join_argument}
 use Rattle.sr_code.specs.Owners.{owner_in, root_in, kind_asked}
-use Rattle.sr_code.specs.Runs.{Machine, go, here_at, then_asks}
-use Rattle.sr_code.specs.Stretches.{Emits, Extends, Follows, Has}
+use Rattle.sr_code.specs.Runs.{Machine, go, here_at}
+use Rattle.sr_code.specs.Stretches.{Emits, Follows, Has}
 use Rattle.sr_code.specs.declared.code.Coded.{Coded}
 use Rattle.sr_code.specs.declared.instruction.Instruction.{Instruction}
 use Rattle.sr_code.specs.declared.instruction.Instruction.TheVariants.{Constant, Operation, MyResource, MyMachine, Count, MakeMachine, Moment, ToNumber, ToCap, OperateOne, Operate, AndSkip, OrSkip, NoValues, Collect, Apply, NoPieces, AddPiece, AddRepeated, MakeArray, PartAt, PartAt2, PartField, Member, Spot as spot_instruction, At, At2, Field, Load, PassValue, PassVar, PassRes, AddReading}
 use Rattle.sr_code.specs.declared.operands.Operands.{Operands}
-use Rattle.sr_code.proofs.Stretches.{follows_then, follows_give, follows_from, follows_as, runs_to, runs_past, runs_first, lower_part, upper_part, extends_one, extends_self, extends_then}
+use Rattle.sr_code.proofs.Stretches.{follows_then, follows_give, runs_to, runs_past, runs_first, lower_part, upper_part, extends_one, extends_then}
 use Rattle.sr_meaning.specs.Expressions.{Meaning, in_order, choice, leaf_meaning, node_meaning, place_meaning, step_meaning, part_meaning, argument_meaning, reading_meaning, kind_of, owner_of}
-use Rattle.sr_meaning.specs.Here.{Here, request, settle}
+use Rattle.sr_meaning.specs.Here.{request, settle}
 use Rattle.sr_meaning.specs.Places.{load_place, spot_of}
 use Rattle.sr_gen_expr.specs.Emitting.{Gives, Takes, instruction_of, join_all, join_sent, and_meaning, operand_meaning, or_meaning, part_meaning_of, put_only, tree_here}
 use Rattle.sr_gen_expr.proofs.Joining.{joined_values, joined_pieces, joined_sels}
-use Rattle.sr_gen_expr.proofs.Stretching.{follows_regroup, follows_ungroup, follows_within, gives_first, gives_then, gives_before, gives_changed, gives_regroup, gives_taken, gives_wrapped}
+use Rattle.sr_gen_expr.proofs.Stretching.{follows_regroup, follows_ungroup, follows_within, gives_first, gives_then, gives_before, gives_changed, gives_regroup, gives_wrapped}
 
 -- ---- leaves
 

@@ -1,4 +1,5 @@
 pub mod Calls
+pub mod Declarations
 pub mod Forms
 pub mod Joining
 pub mod Rows

@@ -3,14 +3,18 @@ use Rattle.std.proofs.Common.{◌≡◌, ℕ, zero, suc, ◌+◌, ◌-◌, ◌<�
 use Rattle.std.proofs.lemmas.List.{drop_more}
 use Rattle.sr_value.specs.declared.place.Place.{Place}
 use Rattle.sr_core.specs.declared.component.Core.{Core}
-use Rattle.sr_code.specs.Operands.{put_cap}
+use Rattle.sr_core.specs.declared.formal.Formal.{Formal}
+use Rattle.sr_core.specs.declared.statement.Scope.{Scope}
+use Rattle.sr_code.specs.Operands.{put_cap, put_list}
 use Rattle.sr_code.specs.Stretches.{Emits}
 use Rattle.sr_code.specs.declared.code.Coded.{Coded}
-use Rattle.sr_code.specs.declared.instruction.Instruction.TheVariants.{EnsureGlobal}
+use Rattle.sr_code.specs.declared.instruction.Instruction.TheVariants.{DropList, EnsureGlobal, MakeFormal, StoreFormal}
 use Rattle.sr_code.specs.declared.operands.Operands.{Operands}
 use Rattle.sr_meaning.specs.Expressions.{Meaning, ensured, in_order}
-use Rattle.sr_gen_expr.specs.Emitting.{Gives, Takes, join_all, keep_top}
+use Rattle.sr_meaning.specs.Statements.{make_formals}
+use Rattle.sr_gen_expr.specs.Emitting.{Gives, Takes, join_all, keep_top, put_nothing, put_only}
 use Rattle.sr_gen_expr.proofs.Calls.{ensures_more, ensures_none}
+use Rattle.sr_gen_expr.proofs.Declarations.{formals_more, formals_none}
 use Rattle.sr_gen_expr.proofs.Stretching.{joins_more, joins_none}
 
 drop_all : {A : Type 0} (xs : List A) → drop (length xs) xs ≡ []
@@ -97,3 +101,27 @@ pub globals_step : {line : Place} (globals : List ℕ) (at : ℕ) {c0 c1 c2 : Li
 globals_step globals at low so_far e =
     let high = so_far.0 in
     (omega arith, λ core. globals_more globals at (get_or globals (at - 1) 0) low high (same_within globals (at - 1) (omega arith)) e (so_far.1 core))
+
+-- ---- formals
+
+pub formals_begin : {line : Place} (scope : Scope) (formals : List Formal) (at : ℕ) {c0 c1 : List Coded} → at ≡ length formals → Emits line DropList c0 c1
+    → (at ≤ length formals) × ((core : Core) → Takes put_list (put_only put_nothing) core line (λ args. make_formals scope (drop at formals) args) c0 c1)
+formals_begin {line = line} scope formals at {c0 = c0} {c1 = c1} is e =
+    let P : ℕ → Type 0 = λ n. (n ≤ length formals) × ((core : Core) → Takes put_list (put_only put_nothing) core line (λ args. make_formals scope (drop n formals) args) c0 c1) in
+    let Q : List Formal → Type 0 = λ fs. (core : Core) → Takes put_list (put_only put_nothing) core line (λ args. make_formals scope (fs) args) c0 c1 in
+    let most : length formals ≤ length formals = omega arith in
+    subst P (sym is) (most, subst Q (sym (drop_all formals)) (λ core. formals_none scope e))
+
+pub formals_step : {line : Place} (scope : Scope) (formals : List Formal) (at : ℕ) (formal : Formal) {c0 c1 c2 c3 : List Coded} → 0 < at
+    → (at ≤ length formals) × ((core : Core) → Takes put_list (put_only put_nothing) core line (λ args. make_formals scope (drop at formals) args) c0 c1) → formal ≡ get_or formals (at - 1) formal
+    → Emits line (StoreFormal scope formal.var formal.mode) c1 c2 → Emits line (MakeFormal scope formal.var formal.mode formal.shape) c2 c3
+    → (at - 1 ≤ length formals) × ((core : Core) → Takes put_list (put_only put_nothing) core line (λ args. make_formals scope (drop (at - 1) formals) args) c0 c3)
+formals_step {line = line} scope formals at formal {c0 = c0} {c3 = c3} low so_far is store make =
+    let high = so_far.0 in
+    let Q : List Formal → Type 0 = λ fs. (core : Core) → Takes put_list (put_only put_nothing) core line (λ args. make_formals scope (fs) args) c0 c3 in
+    (omega arith, subst Q (sym (drop_from formals at formal low high is)) (λ core. formals_more scope formal (drop at formals) (so_far.1 core) store make))
+
+pub formals_all : {line : Place} (scope : Scope) (formals : List Formal) (at : ℕ) {c0 c1 : List Coded} → at ≤ 0
+    → ((core : Core) → Takes put_list (put_only put_nothing) core line (λ args. make_formals scope (drop at formals) args) c0 c1) → (core : Core) → Takes put_list (put_only put_nothing) core line (λ args. make_formals scope (formals) args) c0 c1
+formals_all {line = line} scope formals at {c0 = c0} {c1 = c1} low t =
+    let Q : List Formal → Type 0 = λ fs. (core : Core) → Takes put_list (put_only put_nothing) core line (λ args. make_formals scope (fs) args) c0 c1 in subst Q (drop_none formals at low) t

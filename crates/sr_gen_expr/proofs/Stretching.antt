@@ -1,12 +1,12 @@
 -- How emitted stretches are put together.
-use Rattle.std.proofs.Common.{◌≡◌, ℕ, List, [], ◌∷◌, length, refl, sym, subst, ◌∙◌, ap}
+use Rattle.std.proofs.Common.{◌≡◌, List, [], ◌∷◌, length, refl, sym, subst, ◌∙◌, ap}
 use Rattle.sr_value.specs.declared.place.Place.{Place}
 use Rattle.sr_ask.specs.Behaviors.{Stage, Outcome, Came, Stops, Doing, and_then, give, ◌>>=◌}
 use Rattle.sr_ask.specs.declared.ask.Asks.{Asks}
 use Rattle.sr_core.specs.declared.component.Core.{Core}
 use Rattle.sr_code.specs.Acts.{Point, point, goes, act}
 use Rattle.sr_code.specs.Runs.{Machine, go, here_at, then_asks}
-use Rattle.sr_code.specs.Stretches.{Emits, Extends, Follows, Has}
+use Rattle.sr_code.specs.Stretches.{Emits, Follows, Has}
 use Rattle.sr_code.specs.declared.code.Coded.{Coded}
 use Rattle.sr_code.specs.declared.instruction.Instruction.{Instruction}
 use Rattle.sr_code.specs.declared.operands.Operands.{Operands}

@@ -1,16 +1,14 @@
 -- The same of whole trees: an expression means what its node means.
 use Rattle.std.proofs.Common.{◌≡◌, ℕ, List, map, Option, sym, ◌∙◌, ap}
 use Rattle.sr_value.specs.declared.operator.Operator.{Operator}
-use Rattle.sr_value.specs.declared.place.Place.{Place}
 use Rattle.sr_value.specs.declared.shape.Sel.{Sel}
 use Rattle.sr_value.specs.declared.shape.Shape.{Shape}
 use Rattle.sr_value.specs.declared.value.Value.{Value}
 use Rattle.sr_ask.specs.declared.environment.Located.{Located}
 use Rattle.sr_ask.specs.declared.environment.ReadTarget.{ReadTarget}
 use Rattle.sr_ask.specs.declared.environment.Sent.{Sent}
-use Rattle.sr_core.specs.declared.component.Core.{Core}
-use Rattle.sr_core.specs.declared.expression.Argument.TheFolds.{fold-roll-Argument, fold-roll-Expr, fold-roll-Part, fold-roll-Step, fold_out-PlaceExpr, fold_out-Reading, map-Argument, map-Expr, map-Part, map-PlaceExpr, map-Reading, map-Step}
-use Rattle.sr_core.specs.declared.expression.Argument.TheOpen.{Argument-F, Expr-F, Part-F, PlaceExpr-F, Reading-F, Step-F}
+use Rattle.sr_core.specs.declared.expression.Argument.TheFolds.{fold-roll-Argument, fold-roll-Expr, fold-roll-Part, fold-roll-Step, fold_out-PlaceExpr, fold_out-Reading, map-Argument, map-Expr, map-Part, map-Step}
+use Rattle.sr_core.specs.declared.expression.Argument.TheOpen.{Argument-F, Expr-F, Part-F, Step-F}
 use Rattle.sr_core.specs.declared.expression.Argument.TheVariants as argument
 use Rattle.sr_core.specs.declared.expression.Argument.{Argument, roll-Argument}
 use Rattle.sr_core.specs.declared.expression.Expr.TheVariants as tree

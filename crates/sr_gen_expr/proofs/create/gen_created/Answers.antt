@@ -1,5 +1,5 @@
 use Rattle.std.proofs.Common.{ap, sym}
-use Rattle.sr_meaning.specs.Expressions.{ensured, needs_of}
+use Rattle.sr_meaning.specs.Expressions.{ensured}
 use Rattle.sr_gen_expr.proofs.Calls.{takes_create}
 use Rattle.sr_gen_expr.proofs.Stretching.{takes_as}
 use Rattle.sr_gen_expr.proofs.create.gen_created.Goals as goal

@@ -1,6 +1,4 @@
 use Rattle.sr_gen_expr.proofs.Forms.{gives_leaf}
-use Rattle.sr_gen_expr.proofs.Calls.{gives_read}
-use Rattle.sr_gen_expr.proofs.Trees.{binary_is}
 use Rattle.sr_gen_expr.proofs.leaf.gen_leaf.Goals as goal
 
 pub returns : goal.returns
