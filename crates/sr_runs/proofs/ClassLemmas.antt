@@ -10,11 +10,10 @@ use Rattle.sr_core.specs.declared.site.Arm.{Arm}
 use Rattle.sr_core.specs.declared.site.Site.{Site}
 use Rattle.sr_queue.specs.Queues.{is_of}
 use Rattle.sr_queue.specs.declared.pending.Pending.{Pending}
-use Rattle.sr_select.specs.Choices.{Pair, Seeing, all_pairs, by_key, choice, choice_among, decides, deciding, fault_in, fixed, fixed_by, is_not_false, key_fault, key_with, keyed, keys_of, least, lesser, otherwise, owner_in, paired, pairs, pairs_of, passes, passes_with, sees_of, serviced}
+use Rattle.sr_select.specs.Choices.{Pair, Seeing, all_pairs, by_key, choice, choice_among, decides, deciding, fault_in, fixed, fixed_by, is_not_false, key_fault, key_with, keyed, keys_of, least, lesser, otherwise, owner_in, pairs, pairs_of, passes_with, sees_of, serviced}
 use Rattle.sr_select.specs.Looks.{result_of}
 use Rattle.sr_select.specs.Readings.{Reading}
 use Rattle.sr_select.specs.declared.choice.Choice.{Choice}
-use Rattle.sr_select.specs.declared.choice.Choice.TheVariants as chosen
 use Rattle.sr_select.specs.declared.least.Keyed.{Keyed}
 use Rattle.sr_value.specs.declared.capability.Owner.{Owner}
 use Rattle.sr_value.specs.declared.fault.Fault.{Fault}

@@ -1,7 +1,6 @@
 -- Every class history of a run is legal.
-use Rattle.std.proofs.Common.{◌≡◌, ℕ, zero, suc, ◌+◌, ◌<◌, ◌≤◌, ◌==◌, ◌&&◌, ◌||◌, not, Bool, true, false, cond, List, [], ◌∷◌, ◌++◌, length, drop, map, Option, None, Some, is_some, refl, ap, sym, ◌∙◌, subst, arith, eq-eqb, eqb-true, true≢false, inl, inr, ◌⊎◌}
-use Rattle.std.proofs.lemmas.Bool.{eqb-false}
-use Rattle.std.proofs.lemmas.List.Sums.{length-filter, sum_by-append}
+use Rattle.std.proofs.Common.{◌≡◌, ℕ, zero, suc, ◌+◌, ◌≤◌, ◌==◌, Bool, true, false, cond, List, [], ◌∷◌, ◌++◌, length, drop, map, Option, None, Some, is_some, refl, ap, sym, ◌∙◌, subst, arith, eq-eqb, true≢false, inl, inr}
+use Rattle.std.proofs.lemmas.List.Sums.{length-filter}
 use Rattle.std.specs.Prelude.{count_by, filter, slice_get}
 use Rattle.sr_ask.specs.declared.answer.Answer.{Answer}
 use Rattle.sr_ask.specs.declared.answer.Answer.TheVariants as answer
@@ -22,18 +21,17 @@ use Rattle.sr_select.specs.declared.choice.Choice.TheVariants as chosen
 use Rattle.sr_value.specs.declared.value.Value.{Value}
 use Rattle.sr_world.specs.Deciding.{is_select}
 use Rattle.sr_world.specs.Does.{Does, Did, Makes, Cannot, Ends, Undecided, failed, where_some}
-use Rattle.sr_world.specs.Histories.{AllLegal, Entry, IsChosen, IsLegalHistory, IsLegalMark, Mark, Arrives, Serves, all_from, arrived, entries_in, marks_by, marks_in, marks_of, serves, taken_up, waiting_as}
-use Rattle.sr_world.specs.Runs.{Next, Goes, Over, Illegal, State, and_then, asks_for, asks_next, is_legal, is_new, next, no_step, rested, run_from, step_of, stepped, where_true, with_answer}
+use Rattle.sr_world.specs.Histories.{AllLegal, Entry, IsLegalMark, Mark, Arrives, Serves, all_from, arrived, entries_in, marks_by, marks_in, marks_of, taken_up, waiting_as}
+use Rattle.sr_world.specs.Runs.{Next, Goes, Over, Illegal, State, asks_for, asks_next, is_legal, is_new, next, run_from, step_of, stepped, where_true, with_answer}
 use Rattle.sr_world.specs.Selecting.{by_choice, choice_of, select, select_at, service}
 use Rattle.sr_world.specs.Sound.{IsSound, is_call, times_used}
-use Rattle.sr_world.specs.Spots.{Spot, Waiting, TakenBy, ServiceOf, is_picked, stands, tests_of}
+use Rattle.sr_world.specs.Spots.{Waiting, ServiceOf, is_picked}
 use Rattle.sr_world.specs.Steps.{does, done_by}
 use Rattle.sr_world.specs.Worlds.{World, started}
-use Rattle.sr_world.specs.declared.ends.End.{End}
-use Rattle.sr_runs.proofs.CountLemmas.{count-cons, count-filter, count-push, one}
-use Rattle.sr_runs.proofs.RequestLemmas.{Arrived, DoneWell, MadeWell, Well, well}
+use Rattle.sr_runs.proofs.CountLemmas.{count-cons, one}
+use Rattle.sr_runs.proofs.RequestLemmas.{Arrived, Well, well}
 use Rattle.sr_runs.proofs.RunLemmas.{kept-of, new-number, sound-next}
-use Rattle.sr_runs.proofs.LawProofs.{illegal-from, legal-from}
+use Rattle.sr_runs.proofs.LawProofs.{legal-from}
 
 -- ---- lists
 

@@ -1,7 +1,6 @@
 -- A run is the same in whatever pieces its input comes: what each request does where all of the input is there.
-use Rattle.std.proofs.Common.{◌≡◌, ℕ, zero, suc, ◌==◌, ◌&&◌, not, Bool, true, false, cond, ℤ, pos, negsuc, List, [], ◌∷◌, ◌++◌, Option, None, Some, unwrap_or, refl, ap, sym, ◌∙◌, subst, true≢false, append-nil}
+use Rattle.std.proofs.Common.{◌≡◌, ℕ, zero, suc, ◌==◌, not, Bool, true, false, cond, pos, List, [], ◌∷◌, ◌++◌, Option, None, Some, refl, ap, sym, ◌∙◌, true≢false, append-nil}
 use Rattle.std.specs.Prelude.{Result, Ok, Err, nat_lt, slice_get}
-use Rattle.sr_ask.specs.declared.answer.Answer.{Answer}
 use Rattle.sr_ask.specs.declared.answer.Answer.TheVariants as answer
 use Rattle.sr_ask.specs.declared.ask.Role.{Role}
 use Rattle.sr_ask.specs.declared.ask.Role.TheVariants.{Boot, Initial, Proc as proc_role, Final}
@@ -19,7 +18,6 @@ use Rattle.sr_instances.specs.declared.state.State.{State as InstanceState}
 use Rattle.sr_instances.specs.declared.state.State.TheVariants.{Starting, Ready, Closing, Gone}
 use Rattle.sr_queue.specs.Queues.{waiting}
 use Rattle.sr_select.specs.Choices.{choice}
-use Rattle.sr_select.specs.Readings.{Reading}
 use Rattle.sr_select.specs.declared.choice.Choice.{Choice}
 use Rattle.sr_select.specs.declared.choice.Choice.TheVariants as chosen
 use Rattle.sr_store.specs.Variables.{declared_in, loaded_in, stored_in}
@@ -30,22 +28,21 @@ use Rattle.sr_value.specs.declared.capability.Owner.TheVariants.{Inst, Proc}
 use Rattle.sr_value.specs.declared.fault.Fault.{Fault}
 use Rattle.sr_value.specs.declared.place.Place.{Place}
 use Rattle.sr_value.specs.declared.value.Value.{Value}
-use Rattle.sr_world.specs.Answering.{answer as answered, answer_held, duty_held, held_of}
+use Rattle.sr_world.specs.Answering.{answer as answered, answer_held, duty_held}
 use Rattle.sr_world.specs.Deciding.{awaits_input}
 use Rattle.sr_world.specs.Does.{Does, Did, Makes, Cannot, Ends, Undecided, done_or, where_some}
-use Rattle.sr_world.specs.Endings.{answer_unless, close, close_or, destroy, destroy_open, end_after, finish, main_instance, may_close, quiesce, rest_of, status_in, stop_with}
+use Rattle.sr_world.specs.Endings.{close_or, destroy, destroy_open, end_after, finish, main_instance, may_close, quiesce, rest_of, status_in, stop_with}
 use Rattle.sr_world.specs.Inputs.{is_decided, item_read}
 use Rattle.sr_world.specs.Invoking.{arrive, instance_of_process, invoke, is_gone, owner_for}
 use Rattle.sr_world.specs.Making.{component_at, has_final_code, is_open, is_ready, make_ready, needs_ready, ready_from}
-use Rattle.sr_world.specs.Runs.{with_input, without_more}
 use Rattle.sr_world.specs.Selecting.{by_choice, choice_of, me_of, reading_of, waiting_for}
 use Rattle.sr_world.specs.Steps.{create_on, done_by, duty_for, ensure_found, on_machine, ready_after, reply}
-use Rattle.sr_world.specs.Updates.{add_reply, end_all, end_instance, end_process, end_processes, fix, processes_of, release, set_state, use_name, with_rest}
+use Rattle.sr_world.specs.Updates.{add_reply, end_instance, end_process, end_processes, processes_of, release, set_state, use_name, with_rest}
 use Rattle.sr_world.specs.Worlds.{World, is_live}
 use Rattle.sr_world.specs.declared.duty.Duty.{Duty}
 use Rattle.sr_world.specs.declared.ends.End.{End}
 use Rattle.sr_world.specs.declared.ends.End.TheVariants as end
-use Rattle.sr_world.proofs.InputLemmas.{same-answer, same-rest, still-decided}
+use Rattle.sr_world.proofs.InputLemmas.{same-answer, same-rest}
 use Rattle.sr_runs.specs.Laws.{with_all}
 
 module _ (more : List ℕ) where

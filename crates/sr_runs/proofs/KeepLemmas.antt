@@ -1,32 +1,31 @@
 -- What every state keeps, through each change of a world.
-use Rattle.std.proofs.Common.{◌≡◌, ℕ, zero, suc, ◌+◌, ◌<◌, ◌≤◌, ◌==◌, ◌&&◌, not, Bool, true, false, cond, List, [], ◌∷◌, ◌++◌, Option, None, Some, is_some, unwrap_or, refl, ap, sym, ◌∙◌, subst, arith, eq-eqb, eqb-true, true≢false}
+use Rattle.std.proofs.Common.{◌≡◌, ℕ, suc, ◌+◌, ◌≤◌, ◌==◌, ◌&&◌, not, Bool, true, false, cond, List, [], ◌∷◌, Option, None, Some, is_some, refl, ap, sym, ◌∙◌, subst, arith, eq-eqb, eqb-true, true≢false}
 use Rattle.std.proofs.lemmas.Bool.{eqb-false}
-use Rattle.std.specs.Prelude.{count_by, filter, find, fold, map, slice_get}
+use Rattle.std.specs.Prelude.{count_by, find, map, slice_get}
 use Rattle.std.specs.FinMap as fin
-use Rattle.std.specs.Option.{option_map}
 use Rattle.sr_ask.specs.declared.answer.Answer.{Answer}
 use Rattle.sr_ask.specs.declared.start.Start.{Start}
-use Rattle.sr_calls.specs.Calls.{ByProcess, answers_one, held_as, is_held_as, items_of, without_first}
+use Rattle.sr_calls.specs.Calls.{ByProcess, answers_one, is_held_as, items_of}
 use Rattle.sr_calls.specs.declared.held.Held.{Held}
 use Rattle.sr_calls.specs.declared.held.Reply.{Reply}
 use Rattle.sr_instances.specs.Instances.{Instance, in_state}
 use Rattle.sr_instances.specs.declared.state.State.{State as InstanceState}
-use Rattle.sr_instances.specs.declared.state.State.TheVariants.{Gone, Starting}
+use Rattle.sr_instances.specs.declared.state.State.TheVariants.{Starting}
 use Rattle.sr_processes.specs.Living.{is_process, without_process}
 use Rattle.sr_queue.specs.declared.pending.Pending.{Pending}
 use Rattle.sr_store.specs.Variables.{Variables}
 use Rattle.sr_value.specs.declared.capability.Owner.{Owner}
 use Rattle.sr_value.specs.declared.value.Value.{Value}
-use Rattle.sr_world.specs.Answering.{answer as answered, duty_held, duty_of, held_of, no_duty}
-use Rattle.sr_world.specs.Updates.{add_instance, add_machine, add_pending, add_process, add_reply, drop_pending, drop_reply, end_all, end_instance, end_process, end_processes, hold, processes_of, release, set_state, use_name}
-use Rattle.sr_world.specs.Worlds.{World, is_live, started}
+use Rattle.sr_world.specs.Answering.{answer as answered, held_of, no_duty}
+use Rattle.sr_world.specs.Updates.{add_instance, add_machine, add_pending, add_process, add_reply, drop_pending, drop_reply, end_all, end_process, hold, release, set_state, use_name}
+use Rattle.sr_world.specs.Worlds.{World, is_live}
 use Rattle.sr_world.specs.declared.duty.Duty.{Duty}
-use Rattle.sr_world.specs.Runs.{State, with_answer}
+use Rattle.sr_world.specs.Runs.{State}
 use Rattle.sr_world.specs.Sound.{HasSoundDuties, HasSoundNumbers, HasSoundProcesses, times_used}
-use Rattle.sr_world.specs.Spots.{Calls, Spot, Waiting, HeldBy, RepliedTo, TakenBy, Tests, Thing, DutyOf, OpenInvocation, ServiceOf, astray, is_astray, is_duty, number_of, stands, tests_of}
-use Rattle.sr_runs.proofs.CallLemmas.{count-taken, empty-removed, empty-with_item, empty-without, items-empty, removed-at}
-use Rattle.sr_runs.proofs.CountLemmas.{count-cons, count-filter, count-found, count-push, count-remove, count-without_first, find-passes, found-append, one}
-use Rattle.sr_runs.proofs.StandLemmas.{Fewer, Gains, IsClear, add_pending-gains, add_reply-gains, answer-gains, at, clear-fewer, clear-taken, drop_pending-fewer, drop_pending-takes, drop_reply-fewer, duties-fewer, duties-gained, end_all-fewer, end_process-fewer, fewer-then, hold-gains, release-fewer, use_name-fewer}
+use Rattle.sr_world.specs.Spots.{Calls, Spot, Waiting, HeldBy, RepliedTo, TakenBy, Tests, Thing, DutyOf, OpenInvocation, ServiceOf, is_astray, is_duty, number_of, stands, tests_of}
+use Rattle.sr_runs.proofs.CallLemmas.{empty-removed, empty-with_item, empty-without, items-empty, removed-at}
+use Rattle.sr_runs.proofs.CountLemmas.{count-cons, count-filter, count-push, count-without_first, find-passes, found-append, one}
+use Rattle.sr_runs.proofs.StandLemmas.{Fewer, IsClear, add_pending-gains, add_reply-gains, at, clear-fewer, drop_pending-fewer, drop_reply-fewer, duties-fewer, duties-gained, end_all-fewer, end_process-fewer, hold-gains, release-fewer, use_name-fewer}
 
 pub record Keeps (calls : Calls) (state : State) : Type 0 where
   pub numbers : HasSoundNumbers state.world

@@ -2,8 +2,7 @@
 use Rattle.std.proofs.Common.{◌≡◌, ℕ, zero, suc, ◌+◌, ◌<◌, ◌≤◌, ◌==◌, ◌&&◌, ◌||◌, not, Bool, true, false, cond, List, [], ◌∷◌, ◌++◌, Option, None, Some, is_some, map, refl, ap, sym, ◌∙◌, subst, arith, eq-eqb, eqb-true, true≢false, append-nil, append_assoc}
 use Rattle.std.proofs.lemmas.Bool.{eqb-false}
 use Rattle.std.proofs.lemmas.List.Sums.{sum_by-append, sum_by-le-sum_by}
-use Rattle.std.specs.Prelude.{count_by, find}
-use Rattle.std.specs.List.{list_any}
+use Rattle.std.specs.Prelude.{count_by}
 use Rattle.sr_ask.specs.declared.answer.Answer.{Answer}
 use Rattle.sr_ask.specs.declared.answer.Answer.TheVariants as answer
 use Rattle.sr_ask.specs.declared.ask.Asks.{Asks}
@@ -16,20 +15,20 @@ use Rattle.sr_calls.specs.declared.held.Reply.{Reply}
 use Rattle.sr_core.specs.declared.component.Core.{Core}
 use Rattle.sr_instances.specs.Instances.{Instance}
 use Rattle.sr_world.specs.Deciding.{is_select}
-use Rattle.sr_world.specs.Does.{Does, Did, Makes, Cannot, Ends, Undecided}
+use Rattle.sr_world.specs.Does.{Does, Did, Makes, Cannot, Ends, Undecided, comes_to, is_possible}
 use Rattle.sr_world.specs.Endings.{close_or, main_instance, may_close, rest_of}
 use Rattle.sr_world.specs.Making.{run_final}
 use Rattle.sr_world.specs.Updates.{end_all, fix}
-use Rattle.sr_world.specs.Runs.{Event, Makes_item, Gives, Closes, IsValid, Next, Goes, Over, Illegal, State, after, and_then, asks_for, asks_next, begun, first, is_legal, is_new, items_in, led, next, no_step, output_of, rested, run, run_from, step_of, stepped, where_true, with_answer}
+use Rattle.sr_world.specs.Runs.{Event, Makes_item, Gives, Closes, Next, Goes, Over, Illegal, State, after, and_then, asks_for, asks_next, begun, is_legal, is_new, items_in, led, next, no_step, output_of, rested, run, run_from, step_of, stepped, where_true, with_answer}
 use Rattle.sr_world.specs.Sound.{IsSound, given_out, is_call, is_step, name_in, names_in, times_used}
-use Rattle.sr_world.specs.Spots.{IsOnce, Spot, Waiting, HeldBy, RepliedTo, TakenBy, Tests, Thing, DutyOf, OpenInvocation, ServiceOf, astray, is_astray_answer, is_picked, is_took, number_of, stands, tests_of}
-use Rattle.sr_world.specs.Worlds.{World, is_live, started}
+use Rattle.sr_world.specs.Spots.{Spot, Waiting, RepliedTo, TakenBy, DutyOf, ServiceOf, is_astray_answer, is_took, number_of}
+use Rattle.sr_world.specs.Worlds.{World, started}
 use Rattle.sr_world.specs.declared.ends.End.{End}
 use Rattle.sr_runs.proofs.CountLemmas.{count-cons, one}
-use Rattle.sr_runs.proofs.KeepLemmas.{Keeps, live-counts}
-use Rattle.sr_runs.proofs.RequestLemmas.{DoneWell, MadeWell, Well, well}
-use Rattle.sr_runs.proofs.RunLemmas.{a-name, kept-of, more-kept, sound-led, sound-next, still-call}
-use Rattle.sr_runs.specs.Laws.{AnsweredOnce, EachStandsOnce, EveryStateIsSound, ItemsKeepSoundness, NumbersAreUsedOnce, OutputGrows, PrefixIsARun, RunGoesOn, RunsLeadToValidStates, ServicedOnce}
+use Rattle.sr_runs.proofs.KeepLemmas.{live-counts}
+use Rattle.sr_runs.proofs.RequestLemmas.{Well, well}
+use Rattle.sr_runs.proofs.RunLemmas.{a-name, kept-of, sound-led, sound-next}
+use Rattle.sr_runs.specs.Laws.{AnsweredOnce, EachStandsOnce, EveryStateIsSound, ItemsKeepSoundness, NumbersAreUsedOnce, OutputGrows, PrefixIsARun, RestIsNeverRefused, RunGoesOn, RunsLeadToValidStates, ServicedOnce}
 
 module _ (core : Core) (limit : ℕ) where
   -- ---- lists of items
@@ -328,3 +327,16 @@ answered_once = record {
   one_caller = λ core limit events state process other id is some here there.
       one-caller (items_in events) state process other id (sound-led core limit events state is) some here there;
 }
+
+-- ---- rest
+
+pub rest_is_never_refused : RestIsNeverRefused
+rest_is_never_refused core name world = by (main_instance core world)
+  where
+    either : (b : Bool) (w : World) → is_possible (comes_to (cond b (Makes w answer.Done) (Ends (rest_of world.fixed)))) ≡ true
+    either true w = refl
+    either false w = refl
+
+    by : (main : Option Instance) → is_possible (comes_to (close_or core name None (rest_of world.fixed) world main)) ≡ true
+    by None = refl
+    by (Some main) = either (may_close core main) (run_final core name main.name 0 (fix None (end_all world)))

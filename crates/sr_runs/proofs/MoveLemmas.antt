@@ -1,38 +1,34 @@
 -- What every state keeps, through what steps are made of.
-use Rattle.std.proofs.Common.{◌≡◌, ℕ, zero, suc, ◌+◌, ◌<◌, ◌≤◌, ◌==◌, ◌&&◌, not, Bool, true, false, cond, List, [], ◌∷◌, ◌++◌, Option, None, Some, is_some, unwrap_or, refl, ap, sym, ◌∙◌, subst, arith, eq-eqb, eqb-true, true≢false}
-use Rattle.std.proofs.lemmas.Bool.{eqb-false}
-use Rattle.std.specs.Prelude.{count_by, find, fold, slice_get}
+use Rattle.std.proofs.Common.{◌≡◌, ℕ, zero, suc, ◌<◌, ◌≤◌, ◌==◌, ◌&&◌, not, Bool, true, false, cond, List, [], ◌∷◌, ◌++◌, Option, None, Some, unwrap_or, refl, ap, sym, ◌∙◌, subst, arith, eq-eqb, eqb-true, true≢false}
+use Rattle.std.specs.Prelude.{count_by}
 use Rattle.std.specs.Option.{option_map}
 use Rattle.sr_ask.specs.declared.answer.Answer.{Answer}
-use Rattle.sr_ask.specs.declared.answer.Answer.TheVariants as answer
 use Rattle.sr_ask.specs.declared.ask.Role.{Role}
 use Rattle.sr_ask.specs.declared.ask.Role.TheVariants.{Boot, Initial, Proc as proc_role, Final}
 use Rattle.sr_ask.specs.declared.start.Start.{Start}
-use Rattle.sr_calls.specs.Calls.{answers_one, earliest_reply, held_as, is_held_as, items_of, without_first}
+use Rattle.sr_calls.specs.Calls.{held_as, is_held_as, items_of, without_first}
 use Rattle.sr_calls.specs.declared.held.Held.{Held}
-use Rattle.sr_calls.specs.declared.held.Reply.{Reply}
 use Rattle.sr_core.specs.declared.component.Core.{Core}
 use Rattle.sr_instances.specs.Instances.{state_of}
 use Rattle.sr_instances.specs.declared.state.State.{State as InstanceState}
 use Rattle.sr_instances.specs.declared.state.State.TheVariants.{Starting, Ready, Closing, Gone}
 use Rattle.sr_processes.specs.Living.{is_process}
-use Rattle.sr_queue.specs.declared.pending.Pending.{Pending}
 use Rattle.sr_value.specs.declared.value.Value.{Value}
 use Rattle.sr_world.specs.Answering.{answer as answered, duty_held, duty_of, held_of, no_duty}
 use Rattle.sr_world.specs.Endings.{end_after}
 use Rattle.sr_world.specs.Invoking.{instance_of_process}
 use Rattle.sr_world.specs.Making.{make_ready, ready_from, run_final, run_initial, run_proc, start_in}
 use Rattle.sr_world.specs.Steps.{duty_for}
-use Rattle.sr_world.specs.Updates.{add_instance, add_process, add_reply, drop_pending, drop_reply, end_all, end_instance, end_process, end_processes, fix, hold, processes_of, release, set_state, use_name}
+use Rattle.sr_world.specs.Updates.{add_instance, add_process, add_reply, end_all, end_instance, end_process, end_processes, fix, hold, processes_of, release, set_state, use_name}
 use Rattle.sr_world.specs.Worlds.{World, is_live}
 use Rattle.sr_world.specs.declared.duty.Duty.{Duty}
-use Rattle.sr_world.specs.Runs.{State, with_answer}
-use Rattle.sr_world.specs.Sound.{HasSoundDuties, times_used}
-use Rattle.sr_world.specs.Spots.{Calls, Spot, Waiting, HeldBy, RepliedTo, TakenBy, Tests, Thing, DutyOf, OpenInvocation, ServiceOf, astray, is_astray, is_picked, is_took, number_of, stands, tests_of}
+use Rattle.sr_world.specs.Runs.{with_answer}
+use Rattle.sr_world.specs.Sound.{times_used}
+use Rattle.sr_world.specs.Spots.{Calls, HeldBy, TakenBy, Tests, Thing, DutyOf, OpenInvocation, ServiceOf, astray, is_astray, is_picked, is_took, number_of, stands, tests_of}
 use Rattle.sr_runs.proofs.CallLemmas.{count-taken, removed-at}
-use Rattle.sr_runs.proofs.CountLemmas.{count-push, count-remove, count-without_first, found-last, one}
-use Rattle.sr_runs.proofs.StandLemmas.{Fewer, IsClear, answer-gains, at, clear-fewer, clear-taken, drop_pending-fewer, drop_pending-takes, drop_reply-fewer, duties-gained, end_all-fewer, end_process-fewer, fewer-then, release-fewer, use_name-fewer}
-use Rattle.sr_runs.proofs.KeepLemmas.{InHand, IsFresh, Keeps, add_instance-kept, add_process-kept, duty-marked, end_all-kept, end_process-kept, fresh-fewer, fresh-is, hold-kept, in_hand-fewer, is-known, no-hand, none-marked, quiet-kept, release-kept, same-fewer, set_state-kept, use_name-kept}
+use Rattle.sr_runs.proofs.CountLemmas.{count-push, count-without_first, found-last, one}
+use Rattle.sr_runs.proofs.StandLemmas.{Fewer, IsClear, answer-gains, at, clear-fewer, clear-taken, duties-gained, end_all-fewer, end_process-fewer, fewer-then, release-fewer, use_name-fewer}
+use Rattle.sr_runs.proofs.KeepLemmas.{InHand, IsFresh, Keeps, add_instance-kept, add_process-kept, end_all-kept, end_process-kept, fresh-fewer, fresh-is, hold-kept, in_hand-fewer, is-known, no-hand, none-marked, quiet-kept, same-fewer, set_state-kept, use_name-kept}
 
 -- what changes neither the numbers nor the output nor what waits nor the end of the input
 pub record Same (w w' : World) : Type 0 where

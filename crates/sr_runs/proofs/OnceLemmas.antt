@@ -1,25 +1,21 @@
 -- No invocation is serviced twice in a history.
-use Rattle.std.proofs.Common.{◌≡◌, ℕ, zero, suc, ◌+◌, ◌<◌, ◌≤◌, ◌==◌, ◌&&◌, Bool, true, false, cond, List, [], ◌∷◌, ◌++◌, drop, length, map, Option, None, Some, refl, ap, sym, ◌∙◌, subst, arith, eq-eqb, eqb-true, true≢false, inl, inr, ◌⊎◌}
-use Rattle.std.proofs.lemmas.Bool.{eqb-false}
+use Rattle.std.proofs.Common.{◌≡◌, ℕ, zero, suc, ◌+◌, ◌<◌, ◌≤◌, ◌==◌, ◌&&◌, Bool, true, false, cond, List, [], ◌∷◌, ◌++◌, drop, length, Option, None, Some, refl, ap, ◌∙◌, subst, arith, eq-eqb, eqb-true}
 use Rattle.std.proofs.lemmas.List.Sums.{sum_by-append}
 use Rattle.std.specs.Prelude.{count_by, filter}
 use Rattle.sr_ask.specs.declared.answer.Answer.{Answer}
 use Rattle.sr_ask.specs.declared.answer.Answer.TheVariants as answer
-use Rattle.sr_ask.specs.declared.ask.Asks.{Asks}
 use Rattle.sr_ask.specs.declared.item.Item.{Item}
 use Rattle.sr_ask.specs.declared.item.Item.TheVariants.{Step, Quiesce}
 use Rattle.sr_ask.specs.declared.start.Start.{Start}
 use Rattle.sr_core.specs.declared.component.Core.{Core}
-use Rattle.sr_instances.specs.Instances.{Instance}
 use Rattle.sr_queue.specs.declared.pending.Pending.{Pending}
 use Rattle.sr_world.specs.Does.{Does, Did, Makes, Cannot, Ends, Undecided}
 use Rattle.sr_world.specs.Endings.{quiesce}
-use Rattle.sr_world.specs.Histories.{Class, Entry, Mark, Arrives, Serves, IsLegalHistory, all_from, arrived, entries_in, history, marks_by, marks_in, marks_of, is_mark_in, serves, taken_up, waiting_as}
-use Rattle.sr_world.specs.Runs.{Next, Goes, Over, Illegal, State, asks_for, asks_next, begun, is_legal, is_new, next, run, no_step, rested, run_from, step_of, stepped, where_true, with_answer}
+use Rattle.sr_world.specs.Histories.{Entry, Mark, Arrives, Serves, all_from, arrived, entries_in, marks_by, marks_in, marks_of, is_mark_in, serves, taken_up, waiting_as}
+use Rattle.sr_world.specs.Runs.{Next, Goes, Over, Illegal, State, asks_for, asks_next, begun, is_new, next, no_step, rested, step_of, stepped, with_answer}
 use Rattle.sr_world.specs.Sound.{IsSound}
-use Rattle.sr_world.specs.Spots.{Spot, Waiting, TakenBy, ServiceOf, is_picked, stands, tests_of}
+use Rattle.sr_world.specs.Spots.{Spot, Waiting, TakenBy, ServiceOf, is_picked}
 use Rattle.sr_world.specs.Worlds.{World, started}
-use Rattle.sr_world.specs.declared.ends.End.{End}
 use Rattle.sr_runs.proofs.CountLemmas.{count-cons, count-filter, count-push, one}
 use Rattle.sr_runs.proofs.HistoryLemmas.{all-filter, all-legal, count-map, count-never}
 use Rattle.sr_runs.proofs.LawProofs.{sound-run}

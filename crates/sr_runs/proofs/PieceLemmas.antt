@@ -1,7 +1,6 @@
 -- A run is the same in whatever pieces its input comes: along whole runs.
-use Rattle.std.proofs.Common.{◌≡◌, ℕ, ◌==◌, ◌&&◌, not, Bool, true, false, cond, List, [], ◌∷◌, ◌++◌, Option, None, Some, is_some, refl, ap, sym, ◌∙◌, subst, true≢false, append_assoc}
+use Rattle.std.proofs.Common.{◌≡◌, ℕ, ◌==◌, ◌&&◌, not, Bool, true, false, cond, List, [], ◌∷◌, ◌++◌, Option, None, Some, is_some, refl, ap, sym, ◌∙◌, true≢false, append_assoc}
 use Rattle.std.specs.List.{list_all}
-use Rattle.sr_ask.specs.declared.ask.Ask.{Ask}
 use Rattle.sr_ask.specs.declared.ask.Asks.{Asks}
 use Rattle.sr_ask.specs.declared.ask.Asks.TheVariants.{Asked, OverTicks}
 use Rattle.sr_ask.specs.declared.item.Item.{Item}
@@ -18,16 +17,15 @@ use Rattle.sr_world.specs.Updates.{end_all, fix}
 use Rattle.sr_world.specs.Deciding.{awaits_input, can_do, is_select}
 use Rattle.sr_world.specs.Does.{Does, Did, Makes, Cannot, Ends, Undecided, comes_to, is_possible, is_undecided}
 use Rattle.sr_world.specs.Endings.{close_or, main_instance, may_close, quiesce, rest_of}
-use Rattle.sr_world.specs.Runs.{Event, Makes_item, Gives, Closes, Next, Goes, Over, Illegal, State, after, after_event, and_then, asks_for, asks_next, begun, bytes_in, first, is_blocked, is_legal, is_new, items_in, led, next, no_step, rested, run, run_from, step_of, stepped, where_true, with_answer, with_input, without_more}
+use Rattle.sr_world.specs.Runs.{Event, Makes_item, Gives, Closes, Next, Goes, Over, Illegal, State, after, asks_for, asks_next, bytes_in, first, is_blocked, is_legal, is_new, items_in, next, no_step, rested, run_from, step_of, stepped, where_true, with_answer, with_input, without_more}
 use Rattle.sr_world.specs.Sound.{IsSound, is_call}
-use Rattle.sr_world.specs.Steps.{does, done_by}
+use Rattle.sr_world.specs.Steps.{does}
 use Rattle.sr_world.specs.Worlds.{World, started}
 use Rattle.sr_world.specs.declared.ends.End.{End}
 use Rattle.sr_world.proofs.DecideLemmas.{waits_is}
 use Rattle.sr_world.proofs.ReadyLemmas.{can_is}
 use Rattle.sr_runs.proofs.InputLemmas.{all, all-does, all-quiesce}
-use Rattle.sr_runs.proofs.LawProofs.{illegal-from}
-use Rattle.sr_runs.proofs.RequestLemmas.{DoneWell, MadeWell, Well, well}
+use Rattle.sr_runs.proofs.RequestLemmas.{Well, well}
 use Rattle.sr_runs.proofs.RunLemmas.{goes-where, illegal-after, kept-of, sound-first, sound-input, sound-next}
 use Rattle.sr_runs.specs.Laws.{ItemsGiveTheRun, closes, next_with_all, with_all, with_all_in}
 

@@ -1,5 +1,5 @@
 -- What every state keeps, through each request.
-use Rattle.std.proofs.Common.{◌≡◌, ℕ, zero, suc, ◌+◌, ◌<◌, ◌≤◌, ◌==◌, ◌&&◌, not, Bool, true, false, cond, ℤ, pos, negsuc, List, [], ◌∷◌, ◌++◌, Option, None, Some, is_some, refl, ap, sym, ◌∙◌, subst, arith, eq-eqb, eqb-true, true≢false, append-nil, inl, inr, ◌⊎◌}
+use Rattle.std.proofs.Common.{◌≡◌, ℕ, ◌<◌, ◌≤◌, ◌==◌, ◌&&◌, not, Bool, true, false, cond, pos, List, [], ◌∷◌, ◌++◌, Option, None, Some, refl, ap, sym, ◌∙◌, arith, eq-eqb, true≢false, append-nil, inl, inr, ◌⊎◌}
 use Rattle.std.specs.Prelude.{Result, Ok, Err, count_by, nat_lt, remove, slice_get}
 use Rattle.sr_ask.specs.declared.answer.Answer.{Answer}
 use Rattle.sr_ask.specs.declared.answer.Answer.TheVariants as answer
@@ -27,24 +27,23 @@ use Rattle.sr_value.specs.declared.value.Value.{Value}
 use Rattle.sr_world.specs.Answering.{answer as answered, answer_held, duty_held, held_of}
 use Rattle.sr_world.specs.Deciding.{is_select}
 use Rattle.sr_world.specs.Does.{Does, Did, Makes, Cannot, Ends, Undecided, done_or, where_some}
-use Rattle.sr_world.specs.Endings.{answer_unless, close, close_or, destroy, end_after, finish, main_instance, may_close, quiesce, rest_of, status_in, stop_with}
+use Rattle.sr_world.specs.Endings.{answer_unless, close, close_or, destroy, end_after, finish, main_instance, may_close, status_in, stop_with}
 use Rattle.sr_world.specs.Inputs.{char_read, fitting_read, is_decided, item_read, token_in, token_read, token_value}
 use Rattle.sr_world.specs.Invoking.{arrive, instance_of_process, invoke, is_gone, owner_instance}
 use Rattle.sr_world.specs.Making.{component_at, has_final_code, is_open, is_ready, make_ready, needs_ready, run_final, run_initial, run_proc, start_in}
 use Rattle.sr_world.specs.Selecting.{by_choice, choice_of, held_from, service}
 use Rattle.sr_world.specs.Steps.{create_on, done_by, duty_for, ensure_found, on_machine, ready_after, reply}
-use Rattle.sr_world.specs.Updates.{add_instance, add_machine, add_pending, add_process, drop_pending, drop_reply, end_all, end_instance, end_process, fix, hold, release, set_state, use_name}
+use Rattle.sr_world.specs.Updates.{add_instance, add_machine, drop_pending, drop_reply, end_all, end_instance, end_process, fix, hold, release, set_state, use_name}
 use Rattle.sr_world.specs.Worlds.{World, is_live}
 use Rattle.sr_world.specs.declared.duty.Duty.{Duty}
-use Rattle.sr_world.specs.declared.ends.End.{End}
 use Rattle.sr_world.specs.declared.ends.End.TheVariants as end
 use Rattle.sr_instances.specs.declared.state.State.TheVariants.{Closing}
 use Rattle.sr_world.specs.Runs.{with_answer}
 use Rattle.sr_world.specs.Sound.{times_used}
-use Rattle.sr_world.specs.Spots.{Calls, Spot, RepliedTo, Waiting, is_astray, Tests, Thing, DutyOf, OpenInvocation, ServiceOf, astray, is_picked, is_took, number_of, stands, tests_of}
+use Rattle.sr_world.specs.Spots.{Calls, RepliedTo, Waiting, is_astray, Tests, Thing, DutyOf, OpenInvocation, ServiceOf, astray, is_picked, is_took, number_of, stands, tests_of}
 use Rattle.sr_runs.proofs.CallLemmas.{count-taken}
 use Rattle.sr_runs.proofs.CountLemmas.{count-remove, count-without_first, one}
-use Rattle.sr_runs.proofs.StandLemmas.{Fewer, IsClear, at, clear-taken, drop_pending-fewer, drop_pending-takes, drop_reply-fewer, hold-gains, fewer-then, release-fewer, use_name-fewer}
+use Rattle.sr_runs.proofs.StandLemmas.{Fewer, IsClear, at, clear-taken, drop_pending-fewer, drop_pending-takes, drop_reply-fewer, hold-gains, use_name-fewer}
 use Rattle.sr_runs.proofs.KeepLemmas.{Keeps, add_machine-kept, add_pending-kept, answered-kept, drop_pending-kept, drop_reply-kept, fresh-fewer, hold-kept, in_hand-fewer, is-known, live-used, none-marked, quiet-kept, release-kept, same-fewer, use_name-kept}
 use Rattle.sr_runs.proofs.MoveLemmas.{Hand, IsNamed, K, Loses, Same, answered-same, end_after-loses, end_all-loses, end_instance-loses, end_process-loses, ended-hand, fix-kept, given-kept, hold-new, loses-then, make_ready-loses, new-fresh, new-hand, plain-kept, released-hand, run_final-kept, run_initial-kept, run_proc-kept, used-once}
 

@@ -1,9 +1,9 @@
 -- What every state keeps, along whole runs.
-use Rattle.std.proofs.Common.{◌≡◌, ℕ, zero, suc, ◌+◌, ◌<◌, ◌≤◌, ◌==◌, ◌&&◌, ◌||◌, not, Bool, true, false, cond, List, [], ◌∷◌, ◌++◌, Option, None, Some, is_some, refl, ap, sym, ◌∙◌, subst, arith, eq-eqb, eqb-true, true≢false, append-nil, append_assoc}
+use Rattle.std.proofs.Common.{◌≡◌, ℕ, zero, suc, ◌+◌, ◌≤◌, ◌==◌, ◌&&◌, ◌||◌, not, Bool, true, false, cond, List, [], ◌∷◌, ◌++◌, Option, None, Some, is_some, refl, ap, sym, ◌∙◌, subst, arith, eq-eqb, eqb-true, true≢false, append-nil, append_assoc}
 use Rattle.std.proofs.lemmas.List.Concat.{flat_map-append}
 use Rattle.std.proofs.lemmas.List.Folds.{list_any-append}
 use Rattle.std.proofs.lemmas.List.Sums.{sum_by-le-sum_by}
-use Rattle.std.specs.Prelude.{count_by, find}
+use Rattle.std.specs.Prelude.{count_by}
 use Rattle.std.specs.List.{list_any}
 use Rattle.sr_ask.specs.declared.answer.Answer.{Answer}
 use Rattle.sr_ask.specs.declared.answer.Answer.TheVariants as answer
@@ -21,18 +21,17 @@ use Rattle.sr_world.specs.Deciding.{is_select}
 use Rattle.sr_world.specs.Does.{Does, Did, Makes, Cannot, Ends, Undecided}
 use Rattle.sr_world.specs.Endings.{close_or, main_instance, may_close, quiesce, rest_of}
 use Rattle.sr_world.specs.Making.{run_final}
-use Rattle.sr_world.specs.Runs.{Event, Makes_item, Gives, Closes, Next, Goes, Over, Illegal, State, after, after_event, and_then, asks_for, asks_next, first, is_new, is_used, items_in, led, next, no_step, rested, step_of, stepped, where_true, with_answer, with_input, without_more}
-use Rattle.sr_world.specs.Sound.{HasSoundDuties, IsSound, given_out, is_call, is_step, name_in, names_in, times_used}
-use Rattle.sr_world.specs.Spots.{Calls, Spot, Waiting, HeldBy, RepliedTo, TakenBy, Tests, Thing, DutyOf, OpenInvocation, ServiceOf, astray, is_astray, is_astray_answer, number_of, stands, tests_of}
-use Rattle.sr_world.specs.Updates.{end_all, fix, use_name}
-use Rattle.sr_world.specs.Worlds.{World, beginning, is_live, started}
+use Rattle.sr_world.specs.Runs.{Event, Makes_item, Gives, Closes, Next, Goes, Over, Illegal, State, after, after_event, asks_for, asks_next, first, is_new, is_used, items_in, led, next, no_step, rested, step_of, stepped, where_true, with_answer, with_input, without_more}
+use Rattle.sr_world.specs.Sound.{IsSound, given_out, is_call, is_step, name_in, names_in, times_used}
+use Rattle.sr_world.specs.Spots.{Calls, Spot, Waiting, HeldBy, RepliedTo, TakenBy, Tests, astray, is_astray, is_astray_answer, stands, tests_of}
+use Rattle.sr_world.specs.Updates.{end_all, fix}
+use Rattle.sr_world.specs.Worlds.{World, started}
 use Rattle.sr_world.specs.declared.ends.End.{End}
 use Rattle.sr_runs.proofs.CallLemmas.{items-empty}
-use Rattle.sr_runs.proofs.CountLemmas.{count-cons, find-passes, one}
-use Rattle.sr_runs.proofs.StandLemmas.{at}
+use Rattle.sr_runs.proofs.CountLemmas.{count-cons, one}
 use Rattle.sr_runs.proofs.KeepLemmas.{Keeps, quiet-kept}
-use Rattle.sr_runs.proofs.MoveLemmas.{IsNamed, K, end_all-loses, fix-kept, run_final-kept}
-use Rattle.sr_runs.proofs.RequestLemmas.{DoneWell, MadeWell, Well, well}
+use Rattle.sr_runs.proofs.MoveLemmas.{end_all-loses, run_final-kept}
+use Rattle.sr_runs.proofs.RequestLemmas.{Well, well}
 
 -- ---- tests and counts
 

@@ -1,18 +1,16 @@
 -- What stands where after a change of a world.
-use Rattle.std.proofs.Common.{◌≡◌, ℕ, zero, suc, ◌+◌, ◌<◌, ◌≤◌, ◌==◌, ◌&&◌, not, Bool, true, false, cond, List, [], ◌∷◌, ◌++◌, Option, None, Some, refl, ap, sym, ◌∙◌, subst, arith, eq-eqb, eqb-true, true≢false}
-use Rattle.std.specs.Prelude.{count_by, find, fold, remove, slice_get}
-use Rattle.std.specs.FinMap as map
+use Rattle.std.proofs.Common.{◌≡◌, ℕ, zero, suc, ◌+◌, ◌<◌, ◌≤◌, ◌==◌, ◌&&◌, Bool, true, false, cond, List, [], ◌∷◌, ◌++◌, Some, refl, ap, sym, ◌∙◌, subst, arith, eq-eqb, eqb-true, true≢false}
+use Rattle.std.specs.Prelude.{count_by, slice_get}
 use Rattle.sr_ask.specs.declared.answer.Answer.{Answer}
-use Rattle.sr_ask.specs.declared.start.Start.{Start}
 use Rattle.sr_calls.specs.Calls.{answers_one, is_held_as, items_of}
 use Rattle.sr_calls.specs.declared.held.Held.{Held}
 use Rattle.sr_calls.specs.declared.held.Reply.{Reply}
 use Rattle.sr_queue.specs.declared.pending.Pending.{Pending}
-use Rattle.sr_world.specs.Updates.{add_pending, add_reply, drop_pending, drop_reply, end_all, end_process, end_processes, hold, release, use_name}
+use Rattle.sr_world.specs.Updates.{add_pending, add_reply, drop_pending, drop_reply, end_all, end_process, hold, release, use_name}
 use Rattle.sr_world.specs.Worlds.{World}
 use Rattle.sr_world.specs.Runs.{State, with_answer}
 use Rattle.sr_world.specs.Sound.{HasSoundDuties, times_used}
-use Rattle.sr_world.specs.Spots.{Calls, Spot, Waiting, HeldBy, RepliedTo, TakenBy, Tests, Thing, DutyOf, OpenInvocation, ServiceOf, astray, number_of, stands, tests_of}
+use Rattle.sr_world.specs.Spots.{Calls, Spot, Waiting, HeldBy, RepliedTo, TakenBy, Tests, Thing, astray, number_of, stands, tests_of}
 use Rattle.sr_runs.proofs.CallLemmas.{and-false, and-true, count-removed, count-with_item, count-without, items-empty}
 use Rattle.sr_runs.proofs.CountLemmas.{count-push, count-remove, one}
 

@@ -17,6 +17,8 @@ use Rattle.sr_select.specs.declared.choice.Choice.TheVariants as chosen
 use Rattle.sr_value.specs.declared.fault.Fault.{Fault}
 use Rattle.sr_value.specs.declared.value.Value.{Value}
 use Rattle.sr_value.specs.declared.capability.Owner.{Owner}
+use Rattle.sr_world.specs.Does.{comes_to, is_possible}
+use Rattle.sr_world.specs.Endings.{quiesce}
 use Rattle.sr_world.specs.Histories.{Class, IsLegalHistory, history}
 use Rattle.sr_world.specs.Runs.{Event, Closes, Goes, Illegal, IsValid, Next, Over, State, bytes_in, is_legal, items_in, led, next, output_of, run, run_from, with_input, without_more}
 use Rattle.sr_world.specs.Worlds.{World}
@@ -164,3 +166,9 @@ abbrev pub ClassesAreSeparate : Type 0
 ClassesAreSeparate = (reading : Reading) (site : Site) (me : Me) (env : List Value) (items others : List Pending)
     → filter (is_serviced (owner_in site.scope me) site.arms) items ≡ filter (is_serviced (owner_in site.scope me) site.arms) others
     → taken items (choice reading site me env items) ≡ taken others (choice reading site me env others)
+
+-- ---- rest
+
+-- Where no process can step, something always happens: final code begins, or the run ends.
+abbrev pub RestIsNeverRefused : Type 0
+RestIsNeverRefused = (core : Core) (name : ℕ) (world : World) → is_possible (comes_to (quiesce core name world)) ≡ true

@@ -1,4 +1,4 @@
-ghost use Rattle.sr_runs.specs.Laws.{AnsweredOnce, ClassesAreSeparate, EachStandsOnce, EveryHistoryIsLegal, EveryStateIsSound, ItemsGiveTheRun, ItemsKeepSoundness, NumbersAreUsedOnce, OutputGrows, PrefixIsARun, RunGoesOn, RunsLeadToValidStates, ServicedOnce};
+ghost use Rattle.sr_runs.specs.Laws.{AnsweredOnce, ClassesAreSeparate, EachStandsOnce, EveryHistoryIsLegal, EveryStateIsSound, ItemsGiveTheRun, ItemsKeepSoundness, NumbersAreUsedOnce, OutputGrows, PrefixIsARun, RestIsNeverRefused, RunGoesOn, RunsLeadToValidStates, ServicedOnce};
 
 /// A run's prefix is a run, and the rest of a run goes on where the prefix led.
 pub fn prefixes_are_runs()
@@ -59,4 +59,9 @@ pub fn items_give_the_run()
 /// A choice doesn't depend on what waits in other classes.
 pub fn classes_are_separate()
     ensures { ClassesAreSeparate }
+{}
+
+/// Where no process can step, main's final code begins or the run ends.
+pub fn rest_is_never_refused()
+    ensures { RestIsNeverRefused }
 {}

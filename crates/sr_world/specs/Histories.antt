@@ -1,6 +1,5 @@
 -- The history of one class of operations of one owner: which invocations arrived, and which were serviced.
-use Rattle.std.specs.Prelude.{◌≡◌, ℕ, ◌≤◌, ◌==◌, ◌&&◌, Bool, true, false, List, [], ◌∷◌, ◌++◌, drop, filter, length, map, count_by, slice_get, Option, Some, None}
-use Rattle.std.specs.List.{list_any}
+use Rattle.std.specs.Prelude.{◌≡◌, ℕ, ◌≤◌, ◌==◌, ◌&&◌, Bool, false, List, [], ◌∷◌, ◌++◌, drop, filter, length, map, count_by, slice_get, Option, Some, None}
 use Rattle.sr_ask.specs.declared.answer.Answer.{Answer}
 use Rattle.sr_ask.specs.declared.answer.Answer.TheVariants.{Picked}
 use Rattle.sr_ask.specs.declared.ask.Ask.{Ask}
@@ -17,7 +16,7 @@ use Rattle.sr_select.specs.declared.choice.Choice.TheVariants.{Service}
 use Rattle.sr_value.specs.declared.capability.Owner.{Owner}
 use Rattle.sr_value.specs.declared.value.Value.{Value}
 use Rattle.sr_world.specs.Does.{Does, Did, Makes}
-use Rattle.sr_world.specs.Runs.{Next, Goes, State, and_then, asks_for, asks_next, begun, next, run}
+use Rattle.sr_world.specs.Runs.{Next, Goes, State, asks_for, asks_next, begun, next}
 use Rattle.sr_world.specs.Selecting.{choice_of}
 use Rattle.sr_world.specs.Worlds.{World, started}
 

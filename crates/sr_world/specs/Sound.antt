@@ -1,12 +1,12 @@
 -- What every state of a run keeps.
-use Rattle.std.specs.Prelude.{◌≡◌, ℕ, zero, suc, ◌<◌, ◌≤◌, ◌==◌, ◌&&◌, Bool, true, false, List, [], ◌∷◌, ◌++◌, count_by, flat_map}
+use Rattle.std.specs.Prelude.{◌≡◌, ℕ, zero, suc, ◌<◌, ◌≤◌, ◌==◌, ◌&&◌, Bool, false, List, [], ◌∷◌, count_by, flat_map}
 use Rattle.std.specs.List.{list_any}
 use Rattle.sr_ask.specs.declared.item.Item.{Item}
 use Rattle.sr_ask.specs.declared.item.Item.TheVariants.{Step, Quiesce}
 use Rattle.sr_calls.specs.Calls.{items_of}
 use Rattle.sr_world.specs.Worlds.{World, is_live}
 use Rattle.sr_world.specs.Runs.{State}
-use Rattle.sr_world.specs.Spots.{Calls, Spot, Tests, Thing, IsOnce, astray, number_of, stands, tests_of}
+use Rattle.sr_world.specs.Spots.{Calls, Spot, Thing, astray, number_of, stands, tests_of}
 
 -- how often a number was given out
 abbrev pub times_used : World → ℕ → ℕ

@@ -2,14 +2,13 @@
 --
 -- A call of a process c that gets the number n makes the duty (c, n): to answer c. It stands with the invocation while
 -- that waits or is held, then in a reply, and at last with c, which has taken the reply. So do `create` and `destroy`.
-use Rattle.std.specs.Prelude.{ℕ, ◌≡◌, ◌<◌, ◌≤◌, ◌==◌, ◌&&◌, Bool, true, false, not, List, count_by}
+use Rattle.std.specs.Prelude.{ℕ, ◌≡◌, ◌<◌, ◌≤◌, ◌==◌, ◌&&◌, Bool, false, not, count_by}
 use Rattle.sr_ask.specs.declared.answer.Answer.{Answer}
 use Rattle.sr_ask.specs.declared.answer.Answer.TheVariants.{Picked, Took}
 use Rattle.sr_calls.specs.Calls.{items_of}
 use Rattle.sr_calls.specs.declared.held.Held.{Held}
 use Rattle.sr_calls.specs.declared.held.Reply.{Reply}
 use Rattle.sr_queue.specs.declared.pending.Pending.{Pending}
-use Rattle.sr_world.specs.Worlds.{World}
 use Rattle.sr_world.specs.Runs.{State}
 
 -- where something can stand
