@@ -117,7 +117,7 @@ fn asks(alloc: Global, asked: Do) -> Result<Asks, NoMemory> {
     }
 }
 
-fn told(acted: &Acted) -> Told {
+fn what_came(acted: &Acted) -> Told {
     match acted {
         Acted::Done(_) => Told::Done,
         Acted::Cannot => Told::Cannot,
@@ -156,7 +156,7 @@ fn is_as_told(
             if !world.is_new(*name) {
                 return Ok(false);
             }
-            Ok(told(&world.act(core, *actor, &ask, *name)?) == *wanted)
+            Ok(what_came(&world.act(core, *actor, &ask, *name)?) == *wanted)
         }
         Line::Quiet(asking, wanted) => {
             Ok(is_quiet(alloc, world, core, asking.as_slice())? == *wanted)
@@ -165,7 +165,7 @@ fn is_as_told(
             world.end_input();
             Ok(true)
         }
-        Line::Rest(name, wanted) => Ok(told(&world.quiesce(core, *name)?) == *wanted),
+        Line::Rest(name, wanted) => Ok(what_came(&world.quiesce(core, *name)?) == *wanted),
     }
 }
 
