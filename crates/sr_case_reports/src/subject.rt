@@ -1,5 +1,6 @@
 //! What the cases of a file are about.
 
+use crate::processes::Asked;
 use crate::{checks, cores, edits, names, processes};
 use sr_case_files::{Case, CaseFile, Tally, cases_in};
 use sr_case_trees::{Fragment, tell_fragment, tell_limits, tell_tokens};
@@ -22,6 +23,7 @@ pub enum Subject {
     Classes,
     Values,
     Processes,
+    Code,
 }
 
 impl Subject {
@@ -40,6 +42,7 @@ impl Subject {
             "classes.txt" => Some(Subject::Classes),
             "values.txt" => Some(Subject::Values),
             "processes.txt" => Some(Subject::Processes),
+            "code.txt" => Some(Subject::Code),
             _ => None,
         }
     }
@@ -61,7 +64,8 @@ impl Subject {
             Subject::Programs => checks::tell(alloc, case),
             Subject::Abbreviations => cores::tell_abbreviation(alloc, case),
             Subject::Classes => cores::tell_classes(alloc, case),
-            Subject::Processes => processes::tell(alloc, case),
+            Subject::Processes => processes::tell(alloc, Asked::Tree, case),
+            Subject::Code => processes::tell(alloc, Asked::Code, case),
             Subject::Files | Subject::Values => Ok(String::new(alloc)),
         }
     }
