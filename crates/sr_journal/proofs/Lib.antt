@@ -1,0 +1,7 @@
+mod Characters
+mod Formats
+mod Lists
+mod Many
+mod NumberTexts
+mod Numbers
+mod Words

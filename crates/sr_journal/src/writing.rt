@@ -1,0 +1,2 @@
+/// xx
+pub fn write_journal() {}
