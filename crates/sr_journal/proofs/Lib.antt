@@ -1,7 +1,9 @@
 mod Characters
 mod Formats
+mod Journals
 mod Lists
 mod Many
+mod Names
 mod NumberTexts
 mod Numbers
 mod Words

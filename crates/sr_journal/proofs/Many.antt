@@ -1,12 +1,12 @@
 -- So many values of one format, one after the other.
-use Rattle.std.proofs.Common.{◌≡◌, refl, sym, ◌∙◌, ap, subst, ℕ, zero, suc, List, [], ◌∷◌, ◌++◌, length, Result, Ok, Err, arith}
-use Rattle.std.specs.List.{flat_map, AllByRecursion}
+use Rattle.std.proofs.Common.{◌≡◌, refl, sym, ◌∙◌, ap, subst, ℕ, zero, suc, List, [], ◌∷◌, ◌++◌, length, map, Result, Ok, Err, arith}
+use Rattle.std.specs.List.{concat, AllByRecursion}
 use Rattle.sr_journal.specs.Reading.{Reading, ◌>>=◌, many_at}
 use Rattle.sr_journal.proofs.Formats.{Format, Judged, Left, ended, then}
 use Rattle.sr_journal.proofs.Lists.{append-nil}
 
 abbrev pub Many : {A : Type 0} → Format A → ℕ → Format (List A)
-Many F k = record { Holds = λ xs. (length xs ≡ k) × AllByRecursion F.Holds xs; text = λ xs. flat_map F.text xs }
+Many F k = record { Holds = λ xs. (length xs ≡ k) × AllByRecursion F.Holds xs; text = λ xs. concat (map F.text xs) }
 
 module _ {A : Type 0} (F : Format A) (one : List ℕ → Reading A) (law : (s : List ℕ) → Judged F s (one s)) (any : A) (holds : F.Holds any) where
   abbrev first : List A → A
@@ -18,7 +18,7 @@ module _ {A : Type 0} (F : Format A) (one : List ℕ → Reading A) (law : (s : 
   others (x ∷ xs) = xs
 
   abbrev rest-text : List A → List ℕ
-  rest-text xs = flat_map F.text (others xs)
+  rest-text xs = concat (map F.text (others xs))
 
   abbrev nothing : List A → List ℕ
   nothing xs = []
@@ -38,7 +38,7 @@ module _ {A : Type 0} (F : Format A) (one : List ℕ → Reading A) (law : (s : 
   fits-others k [] h = let e : 0 ≡ suc k = h.0 in absurd (omega (arith, e))
   fits-others k (x ∷ xs) h = let e : suc (length xs) ≡ suc k = h.0 in (omega (arith, e), h.1.1)
 
-  splits : (k : ℕ) (xs : List A) → Holding (suc k) xs → flat_map F.text xs ≡ F.text (first xs) ++ rest-text xs
+  splits : (k : ℕ) (xs : List A) → Holding (suc k) xs → concat (map F.text xs) ≡ F.text (first xs) ++ rest-text xs
   splits k [] h = let e : 0 ≡ suc k = h.0 in absurd (omega (arith, e))
   splits k (x ∷ xs) h = refl
 

@@ -1,11 +1,10 @@
 -- Why bytes are no journal.
-use Rattle.std.specs.Prelude.{ℕ, ◌≡◌, ◌≢◌, ◌<◌, ◌↔◌, List, [], ◌∷◌, ◌++◌, length, codes, Result, Ok, Err}
+use Rattle.std.specs.Prelude.{ℕ, ◌≡◌, ◌≢◌, ◌<◌, ◌↔◌, List, ◌++◌, length, Result, Ok, Err}
 use Rattle.sr_ask.specs.declared.item.Item.{Item}
 use Rattle.sr_journal.specs.declared.header.Header.{Header}
 use Rattle.sr_journal.specs.declared.fail.JournalFail.{JournalFail}
 use Rattle.sr_journal.specs.declared.fail.JournalFail.TheVariants.{NoMemory}
-use Rattle.sr_journal.specs.Numbers.{number_text}
-use Rattle.sr_journal.specs.Journal.{IsInRange, journal_text, newline}
+use Rattle.sr_journal.specs.Journal.{IsInRange, journal_text, version_line}
 
 -- the bytes are the text of this header and these items
 pub record IsJournal (header : Header) (items : List Item) (bytes : List ℕ) : Type 0 where
@@ -26,7 +25,7 @@ pub record IsOtherVersion (bytes : List ℕ) : Type 0 where
   pub version : ℕ
   pub rest : List ℕ
   pub other : version ≢ 1
-  pub line : bytes ≡ codes "SRJ" ++ number_text version ++ newline ++ rest
+  pub line : bytes ≡ version_line version ++ rest
 
 -- the bytes are none of these
 pub record IsNoJournal (bytes : List ℕ) : Type 0 where

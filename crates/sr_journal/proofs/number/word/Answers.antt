@@ -5,7 +5,7 @@ use Rattle.sr_journal.specs.Reading.{word_at}
 use Rattle.sr_journal.proofs.Formats.{then}
 use Rattle.sr_journal.proofs.Numbers.{number-judged}
 use Rattle.sr_journal.proofs.Many.{many-judged}
-use Rattle.sr_journal.proofs.Characters.{opens}
+use Rattle.sr_journal.proofs.Journals.{items-judged}
 use Rattle.sr_journal.proofs.Words.{is-after, is-part, is-other, after}
 use Rattle.sr_journal.proofs.number.word.Goals as goal
 
