@@ -36,7 +36,7 @@ equal-fails F G up down same s NotJournal k = record { none = λ b x y h e. k.no
 equal-fails F G up down same s Version k = k
 equal-fails F G up down same s NoMemory k = k
 
-equal : {A : Type 0} (F G : Format A) → ((a : A) → F.Holds a → G.Holds a) → ((a : A) → G.Holds a → F.Holds a) → ((a : A) → F.text a ≡ G.text a)
+pub equal : {A : Type 0} (F G : Format A) → ((a : A) → F.Holds a → G.Holds a) → ((a : A) → G.Holds a → F.Holds a) → ((a : A) → F.text a ≡ G.text a)
     → (s : List ℕ) (r : Reading A) → Judged F s r → Judged G s r
 equal F G up down same s (Err e) k = equal-fails F G up down same s e k
 equal F G up down same s (Ok x) k = record {
@@ -55,7 +55,7 @@ stands n most h = record { least = λ e. no-way e; within = le-leb n most h }
 stands-above : (n most : ℕ) → 1 ≤ n → n ≤ most → CanStand false (Some most) n
 stands-above n most some h = record { least = λ e. some; within = le-leb n most h }
 
-any-stands : (n : ℕ) → CanStand true None n
+pub any-stands : (n : ℕ) → CanStand true None n
 any-stands n = record { least = λ e. no-way e; within = refl }
 
 at-most : (b : Bool) (n most : ℕ) → CanStand b (Some most) n → n ≤ most
@@ -67,7 +67,7 @@ at-least most n h = h.least refl
 no-blank : IsDigit 32 → ⊥
 no-blank d = let l : 48 ≤ 32 = d.0 in absurd (omega (arith, l))
 
-no-newline : IsDigit 10 → ⊥
+pub no-newline : IsDigit 10 → ⊥
 no-newline d = let l : 48 ≤ 10 = d.0 in absurd (omega (arith, l))
 
 -- the line of a file
@@ -145,7 +145,7 @@ copies : {A : Type 0} (P : A → Type 0) (a : A) → P a → (k : ℕ) → Copie
 copies P a h zero = record { all = []; long = refl; each = tt }
 copies P a h (suc k) = let c = copies P a h k in record { all = a ∷ c.all; long = ap suc c.long; each = (h, c.each) }
 
-one-file : AreFiles ((0, []) ∷ [])
+pub one-file : AreFiles ((0, []) ∷ [])
 one-file = record { some = omega arith; few = omega arith; each = (empty-file, tt) }
 
 pub files-judged : (s : List ℕ) → Judged Files s (files_at s)
@@ -196,7 +196,7 @@ steps-of limits = limits.0
 abbrev ticks-of : ℕ × ℕ → ℕ
 ticks-of limits = limits.1
 
-limits-from : (a b : ℕ) → CanStand false (Some 16000000) a → CanStand false (Some 1000000000) b → AreLimits (a, b)
+pub limits-from : (a b : ℕ) → CanStand false (Some 16000000) a → CanStand false (Some 1000000000) b → AreLimits (a, b)
 limits-from a b h g = record {
   some_steps = at-least (Some 16000000) a h;
   few_steps = at-most false a 16000000 h;
@@ -204,10 +204,10 @@ limits-from a b h g = record {
   few_ticks = at-most false b 1000000000 g;
 }
 
-one-step : CanStand false (Some 16000000) 1
+pub one-step : CanStand false (Some 16000000) 1
 one-step = stands-above 1 16000000 (omega arith) (omega arith)
 
-one-tick : CanStand false (Some 1000000000) 1
+pub one-tick : CanStand false (Some 1000000000) 1
 one-tick = stands-above 1 1000000000 (omega arith) (omega arith)
 
 pub limits-judged : (s : List ℕ) → Judged Limits s (limits_at s)

@@ -1,9 +1,9 @@
 -- The name of a file: so many bytes of text, and the end of its line.
-use Rattle.std.proofs.Common.{◌≡◌, refl, sym, ◌∙◌, ap, subst, ℕ, zero, suc, ◌+◌, ◌-◌, ◌<◌, ◌≤◌, ◌⊎◌, inl, inr, Bool, true, false, cond, nat_lt, nat_le, ◌&&◌, Option, Some, None, is_none, List, [], ◌∷◌, ◌++◌, length, take, drop, get_or, slice_index, Result, Ok, Err, append_assoc, length-append, length-drop, min, arith}
+use Rattle.std.proofs.Common.{◌≡◌, refl, sym, ◌∙◌, ap, subst, ℕ, zero, suc, ◌+◌, ◌-◌, ◌^◌, ◌<◌, ◌≤◌, ◌⊎◌, inl, inr, Bool, true, false, cond, nat_lt, nat_le, ◌&&◌, Option, Some, None, is_none, is_some, List, [], ◌∷◌, ◌++◌, length, take, drop, get_or, slice_index, Result, Ok, Err, append_assoc, length-append, length-drop, min, arith}
 use Rattle.std.specs.Char.{encode_utf8}
 use Rattle.std.specs.Str.{IsUtf8, is_utf8, all_scalars, encode_utf8_all}
 use Rattle.std.specs.Str.Lossy.{valid_len_up_to, utf8_valid_len, utf8_error_len}
-use Rattle.std.proofs.lemmas.Bool.{ltb-true, ltb-false, leb-true, le-leb, and_parts, and_from, cases_lt}
+use Rattle.std.proofs.lemmas.Bool.{ltb-true, ltb-false, lt-ltb, le-ltb, leb-true, le-leb, and_parts, and_from, cases_lt}
 use Rattle.std.proofs.lemmas.List.{take-append-drop, get_or-drop, drop-append-le, take-append-le, length-take, drop_at, take_at}
 use Rattle.std.proofs.lemmas.Str.{IsUtf8-nil, IsUtf8-append, IsUtf8-from_is_utf8, is_utf8-from_IsUtf8, utf8_valid_len_le, IsUtf8-encode}
 use Rattle.std.proofs.Math.Seq.{take-add}
@@ -13,7 +13,7 @@ use Rattle.std.proofs.str.Laws.{Scalar, shape, not_empty}
 use Rattle.sr_journal.specs.declared.fail.JournalFail.{JournalFail}
 use Rattle.sr_journal.specs.declared.fail.JournalFail.TheVariants.{NotJournal, Truncated, Version, NoMemory}
 use Rattle.sr_journal.specs.Journal.{newline}
-use Rattle.sr_journal.specs.Reading.{Reading, ◌>>=◌, word_at, can_begin_text, char_len, name_at}
+use Rattle.sr_journal.specs.Reading.{Reading, ◌>>=◌, word_at, can_begin_text, char_len, name_at, capped}
 use Rattle.sr_journal.proofs.Characters.{Completes, completes, IsOpen, opens, Padding, padding}
 use Rattle.sr_journal.proofs.Formats.{Format, IsRead, IsShort, IsClash, Judged}
 use Rattle.sr_journal.proofs.Lists.{append-nil, take-whole}
@@ -309,3 +309,116 @@ name-judged n s = by_length (nat_lt n (length s)) (is_utf8 (take n s)) (can_begi
     by_length true false z p q r = other n s (ltb-true n (length s) p) q
     by_length false y true p q r = cut-short n s (ltb-false n (length s) p) r
     by_length false y false p q r = clash n s (ltb-false n (length s) p) r
+
+-- what std's test of text says
+pub text-is : (s : List ℕ) → IsUtf8 s → true ≡ is_utf8 s
+text-is s u = sym (is_utf8-from_IsUtf8 s u)
+
+pub text-is-not : (s : List ℕ) → (IsUtf8 s → ⊥) → false ≡ is_utf8 s
+text-is-not s none = by_test (is_utf8 s) refl
+  where
+    by_test : (t : Bool) → is_utf8 s ≡ t → false ≡ t
+    by_test true e = absurd (none (IsUtf8-from_is_utf8 s e))
+    by_test false e = refl
+
+pub begins-as-text : (n : ℕ) (s : List ℕ) → IsUtf8 s → true ≡ can_begin_text n s
+unfolding can_begin_text
+begins-as-text n s u =
+    let v : ℕ = utf8_valid_len s in
+    ap (λ t. cond t true (is_none (utf8_error_len (drop v s)) && nat_le (v + char_len (slice_index s v)) n)) (text-is s u)
+
+goes-by-test : (n : ℕ) (s : List ℕ) → (IsUtf8 s → ⊥)
+    → can_begin_text n s ≡ (is_none (utf8_error_len (drop (utf8_valid_len s) s)) && nat_le (utf8_valid_len s + char_len (slice_index s (utf8_valid_len s))) n)
+unfolding can_begin_text
+goes-by-test n s none =
+    let v : ℕ = utf8_valid_len s in
+    ap (λ t. cond t true (is_none (utf8_error_len (drop v s)) && nat_le (v + char_len (slice_index s v)) n)) (sym (text-is-not s none))
+
+pub cannot-go-on : (n : ℕ) (s : List ℕ) (v : ℕ) (o : Option ℕ) → (IsUtf8 s → ⊥) → v ≡ utf8_valid_len s → o ≡ utf8_error_len (drop v s) → is_none o ≡ false → false ≡ can_begin_text n s
+cannot-go-on n s v o none at error some =
+    sym (goes-by-test n s none ∙ ap (λ t. t && nat_le (utf8_valid_len s + char_len (slice_index s (utf8_valid_len s))) n)
+    (ap (λ k. is_none (utf8_error_len (drop k s))) (sym at) ∙ ap is_none (sym error) ∙ some))
+
+pub may-go-on : (n : ℕ) (s : List ℕ) (v : ℕ) (o : Option ℕ) → (IsUtf8 s → ⊥) → v ≡ utf8_valid_len s → o ≡ utf8_error_len (drop v s) → is_none o ≡ true
+    → nat_le (v + char_len (slice_index s v)) n ≡ can_begin_text n s
+may-go-on n s v o none at error some =
+    sym (goes-by-test n s none ∙ (λ i. is_none (utf8_error_len (drop (sym at i) s)) && nat_le (sym at i + char_len (slice_index s (sym at i))) n)
+    ∙ ap (λ t. t && nat_le (v + char_len (slice_index s v)) n) (ap is_none (sym error) ∙ some))
+
+-- a number that is more than a `usize` can hold is as good as the greatest
+cap-begins : (n : ℕ) (s : List ℕ) → length s + 4 < 2 ^ 64 → can_begin_text (capped n) s ≡ can_begin_text n s
+unfolding can_begin_text
+cap-begins n s h = by_size (cases_lt (2 ^ 64 - 1) n)
+  where
+    small : (b : ℕ) → char_len b ≤ 4
+    small b = by_tests (nat_lt b 224) (nat_lt b 240)
+      where
+        by_tests : (x y : Bool) → cond x 2 (cond y 3 4) ≤ 4
+        by_tests true y = omega arith
+        by_tests false true = omega arith
+        by_tests false false = omega arith
+
+    by_size : (2 ^ 64 - 1 < n) ⊎ (n ≤ 2 ^ 64 - 1)
+        → cond (is_utf8 s) true (is_none (utf8_error_len (drop (utf8_valid_len s) s)) && nat_le (utf8_valid_len s + char_len (slice_index s (utf8_valid_len s))) (capped n))
+        ≡ cond (is_utf8 s) true (is_none (utf8_error_len (drop (utf8_valid_len s) s)) && nat_le (utf8_valid_len s + char_len (slice_index s (utf8_valid_len s))) n)
+    by_size (inl l) =
+        let le : utf8_valid_len s ≤ length s = utf8_valid_len_le s in
+        let four : char_len (slice_index s (utf8_valid_len s)) ≤ 4 = small (slice_index s (utf8_valid_len s)) in
+        let k : ℕ = utf8_valid_len s + char_len (slice_index s (utf8_valid_len s)) in
+        let p : nat_le k (capped n) ≡ true = le-leb k (capped n) (omega (arith, le, four, l, h)) in
+        let q : nat_le k n ≡ true = le-leb k n (omega (arith, le, four, l, h)) in
+        ap (λ t. cond (is_utf8 s) true (is_none (utf8_error_len (drop (utf8_valid_len s) s)) && t)) (p ∙ sym q)
+    by_size (inr l) =
+        let same : capped n ≡ n = omega (arith, l) in
+        ap (λ m. cond (is_utf8 s) true (is_none (utf8_error_len (drop (utf8_valid_len s) s)) && nat_le (utf8_valid_len s + char_len (slice_index s (utf8_valid_len s))) m)) same
+
+short-name : (n : ℕ) (s : List ℕ) → length s + 4 < 2 ^ 64 → length s ≤ capped n
+    → ◌≡◌ {A = Reading (List ℕ)} (name_at n s) (cond {A = Reading (List ℕ)} (can_begin_text (capped n) s) (Err Truncated) (Err NotJournal))
+unfolding name_at
+short-name n s h le =
+    let beyond : length s ≤ n = omega (arith, h, le) in
+    ap (λ x. cond {A = Reading (List ℕ)} x (cond (is_utf8 (take n s)) (word_at newline (drop n s) >>= λ rest. Ok (take n s, rest)) (Err NotJournal)) (cond (can_begin_text n s) (Err Truncated) (Err NotJournal))) (le-ltb n (length s) beyond)
+    ∙ ap (λ x. cond {A = Reading (List ℕ)} x (Err Truncated) (Err NotJournal)) (sym (cap-begins n s h))
+
+pub cut-name : (n k : ℕ) (s : List ℕ) → k ≡ capped n → length s + 4 < 2 ^ 64 → length s ≤ k → can_begin_text k s ≡ true → ◌≡◌ {A = Reading (List ℕ)} (name_at n s) (Err Truncated)
+cut-name n k s c h le b =
+    short-name n s h (subst (λ m. length s ≤ m) c le)
+    ∙ ap (λ x. cond {A = Reading (List ℕ)} x (Err Truncated) (Err NotJournal)) (ap (λ m. can_begin_text m s) (sym c) ∙ b)
+
+pub bad-name : (n k : ℕ) (s : List ℕ) → k ≡ capped n → length s + 4 < 2 ^ 64 → length s ≤ k → can_begin_text k s ≡ false → ◌≡◌ {A = Reading (List ℕ)} (name_at n s) (Err NotJournal)
+bad-name n k s c h le b =
+    short-name n s h (subst (λ m. length s ≤ m) c le)
+    ∙ ap (λ x. cond {A = Reading (List ℕ)} x (Err Truncated) (Err NotJournal)) (ap (λ m. can_begin_text m s) (sym c) ∙ b)
+
+-- a name that is there
+whole-name : (n : ℕ) (s : List ℕ) → n < length s → name_at n s ≡ cond (is_utf8 (take n s)) (word_at newline (drop n s) >>= λ rest. Ok (take n s, rest)) (Err NotJournal)
+unfolding name_at
+whole-name n s h =
+    ap (λ x. cond x (cond (is_utf8 (take n s)) (word_at newline (drop n s) >>= λ rest. Ok (take n s, rest)) (Err NotJournal)) (cond (can_begin_text n s) (Err Truncated) (Err NotJournal))) (lt-ltb n (length s) h)
+
+same-len : (n k : ℕ) (s : List ℕ) → k ≡ capped n → length s + 4 < 2 ^ 64 → k < length s → n ≡ k
+same-len n k s c h l = omega (arith, c, h, l)
+
+pub no-text-there : (n k : ℕ) (s : List ℕ) → k ≡ capped n → length s + 4 < 2 ^ 64 → k < length s → is_utf8 (take k s) ≡ false → name_at n s ≡ Err NotJournal
+no-text-there n k s c h l b =
+    ap (λ m. name_at m s) (same-len n k s c h l) ∙ whole-name k s l ∙ ap (λ x. cond x (word_at newline (drop k s) >>= λ rest. Ok (take k s, rest)) (Err NotJournal)) b
+
+pub text-there : (n k : ℕ) (s : List ℕ) → k ≡ capped n → length s + 4 < 2 ^ 64 → k < length s → is_utf8 (take k s) ≡ true → name_at n s ≡ (word_at newline (drop k s) >>= λ rest. Ok (take k s, rest))
+text-there n k s c h l b =
+    ap (λ m. name_at m s) (same-len n k s c h l) ∙ whole-name k s l ∙ ap (λ x. cond x (word_at newline (drop k s) >>= λ rest. Ok (take k s, rest)) (Err NotJournal)) b
+
+pub word-fails : (n k : ℕ) (s : List ℕ) (e : JournalFail) → k ≡ capped n → length s + 4 < 2 ^ 64 → k < length s → is_utf8 (take k s) ≡ true → word_at newline (drop k s) ≡ Err e
+    → ◌≡◌ {A = Reading (List ℕ)} (name_at n s) (Err e)
+word-fails n k s e c h l b w = text-there n k s c h l b ∙ ap (λ r. r >>= λ rest. Ok (take k s, rest)) w
+
+pub word-reads : (n k : ℕ) (s name rest : List ℕ) → k ≡ capped n → length s + 4 < 2 ^ 64 → k < length s → is_utf8 (take k s) ≡ true → word_at newline (drop k s) ≡ Ok rest → name ≡ take k s
+    → name_at n s ≡ Ok (name, rest)
+word-reads n k s name rest c h l b w same = text-there n k s c h l b ∙ ap (λ r. r >>= λ rest. Ok (take k s, rest)) w ∙ ap (λ u. Ok (u, rest)) (sym same)
+
+pub none-from-some : (o : Option ℕ) → is_some o ≡ true → is_none o ≡ false
+none-from-some None e = cc
+none-from-some (Some k) e = refl
+
+pub none-from-none : (o : Option ℕ) → is_some o ≡ false → is_none o ≡ true
+none-from-none None e = refl
+none-from-none (Some k) e = cc

@@ -1,7 +1,9 @@
 -- The text of a number: digits, the number back, and no leading zeros.
-use Rattle.std.proofs.Common.{◌≡◌, refl, sym, ◌∙◌, ap, subst, ℕ, zero, suc, ◌+◌, ◌-◌, ◌*◌, ◌/◌, ◌%◌, ◌<◌, ◌≤◌, ◌⊎◌, Bool, true, false, cond, nat_lt, List, [], ◌∷◌, ◌++◌, length, append_assoc, arith}
+use Rattle.std.proofs.Common.{◌≡◌, refl, sym, ◌∙◌, ap, subst, ℕ, zero, suc, ◌+◌, ◌-◌, ◌*◌, ◌/◌, ◌%◌, ◌^◌, ◌<◌, ◌≤◌, Bool, true, false, cond, nat_lt, List, [], ◌∷◌, ◌++◌, length, append_assoc, arith}
+use Rattle.std.specs.Fmt.{decimal}
 use Rattle.std.specs.List.{AllByRecursion}
 use Rattle.std.proofs.lemmas.Bool.{ltb-true, ltb-false, lt-ltb, le-ltb}
+use Rattle.std.proofs.lemmas.Fmt.{decimal_by_steps}
 use Rattle.sr_journal.specs.Numbers.{digits_within, number_text}
 use Rattle.sr_journal.specs.Reading.{grown}
 
@@ -118,3 +120,7 @@ number_text-grown n b some d =
     let front : grown n b / 10 ≡ n = omega arith in
     let last : 48 + grown n b % 10 ≡ b = omega arith in
     number_text-step (grown n b) (omega arith) ∙ (λ i. number_text (front i) ++ last i ∷ [])
+
+-- the text of a number that a `u64` can hold is what std writes
+pub number_text-decimal : (n : ℕ) → n < 2 ^ 64 → number_text n ≡ decimal n
+number_text-decimal n h = decimal_by_steps (λ m ds. number_text m ≡ ds) number_text-digit (λ m ds big e. number_text-step m big ∙ ap (λ front. front ++ (48 + m % 10) ∷ []) e) n h

@@ -59,7 +59,7 @@ module _ (may_be_zero : Bool) (most : Option ℕ) (end : ℕ) (other : IsDigit e
   compare : (v n : ℕ) (p y : List ℕ) → number_text v ++ p ≡ (number_text n ++ end ∷ []) ++ y → Cut (number_text v) (number_text n) p end y
   compare v n p y e = cut end other (number_text v) (number_text n) p y (are-digits v) (are-digits n) (e ∙ text-then n y)
 
-  at-end : (v n : ℕ) (p y : List ℕ) → number_text v ++ end ∷ p ≡ (number_text n ++ end ∷ []) ++ y → n ≡ v
+  pub at-end : (v n : ℕ) (p y : List ℕ) → number_text v ++ end ∷ p ≡ (number_text n ++ end ∷ []) ++ y → n ≡ v
   at-end v n p y e = by_rest k.rest k.digits k.whole k.follows
     where
       k : Cut (number_text v) (number_text n) (end ∷ p) end y

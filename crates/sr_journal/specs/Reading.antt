@@ -1,5 +1,5 @@
 -- How a journal is read, from its front to its end. Of the functions that read, each contract cites its line here.
-use Rattle.std.specs.Prelude.{◌≡◌, ℕ, zero, suc, ◌+◌, ◌-◌, ◌*◌, ◌^◌, min, nat_lt, nat_le, ◌==◌, Bool, true, false, ◌&&◌, ◌||◌, if◌then◌else◌, List, [], ◌∷◌, ◌++◌, length, take, drop, slice_index, codes, Option, Some, None, is_none, Result, Ok, Err}
+use Rattle.std.specs.Prelude.{◌≡◌, ◌≢◌, ℕ, zero, suc, ◌+◌, ◌-◌, ◌*◌, ◌^◌, min, nat_lt, nat_le, ◌==◌, Bool, true, false, ◌&&◌, ◌||◌, if◌then◌else◌, List, [], ◌∷◌, ◌++◌, length, take, drop, slice_index, codes, Option, Some, None, is_none, Result, Ok, Err}
 use Rattle.std.specs.Char.{is_ascii_digit}
 use Rattle.std.specs.Str.{is_utf8}
 use Rattle.std.specs.Str.Lossy.{utf8_valid_len, utf8_error_len}
@@ -7,7 +7,7 @@ use Rattle.sr_ask.specs.declared.item.Item.{Item}
 use Rattle.sr_ask.specs.declared.item.Item.TheVariants.{Step, Quiesce}
 use Rattle.sr_journal.specs.declared.header.Header.{Header}
 use Rattle.sr_journal.specs.declared.fail.JournalFail.{JournalFail}
-use Rattle.sr_journal.specs.declared.fail.JournalFail.TheVariants.{NotJournal, Truncated, Version, NoMemory}
+use Rattle.sr_journal.specs.declared.fail.JournalFail.TheVariants.{NotJournal, Truncated, NoMemory}
 use Rattle.sr_journal.specs.Journal.{blank, newline}
 
 -- a value and the bytes after it
@@ -19,17 +19,15 @@ abbrev pub ◌>>=◌ : {A B : Type 0} → Result A JournalFail → (A → Result
 (Ok x) >>= f = f x
 (Err e) >>= f = Err e
 
--- a function failed as reading does, or memory ran out
-abbrev pub Fails : {Y : Type 0} → JournalFail → Result Y JournalFail → Type 0
-Fails NotJournal read = read ≡ Err NotJournal
-Fails Truncated read = read ≡ Err Truncated
-Fails Version read = read ≡ Err Version
-Fails NoMemory read = Unit {0}
+-- what a function returned, seen by view, is what reading gives
+abbrev pub Tells : {X Y : Type 0} → (X → Y) → Result X JournalFail → Result Y JournalFail → Type 0
+Tells view (Ok x) read = read ≡ Ok (view x)
+Tells view (Err e) read = read ≡ Err e
 
--- what a function returned, seen by view, is what reading gives, unless memory ran out
+-- the same, unless memory ran out
 abbrev pub Gives : {X Y : Type 0} → (X → Y) → Result X JournalFail → Result Y JournalFail → Type 0
 Gives view (Ok x) read = read ≡ Ok (view x)
-Gives view (Err e) read = Fails e read
+Gives view (Err e) read = e ≢ NoMemory → read ≡ Err e
 
 -- fixed bytes; what is read is what stands after them
 unfoldable pub word_at : List ℕ → List ℕ → Result (List ℕ) JournalFail
@@ -40,6 +38,10 @@ word_at (c ∷ word) (b ∷ bytes) = if c == b then word_at word bytes else Err 
 abbrev pub is_within : Option ℕ → ℕ → Bool
 is_within None n = true
 is_within (Some most) n = nat_le n most
+
+-- the greatest `usize` is no limit
+abbrev pub limit_of : ℕ → Option ℕ
+limit_of most = if most == 2 ^ 64 - 1 then None else Some most
 
 -- the number after one more digit
 abbrev pub grown : ℕ → ℕ → ℕ

@@ -3,6 +3,7 @@
 
 mod fail;
 mod header;
+mod name;
 mod number;
 mod reading;
 mod writing;

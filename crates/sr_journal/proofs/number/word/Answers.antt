@@ -2,11 +2,7 @@ use Rattle.std.proofs.Common.{◌≡◌, sym, ◌∙◌, true, Option, Some, Non
 use Rattle.std.proofs.lemmas.Bool.Decides.{Decides-eqb}
 use Rattle.std.proofs.lemmas.Slice.Eq.{strip_prefix_is, starts_is}
 use Rattle.sr_journal.specs.Reading.{word_at}
-use Rattle.sr_journal.proofs.Formats.{then}
-use Rattle.sr_journal.proofs.Numbers.{number-judged}
-use Rattle.sr_journal.proofs.Many.{many-judged}
-use Rattle.sr_journal.proofs.Journals.{items-judged}
-use Rattle.sr_journal.proofs.Words.{is-after, is-part, is-other, after}
+use Rattle.sr_journal.proofs.Words.{is-after, is-part, is-other}
 use Rattle.sr_journal.proofs.number.word.Goals as goal
 
 pub returns-in-Some : goal.returns-in-Some
