@@ -156,20 +156,27 @@ files-judged s =
     (λ rest.
     then (Number false (Some 64) 10) (Rest Files after-files-word) count-of file-lines
     (λ c h. stands-above (length c) 64 h.some h.few) (λ c h. sym (append_assoc (number_text (length c)) (10 ∷ []) (file-lines c)))
-    (λ k h. let c = copies IsFile (0, []) empty-file k in (c.all, record {
-      some = let l : length c.all ≡ k = c.long in let g : 1 ≤ k = at-least (Some 64) k h in omega (arith, l, g);
-      few = let l : length c.all ≡ k = c.long in let g : k ≤ 64 = at-most false k 64 h in omega (arith, l, g);
-      each = c.each;
-    }, c.long))
+    (λ k h. let c = copies IsFile (0, []) empty-file k in (
+      c.all,
+      record {
+        some = let l : length c.all ≡ k = c.long in let g : 1 ≤ k = at-least (Some 64) k h in omega (arith, l, g);
+        few = let l : length c.all ≡ k = c.long in let g : k ≤ 64 = at-most false k 64 h in omega (arith, l, g);
+        each = c.each;
+      },
+      c.long,
+    ))
     rest (number_at false (Some 64) 10 rest) (number-judged false (Some 64) 10 no-newline 1 (stands-above 1 64 (omega arith) (omega arith)) rest)
     (λ count. many_at file_at count.0 count.1)
     (λ k left h.
     equal (Many File k) (Left (Rest Files after-files-word) count-of file-lines k)
-    (λ c g. (record {
-      some = let l : length c ≡ k = g.0 in let i : 1 ≤ k = at-least (Some 64) k h in omega (arith, l, i);
-      few = let l : length c ≡ k = g.0 in let i : k ≤ 64 = at-most false k 64 h in omega (arith, l, i);
-      each = g.1;
-    }, g.0)) (λ c g. (g.1, g.0.each)) (λ c. refl) left (many_at file_at k left) (many-judged File file_at file-judged (0, []) empty-file k left)))
+    (λ c g. (
+      record {
+        some = let l : length c ≡ k = g.0 in let i : 1 ≤ k = at-least (Some 64) k h in omega (arith, l, i);
+        few = let l : length c ≡ k = g.0 in let i : k ≤ 64 = at-most false k 64 h in omega (arith, l, i);
+        each = g.1;
+      },
+      g.0,
+    )) (λ c g. (g.1, g.0.each)) (λ c. refl) left (many_at file_at k left) (many-judged File file_at file-judged (0, []) empty-file k left)))
 
 -- the line of the limits
 pub record AreLimits (limits : ℕ × ℕ) : Type 0 where

@@ -14,8 +14,11 @@ use sr_value::{Row, Text};
 use std::alloc::Global;
 
 const MOST_FILES: u32 = 64;
+
 const MOST_BYTES: u32 = 1_048_576;
+
 const MOST_STEPS: u32 = 16_000_000;
+
 const MOST_TICKS: u32 = 1_000_000_000;
 
 /// Reads the text of a journal, version 1.

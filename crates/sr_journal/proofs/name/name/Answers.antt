@@ -13,8 +13,8 @@ returns-then-length-bytes c = λ n e ne.
     let le : length s ≤ c.args.length = c.if-length-bytes.true in
     let short : length s + 4 < 2 ^ 64 = omega arith in
     elim c.if-can_begin_text.branch [
-      then-can_begin_text w ↦ cut-name n c.args.length s e short le (sym c.can_begin_text.ensures ∙ w.if-can_begin_text.true) ∙ ap (λ f. Err f) (sym w.result-is)
-    | else-can_begin_text w ↦ bad-name n c.args.length s e short le (sym c.can_begin_text.ensures ∙ w.if-can_begin_text.false) ∙ ap (λ f. Err f) (sym w.result-is)
+      | then-can_begin_text w ↦ cut-name n c.args.length s e short le (sym c.can_begin_text.ensures ∙ w.if-can_begin_text.true) ∙ ap (λ f. Err f) (sym w.result-is)
+      | else-can_begin_text w ↦ bad-name n c.args.length s e short le (sym c.can_begin_text.ensures ∙ w.if-can_begin_text.false) ∙ ap (λ f. Err f) (sym w.result-is)
     ]
 
 pub returns-then-not-is_text : goal.returns-then-not-is_text

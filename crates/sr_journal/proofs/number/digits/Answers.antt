@@ -27,9 +27,12 @@ loop-at-preserved c =
     let i = c.loop-at.invariant in
     let b : ℕ = get_or c.args.bytes.now c.loop-at.at 0 in
     let grew : c.saturating_add-number.result ≡ capped (grown i.0 b) =
-    c.saturating_add-number.ensures ∙ ap (λ m. min (m + (b - 48)) (2 ^ 64 - 1)) c.saturating_mul.ensures ∙ cap-grown i.0 c.loop-at.number b i.1 in
-    (grown i.0 b, grew, at-digit c.args.most c.args.end i.0 c.loop-at.at c.saturating_add-number.result c.args.bytes.now (omega arith) c.loop-at-test.true c.if-byte-end.false
-    (sym c.is_ascii_digit.ensures.value ∙ c.if-not-is_ascii_digit.false) grew c.if-number-most.false i.2)
+    c.saturating_add-number.ensures ∙ ap (λ m. min (m + (b - 48)) (2 ^ 64 - 1)) c.saturating_mul.ensures ∙ cap-grown i.0 c.loop-at.number b i.1 in (
+      grown i.0 b,
+      grew,
+      at-digit c.args.most c.args.end i.0 c.loop-at.at c.saturating_add-number.result c.args.bytes.now (omega arith) c.loop-at-test.true c.if-byte-end.false
+          (sym c.is_ascii_digit.ensures.value ∙ c.if-not-is_ascii_digit.false) grew c.if-number-most.false i.2,
+    )
 
 pub returns : goal.returns
 returns c =

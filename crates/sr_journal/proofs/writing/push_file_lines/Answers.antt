@@ -3,4 +3,4 @@ use Rattle.sr_journal.proofs.Lines.{all-lines}
 use Rattle.sr_journal.proofs.writing.push_file_lines.Goals as goal
 
 pub returns : goal.returns
-returns c = all-lines file_line c.args.files.now c.loop-file.file-index c.args.text.now c.loop-file.text.now c.loop-file-test.false c.loop-file.invariant
+returns c = all-lines file_line c.args.files.now c.loop-file.file-index c.args.text.now c.loop-file.text c.loop-file-test.false c.loop-file.invariant
