@@ -1,9 +1,9 @@
 -- Reading digits one by one, as a loop does.
-use Rattle.std.proofs.Common.{◌≡◌, refl, sym, ◌∙◌, ap, subst, ℕ, zero, suc, ◌+◌, ◌-◌, ◌*◌, ◌^◌, ◌<◌, ◌≤◌, ◌⊎◌, inl, inr, min, Bool, true, false, cond, eqb, nat_le, Option, Some, None, List, [], ◌∷◌, ◌++◌, length, take, drop, get_or, Result, Ok, Err, length-drop, drop-cons, arith}
+use Rattle.std.proofs.Common.{◌≡◌, refl, sym, ◌∙◌, ap, subst, ℕ, suc, ◌+◌, ◌-◌, ◌*◌, ◌^◌, ◌<◌, ◌≤◌, ◌⊎◌, inl, inr, min, Bool, true, false, cond, eqb, nat_le, Option, Some, None, List, [], ◌∷◌, length, take, drop, get_or, Result, Ok, Err, length-drop, drop-cons, arith}
 use Rattle.std.specs.Char.{is_ascii_digit}
-use Rattle.std.proofs.lemmas.Bool.{eqb-true, eqb-false, eq-eqb, ne_eqb, leb-true, leb-false, le-leb, lt-leb, cases_lt}
+use Rattle.std.proofs.lemmas.Bool.{eqb-true, eqb-false, eq-eqb, ne_eqb, leb-true, le-leb, lt-leb, cases_lt}
 use Rattle.sr_journal.specs.declared.fail.JournalFail.{JournalFail}
-use Rattle.sr_journal.specs.declared.fail.JournalFail.TheVariants.{NotJournal, Truncated, Version, NoMemory}
+use Rattle.sr_journal.specs.declared.fail.JournalFail.TheVariants.{NotJournal, Truncated}
 use Rattle.sr_journal.specs.Reading.{Reading, ◌>>=◌, word_at, is_within, limit_of, grown, capped, with_capped, digits_at, number_at}
 use Rattle.sr_journal.proofs.Lists.{take-whole}
 

@@ -1,5 +1,5 @@
 -- What `read_journal` promises, from what reading tells.
-use Rattle.std.proofs.Common.{◌≡◌, ◌≢◌, refl, sym, ◌∙◌, ap, subst, ℕ, ◌<◌, Bool, true, false, not, nat_eq, Option, None, List, Result, Ok, Err, IfOk, IsTrue, arith}
+use Rattle.std.proofs.Common.{◌≡◌, ◌≢◌, refl, ◌∙◌, ap, subst, ℕ, Bool, true, false, not, nat_eq, None, List, Result, Ok, Err, IfOk, IsTrue, arith}
 use Rattle.std.specs.Prelude.{◌↔◌, codes}
 use Rattle.std.proofs.lemmas.Bool.{eqb-true, eqb-false}
 use Rattle.sr_ask.specs.declared.item.Item.{Item}

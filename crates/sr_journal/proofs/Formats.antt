@@ -1,6 +1,6 @@
 -- A format is a set of values, each with its text. A reader of a format tells of any bytes whether they begin with a
 -- text of it, are the beginning of one, or are neither, and of one format after another the same follows.
-use Rattle.std.proofs.Common.{◌≡◌, refl, sym, ◌∙◌, ap, subst, ℕ, zero, suc, ◌+◌, ◌<◌, List, [], ◌∷◌, ◌++◌, length, Result, Ok, Err, append_assoc, length-append, arith}
+use Rattle.std.proofs.Common.{◌≡◌, sym, ◌∙◌, ap, ℕ, ◌+◌, ◌<◌, List, [], ◌++◌, length, Ok, Err, append_assoc, length-append, arith}
 use Rattle.sr_journal.specs.declared.fail.JournalFail.{JournalFail}
 use Rattle.sr_journal.specs.declared.fail.JournalFail.TheVariants.{NotJournal, Truncated, Version, NoMemory}
 use Rattle.sr_journal.specs.Reading.{Reading, ◌>>=◌}

@@ -1,19 +1,18 @@
 -- The lines of a journal as formats, each with its reader.
-use Rattle.std.proofs.Common.{◌≡◌, refl, sym, ◌∙◌, ap, subst, ℕ, zero, suc, ◌+◌, ◌^◌, ◌<◌, ◌≤◌, Bool, true, false, cond, eqb, nat_le, Option, Some, None, List, [], ◌∷◌, ◌++◌, length, Result, Ok, Err, append_assoc, arith}
+use Rattle.std.proofs.Common.{◌≡◌, refl, sym, ◌∙◌, ap, subst, ℕ, zero, suc, ◌^◌, ◌<◌, ◌≤◌, Bool, true, false, cond, eqb, Option, Some, None, List, [], ◌∷◌, ◌++◌, length, Ok, Err, append_assoc, arith}
 use Rattle.std.specs.Prelude.{codes, map}
 use Rattle.std.specs.List.{concat, AllByRecursion}
 use Rattle.std.proofs.lemmas.Bool.{eqb-true, eqb-false, leb-true, le-leb}
 use Rattle.std.proofs.lemmas.Str.{IsUtf8-nil}
 use Rattle.sr_ask.specs.declared.item.Item.{Item}
 use Rattle.sr_ask.specs.declared.item.Item.TheVariants.{Step, Quiesce}
-use Rattle.sr_journal.specs.declared.header.Header.{Header}
 use Rattle.sr_journal.specs.declared.fail.JournalFail.{JournalFail}
 use Rattle.sr_journal.specs.declared.fail.JournalFail.TheVariants.{NotJournal, Truncated, Version, NoMemory}
 use Rattle.sr_journal.specs.Numbers.{number_text}
-use Rattle.sr_journal.specs.Journal.{blank, newline, file_line, files_text, limits_line, item_line, items_text, journal_text, IsFile, IsItem, IsInRange}
-use Rattle.sr_journal.specs.Reading.{Reading, ◌>>=◌, word_at, number_at, name_at, file_at, many_at, files_at, limits_at, step_at, quiesce_at, item_at, items_at, parts_at}
+use Rattle.sr_journal.specs.Journal.{blank, newline, file_line, files_text, limits_line, item_line, items_text, IsFile, IsItem}
+use Rattle.sr_journal.specs.Reading.{Reading, ◌>>=◌, word_at, number_at, name_at, file_at, many_at, files_at, limits_at, step_at, quiesce_at, item_at, items_at}
 use Rattle.sr_journal.proofs.Characters.{Padding, padding}
-use Rattle.sr_journal.proofs.Formats.{Format, IsRead, IsShort, IsClash, Failed, Judged, Left, ended, then}
+use Rattle.sr_journal.proofs.Formats.{Format, Failed, Judged, Left, ended, then}
 use Rattle.sr_journal.proofs.Lists.{append-nil}
 use Rattle.sr_journal.proofs.Many.{Many, many-judged}
 use Rattle.sr_journal.proofs.Names.{Name, name-judged}

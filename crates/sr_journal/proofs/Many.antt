@@ -1,5 +1,5 @@
 -- So many values of one format, one after the other.
-use Rattle.std.proofs.Common.{◌≡◌, refl, sym, ◌∙◌, ap, subst, ℕ, zero, suc, List, [], ◌∷◌, ◌++◌, length, map, Result, Ok, Err, arith}
+use Rattle.std.proofs.Common.{◌≡◌, refl, sym, ap, ℕ, zero, suc, List, [], ◌∷◌, ◌++◌, length, map, Ok, arith}
 use Rattle.std.specs.List.{concat, AllByRecursion}
 use Rattle.sr_journal.specs.Reading.{Reading, ◌>>=◌, many_at}
 use Rattle.sr_journal.proofs.Formats.{Format, Judged, Left, ended, then}

@@ -4,7 +4,7 @@ use Rattle.std.specs.Char.{encode_utf8}
 use Rattle.std.specs.Str.{IsUtf8, is_utf8, all_scalars, encode_utf8_all}
 use Rattle.std.specs.Str.Lossy.{valid_len_up_to, utf8_valid_len, utf8_error_len}
 use Rattle.std.proofs.lemmas.Bool.{ltb-true, ltb-false, lt-ltb, le-ltb, leb-true, le-leb, and_parts, and_from, cases_lt}
-use Rattle.std.proofs.lemmas.List.{take-append-drop, get_or-drop, drop-append-le, take-append-le, length-take, drop_at, take_at}
+use Rattle.std.proofs.lemmas.List.{take-append-drop, get_or-drop, drop-append-le, take-append-le, length-take, take_at}
 use Rattle.std.proofs.lemmas.Str.{IsUtf8-nil, IsUtf8-append, IsUtf8-from_is_utf8, is_utf8-from_IsUtf8, utf8_valid_len_le, IsUtf8-encode}
 use Rattle.std.proofs.Math.Seq.{take-add}
 use Rattle.std.proofs.Math.Utf8.{scalar_cases}
@@ -15,9 +15,9 @@ use Rattle.sr_journal.specs.declared.fail.JournalFail.TheVariants.{NotJournal, T
 use Rattle.sr_journal.specs.Journal.{newline}
 use Rattle.sr_journal.specs.Reading.{Reading, ◌>>=◌, word_at, can_begin_text, char_len, name_at, capped}
 use Rattle.sr_journal.proofs.Characters.{Completes, completes, IsOpen, opens, Padding, padding}
-use Rattle.sr_journal.proofs.Formats.{Format, IsRead, IsShort, IsClash, Judged}
+use Rattle.sr_journal.proofs.Formats.{Format, IsShort, IsClash, Judged}
 use Rattle.sr_journal.proofs.Lists.{append-nil, take-whole}
-use Rattle.sr_journal.proofs.Words.{IsAfter, IsPart, Differs, Told, word-told}
+use Rattle.sr_journal.proofs.Words.{Told, word-told}
 
 -- the longest front that is text
 front-by-test : (s : List ℕ) (m : ℕ) (t : Bool) → is_utf8 (take (suc m) s) ≡ t → IsUtf8 (take (valid_len_up_to s m) s) → IsUtf8 (take (cond t (suc m) (valid_len_up_to s m)) s)

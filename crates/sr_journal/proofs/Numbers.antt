@@ -1,15 +1,15 @@
 -- The format of a number with the byte that ends it, and the reader of it.
-use Rattle.std.proofs.Common.{◌≡◌, refl, sym, ◌∙◌, ap, subst, ℕ, zero, suc, ◌+◌, ◌-◌, ◌*◌, ◌<◌, ◌≤◌, Bool, true, false, cond, eqb, nat_le, ◌&&◌, Option, Some, None, List, [], ◌∷◌, ◌++◌, length, Result, Ok, Err, append_assoc, length-append, arith}
+use Rattle.std.proofs.Common.{◌≡◌, refl, sym, ◌∙◌, ap, subst, ℕ, suc, ◌+◌, ◌<◌, ◌≤◌, Bool, true, false, cond, eqb, nat_le, Option, Some, None, List, [], ◌∷◌, ◌++◌, length, Result, Ok, Err, append_assoc, length-append, arith}
 use Rattle.std.specs.Char.{is_ascii_digit}
-use Rattle.std.proofs.lemmas.Bool.{eqb-true, eqb-false, eq-eqb, ne_eqb, leb-true, leb-false, le-leb, and_parts, and_cases}
+use Rattle.std.proofs.lemmas.Bool.{eqb-true, eqb-false, leb-true, le-leb, and_parts}
 use Rattle.sr_journal.specs.declared.fail.JournalFail.{JournalFail}
 use Rattle.sr_journal.specs.declared.fail.JournalFail.TheVariants.{NotJournal, Truncated, Version, NoMemory}
 use Rattle.sr_journal.specs.Numbers.{number_text}
-use Rattle.sr_journal.specs.Reading.{Reading, ◌>>=◌, word_at, is_within, grown, digits_at, number_at}
-use Rattle.sr_journal.proofs.Formats.{Format, IsRead, IsShort, IsClash, Failed, Judged, ended}
-use Rattle.sr_journal.proofs.Lists.{cancel, append-nil}
+use Rattle.sr_journal.specs.Reading.{◌>>=◌, word_at, is_within, grown, digits_at, number_at}
+use Rattle.sr_journal.proofs.Formats.{Format, IsRead, IsShort, IsClash, Judged}
+use Rattle.sr_journal.proofs.Lists.{append-nil}
 use Rattle.sr_journal.proofs.NumberTexts.{IsDigit, AreDigits, value_after, value-append, value-grows, are-digits, number-back, no-leading-zero, some-digit, same-number, number_text-digit, number_text-grown}
-use Rattle.sr_journal.proofs.Words.{IsAfter, IsPart, Differs, Told, word-told}
+use Rattle.sr_journal.proofs.Words.{Told, word-told}
 
 -- the numbers that a place may have
 pub record CanStand (may_be_zero : Bool) (most : Option ℕ) (n : ℕ) : Type 0 where

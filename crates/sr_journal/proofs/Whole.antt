@@ -1,7 +1,6 @@
 -- A journal as one format, and what its reader tells of any bytes.
-use Rattle.std.proofs.Common.{◌≡◌, ◌≢◌, refl, sym, ◌∙◌, ap, subst, ℕ, zero, suc, ◌+◌, ◌<◌, ◌≤◌, Bool, true, false, cond, eqb, Option, Some, None, List, [], ◌∷◌, ◌++◌, length, Result, Ok, Err, append_assoc, arith}
-use Rattle.std.specs.Prelude.{codes, map}
-use Rattle.std.specs.List.{concat}
+use Rattle.std.proofs.Common.{◌≡◌, ◌≢◌, refl, sym, ◌∙◌, ap, subst, ℕ, ◌<◌, Bool, true, false, cond, eqb, None, List, [], ◌∷◌, ◌++◌, length, Result, Ok, Err, append_assoc, arith}
+use Rattle.std.specs.Prelude.{codes}
 use Rattle.std.proofs.lemmas.Bool.{eqb-true, eqb-false}
 use Rattle.sr_ask.specs.declared.item.Item.{Item}
 use Rattle.sr_journal.specs.declared.header.Header.{Header}
@@ -11,7 +10,7 @@ use Rattle.sr_journal.specs.Numbers.{number_text}
 use Rattle.sr_journal.specs.Journal.{newline, version_line, files_text, limits_line, items_text, journal_text, IsInRange}
 use Rattle.sr_journal.specs.Causes.{IsJournal, IsBeginning, IsOtherVersion}
 use Rattle.sr_journal.specs.Reading.{Reading, ◌>>=◌, word_at, number_at, files_at, limits_at, items_at, parts_at, journal_at, version_at}
-use Rattle.sr_journal.proofs.Formats.{Format, IsRead, IsShort, IsClash, Judged, Left, ended, then}
+use Rattle.sr_journal.proofs.Formats.{Format, IsRead, Judged, Left, ended, then}
 use Rattle.sr_journal.proofs.Journals.{AreFiles, Files, files-judged, one-file, AreLimits, Limits, limits-judged, limits-from, one-step, one-tick, AreItems, Items, items-judged, equal, any-stands, no-newline}
 use Rattle.sr_journal.proofs.Lists.{append-nil, cancel, no-more}
 use Rattle.sr_journal.proofs.NumberTexts.{number_text-digit}

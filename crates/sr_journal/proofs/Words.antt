@@ -1,10 +1,10 @@
 -- Fixed bytes, and what stands after them.
-use Rattle.std.proofs.Common.{◌≡◌, refl, sym, ◌∙◌, ap, subst, ℕ, zero, suc, ◌+◌, ◌<◌, Bool, true, false, cond, eqb, List, [], ◌∷◌, ◌++◌, length, Result, Ok, Err, append_assoc, length-append, arith}
-use Rattle.std.proofs.lemmas.Bool.{eqb-true, eqb-false, eq-eqb, ne_eqb, cases_Bool}
+use Rattle.std.proofs.Common.{◌≡◌, refl, sym, ◌∙◌, ap, subst, ℕ, ◌<◌, Bool, true, false, cond, eqb, List, [], ◌∷◌, ◌++◌, length, Result, Ok, Err, arith}
+use Rattle.std.proofs.lemmas.Bool.{eqb-true, eqb-false}
 use Rattle.sr_journal.specs.declared.fail.JournalFail.{JournalFail}
 use Rattle.sr_journal.specs.declared.fail.JournalFail.TheVariants.{NotJournal, Truncated, Version, NoMemory}
 use Rattle.sr_journal.specs.Reading.{Reading, ◌>>=◌, word_at}
-use Rattle.sr_journal.proofs.Formats.{Format, IsRead, IsShort, IsClash, Failed, Judged, Left, then}
+use Rattle.sr_journal.proofs.Formats.{Format, Judged, Left, then}
 use Rattle.sr_journal.proofs.Lists.{cancel, append-nil}
 
 -- what reading a word tells

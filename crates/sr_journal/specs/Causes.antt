@@ -1,5 +1,5 @@
 -- Why bytes are no journal.
-use Rattle.std.specs.Prelude.{ℕ, ◌≡◌, ◌≢◌, ◌<◌, ◌↔◌, List, ◌++◌, length, Result, Ok, Err}
+use Rattle.std.specs.Prelude.{ℕ, ◌≡◌, ◌≢◌, ◌<◌, ◌↔◌, List, ◌++◌, length, Result, Err}
 use Rattle.sr_ask.specs.declared.item.Item.{Item}
 use Rattle.sr_journal.specs.declared.header.Header.{Header}
 use Rattle.sr_journal.specs.declared.fail.JournalFail.{JournalFail}

@@ -1,5 +1,4 @@
-use sr_value::{Compare, Duplicate, NoMemory, Row, Text};
-use std::alloc::Global;
+use sr_value::{Row, Text};
 
 /// What stands in a journal before its items.
 #[derive(Debug, Drop)]

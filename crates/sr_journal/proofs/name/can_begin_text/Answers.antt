@@ -1,5 +1,5 @@
-use Rattle.std.proofs.Common.{◌≡◌, ◌∙◌, sym, ap, ℕ, ◌+◌, List, Option, true, false, drop, nat_le, is_some, slice_index}
-use Rattle.std.specs.Str.Lossy.{utf8_valid_len, utf8_error_len}
+use Rattle.std.proofs.Common.{◌≡◌, ◌∙◌, sym, ap, ℕ, ◌+◌, List, true, false, drop, nat_le, is_some, slice_index}
+use Rattle.std.specs.Str.Lossy.{utf8_error_len}
 use Rattle.sr_journal.specs.Reading.{char_len}
 use Rattle.sr_journal.proofs.Names.{begins-as-text, cannot-go-on, may-go-on, none-from-some, none-from-none}
 use Rattle.sr_journal.proofs.name.can_begin_text.Goals as goal

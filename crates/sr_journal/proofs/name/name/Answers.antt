@@ -1,8 +1,8 @@
-use Rattle.std.proofs.Common.{◌≡◌, ◌∙◌, sym, ap, ℕ, ◌+◌, ◌^◌, ◌<◌, ◌≤◌, List, Bool, true, length, take, drop, Result, Ok, Err, arith}
+use Rattle.std.proofs.Common.{◌≡◌, ◌∙◌, sym, ap, ℕ, ◌+◌, ◌^◌, ◌<◌, ◌≤◌, List, true, length, take, Err, arith}
 use Rattle.std.proofs.lemmas.Result.{err_from_is_err_and}
 use Rattle.std.specs.Str.{is_utf8}
 use Rattle.sr_journal.specs.Journal.{newline}
-use Rattle.sr_journal.specs.Reading.{Reading, word_at}
+use Rattle.sr_journal.specs.Reading.{word_at}
 use Rattle.sr_journal.proofs.Names.{cut-name, bad-name, no-text-there, word-fails, word-reads}
 use Rattle.sr_journal.proofs.name.name.Goals as goal
 use Rattle.sr_journal.proofs.name.name.Goals.{then-can_begin_text, else-can_begin_text}

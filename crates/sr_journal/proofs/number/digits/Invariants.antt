@@ -1,4 +1,4 @@
-use Rattle.std.proofs.Common.{List, ℕ, ◌≡◌, drop}
+use Rattle.std.proofs.Common.{ℕ, ◌≡◌, drop}
 use Rattle.sr_journal.specs.Reading.{capped, limit_of, digits_at}
 use Rattle.sr_journal.proofs.number.digits.Given as goal
 

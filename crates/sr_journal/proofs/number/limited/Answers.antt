@@ -1,4 +1,4 @@
-use Rattle.std.proofs.Common.{◌≡◌, ◌≤◌, Fits, w32, arith, rules}
+use Rattle.std.proofs.Common.{◌≤◌, arith, rules}
 use Rattle.sr_journal.proofs.DigitSteps.{limited-ok}
 use Rattle.sr_journal.proofs.number.limited.Goals as goal
 

@@ -1,7 +1,6 @@
-use Rattle.std.proofs.Common.{◌≡◌, sym, ◌∙◌, true, Option, Some, None, drop, length}
+use Rattle.std.proofs.Common.{◌≡◌, true, Some, None, drop, length}
 use Rattle.std.proofs.lemmas.Bool.Decides.{Decides-eqb}
 use Rattle.std.proofs.lemmas.Slice.Eq.{strip_prefix_is, starts_is}
-use Rattle.sr_journal.specs.Reading.{word_at}
 use Rattle.sr_journal.proofs.Words.{is-after, is-part, is-other}
 use Rattle.sr_journal.proofs.number.word.Goals as goal
 

@@ -1,4 +1,4 @@
-use Rattle.std.proofs.Common.{◌≡◌, true, false}
+use Rattle.std.proofs.Common.{◌≡◌, true}
 use Rattle.sr_journal.specs.Causes.{IsOtherVersion}
 use Rattle.sr_journal.proofs.Finals.{other-answer, this-answer}
 use Rattle.sr_journal.proofs.reading.read_journal.Goals as goal
