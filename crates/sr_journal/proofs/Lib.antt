@@ -1,0 +1,14 @@
+mod Characters
+mod DigitSteps
+mod Finals
+mod Formats
+mod Journals
+mod Lines
+mod Lists
+mod Loops
+mod Many
+mod Names
+mod NumberTexts
+mod Numbers
+mod Whole
+mod Words

@@ -1,0 +1,4 @@
+pub mod Causes
+pub mod Journal
+pub mod Numbers
+pub mod Reading

@@ -1,0 +1,5 @@
+//! Tests of the text of journals.
+#![tactic(auto)]
+
+#[cfg(test)]
+mod journals;
