@@ -1,18 +1,14 @@
 -- Statements without blocks: their code asks what they ask.
-use Rattle.std.proofs.Common.{◌≡◌, ℕ, ℤ, pos, negsuc, ◌+ℤ◌, Bool, true, false, List, [], ◌∷◌, length, map, Option, Some, None, Result, refl, sym, ◌∙◌, ap}
+use Rattle.std.proofs.Common.{◌≡◌, ℕ, ℤ, pos, negsuc, ◌+ℤ◌, Bool, false, List, [], ◌∷◌, length, map, Option, None, refl, sym, ◌∙◌, ap}
 use Rattle.sr_value.specs.declared.capability.Cap.{Cap}
-use Rattle.sr_value.specs.declared.fault.Fault.{Fault}
-use Rattle.sr_value.specs.declared.operator.Operator.{Operator}
 use Rattle.sr_value.specs.declared.place.Place.{Place}
-use Rattle.sr_value.specs.declared.value.Value.{Value}
 use Rattle.sr_value.specs.declared.value.Value.TheVariants.{Int}
 use Rattle.sr_value.specs.Operators.{value_of}
 use Rattle.sr_ask.specs.Asking.{done, made, moment, none_takes}
-use Rattle.sr_ask.specs.Behaviors.{Stage, Outcome, Came, Stops, Doing, and_then, asking, give, hear, heard, ◌>>=◌}
-use Rattle.sr_ask.specs.Invocations.{values_sent, places_back}
+use Rattle.sr_ask.specs.Behaviors.{Stage, Outcome, Came, Stops, Doing, and_then, give, heard, ◌>>=◌}
+use Rattle.sr_ask.specs.Invocations.{values_sent}
 use Rattle.sr_ask.specs.declared.answer.Answer.{Answer}
 use Rattle.sr_ask.specs.declared.ask.Asks.{Asks}
-use Rattle.sr_ask.specs.declared.environment.Located.{Located}
 use Rattle.sr_ask.specs.declared.environment.Sent.{Sent}
 use Rattle.sr_ask.specs.declared.request.Request.TheVariants.{Invoke as invoke_request, Write as write_request, Destroy as destroy_request, Stop as stop_request, Wake as wake_request, Age as age_request}
 use Rattle.sr_core.specs.Values.{cap_of, texts_of, written}
@@ -20,10 +16,9 @@ use Rattle.sr_core.specs.declared.component.Core.{Core}
 use Rattle.sr_core.specs.declared.expression.Argument.{Argument}
 use Rattle.sr_core.specs.declared.expression.Expr.{Expr}
 use Rattle.sr_core.specs.declared.expression.PlaceExpr.{PlaceExpr}
-use Rattle.sr_core.specs.declared.statement.Action.{Action}
 use Rattle.sr_core.specs.declared.statement.Action.TheVariants as action
 use Rattle.sr_core.specs.declared.statement.Bump.{Bump}
-use Rattle.sr_code.specs.Acts.{Point, point, goes, act, time_to_wait, until_moment}
+use Rattle.sr_code.specs.Acts.{point, goes, act, time_to_wait, until_moment}
 use Rattle.sr_code.specs.Operands.{call_of, put_call, put_cap, put_list, put_name, put_number, put_place, put_value}
 use Rattle.sr_code.specs.Runs.{Machine, go, here_at, then_asks}
 use Rattle.sr_code.specs.Stretches.{Emits, Extends, Follows, Has}
@@ -31,17 +26,16 @@ use Rattle.sr_code.specs.declared.code.Coded.{Coded}
 use Rattle.sr_code.specs.declared.instruction.Instruction.{Instruction}
 use Rattle.sr_code.specs.declared.instruction.Instruction.TheVariants.{Age, Constant, Destroy, DropValue, Forward, LoadAgain, LoadSecond, Number, Operate, Reply, Send, Stop, Store, StoreSecond, TakeDone, ToCall, ToWait, Wake, Write}
 use Rattle.sr_code.specs.declared.operands.Operands.{Operands}
-use Rattle.sr_code.proofs.Stretches.{extends_one, extends_self, extends_then, follows_as, follows_give, follows_then, lower_part, runs_act, runs_first, runs_past, upper_part}
-use Rattle.sr_meaning.specs.declared.ending.Ending.{Ending}
+use Rattle.sr_code.proofs.Stretches.{extends_one, extends_then, follows_as, follows_give, follows_then, lower_part, runs_act, runs_first, runs_past, upper_part}
 use Rattle.sr_meaning.specs.declared.ending.Ending.TheVariants.{Through}
-use Rattle.sr_meaning.specs.Expressions.{Meaning, argument_of, expr_meaning, in_order, place_of_expr, taken}
+use Rattle.sr_meaning.specs.Expressions.{argument_of, expr_meaning, in_order, place_of_expr, taken}
 use Rattle.sr_meaning.specs.Here.{Here, request, settle}
 use Rattle.sr_meaning.specs.Places.{load_place, store_place}
-use Rattle.sr_meaning.specs.Statements.{action_meaning, arguments, as_until, bump_operator, cap_expr, forward_meaning, number_expr, reply_meaning, status_meaning, through, time_of, wake_at}
-use Rattle.sr_gen_expr.specs.Emitting.{Gives, join_all, join_sent, put_nothing, tree_here}
+use Rattle.sr_meaning.specs.Statements.{action_meaning, arguments, as_until, bump_operator, cap_expr, forward_meaning, number_expr, reply_meaning, status_meaning, through, time_of}
+use Rattle.sr_gen_expr.specs.Emitting.{Gives, join_all, join_sent, tree_here}
 use Rattle.sr_gen_expr.proofs.Joining.{joined_sent}
 use Rattle.sr_gen_expr.proofs.Stretching.{follows_last, gives_changed, gives_first, gives_then}
-use Rattle.sr_gen.specs.Doing.{Acts, Onward, put_ready, ready_meaning, way}
+use Rattle.sr_gen.specs.Doing.{Acts, put_ready, ready_meaning, way}
 use Rattle.sr_gen.specs.declared.ways.Ways.{Ways}
 use Rattle.sr_gen.proofs.Endings.{acts_through, follows_through}
 

@@ -1,15 +1,15 @@
 -- Conditions, guarded blocks and `if`: their code asks what they ask.
-use Rattle.std.proofs.Common.{◌≡◌, ℕ, ◌≤◌, Bool, true, false, List, [], ◌∷◌, length, map, Option, Some, None, refl, sym, ◌∙◌, ap, subst, arith}
+use Rattle.std.proofs.Common.{◌≡◌, ℕ, ◌≤◌, Bool, true, false, List, [], ◌∷◌, length, Option, Some, None, refl, sym, ap, subst, arith}
 use Rattle.sr_value.specs.declared.place.Place.{Place}
-use Rattle.sr_ask.specs.Behaviors.{Stage, Doing, give, ◌>>=◌}
+use Rattle.sr_ask.specs.Behaviors.{Stage, give, ◌>>=◌}
 use Rattle.sr_core.specs.Values.{truth_of}
 use Rattle.sr_core.specs.declared.component.Core.{Core}
 use Rattle.sr_core.specs.declared.expression.Expr.{Expr}
 use Rattle.sr_core.specs.declared.statement.Statement.TheOpen.{Guarded-F}
-use Rattle.sr_code.specs.Acts.{Point, point, unless}
+use Rattle.sr_code.specs.Acts.{point, unless}
 use Rattle.sr_code.specs.Operands.{put_value}
 use Rattle.sr_code.specs.Runs.{Machine, go}
-use Rattle.sr_code.specs.Stretches.{Emits, Extends, Follows, Has}
+use Rattle.sr_code.specs.Stretches.{Emits, Extends, Follows}
 use Rattle.sr_code.specs.declared.code.Coded.{Coded}
 use Rattle.sr_code.specs.declared.instruction.Instruction.TheVariants.{Jump, JumpUnless}
 use Rattle.sr_code.specs.declared.operands.Operands.{Operands}
@@ -17,11 +17,11 @@ use Rattle.sr_code.proofs.Stretches.{extends_one, extends_self, extends_then, fo
 use Rattle.sr_meaning.specs.declared.ending.Ending.{Ending}
 use Rattle.sr_meaning.specs.declared.ending.Ending.TheVariants.{Through, Left, Turned}
 use Rattle.sr_meaning.specs.Expressions.{Meaning, choice, expr_meaning}
-use Rattle.sr_meaning.specs.Here.{Here, settle}
+use Rattle.sr_meaning.specs.Here.{settle}
 use Rattle.sr_meaning.specs.Statements.{CoPart, block_meaning, condition_meaning, continue, first_true, guarded_meaning, if_meaning, or_try, truth_expr}
 use Rattle.sr_gen_expr.specs.Emitting.{Gives, tree_here}
 use Rattle.sr_gen_expr.proofs.Stretching.{follows_at, follows_last}
-use Rattle.sr_gen.specs.Doing.{Acts, Checks, Onward, Tries, checked, tried, way}
+use Rattle.sr_gen.specs.Doing.{Acts, Checks, Tries, checked, tried, way}
 use Rattle.sr_gen.specs.declared.ways.Ways.{Ways}
 use Rattle.sr_gen.proofs.Endings.{jumps, lower_of, onward_grown}
 

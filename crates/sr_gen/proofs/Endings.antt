@@ -1,21 +1,20 @@
 -- How the code of statements is put together.
-use Rattle.std.proofs.Common.{◌≡◌, ℕ, ◌≤◌, min, List, [], ◌∷◌, length, map, drop, Option, Some, None, refl, sym, ◌∙◌, ap, subst, arith}
+use Rattle.std.proofs.Common.{◌≡◌, ℕ, ◌≤◌, min, List, ◌∷◌, length, refl, sym, ◌∙◌, ap, subst, arith}
 use Rattle.sr_value.specs.declared.place.Place.{Place}
-use Rattle.sr_ask.specs.Behaviors.{Stage, Outcome, Came, Stops, Doing, and_then, give, ◌>>=◌, tick}
+use Rattle.sr_ask.specs.Behaviors.{Stage, Doing, give, ◌>>=◌, tick}
 use Rattle.sr_ask.specs.declared.ask.Asks.{Asks}
 use Rattle.sr_core.specs.declared.component.Core.{Core}
-use Rattle.sr_code.specs.Acts.{Point, point, goes, act}
-use Rattle.sr_code.specs.Runs.{Machine, go, here_at, then_asks}
+use Rattle.sr_code.specs.Acts.{point}
+use Rattle.sr_code.specs.Runs.{Machine, go}
 use Rattle.sr_code.specs.Stretches.{Emits, Extends, Follows, Has}
 use Rattle.sr_code.specs.declared.code.Coded.{Coded}
-use Rattle.sr_code.specs.declared.instruction.Instruction.{Instruction}
 use Rattle.sr_code.specs.declared.instruction.Instruction.TheVariants.{Jump, Tick}
 use Rattle.sr_code.specs.declared.operands.Operands.{Operands}
-use Rattle.sr_code.proofs.Stretches.{extends_one, extends_self, extends_then, follows_give, follows_then, lower_part, runs_act, runs_past, upper_part}
+use Rattle.sr_code.proofs.Stretches.{extends_one, extends_self, extends_then, follows_give, follows_then, lower_part, runs_past, upper_part}
 use Rattle.sr_meaning.specs.declared.ending.Ending.{Ending}
 use Rattle.sr_meaning.specs.declared.ending.Ending.TheVariants.{Through, Left, Turned}
 use Rattle.sr_meaning.specs.Expressions.{Meaning}
-use Rattle.sr_meaning.specs.Here.{Here, at_line}
+use Rattle.sr_meaning.specs.Here.{at_line}
 use Rattle.sr_meaning.specs.Statements.{before, block_meaning, through}
 use Rattle.sr_gen_expr.specs.Emitting.{Gives, put_nothing, tree_here}
 use Rattle.sr_gen_expr.proofs.Stretching.{follows_at, passes}

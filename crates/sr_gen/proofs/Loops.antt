@@ -1,5 +1,5 @@
 -- Loops: their code asks what they ask, at each turn.
-use Rattle.std.proofs.Common.{◌≡◌, ℕ, ℤ, zero, suc, ◌+◌, ◌≤◌, ◌<◌, min, Bool, true, false, List, [], ◌∷◌, length, map, Option, Some, None, refl, sym, ◌∙◌, ap, subst, arith}
+use Rattle.std.proofs.Common.{◌≡◌, ℕ, ℤ, zero, suc, ◌≤◌, ◌<◌, Bool, true, false, List, [], ◌∷◌, length, map, Option, Some, None, refl, sym, ◌∙◌, ap, subst, arith}
 use Rattle.sr_value.specs.declared.place.Place.{Place}
 use Rattle.sr_ask.specs.Behaviors.{Stage, Outcome, Came, Stops, Doing, and_then, give, ◌>>=◌, looped, room, tick, ticked, turned, turns}
 use Rattle.sr_ask.specs.Places.{declare_own}
@@ -11,7 +11,7 @@ use Rattle.sr_core.specs.declared.statement.Action.TheVariants.{Send as send_act
 use Rattle.sr_core.specs.declared.statement.Guarded.{Guarded}
 use Rattle.sr_core.specs.declared.statement.Quantifier.{Quantifier}
 use Rattle.sr_core.specs.declared.statement.Statement.{Statement}
-use Rattle.sr_code.specs.Acts.{Point, point, act, each_of, number_own, repeat_of}
+use Rattle.sr_code.specs.Acts.{point, act, number_own}
 use Rattle.sr_code.specs.Operands.{put_count, put_number, put_numbers}
 use Rattle.sr_code.specs.Runs.{Machine, go, here_at, then_asks}
 use Rattle.sr_code.specs.Stretches.{Emits, Extends, Follows, Has}
@@ -19,22 +19,22 @@ use Rattle.sr_code.specs.declared.code.Coded.{Coded}
 use Rattle.sr_code.specs.declared.instruction.Instruction.{Instruction}
 use Rattle.sr_code.specs.declared.instruction.Instruction.TheVariants.{Again, DropNumbers, Each, Jump, Quantify, Repeat, ToCount}
 use Rattle.sr_code.specs.declared.operands.Operands.{Operands}
-use Rattle.sr_code.proofs.Stretches.{emitted_length, extends_one, extends_self, extends_then, follows_give, follows_then, lower_part, runs_act, runs_past, upper_part}
+use Rattle.sr_code.proofs.Stretches.{emitted_length, extends_one, extends_self, extends_then, follows_give, follows_then, lower_part, runs_past, upper_part}
 use Rattle.sr_meaning.specs.declared.ending.Ending.{Ending}
 use Rattle.sr_meaning.specs.declared.ending.Ending.TheVariants.{Through, Left, Turned}
 use Rattle.sr_meaning.specs.Expressions.{Meaning, choice}
-use Rattle.sr_meaning.specs.Here.{Here, settle}
+use Rattle.sr_meaning.specs.Here.{settle}
 use Rattle.sr_meaning.specs.Pieces.{guarded_of, optional_block}
-use Rattle.sr_meaning.specs.Statements.{action_meaning, after_turn, block_meaning, condition_meaning, continue, do_meaning, do_turn, first_true, for_values, int_own, left, meaning_of, no_guard, number_expr, quantified, sends, sends_meaning, through, turn_end}
+use Rattle.sr_meaning.specs.Statements.{action_meaning, after_turn, block_meaning, condition_meaning, continue, do_meaning, do_turn, first_true, for_values, left, no_guard, number_expr, quantified, sends, sends_meaning, through, turn_end}
 use Rattle.sr_meaning.proofs.Regular.{Leaves}
 use Rattle.sr_meaning.proofs.RegularStatements.{regular_do_turn}
 use Rattle.sr_meaning.proofs.RegularWhole.{regular_guards, regular_optional}
 use Rattle.sr_gen_expr.specs.Emitting.{Gives, tree_here}
-use Rattle.sr_gen_expr.proofs.Stretching.{follows_at, follows_last, gives_then, passes}
+use Rattle.sr_gen_expr.proofs.Stretching.{follows_at, follows_last, passes}
 use Rattle.sr_gen.specs.Blocks.{bounds_meaning}
 use Rattle.sr_gen.specs.Doing.{Acts, Checks, Drops, Onward, Patches, Rests, Tries, checked, fa_ways, loop_ways, one_way, pad_ways, tried, turn_way, way}
 use Rattle.sr_gen.specs.declared.ways.Ways.{Ways}
-use Rattle.sr_gen.proofs.Endings.{follows_through, jumps, lower_of, onward_grown}
+use Rattle.sr_gen.proofs.Endings.{follows_through, jumps, onward_grown}
 use Rattle.sr_gen.proofs.Patched.{patched_extends, patched_length, patched_lower, patched_upper, runs_patched}
 
 -- ---- one instruction that does several pieces

@@ -1,7 +1,7 @@
 -- Code with one instruction written over: what is below it and above it is as before.
-use Rattle.std.proofs.Common.{◌≡◌, ℕ, zero, suc, ◌+◌, ◌≤◌, ◌<◌, List, [], ◌∷◌, length, Option, Some, refl, sym, ◌∙◌, ap, subst, slice_get, slice_set, arith}
+use Rattle.std.proofs.Common.{◌≡◌, ℕ, zero, suc, ◌≤◌, ◌<◌, List, [], ◌∷◌, length, Some, refl, ◌∙◌, ap, slice_get, slice_set, arith}
 use Rattle.sr_value.specs.declared.place.Place.{Place}
-use Rattle.sr_code.specs.Acts.{Point, point, act}
+use Rattle.sr_code.specs.Acts.{point, act}
 use Rattle.sr_code.specs.Runs.{Machine, go, here_at}
 use Rattle.sr_code.specs.Stretches.{Extends, Follows, Has}
 use Rattle.sr_code.specs.declared.code.Coded.{Coded}

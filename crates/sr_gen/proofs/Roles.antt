@@ -1,8 +1,7 @@
 -- The roles of processes: their code does what they do, and then ends.
-use Rattle.std.proofs.Common.{◌≡◌, ℕ, List, length, Some, refl, ap, sym, subst, arith}
+use Rattle.std.proofs.Common.{◌≡◌, List, length, Some, refl, sym, subst, arith}
 use Rattle.sr_value.specs.declared.place.Place.{Place}
 use Rattle.sr_ask.specs.Behaviors.{Stage, give, ◌>>=◌}
-use Rattle.sr_core.specs.declared.component.Body.{Body}
 use Rattle.sr_core.specs.declared.component.Component.{Component}
 use Rattle.sr_core.specs.declared.component.Core.{Core}
 use Rattle.sr_core.specs.declared.component.Proc.{Proc}
@@ -10,7 +9,7 @@ use Rattle.sr_core.specs.declared.statement.Scope.TheVariants.{Own as own_scope,
 use Rattle.sr_code.specs.Acts.{point}
 use Rattle.sr_code.specs.Operands.{put_list}
 use Rattle.sr_code.specs.Runs.{Machine, go}
-use Rattle.sr_code.specs.Stretches.{Emits, Extends, Follows, Has}
+use Rattle.sr_code.specs.Stretches.{Emits, Extends}
 use Rattle.sr_code.specs.declared.code.Coded.{Coded}
 use Rattle.sr_code.specs.declared.instruction.Instruction.TheVariants.{Arguments, Jump}
 use Rattle.sr_code.specs.declared.operands.Operands.{Operands}
@@ -18,12 +17,11 @@ use Rattle.sr_code.proofs.Stretches.{extends_one, extends_then, follows_give, fo
 use Rattle.sr_meaning.specs.declared.ending.Ending.{Ending}
 use Rattle.sr_meaning.specs.declared.ending.Ending.TheVariants.{Through, Left, Turned}
 use Rattle.sr_meaning.specs.Expressions.{Meaning}
-use Rattle.sr_meaning.specs.Processes.{final_meaning, initial_meaning, proc_meaning}
+use Rattle.sr_meaning.specs.Processes.{initial_meaning, proc_meaning}
 use Rattle.sr_meaning.specs.Statements.{block_of, make_formals, make_returned}
-use Rattle.sr_gen_expr.specs.Emitting.{Gives, Takes, put_nothing, put_only, tree_here}
+use Rattle.sr_gen_expr.specs.Emitting.{Gives, Takes, put_nothing, put_only}
 use Rattle.sr_gen_expr.proofs.Stretching.{follows_last}
 use Rattle.sr_gen.specs.Doing.{Acts, Ends, one_way, way}
-use Rattle.sr_gen.specs.declared.ways.Ways.{Ways}
 use Rattle.sr_gen.proofs.Endings.{jumps}
 
 -- a block after which the process ends, however it ends

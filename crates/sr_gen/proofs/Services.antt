@@ -21,20 +21,20 @@ use Rattle.sr_core.specs.declared.site.Named.TheVariants.{Own as named_own, Home
 use Rattle.sr_core.specs.declared.site.Site.{Site}
 use Rattle.sr_core.specs.declared.statement.Scope.TheVariants.{Own as own_scope}
 use Rattle.sr_core.specs.declared.statement.Statement.{Statement}
-use Rattle.sr_code.specs.Acts.{Point, point, act, goes, after_choice, after_pick, named_held}
+use Rattle.sr_code.specs.Acts.{point, goes, after_choice, after_pick, named_held}
 use Rattle.sr_code.specs.Operands.{join_value, put_list, put_pick, put_service}
 use Rattle.sr_code.specs.Runs.{Machine, go, here_at, then_asks}
 use Rattle.sr_code.specs.Stretches.{Emits, Extends, Follows, Has}
 use Rattle.sr_code.specs.declared.code.Coded.{Coded}
-use Rattle.sr_code.specs.declared.instruction.Instruction.TheVariants.{AddNamed, EndService, Jump, NoValues, OpenService, Reply, Select}
+use Rattle.sr_code.specs.declared.instruction.Instruction.TheVariants.{AddNamed, EndService, Jump, OpenService, Reply, Select}
 use Rattle.sr_code.specs.declared.operands.Operands.{Operands}
 use Rattle.sr_code.proofs.Stretches.{extends_one, extends_self, extends_then, follows_as, follows_give, follows_then, lower_part, runs_act, runs_past, runs_to, upper_part}
 use Rattle.sr_meaning.specs.declared.ending.Ending.{Ending}
 use Rattle.sr_meaning.specs.declared.ending.Ending.TheVariants.{Through, Left, Turned}
 use Rattle.sr_meaning.specs.Expressions.{Meaning, in_order}
 use Rattle.sr_meaning.specs.Here.{Here, request}
-use Rattle.sr_meaning.specs.Statements.{block_meaning, in_meaning, make_formals, make_returned, meaning_of, named_value, reply_meaning, selection_meaning, served, service_for, service_meaning, site_at}
-use Rattle.sr_gen_expr.specs.Emitting.{Gives, Takes, join_all, put_nothing, put_only, tree_here}
+use Rattle.sr_meaning.specs.Statements.{block_meaning, in_meaning, make_formals, make_returned, meaning_of, named_value, reply_meaning, selection_meaning, served, service_for, service_meaning}
+use Rattle.sr_gen_expr.specs.Emitting.{Gives, Takes, put_nothing, put_only, tree_here}
 use Rattle.sr_gen_expr.proofs.Stretching.{emits_as, follows_at, follows_last, gives_first}
 use Rattle.sr_gen.specs.Blocks.{each_block}
 use Rattle.sr_gen.specs.Doing.{Acts, Closes, Onward, Serves, ServesEach, pad_ways, site_in, way}

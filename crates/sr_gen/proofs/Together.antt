@@ -1,5 +1,5 @@
 -- `co`: its code makes all invocations, takes the replies, and does what each leads to.
-use Rattle.std.proofs.Common.{◌≡◌, ℕ, ℤ, zero, suc, ◌+◌, ◌≤◌, ◌<◌, ◌⊎◌, inl, inr, ◌==◌, if◌then◌else◌, min, Bool, true, false, List, [], ◌∷◌, ◌++◌, length, map, Option, Some, None, drop, get_or, is_some, ◌-◌, refl, sym, ◌∙◌, ap, subst, slice_get, arith}
+use Rattle.std.proofs.Common.{◌≡◌, ℕ, ℤ, zero, suc, ◌+◌, ◌≤◌, ◌<◌, ◌⊎◌, inl, inr, ◌==◌, if◌then◌else◌, Bool, true, List, [], ◌∷◌, ◌++◌, length, map, Option, Some, None, drop, get_or, is_some, ◌-◌, refl, sym, ◌∙◌, ap, subst, slice_get, arith}
 use Rattle.std.proofs.lemmas.Option.{slice_get_past}
 use Rattle.sr_value.specs.declared.capability.Cap.{Cap}
 use Rattle.sr_value.specs.declared.place.Place.{Place}
@@ -7,8 +7,8 @@ use Rattle.sr_value.specs.declared.shape.Shape.{Shape}
 use Rattle.sr_value.specs.declared.value.Value.{Value}
 use Rattle.sr_ask.specs.Asking.{made}
 use Rattle.sr_ask.specs.Behaviors.{Stage, Outcome, Came, Stops, Doing, and_then, give, ◌>>=◌}
-use Rattle.sr_ask.specs.Invocations.{default_given, places_back, values_sent, value_after}
-use Rattle.sr_ask.specs.Places.{declare_own, store_results}
+use Rattle.sr_ask.specs.Invocations.{default_given, places_back, values_sent}
+use Rattle.sr_ask.specs.Places.{declare_own}
 use Rattle.sr_ask.specs.Replies.{Completion, push_out, set_out}
 use Rattle.sr_ask.specs.declared.ask.Asks.{Asks}
 use Rattle.sr_ask.specs.declared.environment.Located.{Located}
@@ -21,8 +21,8 @@ use Rattle.sr_core.specs.declared.statement.CoArm.{CoArm, out-CoArm}
 use Rattle.sr_core.specs.declared.statement.Quantifier.{Quantifier}
 use Rattle.sr_core.specs.declared.statement.Statement.{Statement}
 use Rattle.sr_core.specs.declared.statement.Statement.TheFolds.{fold_out-CoArm}
-use Rattle.sr_code.specs.Acts.{Point, point, goes, act, after_completion, drop_place_if, given_back, no_longer_out, number_held, number_own, place_if, reply_of, set_vars, still_out, store_if, turn_held}
-use Rattle.sr_code.specs.Operands.{completed_on, put_call, put_completed, put_count, put_list, put_outs, put_place, put_targets, put_value}
+use Rattle.sr_code.specs.Acts.{Point, point, act, after_completion, drop_place_if, given_back, number_held, number_own, place_if, set_vars, still_out, store_if, turn_held}
+use Rattle.sr_code.specs.Operands.{completed_on, put_completed, put_count, put_list, put_outs, put_place, put_targets, put_value}
 use Rattle.sr_code.specs.Runs.{Machine, go, here_at, then_asks}
 use Rattle.sr_code.specs.Stretches.{Emits, Extends, Follows, Has}
 use Rattle.sr_code.specs.declared.code.Coded.{Coded}
@@ -30,13 +30,13 @@ use Rattle.sr_code.specs.declared.instruction.Instruction.{Instruction}
 use Rattle.sr_code.specs.declared.instruction.Instruction.TheVariants.{CloseCo, CountOuts, Default, GiveBack, Jump, OpenCo, SetTurn, StartCall, StoreResults, StoreValue, TakeReply}
 use Rattle.sr_code.specs.declared.operands.Completed.{Completed}
 use Rattle.sr_code.specs.declared.operands.Operands.{Operands}
-use Rattle.sr_code.proofs.Stretches.{emitted_length, extends_one, extends_self, extends_then, follows_as, follows_give, follows_then, lower_part, runs_act, runs_past, runs_to, upper_part}
+use Rattle.sr_code.proofs.Stretches.{emitted_length, extends_one, extends_self, extends_then, follows_as, follows_give, follows_then, lower_part, runs_act, runs_past, upper_part}
 use Rattle.sr_meaning.specs.declared.ending.Ending.{Ending}
 use Rattle.sr_meaning.specs.declared.ending.Ending.TheVariants.{Through, Left, Turned}
 use Rattle.sr_meaning.specs.Expressions.{Meaning, give_back, place_of_expr}
-use Rattle.sr_meaning.specs.Here.{Here, request}
+use Rattle.sr_meaning.specs.Here.{request}
 use Rattle.sr_meaning.specs.Pieces.{co_part_of}
-use Rattle.sr_meaning.specs.Statements.{CoPart, after_turn, block_meaning, co_arm_meaning, co_meaning, complete, complete_all, complete_outs, continue, drop_out, guarded_meaning, left, meaning_of, optional_place, quantified, set_turn, start_call, start_calls, statement_meaning, store_value, take_one, through, turn_now, without_out}
+use Rattle.sr_meaning.specs.Statements.{CoPart, after_turn, co_arm_meaning, co_meaning, complete, complete_all, complete_outs, continue, guarded_meaning, left, meaning_of, optional_place, quantified, set_turn, start_call, start_calls, statement_meaning, store_value, through, turn_now, without_out}
 use Rattle.sr_gen_expr.specs.Emitting.{Gives, put_nothing, tree_here}
 use Rattle.sr_gen_expr.proofs.Calls.{stored_some}
 use Rattle.sr_gen_expr.proofs.Stretching.{follows_at, follows_last, follows_regroup, passes}

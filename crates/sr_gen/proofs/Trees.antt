@@ -3,12 +3,12 @@ use Rattle.std.proofs.Common.{◌≡◌, ℕ, List, map, Option, Some, None, sym
 use Rattle.sr_value.specs.declared.place.Place.{Place}
 use Rattle.sr_core.specs.declared.expression.Expr.{Expr}
 use Rattle.sr_core.specs.declared.statement.Action.{Action}
-use Rattle.sr_core.specs.declared.statement.CoArm.{CoArm, out-CoArm}
+use Rattle.sr_core.specs.declared.statement.CoArm.{CoArm}
 use Rattle.sr_core.specs.declared.statement.Declaration.{Declaration}
 use Rattle.sr_core.specs.declared.statement.Guarded.{Guarded, out-Guarded}
 use Rattle.sr_core.specs.declared.statement.Quantifier.{Quantifier}
 use Rattle.sr_core.specs.declared.statement.Statement.{Statement}
-use Rattle.sr_core.specs.declared.statement.Statement.TheFolds.{fold-roll-Statement, fold_out-CoArm, fold_out-Guarded}
+use Rattle.sr_core.specs.declared.statement.Statement.TheFolds.{fold-roll-Statement, fold_out-Guarded}
 use Rattle.sr_core.specs.declared.statement.Statement.TheOpen.{Statement-F}
 use Rattle.sr_core.specs.declared.statement.Statement.TheVariants.{Act, Co, Declare, Do, Fa, If, In, Sends, rolls-Act, rolls-Co, rolls-Declare, rolls-Do, rolls-Fa, rolls-If, rolls-In, rolls-Sends}
 use Rattle.sr_meaning.specs.declared.ending.Ending.{Ending}

@@ -1,5 +1,6 @@
 -- How much there is to emit, so that each piece of a statement has less of it.
-use Rattle.std.proofs.Common.{◌≡◌, ℕ, ◌+◌, ◌*◌, ◌<◌, ◌≤◌, List, [], ◌∷◌, zero, suc, Option, Some, None, length, get_or, map, slice_get, sum, refl, sym, ap, ◌∙◌, option_map, unwrap_or, arith}
+use Rattle.std.proofs.Common.{◌≡◌, ℕ, ◌+◌, ◌*◌, ◌<◌, ◌≤◌, List, Option, Some, None, length, get_or, map, slice_get, sum, sym, ap, subst, ◌∙◌, option_map, arith}
+use Rattle.std.proofs.lemmas.Option.{get_or_from_slice_get, slice_get-map, slice_get_within}
 use Rattle.std.proofs.lemmas.List.Sums.{get_or-le-sum_by, sum-map}
 use Rattle.sr_value.specs.declared.place.Place.{Place}
 use Rattle.sr_core.specs.declared.statement.CoArm.{CoArm, out-CoArm}
@@ -107,13 +108,9 @@ item_within f xs i d h = omega (arith, sum-map f xs, get_or-le-sum_by f xs i d h
 
 -- a block is no heavier than all blocks
 pub block_within : (blocks : List (List Statement)) (at : ℕ) (block : List Statement) → Some block ≡ slice_get blocks at → weight_of_block block ≤ weight_of_blocks blocks
-block_within [] at block is = absurd (cc is)
-block_within (first ∷ blocks) zero block is =
-    let same : block ≡ first = ap (λ o. unwrap_or o block) is in
-    let equal : weight_of_block block ≡ weight_of_block first = ap weight_of_block same in
-    let total : weight_of_blocks (first ∷ blocks) ≡ weight_of_block first + weight_of_blocks blocks = refl in
-    omega (arith, equal, total)
-block_within (first ∷ blocks) (suc at) block is =
-    let less : weight_of_block block ≤ weight_of_blocks blocks = block_within blocks at block is in
-    let total : weight_of_blocks (first ∷ blocks) ≡ weight_of_block first + weight_of_blocks blocks = refl in
-    omega (arith, less, total)
+block_within blocks at block is =
+    let weights : List (List ℕ) = map (map weight_of) blocks in
+    let found : slice_get weights at ≡ Some (map weight_of block) = slice_get-map (map weight_of) blocks at ∙ ap (option_map (map weight_of)) (sym is) in
+    let read : get_or weights at (map weight_of block) ≡ map weight_of block = get_or_from_slice_get weights at (map weight_of block) (map weight_of block) found in
+    let P : List ℕ → Type 0 = λ w. block_of_weights w ≤ weight_of_blocks blocks in
+    subst P read (item_within block_of_weights weights at (map weight_of block) (slice_get_within weights at (map weight_of block) found))

@@ -1,4 +1,4 @@
-use Rattle.std.proofs.Common.{ap, refl, sym, ◌∙◌}
+use Rattle.std.proofs.Common.{ap, sym}
 use Rattle.sr_gen_expr.proofs.Stretching.{gives_as}
 use Rattle.sr_gen.specs.Blocks.{call_part}
 use Rattle.sr_gen.specs.Doing.{ready_meaning}

@@ -1,4 +1,4 @@
-use Rattle.std.proofs.Common.{ap, sym, ◌∙◌}
+use Rattle.std.proofs.Common.{ap}
 use Rattle.sr_code.specs.declared.instruction.Instruction.TheVariants.{Jump, Repeat}
 use Rattle.sr_gen_expr.proofs.Stretching.{emits_as}
 use Rattle.sr_gen.proofs.Endings.{acts_lined}

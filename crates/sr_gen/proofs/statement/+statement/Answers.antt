@@ -3,12 +3,11 @@ use Rattle.std.proofs.lemmas.List.{length-map}
 use Rattle.sr_core.specs.Formals.{result_vars}
 use Rattle.sr_core.specs.declared.statement.Scope.TheVariants.{Own as own_scope}
 use Rattle.sr_core.specs.declared.statement.Guarded.{out-Guarded}
-use Rattle.sr_core.specs.declared.statement.Statement.TheVariants as tree
 use Rattle.sr_code.specs.declared.instruction.Instruction.TheVariants.{Again, Each, Jump, OpenService}
 use Rattle.sr_meaning.specs.Pieces.{co_part_of, guarded_of, optional_block}
 use Rattle.sr_meaning.specs.Statements.{block_of, make_formals, meaning_of, no_guard, quantified}
 use Rattle.sr_gen_expr.proofs.Stretching.{emits_as, takes_as}
-use Rattle.sr_gen.specs.Blocks.{fa_meaning, inner_meaning}
+use Rattle.sr_gen.specs.Blocks.{inner_meaning}
 use Rattle.sr_gen.specs.Doing.{fa_ways}
 use Rattle.sr_gen.proofs.Blocks.{acts_if, tries_as, tries_guarded}
 use Rattle.sr_gen.proofs.Endings.{acts_as, acts_ticked}
