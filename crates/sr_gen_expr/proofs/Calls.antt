@@ -61,7 +61,7 @@ stored_one (a_shared block var) place value m line again later rest last stage g
       after_ask (Stops asks) again rest next last h = refl
 
 -- the results go to their places, and what is left is the value
-stored_some : (m : Machine) {line : Place} (c0 : List Coded) {c1 c2 : List Coded} → Emits line (StoreResults (length c0)) c1 c2 → Has c2 (length c1) (length c2) m.code → length c0 ≤ length c1
+pub stored_some : (m : Machine) {line : Place} (c0 : List Coded) {c1 c2 : List Coded} → Emits line (StoreResults (length c0)) c1 c2 → Has c2 (length c1) (length c2) m.code → length c0 ≤ length c1
     → (places : List Located) (values : List Value) (on : Operands) (stage : Stage)
     → then_asks (store_some places values (length c0) (here_at m line) (length c1) on stage) (go m)
     ≡ then_asks (and_then (results_store places values (here_at m line) stage) (λ left. give (value_after left))) (λ v. go m (point (length c0) (put_value v on)))

@@ -1,0 +1,11 @@
+pub mod Actions
+pub mod Blocks
+pub mod Endings
+pub mod Listed
+pub mod Loops
+pub mod Patched
+pub mod Roles
+pub mod Services
+pub mod Together
+pub mod Trees
+pub mod Weights

@@ -1,0 +1,5 @@
+use Rattle.sr_gen.proofs.Actions.{acts_forward}
+use Rattle.sr_gen.proofs.action.gen_forward.Goals as goal
+
+pub returns : goal.returns
+returns c ways = acts_forward c.args.target.now c.args.args.now c.in_ok-emit.ensures c.in_ok-gen_ready.ensures

@@ -1,0 +1,42 @@
+ghost use Rattle.std.specs.Prelude.{OnOk};
+ghost use Rattle.sr_meaning.specs.Statements.{condition_meaning, truth_expr};
+ghost use Rattle.sr_gen.specs.Doing.{Checks};
+
+use sr_code::{Coded, Instruction};
+use sr_core::{Core, Expr};
+use sr_gen_expr::{emit, gen_expr};
+use sr_value::{NoMemory, Place, Row};
+use std::alloc::Global;
+
+/// Emits a condition: where it doesn't hold, the code goes on at `past`.
+pub fn gen_truth(
+    alloc: Global,
+    core: &Core,
+    place: Place,
+    past: usize,
+    expr: &Expr,
+    out: &mut Row<Coded>,
+) -> Result<(), NoMemory>
+    ensures { OnOk result (Checks past core.now place (truth_expr expr.now) out.old out.new) }
+{
+    emit(place, Instruction::JumpUnless { to: past }, out)?;
+    gen_expr(alloc, core, place, expr, out)?;
+    Ok(())
+}
+
+/// The same where there may be none.
+pub fn gen_condition(
+    alloc: Global,
+    core: &Core,
+    place: Place,
+    past: usize,
+    condition: &Option<Expr>,
+    out: &mut Row<Coded>,
+) -> Result<(), NoMemory>
+    ensures { OnOk result (Checks past core.now place (condition_meaning condition.now) out.old out.new) }
+{
+    match condition {
+        None => Ok(()),
+        Some(expr) => gen_truth(alloc, core, place, past, expr, out),
+    }
+}

@@ -1,0 +1,21 @@
+//! The code of statements.
+//!
+//! Code is emitted backwards: what runs last is emitted first.
+#![tactic(auto)]
+
+mod action;
+mod condition;
+mod inner;
+mod invocation;
+mod patching;
+mod role;
+mod sends;
+mod site;
+mod statement;
+mod ways;
+
+pub use action::gen_action;
+pub use condition::{gen_condition, gen_truth};
+pub use role::{gen_final, gen_initial, gen_proc};
+pub use statement::{gen_block, gen_statement};
+pub use ways::Ways;
