@@ -161,14 +161,14 @@ begun-char n s z e u long = and_from (is_none (utf8_error_len r)) (nat_le (v + c
     ahead : IsUtf8 (take v (s ++ z))
     ahead = subst IsUtf8 (sym (take-append-le v s z (let h : v < length s = le in omega (arith, h)))) (front-is-text s)
 
-    behind : IsUtf8 (r ++ z)
-    behind = subst IsUtf8 (drop-append-le v s z (let h : v < length s = le in omega (arith, h))) (after_text (s ++ z) v u ahead)
+    remaining : IsUtf8 (r ++ z)
+    remaining = subst IsUtf8 (drop-append-le v s z (let h : v < length s = le in omega (arith, h))) (after_text (s ++ z) v u ahead)
 
     left : length (r ++ z) ≡ length r + length z
     left = length-append r z
 
     f : FirstOf (r ++ z)
-    f = first-of behind.0 (r ++ z) behind.1.0 behind.1.1 (let h : v < length s = le in let l : length r ≡ length s - v = some in let m : length (r ++ z) ≡ length r + length z = left in omega (arith, h, l, m))
+    f = first-of remaining.0 (r ++ z) remaining.1.0 remaining.1.1 (let h : v < length s = le in let l : length r ≡ length s - v = some in let m : length (r ++ z) ≡ length r + length z = left in omega (arith, h, l, m))
 
     short : (length r < length (encode_utf8 f.char)) ⊎ (length (encode_utf8 f.char) ≤ length r) → length r < length (encode_utf8 f.char)
     short (inl h) = h
