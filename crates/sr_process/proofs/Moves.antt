@@ -304,12 +304,45 @@ known_by Waiting None program start limit address frame held asks e =
 known_by Stopped (Some answer) program start limit address frame held asks e = absurd (cc)
 known_by Stopped None program start limit address frame held asks e = cc
 
+-- what it is known to ask is what it asks next
+pub known_after : (program : Program) (p : Process) (asks : Asks) → asked_by p ≡ Some asks → asks ≡ asks_after program p []
+known_after program p asks is = sym (known_by p.phase p.fed program p.start p.limit p.address p.frame p.asks asks is)
+
+-- an answer that is fed is the first of those that come
+fed_by : (phase : Phase) (fed : Option Answer) (program : Program) (start : Start) (limit address : ℕ) (frame : Frame) (asks : Asks) (answer : Answer) (more : List Answer)
+    → IsSome (asked_in phase asks fed) → asks_in phase program start limit address frame asks (Some answer) more ≡ asks_in phase program start limit address frame asks fed (answer ∷ more)
+fed_by New fed program start limit address frame asks answer more some = absurd (cc)
+fed_by Running fed program start limit address frame asks answer more some = absurd (cc)
+fed_by OutOfMemory fed program start limit address frame asks answer more some = absurd (cc)
+fed_by Waiting (Some other) program start limit address frame asks answer more some = absurd (cc)
+fed_by Waiting None program start limit address frame asks answer more some = refl
+fed_by Stopped (Some other) program start limit address frame asks answer more some = absurd (cc)
+fed_by Stopped None program start limit address frame asks answer more some = refl
+
+pub fed_hears : (p : Process) (answer : Answer) → IsSome (asked_by p) → (program : Program) (more : List Answer)
+    → asks_after program (record p { fed = Some answer }) more ≡ asks_after program p (answer ∷ more)
+fed_hears p answer some program more = fed_by p.phase p.fed program p.start p.limit p.address p.frame p.asks answer more some
+
 -- ---- what a process stands for
 
 -- at first it asks what the code asks
-pub new_stands : (program : Program) (p : Process) → p.phase ≡ New → StandsFor program p p.start p.limit []
-new_stands program p is =
-    record { same = λ more. ap (λ (phase : Phase). asks_in phase program p.start p.limit p.address p.frame p.asks p.fed more) is }
+pub new_stands : (program : Program) (p : Process) (start : Start) (limit : ℕ) → p.phase ≡ New → p.start ≡ start → p.limit ≡ limit → StandsFor program p start limit []
+new_stands program p start limit is start_is limit_is =
+    record {
+      same = λ more.
+          ap (λ (phase : Phase). asks_in phase program p.start p.limit p.address p.frame p.asks p.fed more) is
+          ∙ (ap (λ (s : Start). code_ask program.core program.code s p.limit more) start_is
+          ∙ ap (λ (l : ℕ). code_ask program.core program.code start l more) limit_is);
+    }
+
+pub fed_stands : (p : Process) (answer : Answer) → IsSome (asked_by p) → (program : Program) (start : Start) (limit : ℕ) (answers : List Answer) → StandsFor program p start limit answers
+    → StandsFor program (record p { fed = Some answer }) start limit (answers ++ answer ∷ [])
+fed_stands p answer some program start limit answers stands =
+    record {
+      same = λ more.
+          fed_hears p answer some program more ∙ stands.same (answer ∷ more)
+          ∙ ap (λ (all : List Answer). code_ask program.core program.code start limit all) (sym (append_assoc answers (answer ∷ []) more));
+    }
 
 pub stands_still : (program : Program) (old new : Process) (start : Start) (limit : ℕ) (answers : List Answer) → SameAsks program old new → StandsFor program old start limit answers
     → StandsFor program new start limit answers

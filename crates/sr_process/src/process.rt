@@ -4,7 +4,7 @@ ghost use Rattle.sr_ask.specs.declared.start.Start.{Start as a_start};
 ghost use Rattle.sr_code.specs.Runs.{code_ask};
 ghost use Rattle.sr_code.specs.declared.code.Program.{Program as a_program};
 ghost use Rattle.sr_process.specs.declared.process.Phase.TheVariants.{New as new_phase, Waiting as waiting_phase};
-ghost use Rattle.sr_process.specs.Processes.{Failed, Ready, Runs, Hears, ReadyIn, SameAsks, StandsFor, asked_by, asking, coded_at, left, me_of, stepped};
+ghost use Rattle.sr_process.specs.Processes.{Failed, Ready, Runs, Hears, ReadyIn, SameAsks, StandsFor, asked_by, asks_after, asking, coded_at, left, me_of, stepped};
 
 use crate::entry::{entry_address, entry_place, first_frame, no_frame};
 use crate::operands::copy_frame;
@@ -116,8 +116,8 @@ impl Process {
 
     /// Hands it an answer to what it asks. It takes no memory.
     pub fn feed(&mut self, answer: Answer)
-        requires { IsSome (asked_by self.old) }
-        ensures stands { (program : a_program) (start : a_start) (limit : ℕ) (answers : List an_answer) → StandsFor program self.old start limit answers → StandsFor program self.new start limit (answers ++ answer ∷ []) }
+        ensures hears { IsSome (asked_by self.old) → (program : a_program) (more : List an_answer) → asks_after program self.new more ≡ asks_after program self.old (answer ∷ more) }
+        ensures stands { IsSome (asked_by self.old) → (program : a_program) (start : a_start) (limit : ℕ) (answers : List an_answer) → StandsFor program self.old start limit answers → StandsFor program self.new start limit (answers ++ answer ∷ []) }
     {
         self.fed = Some(answer);
     }
@@ -338,8 +338,13 @@ impl Process {
     /// Runs to its next request, and answers it. Asked again without an answer it does nothing more. After
     /// [`NoMemory`] it answers that for good.
     pub fn next(&mut self, program: &Program) -> Result<Asks, NoMemory>
+        ensures same { OnOk result (SameAsks program.now self.old self.new) }
+        ensures asks { IfOk result (λ asks. asks ≡ asks_after program.now self.old []) }
+
+        // The same of a process that stands for answers.
         ensures stands { OnOk result ((start : a_start) (limit : ℕ) (answers : List an_answer) → StandsFor program.now self.old start limit answers → StandsFor program.now self.new start limit answers) }
-        ensures asks { IfOk result (λ asks. (start : a_start) (limit : ℕ) (answers : List an_answer) → StandsFor program.now self.old start limit answers → asks ≡ code_ask program.now.core program.now.code start limit answers) }
+        ensures meant { IfOk result (λ asks. (start : a_start) (limit : ℕ) (answers : List an_answer) → StandsFor program.now self.old start limit answers → asks ≡ code_ask program.now.core program.now.code start limit answers) }
+
         ensures known { IfOk result (λ asks. asked_by self.new ≡ Some asks) }
         ensures failing { Failed self.old → IsErr result }
         ensures failed { OnErr result (Failed self.new) }
