@@ -1,0 +1,5 @@
+pub mod Drops
+pub mod Meant
+pub mod Moves
+pub mod Stacks
+pub mod Taking

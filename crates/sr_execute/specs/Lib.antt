@@ -1,0 +1,5 @@
+pub mod Executes
+pub mod Meant
+pub mod Processes
+pub mod Replies
+pub mod Stores

@@ -1,0 +1,83 @@
+ghost use Rattle.std.specs.Prelude.{◌≡◌, ◌∷◌, [], MatchOption};
+ghost use Rattle.sr_ask.specs.Invocations.{value_after};
+ghost use Rattle.sr_execute.specs.Executes.{Does, begun, here_of, storing};
+ghost use Rattle.sr_code.specs.declared.instruction.Instruction.TheVariants as instruction;
+
+use crate::frame::Frame;
+use crate::putting::put_value;
+use crate::scene::Scene;
+use crate::step::Step;
+use crate::variables::own_stored;
+use sr_ask::{Located, Request, Spot};
+use sr_value::{NoMemory, Row, Value};
+
+/// Takes the first item of a row.
+pub fn take_first<T: Drop>(row: &mut Row<T>) -> Option<T>
+    ensures { MatchOption result ((row.old ≡ []) × (row.new ≡ [])) (λ item. row.old ≡ item ∷ row.new) }
+{
+    if row.is_empty() {
+        None
+    } else {
+        Some(row.remove(0))
+    }
+}
+
+fn value_after(values: Row<Value>) -> Value
+    ensures { result ≡ value_after values }
+{
+    let mut values = values;
+    match take_first(&mut values) {
+        Some(value) => value,
+        None => Value::Bool(false),
+    }
+}
+
+/// Stores results in their places, up to a store that has to be asked for.
+fn store_some(
+    frame: &mut Frame,
+    places: Row<Located>,
+    values: Row<Value>,
+    to: usize,
+    next: usize,
+) -> Result<Step, NoMemory>
+    ensures { Does result frame.new (storing places values to next frame.old.operands frame.old) }
+{
+    let mut places = places;
+    let Some(place) = take_first(&mut places) else {
+        return put_value(frame, value_after(values), to.min(next));
+    };
+    let mut values = values;
+    let Some(value) = take_first(&mut values) else {
+        return put_value(frame, Value::Bool(false), to.min(next));
+    };
+    match place.spot {
+        Spot::Own(var) => match own_stored(&mut frame.own, var, place.path.as_slice(), value) {
+            Ok(()) => store_some(frame, places, values, to, next),
+            Err(fault) => Ok(Step::Faults(fault)),
+        },
+        Spot::Shared { block, var } => {
+            frame.operands.lists.push(values)?;
+            frame.operands.targets.push(places)?;
+            Ok(Step::Asks(Request::Store {
+                block,
+                var,
+                path: place.path,
+                value,
+            }))
+        }
+    }
+}
+
+/// Stores the results of a reply.
+pub fn store_results(
+    scene: &Scene,
+    frame: &mut Frame,
+    to: usize,
+    next: usize,
+) -> Result<Step, NoMemory>
+    ensures { Does result frame.new (begun scene.now.names.now (instruction.StoreResults to) (here_of scene.now) next frame.old.operands frame.old) }
+{
+    let places = frame.operands.targets.take(Row::new(scene.alloc));
+    let values = frame.operands.lists.take(Row::new(scene.alloc));
+    store_some(frame, places, values, to, next)
+}
