@@ -37,8 +37,8 @@ use Rattle.sr_code.specs.declared.instruction.Instruction.{Instruction}
 use Rattle.sr_code.specs.declared.instruction.Instruction.TheVariants.{Constant, Operation, MyResource, MyMachine, Count, MakeMachine, Moment, ToNumber, ToCap, OperateOne, Operate, AndSkip, OrSkip, NoValues, Collect, Apply, NoPieces, AddPiece, AddRepeated, MakeArray, PartAt, PartAt2, PartField, Member, Spot as spot_instruction, At, At2, Field, Load, ToCall, PassValue, PassVar, PassRes, Invoke, Take, StoreResults, Default, EnsureGlobal, Create, TakeInstance, NoReadings, AddReading, ReadNext, StoreRead, NumberRead, EndRead, Jump, FixedShape, StringShape, OneDimension, TwoDimensions, Make, MakeLike, StoreIn, Arguments, MakeFormal, StoreFormal, DropList, DropValue, Send, Forward, Store, LoadAgain, LoadSecond, StoreSecond, Write, Number, Stop, Destroy, TakeDone, ToWait, Age, Wake, Reply, Tick, JumpUnless, Again, Quantify, Each, DropNumbers, ToCount, Repeat, AddNamed, Select, OpenService, EndService, OpenCo, StartCall, CountOuts, TakeReply, SetTurn, GiveBack, StoreValue, CloseCo}
 use Rattle.sr_code.specs.declared.operands.Call.{Call}
 use Rattle.sr_code.specs.declared.operands.Operands.{Operands}
+use Rattle.sr_frame.specs.Variables.{own_stored, own_value, vars_set}
 use Rattle.sr_execute.specs.declared.frame.Frame.{Frame}
-use Rattle.sr_execute.specs.declared.scene.Scene.{Scene}
 use Rattle.sr_execute.specs.declared.step.Step.{Step}
 use Rattle.sr_execute.specs.declared.step.Step.TheVariants.{Goes, Asks, Faults, OverTicks}
 use Rattle.sr_value.specs.declared.memory.NoMemory.{NoMemory}
@@ -76,14 +76,6 @@ puts found next on frame = settled found (λ value. went next (put_value value o
 
 abbrev pub with_own : List (Option Own) → Frame → Frame
 with_own own frame = record frame { own = own }
-
-abbrev pub own_value : List (Option Own) → ℕ → List Sel → Result Value Fault
-own_value own var path = with_ok (own_at own var) (λ held. loaded_at held.value path)
-
--- the own variables after a store
-abbrev pub own_stored : List (Option Own) → ℕ → List Sel → Value → Result (List (Option Own)) Fault
-own_stored own var path value =
-    with_ok (with_ok (own_at own var) (λ held. own_after held path value)) (λ held. Ok (slice_set own var (Some held)))
 
 -- What a place holds becomes operands, those after the load; a shared place is asked for, and others stay.
 abbrev pub loads : Spot → List Sel → (Value → Operands) → ℕ → Operands → Frame → Began
@@ -182,10 +174,6 @@ marked frame = record frame { service = record frame.service { answered = true }
 abbrev pub takes_reply : ℕ → ℕ → Operands → Frame → Began
 takes_reply zero next on frame = went next on frame
 takes_reply (suc count) next on frame = waits (take_request (map (λ out. out.id) frame.out)) (put_count count (drop_count on)) frame
-
-abbrev pub vars_set : List ℕ → List ℤ → List (Option Own) → List (Option Own)
-vars_set (var ∷ vars) (n ∷ turn) own = vars_set vars turn (slice_set own var (Some (number_own n)))
-vars_set vars turn own = own
 
 -- ---- instructions
 
@@ -394,9 +382,6 @@ resumed StoreValue next on frame answer = led (done answer) (λ _. moved next on
 resumed _ next on frame answer = None
 
 -- ---- what the code shows
-
-abbrev pub here_of : Scene → Here
-here_of scene = record { start = scene.start.now; limit = scene.limit; place = scene.place }
 
 -- what an instruction did
 abbrev pub shown : Step → Frame → Began

@@ -1,5 +1,3 @@
 pub mod Executes
 pub mod Meant
-pub mod Processes
 pub mod Replies
-pub mod Stores

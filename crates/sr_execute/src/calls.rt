@@ -1,19 +1,19 @@
 ghost use Rattle.std.specs.Prelude.{◌≡◌, ◌∷◌, [], OnOk, true};
 ghost use Rattle.sr_ask.specs.declared.request.Request.TheVariants as request;
 ghost use Rattle.sr_code.specs.Operands.{cap_on, call_on, drop_call, join_argument, join_place, name_on, put_targets};
-ghost use Rattle.sr_execute.specs.Executes.{Does, begun, here_of, waits, went};
+ghost use Rattle.sr_frame.specs.Scenes.{here_of};
+ghost use Rattle.sr_execute.specs.Executes.{Does, begun, waits, went};
 ghost use Rattle.sr_code.specs.declared.instruction.Instruction.TheVariants as instruction;
 
 use crate::frame::Frame;
 use crate::places::{copied_place, take_place};
 use crate::putting::put_value;
-use crate::scene::Scene;
 use crate::step::Step;
 use crate::tops::top_or;
-use crate::variables::own_value;
 use sr_ask::{Located, Request, Spot};
 use sr_code::{Call, Operands};
 use sr_core::capability;
+use sr_frame::{Scene, own_value};
 use sr_value::{Cap, NoMemory, Row, Shape, Value, ValueFail, default_of};
 use std::alloc::Global;
 

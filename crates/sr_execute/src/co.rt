@@ -1,33 +1,21 @@
-ghost use Rattle.std.specs.Prelude.{◌≡◌, ◌+◌, ◌<◌, ◌^◌, ◌==◌, IfOk, Some, length, map, option_map, position, slice_get};
+ghost use Rattle.std.specs.Prelude.{◌≡◌, ◌+◌, ◌<◌, ◌^◌};
 ghost use Rattle.sr_code.specs.Operands.{count_on};
-ghost use Rattle.sr_code.specs.Acts.{number_held, number_own};
 ghost use Rattle.sr_execute.specs.Replies.{IsFirstOut, completed_at, no_completed};
-ghost use Rattle.sr_execute.specs.Executes.{Does, Leads, begun, here_of, vars_set};
+ghost use Rattle.sr_frame.specs.Scenes.{here_of};
+ghost use Rattle.sr_execute.specs.Executes.{Does, Leads, begun};
 ghost use Rattle.sr_execute.specs.Meant.{resumes};
 ghost use Rattle.sr_code.specs.declared.instruction.Instruction.TheVariants as instruction;
 
-use crate::answers::made;
 use crate::frame::Frame;
 use crate::places::take_place;
-use crate::scene::Scene;
 use crate::step::Step;
 use crate::tops::top_or;
-use crate::variables::{set_own, store_at};
-use sr_ask::{Answer, Out, Own, Request};
+use crate::variables::store_at;
+use sr_ask::{Answer, Out, Request};
 use sr_code::Completed;
-use sr_value::{Duplicate, NoMemory, Row, Shape, Value};
+use sr_frame::{Scene, arm_of, ids_out, made, place_out, set_vars, turn_held};
+use sr_value::{Duplicate, NoMemory, Row, Value};
 use std::alloc::Global;
-
-/// The numbers of the invocations that are out.
-fn ids_out(alloc: Global, outs: &[Out]) -> Result<Row<u32>, NoMemory>
-    ensures { IfOk result (λ ids. ids ≡ map (λ out. out.id) outs.now) }
-{
-    let mut ids = Row::new(alloc);
-    for out in outs {
-        ids.push(out.id)?;
-    }
-    Ok(ids)
-}
 
 fn no_completed(alloc: Global) -> Completed
     ensures { result ≡ no_completed }
@@ -112,31 +100,6 @@ pub fn store_value(scene: &Scene, frame: &mut Frame, next: usize) -> Result<Step
     }
 }
 
-/// Own variables get numbers.
-fn set_vars(own: &mut Row<Option<Own>>, vars: &[u32], turn: &[i32])
-    ensures { own.new ≡ vars_set vars.now turn.now own.old }
-{
-    match vars {
-        [] => {}
-        [var, others @ ..] => match turn {
-            [] => {}
-            [number, rest @ ..] => {
-                set_own(own, *var, number_own(*number));
-                set_vars(own, others, rest);
-            }
-        },
-    }
-}
-
-fn number_own(number: i32) -> Own
-    ensures { result ≡ number_own number }
-{
-    Own {
-        shape: Shape::Int,
-        value: Value::Int(number),
-    }
-}
-
 /// The quantifiers' variables get their values of the invocation that was answered.
 pub fn set_turn(
     scene: &Scene,
@@ -173,26 +136,6 @@ pub fn give_back(
             Ok(Step::Goes(next))
         }
     }
-}
-
-fn number_held(own: &Row<Option<Own>>, var: u32) -> i32
-    ensures { result ≡ number_held own.now var }
-{
-    match own.get(var as usize) {
-        Some(Some(held)) => held.value.as_int().unwrap_or(0),
-        _ => 0,
-    }
-}
-
-/// The present values of the quantifiers' variables.
-fn turn_held(alloc: Global, own: &Row<Option<Own>>, vars: &[u32]) -> Result<Row<i32>, NoMemory>
-    ensures { IfOk result (λ turn. turn ≡ map (λ var. number_held own.now var) vars.now) }
-{
-    let mut turn = Row::new(alloc);
-    for var in vars {
-        turn.push(number_held(own, *var))?;
-    }
-    Ok(turn)
 }
 
 /// What a call of a `co` is noted with.
@@ -233,13 +176,6 @@ pub fn start_made(
     Ok(Some(next))
 }
 
-/// Where an invocation is among those that are out.
-fn place_out(outs: &[Out], id: u32) -> Option<usize>
-    ensures { result ≡ position (λ out. out.id == id) outs.now }
-{
-    outs.iter().position(|out| out.id == id)
-}
-
 /// A reply of a `co` goes to its arm.
 pub fn complete(
     frame: &mut Frame,
@@ -257,13 +193,6 @@ pub fn complete(
         },
         _ => Ok(None),
     }
-}
-
-fn arm_of(outs: &[Out], at: usize) -> u32
-    requires { at < length outs.now }
-    ensures { Some result ≡ option_map (λ out. out.arm) (slice_get outs.now at) }
-{
-    outs[at].arm
 }
 
 /// The same of the invocation at a place.

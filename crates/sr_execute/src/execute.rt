@@ -1,4 +1,5 @@
-ghost use Rattle.sr_execute.specs.Executes.{Does, begun, here_of};
+ghost use Rattle.sr_frame.specs.Scenes.{here_of};
+ghost use Rattle.sr_execute.specs.Executes.{Does, begun};
 
 use crate::calls::{
     create, destroy, ensure_global, invoke, pass_res, pass_value, pass_var, put_default, send,
@@ -15,7 +16,6 @@ use crate::places::{extend, owner_in, place_at, place_at2, root_in, whole};
 use crate::putting::{put_list, put_number, put_pieces, put_place, put_shape, put_value};
 use crate::reading::{add_reading, begin_reading, end_read, number_read, read_next, store_read};
 use crate::results::store_results;
-use crate::scene::Scene;
 use crate::services::{add_named, collect, end_service, forward, open_service, reply};
 use crate::shapes::{
     make, make_formal, make_like, one_dimension, store_formal, store_in, string_shape,
@@ -27,6 +27,7 @@ use crate::variables::{load, load_again, load_second, store, store_second};
 use crate::writing::write;
 use sr_ask::Request;
 use sr_code::Instruction;
+use sr_frame::Scene;
 use sr_value::{Cap, Duplicate, NoMemory, Row, Sel, Value};
 
 /// Carries out an instruction, up to a request.

@@ -6,11 +6,9 @@ mod operators;
 mod parts;
 mod places;
 mod putting;
-mod scene;
 mod step;
 mod ticks;
 mod tops;
 
 pub use frame::Frame;
-pub use scene::Scene;
 pub use step::Step;

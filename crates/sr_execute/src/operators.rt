@@ -1,11 +1,16 @@
-ghost use Rattle.sr_execute.specs.Executes.{Does, begun, here_of};
+ghost use Rattle.sr_value.specs.Operators.{Answers};
+ghost use Rattle.sr_core.specs.Values.{truth_of};
+ghost use Rattle.sr_code.specs.Operands.{value_on};
+ghost use Rattle.sr_frame.specs.Scenes.{here_of};
+ghost use Rattle.sr_execute.specs.Executes.{Does, begun};
 ghost use Rattle.sr_code.specs.declared.instruction.Instruction.TheVariants as instruction;
 
 use crate::frame::Frame;
 use crate::putting::{put_number, put_value};
-use crate::scene::Scene;
 use crate::step::Step;
+use crate::tops::top_or;
 use sr_core::{Function, apply, capability, count, member, number, truth};
+use sr_frame::Scene;
 use sr_value::{Cap, Fault, NoMemory, Operator, Row, Value, ValueFail, arith, unary};
 
 /// A value becomes the result of an operator.
@@ -43,14 +48,23 @@ pub fn operate(
     }
 }
 
+/// The truth of the value on top, which stays.
+fn truth_on(frame: &Frame) -> Result<bool, ValueFail>
+    ensures { Answers result (truth_of (value_on frame.now.operands)) }
+{
+    truth(top_or(&frame.operands.values, &Value::Bool(false)))
+}
+
 /// Goes on with a true value, or to `to` with false.
 pub fn and_skip(scene: &Scene, frame: &mut Frame, to: usize, next: usize) -> Result<Step, NoMemory>
     ensures { Does result frame.new (begun scene.now.names.now (instruction.AndSkip to) (here_of scene.now) next frame.old.operands frame.old) }
 {
-    let value = frame.operands.values.take(Value::Bool(false));
-    match truth(&value) {
-        Ok(true) => put_value(frame, value, next),
-        Ok(false) => put_value(frame, Value::Bool(false), to.min(next)),
+    match truth_on(frame) {
+        Ok(true) => Ok(Step::Goes(next)),
+        Ok(false) => {
+            let _ = frame.operands.values.pop();
+            put_value(frame, Value::Bool(false), to.min(next))
+        }
         Err(ValueFail::Fault(fault)) => Ok(Step::Faults(fault)),
         Err(ValueFail::NoMemory) => Err(NoMemory),
     }
@@ -60,10 +74,12 @@ pub fn and_skip(scene: &Scene, frame: &mut Frame, to: usize, next: usize) -> Res
 pub fn or_skip(scene: &Scene, frame: &mut Frame, to: usize, next: usize) -> Result<Step, NoMemory>
     ensures { Does result frame.new (begun scene.now.names.now (instruction.OrSkip to) (here_of scene.now) next frame.old.operands frame.old) }
 {
-    let value = frame.operands.values.take(Value::Bool(false));
-    match truth(&value) {
-        Ok(true) => put_value(frame, Value::Bool(true), to.min(next)),
-        Ok(false) => put_value(frame, value, next),
+    match truth_on(frame) {
+        Ok(true) => {
+            let _ = frame.operands.values.pop();
+            put_value(frame, Value::Bool(true), to.min(next))
+        }
+        Ok(false) => Ok(Step::Goes(next)),
         Err(ValueFail::Fault(fault)) => Ok(Step::Faults(fault)),
         Err(ValueFail::NoMemory) => Err(NoMemory),
     }

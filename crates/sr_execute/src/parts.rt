@@ -1,13 +1,14 @@
 ghost use Rattle.sr_code.specs.Operands.{drop_value, join_piece, value_on};
 ghost use Rattle.sr_value.specs.Parts.{part_of};
-ghost use Rattle.sr_execute.specs.Executes.{Does, begun, here_of, puts, went};
+ghost use Rattle.sr_frame.specs.Scenes.{here_of};
+ghost use Rattle.sr_execute.specs.Executes.{Does, begun, puts, went};
 ghost use Rattle.sr_code.specs.declared.instruction.Instruction.TheVariants as instruction;
 
 use crate::frame::Frame;
 use crate::putting::{put_pieces, put_value};
-use crate::scene::Scene;
 use crate::step::Step;
 use sr_core::{Piece, array, count};
+use sr_frame::Scene;
 use sr_value::{NoMemory, Row, Sel, Value, ValueFail, part_of};
 
 /// A part of a value goes on the operands.

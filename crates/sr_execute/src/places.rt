@@ -1,20 +1,20 @@
 ghost use Rattle.std.specs.Prelude.{◌≡◌, IfOk, OnOk};
-ghost use Rattle.sr_ask.specs.Places.{whole};
 ghost use Rattle.sr_code.specs.Acts.{second_place};
 ghost use Rattle.sr_code.specs.Operands.{drop_place, join_sel, place_on};
 ghost use Rattle.sr_code.specs.Owners.{home_at, owner_in, root_in, variable_in};
-ghost use Rattle.sr_execute.specs.Executes.{Does, begun, here_of, went};
+ghost use Rattle.sr_frame.specs.Scenes.{here_of};
+ghost use Rattle.sr_execute.specs.Executes.{Does, begun, went};
 ghost use Rattle.sr_code.specs.declared.instruction.Instruction.TheVariants as instruction;
 
 use crate::frame::Frame;
 use crate::putting::put_place;
-use crate::scene::Scene;
 use crate::step::Step;
 use crate::tops::top_or;
 use sr_ask::{Located, Spot};
 use sr_code::Operands;
 use sr_core::{Home, OperationOwner, Root, Scope};
-use sr_value::{Duplicate, NoMemory, Owner, Row, Sel};
+use sr_frame::{Scene, whole};
+use sr_value::{Duplicate, NoMemory, Owner, Sel};
 use std::alloc::Global;
 
 /// The instance of an imported global.
@@ -67,16 +67,6 @@ pub fn variable_in(scene: &Scene, scope: Scope, var: u32) -> Spot
             block: scene.start.instance,
             var,
         },
-    }
-}
-
-/// A whole variable.
-pub fn whole(alloc: Global, spot: Spot) -> Located
-    ensures { result ≡ whole spot }
-{
-    Located {
-        spot,
-        path: Row::new(alloc),
     }
 }
 

@@ -1,20 +1,20 @@
 ghost use Rattle.std.specs.Prelude.{◌≡◌};
 ghost use Rattle.sr_code.specs.Operands.{drop_reading, no_reading, reading_on};
 ghost use Rattle.sr_code.specs.Owners.{kind_asked};
-ghost use Rattle.sr_execute.specs.Executes.{Does, begun, here_of};
+ghost use Rattle.sr_frame.specs.Scenes.{here_of};
+ghost use Rattle.sr_execute.specs.Executes.{Does, begun};
 ghost use Rattle.sr_code.specs.declared.instruction.Instruction.TheVariants as instruction;
 
 use crate::frame::Frame;
 use crate::places::take_place;
 use crate::putting::put_value;
-use crate::results::take_first;
-use crate::scene::Scene;
 use crate::step::Step;
 use crate::tops::top_or;
 use crate::variables::store_at;
 use sr_ask::{ReadKind, ReadTarget, Request};
 use sr_code::{Operands, Reading};
 use sr_core::Readable;
+use sr_frame::{Scene, take_first};
 use sr_value::{Fault, NoMemory, Row, Value};
 use std::alloc::Global;
 

@@ -1,36 +1,13 @@
-ghost use Rattle.std.specs.Prelude.{◌≡◌, ◌∷◌, [], MatchOption};
-ghost use Rattle.sr_ask.specs.Invocations.{value_after};
-ghost use Rattle.sr_execute.specs.Executes.{Does, begun, here_of, storing};
+ghost use Rattle.sr_frame.specs.Scenes.{here_of};
+ghost use Rattle.sr_execute.specs.Executes.{Does, begun, storing};
 ghost use Rattle.sr_code.specs.declared.instruction.Instruction.TheVariants as instruction;
 
 use crate::frame::Frame;
 use crate::putting::put_value;
-use crate::scene::Scene;
 use crate::step::Step;
-use crate::variables::own_stored;
 use sr_ask::{Located, Request, Spot};
+use sr_frame::{Scene, own_stored, take_first, value_after};
 use sr_value::{NoMemory, Row, Value};
-
-/// Takes the first item of a row.
-pub fn take_first<T: Drop>(row: &mut Row<T>) -> Option<T>
-    ensures { MatchOption result ((row.old ≡ []) × (row.new ≡ [])) (λ item. row.old ≡ item ∷ row.new) }
-{
-    if row.is_empty() {
-        None
-    } else {
-        Some(row.remove(0))
-    }
-}
-
-fn value_after(values: Row<Value>) -> Value
-    ensures { result ≡ value_after values }
-{
-    let mut values = values;
-    match take_first(&mut values) {
-        Some(value) => value,
-        None => Value::Bool(false),
-    }
-}
 
 /// Stores results in their places, up to a store that has to be asked for.
 fn store_some(

@@ -1,6 +1,5 @@
-ghost use Rattle.std.specs.Prelude.{◌≡◌, ◌∷◌, ◌+◌, ◌<◌, ◌^◌, [], Some};
+ghost use Rattle.std.specs.Prelude.{◌+◌, ◌<◌, ◌^◌};
 ghost use Rattle.sr_ask.specs.Asking.{done, got, made, moment, number, ready};
-ghost use Rattle.sr_ask.specs.Invocations.{instance_in};
 ghost use Rattle.sr_code.specs.Acts.{after_choice};
 ghost use Rattle.sr_code.specs.Operands.{put_name, put_number, put_value};
 ghost use Rattle.sr_execute.specs.Executes.{Leads, led, marked, moved, moved_to};
@@ -9,14 +8,13 @@ ghost use Rattle.sr_code.specs.declared.instruction.Instruction.TheVariants as i
 ghost use Rattle.sr_value.specs.declared.capability.Cap.TheVariants.{Vm as a_machine};
 ghost use Rattle.sr_value.specs.declared.value.Value.TheVariants.{Capa as a_cap, Int as an_int};
 
-use crate::answers::{done, got, made, moment, number, read_item, ready, selected, took};
 use crate::calls::{pass_both, wanted};
 use crate::co::{Arm, complete, start_made};
 use crate::frame::Frame;
 use crate::places::take_place;
-use crate::results::take_first;
 use sr_ask::{Answer, InputItem, Selection};
 use sr_code::Instruction;
+use sr_frame::{done, got, instance_in, made, moment, number, read_item, ready, selected, took};
 use sr_value::{Cap, NoMemory, Row, Value};
 use std::alloc::Global;
 
@@ -209,25 +207,6 @@ fn take_instance(frame: &mut Frame, answer: Answer, next: usize) -> Result<Optio
     let _ = frame.operands.names.take(0);
     frame.operands.values.push(instance_in(reply.results))?;
     Ok(Some(next))
-}
-
-fn instance_in(results: Option<Row<Value>>) -> Value
-    ensures { result ≡ instance_in results }
-{
-    match results {
-        Some(values) => first_of(values),
-        None => Value::Capa(Cap::Null),
-    }
-}
-
-fn first_of(values: Row<Value>) -> Value
-    ensures { result ≡ instance_in (Some values) }
-{
-    let mut values = values;
-    match take_first(&mut values) {
-        Some(value) => value,
-        None => Value::Capa(Cap::Null),
-    }
 }
 
 /// A reply is taken, and dropped.

@@ -1,57 +1,18 @@
-ghost use Rattle.std.specs.Prelude.{◌≡◌, IfOk, map};
-ghost use Rattle.sr_ask.specs.Places.{own_at, own_or_nothing};
-ghost use Rattle.sr_ask.specs.Replies.{gives_now};
 ghost use Rattle.sr_code.specs.Operands.{join_value};
-ghost use Rattle.sr_execute.specs.Executes.{Does, begun, here_of, went};
+ghost use Rattle.sr_frame.specs.Scenes.{here_of};
+ghost use Rattle.sr_execute.specs.Executes.{Does, begun, went};
 ghost use Rattle.sr_code.specs.declared.instruction.Instruction.TheVariants as instruction;
 
 use crate::calls::take_call;
 use crate::frame::Frame;
 use crate::places::home_at;
 use crate::putting::put_list;
-use crate::scene::Scene;
 use crate::step::Step;
-use crate::variables::own_value;
-use sr_ask::{Gives, Own, Pick, Request, Service};
+use sr_ask::{Gives, Pick, Request, Service};
 use sr_code::Call;
 use sr_core::Named;
+use sr_frame::{Scene, own_value, results_now};
 use sr_value::{Cap, Duplicate, NoMemory, Row, Value, ValueFail};
-use std::alloc::Global;
-
-/// A copy of the value of an own variable. Where there is no such variable, a value that nobody uses.
-pub fn own_copy(alloc: Global, own: &Row<Option<Own>>, var: u32) -> Result<Value, NoMemory>
-    ensures { IfOk result (λ value. value ≡ own_or_nothing (own_at own.now var)) }
-{
-    match own.get(var as usize) {
-        Some(Some(held)) => held.value.copy(alloc),
-        _ => Ok(Value::Bool(false)),
-    }
-}
-
-/// Copies of the values of own variables.
-fn own_copies(alloc: Global, own: &Row<Option<Own>>, vars: &[u32]) -> Result<Row<Value>, NoMemory>
-    ensures { IfOk result (λ values. values ≡ map (λ var. own_or_nothing (own_at own.now var)) vars.now) }
-{
-    let mut values = Row::new(alloc);
-    for var in vars {
-        values.push(own_copy(alloc, own, *var)?)?;
-    }
-    Ok(values)
-}
-
-/// The present results of the invocation in service.
-pub fn results_now(scene: &Scene, frame: &Frame) -> Result<Row<Value>, NoMemory>
-    ensures { IfOk result (λ values. values ≡ gives_now frame.now.service.gives frame.now.own (here_of scene.now)) }
-{
-    match &frame.service.gives {
-        Gives::Values(vars) => own_copies(scene.alloc, &frame.own, vars.as_slice()),
-        Gives::Instance => {
-            let mut values = Row::new(scene.alloc);
-            values.push(Value::Capa(Cap::Res(scene.start.instance)))?;
-            Ok(values)
-        }
-    }
-}
 
 /// Gives the present results, where none were given.
 pub fn reply(scene: &Scene, frame: &mut Frame, next: usize) -> Result<Step, NoMemory>
@@ -60,7 +21,7 @@ pub fn reply(scene: &Scene, frame: &mut Frame, next: usize) -> Result<Step, NoMe
     if frame.service.answered {
         return Ok(Step::Goes(next));
     }
-    let results = results_now(scene, frame)?;
+    let results = results_now(scene, &frame.service.gives, &frame.own)?;
     Ok(Step::Asks(Request::Reply {
         held: frame.service.held,
         back: frame.service.back,

@@ -1,19 +1,16 @@
-ghost use Rattle.std.specs.Prelude.{◌≡◌, IfOk};
-ghost use Rattle.sr_core.specs.Values.{bounded_by};
-ghost use Rattle.sr_execute.specs.Executes.{Does, begun, here_of};
+ghost use Rattle.sr_frame.specs.Scenes.{here_of};
+ghost use Rattle.sr_execute.specs.Executes.{Does, begun};
 ghost use Rattle.sr_code.specs.declared.instruction.Instruction.TheVariants as instruction;
 
 use crate::frame::Frame;
 use crate::places::variable_in;
 use crate::putting::put_shape;
-use crate::results::take_first;
-use crate::scene::Scene;
 use crate::step::Step;
 use crate::tops::top_or;
 use crate::variables::{make_at, store_at};
 use sr_core::{FormalShape, Mode, Scope, formal_shape, sent_to};
-use sr_value::{Boxed, Dims, Duplicate, Fault, NoMemory, Row, Shape, Value, ValueFail};
-use std::alloc::Global;
+use sr_frame::{Scene, bounded_by, take_first};
+use sr_value::{Boxed, Dims, Fault, NoMemory, Row, Shape, Value, ValueFail};
 
 /// A number becomes the shape of strings of that length.
 pub fn string_shape(scene: &Scene, frame: &mut Frame, next: usize) -> Result<Step, NoMemory>
@@ -68,22 +65,6 @@ pub fn make(
         shape,
         next,
     )
-}
-
-/// The type of a value, with the value's bounds.
-fn bounded_by(alloc: Global, shape: &Shape, value: &Value) -> Result<Shape, NoMemory>
-    ensures { IfOk result (λ s. s ≡ bounded_by shape.now value.now) }
-{
-    match shape {
-        Shape::Arr { dims: _, item } => match value {
-            Value::Arr { dims, items: _ } => Ok(Shape::Arr {
-                dims: *dims,
-                item: item.copy(alloc)?,
-            }),
-            _ => shape.copy(alloc),
-        },
-        _ => shape.copy(alloc),
-    }
 }
 
 /// Makes a variable of a shape with the bounds of a value, which stays.

@@ -1,14 +1,15 @@
 ghost use Rattle.std.specs.Prelude.{◌≡◌};
 ghost use Rattle.sr_code.specs.Operands.{number_on};
-ghost use Rattle.sr_execute.specs.Executes.{Does, begun, here_of, ticking, went};
+ghost use Rattle.sr_frame.specs.Scenes.{here_of};
+ghost use Rattle.sr_execute.specs.Executes.{Does, begun, ticking, went};
 ghost use Rattle.sr_code.specs.declared.instruction.Instruction.TheVariants as instruction;
 
 use crate::frame::Frame;
-use crate::scene::Scene;
 use crate::step::Step;
 use crate::tops::top_or;
 use sr_ask::Request;
 use sr_core::Direction;
+use sr_frame::Scene;
 use sr_value::{Fault, NoMemory};
 
 /// One statement begun, where a tick is left.

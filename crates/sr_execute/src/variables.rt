@@ -1,14 +1,14 @@
-ghost use Rattle.sr_execute.specs.Executes.{Does, begun, here_of, loads, makes, stores};
+ghost use Rattle.sr_frame.specs.Scenes.{here_of};
+ghost use Rattle.sr_execute.specs.Executes.{Does, begun, loads, makes, stores};
 ghost use Rattle.sr_code.specs.Operands.{put_value};
 ghost use Rattle.sr_code.specs.declared.instruction.Instruction.TheVariants as instruction;
 
 use crate::frame::Frame;
 use crate::places::{copied_place, copied_second, take_place};
 use crate::putting::put_value;
-use crate::scene::Scene;
 use crate::step::Step;
 use sr_ask::{Located, Own, Request, Spot};
-use sr_frame::{own_stored, own_value, set_own};
+use sr_frame::{Scene, own_stored, own_value, set_own};
 use sr_value::{NoMemory, Row, Sel, Shape, Value, ValueFail, default_of};
 use std::alloc::Global;
 
