@@ -34,12 +34,13 @@ use Rattle.sr_core.specs.Values.{truth_of, number_of, cap_of, member_of, count_o
 use Rattle.sr_core.specs.declared.component.Core.{Core}
 use Rattle.sr_code.specs.Operands.{value_on, drop_value, number_on, drop_number, name_on, drop_name, put_name, put_number, cap_on, drop_cap, put_cap, pieces_on, drop_pieces, join_piece, put_call, call_of, put_shape, place_on, drop_place, put_place, shape_on, drop_shape, list_on, drop_list, join_argument, join_place, targets_on, drop_targets, reading_on, drop_reading, one_read, numbers_on, drop_numbers, count_on, completed_on, drop_completed, call_on, drop_call, drop_count, join_value, put_count, put_list, put_numbers, put_targets, put_value}
 use Rattle.sr_code.specs.Owners.{variable_in}
-use Rattle.sr_code.specs.Stacks.{first_or}
+use Rattle.sr_code.specs.Stacks.{first, first_or}
 use Rattle.sr_code.specs.declared.instruction.Instruction.{Instruction}
 use Rattle.sr_code.specs.declared.instruction.Instruction.TheVariants.{Constant, Operation, MyResource, MyMachine, Count, MakeMachine, Moment, ToNumber, ToCap, OperateOne, Operate, AndSkip, OrSkip, NoValues, Collect, Apply, NoPieces, AddPiece, AddRepeated, MakeArray, PartAt, PartAt2, PartField, Member, Spot as spot_instruction, At, At2, Field, Load, ToCall, PassValue, PassVar, PassRes, Invoke, Take, StoreResults, Default, EnsureGlobal, Create, TakeInstance, NoReadings, AddReading, ReadNext, StoreRead, NumberRead, EndRead, Jump, FixedShape, StringShape, OneDimension, TwoDimensions, Make, MakeLike, StoreIn, Arguments, MakeFormal, StoreFormal, DropList, DropValue, Send, Forward, Store, LoadAgain, LoadSecond, StoreSecond, Write, Number, Stop, Destroy, TakeDone, ToWait, Age, Wake, Reply, Tick, JumpUnless, Again, Quantify, Each, DropNumbers, ToCount, Repeat, AddNamed, Select, OpenService, EndService, OpenCo, StartCall, CountOuts, TakeReply, SetTurn, GiveBack, StoreValue, CloseCo}
 use Rattle.sr_code.specs.declared.operands.Call.{Call}
 use Rattle.sr_code.specs.declared.operands.Operands.{Operands}
-use Rattle.sr_execute.specs.Executes.{begun, Began, Went, Waits, Moved, completing, declared, default_found, each_begun, end_found, forwards, holding, led, loads, makes, marked, moved, moved_to, named_found, own_value, puts, reads, repeat_begun, replies, settled, started, stores, stores_if, stores_item, stores_some, storing, storing_one, takes_reply, ticking, vars_set, waits, went, went_to, with_own}
+use Rattle.sr_frame.specs.Variables.{own_value, vars_set}
+use Rattle.sr_execute.specs.Executes.{begun, Began, Went, Waits, Moved, completing, declared, default_found, each_begun, end_found, forwards, holding, led, loads, makes, marked, moved, moved_to, named_found, puts, reads, repeat_begun, replies, settled, started, stores, stores_if, stores_item, stores_some, storing, storing_one, takes_reply, ticking, waits, went, went_to, with_own}
 use Rattle.sr_execute.specs.Meant.{InstructionsAreCarriedOut, stage_of, heard_by, waiting, from_begun, resumes}
 use Rattle.sr_execute.specs.declared.frame.Frame.{Frame}
 
@@ -147,7 +148,7 @@ if_meant (Some place) value next on frame here resume answers e = stores_meant p
 
 item_meant : (targets : List ReadTarget) (value : Value) (next : ℕ) (on : Operands) (frame : Frame) (here : Here) (resume : Frame → Answer → Option Moved) (answers : List Answer)
     → ((answer : Answer) → resume (holding on frame) answer ≡ led (done answer) (λ _. moved next on frame))
-    → and_then (store_item targets value here (stage_of frame answers)) (λ _. goes next on) ≡ from_begun (stores_item targets value next on frame) resume here answers
+    → and_then (store_item targets value here (stage_of frame answers)) (λ _. goes next on) ≡ from_begun (stores_item (first targets) value next on frame) resume here answers
 item_meant [] value next on frame here resume answers e = refl
 item_meant (target ∷ targets) value next on frame here resume answers e = stores_meant target.place.spot target.place.path value next on frame here resume answers e
 

@@ -18,6 +18,7 @@ use Rattle.sr_ask.specs.Invocations.{value_after, instance_in}
 use Rattle.sr_ask.specs.Places.{nothing, own_at, own_after, whole}
 use Rattle.sr_ask.specs.Replies.{Completion, gives_now, took_one}
 use Rattle.sr_ask.specs.declared.environment.Located.{Located}
+use Rattle.sr_ask.specs.declared.environment.Out.{Out}
 use Rattle.sr_ask.specs.declared.environment.Own.{Own}
 use Rattle.sr_ask.specs.declared.environment.ReadTarget.{ReadTarget}
 use Rattle.sr_ask.specs.declared.environment.Spot.{Spot}
@@ -32,6 +33,7 @@ use Rattle.sr_core.specs.declared.site.Named.{Named}
 use Rattle.sr_core.specs.declared.site.Named.TheVariants.{Own as named_own, Home as named_home, Machine as named_machine}
 use Rattle.sr_code.specs.Acts.{Point, and_skip, or_skip, after_reply, after_item, string_of_length, unless, time_to_wait, until_moment, number_own, after_choice, service_of, number_held, place_if, drop_place_if, still_out, given_back, second_place}
 use Rattle.sr_code.specs.Operands.{value_on, drop_value, put_value, number_on, drop_number, put_number, cap_on, drop_cap, put_cap, name_on, drop_name, put_name, place_on, drop_place, put_place, join_sel, shape_on, drop_shape, put_shape, list_on, drop_list, put_list, join_value, pieces_on, drop_pieces, put_pieces, join_piece, call_of, call_on, drop_call, put_call, join_argument, join_place, targets_on, drop_targets, put_targets, no_reading, reading_on, drop_reading, put_reading, join_target, one_read, numbers_on, drop_numbers, put_numbers, count_on, drop_count, put_count, pick_on, drop_pick, put_pick, service_on, drop_service, put_service, outs_on, drop_outs, put_outs, completed_on, drop_completed, put_completed}
+use Rattle.sr_code.specs.Stacks.{first}
 use Rattle.sr_code.specs.Owners.{home_at, owner_in, root_in, variable_in, kind_asked}
 use Rattle.sr_code.specs.declared.instruction.Instruction.{Instruction}
 use Rattle.sr_code.specs.declared.instruction.Instruction.TheVariants.{Constant, Operation, MyResource, MyMachine, Count, MakeMachine, Moment, ToNumber, ToCap, OperateOne, Operate, AndSkip, OrSkip, NoValues, Collect, Apply, NoPieces, AddPiece, AddRepeated, MakeArray, PartAt, PartAt2, PartField, Member, Spot as spot_instruction, At, At2, Field, Load, ToCall, PassValue, PassVar, PassRes, Invoke, Take, StoreResults, Default, EnsureGlobal, Create, TakeInstance, NoReadings, AddReading, ReadNext, StoreRead, NumberRead, EndRead, Jump, FixedShape, StringShape, OneDimension, TwoDimensions, Make, MakeLike, StoreIn, Arguments, MakeFormal, StoreFormal, DropList, DropValue, Send, Forward, Store, LoadAgain, LoadSecond, StoreSecond, Write, Number, Stop, Destroy, TakeDone, ToWait, Age, Wake, Reply, Tick, JumpUnless, Again, Quantify, Each, DropNumbers, ToCount, Repeat, AddNamed, Select, OpenService, EndService, OpenCo, StartCall, CountOuts, TakeReply, SetTurn, GiveBack, StoreValue, CloseCo}
@@ -125,9 +127,9 @@ abbrev pub reads : List ReadTarget → ℕ → Operands → Frame → Began
 reads [] next on frame = went next on frame
 reads (target ∷ targets) next on frame = waits (read_request target.kind) on frame
 
-abbrev pub stores_item : List ReadTarget → Value → ℕ → Operands → Frame → Began
-stores_item [] value next on frame = went next on frame
-stores_item (target ∷ targets) value next on frame = stores target.place.spot target.place.path value next on frame
+abbrev pub stores_item : Option ReadTarget → Value → ℕ → Operands → Frame → Began
+stores_item None value next on frame = went next on frame
+stores_item (Some target) value next on frame = stores target.place.spot target.place.path value next on frame
 
 abbrev pub end_found : ℕ → Result Value Fault
 end_found zero = Ok (Int (negsuc 0))
@@ -232,7 +234,7 @@ begun names NoReadings here next on frame = went next (put_reading no_reading on
 begun names (AddReading kind) here next on frame =
     went next (join_target (record { kind = kind_asked kind; place = place_on on }) (drop_place on)) frame
 begun names (ReadNext store end) here next on frame = reads (reading_on on).targets next on frame
-begun names StoreRead here next on frame = stores_item (reading_on on).targets (value_on on) next (one_read (drop_value on)) frame
+begun names StoreRead here next on frame = stores_item (first (reading_on on).targets) (value_on on) next (one_read (drop_value on)) frame
 begun names NumberRead here next on frame = puts (int_result (pos (reading_on on).count)) next (drop_reading on) frame
 begun names EndRead here next on frame = puts (end_found (reading_on on).count) next (drop_reading on) frame
 begun names (Jump to) here next on frame = went (min to next) on frame
@@ -319,18 +321,20 @@ abbrev pub led : {A : Type 0} → Option A → (A → Moved) → Option Moved
 led None next = None
 led (Some a) next = Some (next a)
 
+-- one invocation more is out
+abbrev pub with_out : Out → Frame → Frame
+with_out out frame = record frame { out = frame.out ++ out ∷ [] }
+
 -- an invocation of a `co` was made
 abbrev pub started : ℕ → ℕ → List ℕ → Bool → ℕ → Operands → Frame → Moved
 started id arm vars has_place next on frame =
-    moved next (drop_place_if has_place (drop_targets on)) (record frame {
-      out = frame.out ++ record {
-        id = id;
-        arm = arm;
-        place = place_if has_place on;
-        backs = targets_on on;
-        turn = map (λ var. number_held frame.own var) vars;
-      } ∷ [];
-    })
+    moved next (drop_place_if has_place (drop_targets on)) (with_out (record {
+      id = id;
+      arm = arm;
+      place = place_if has_place on;
+      backs = targets_on on;
+      turn = map (λ var. number_held frame.own var) vars;
+    }) frame)
 
 -- a reply of a `co` goes to its arm; where there is none, the next reply is taken
 abbrev pub completing : Option ℕ → Completion → ℕ → Operands → Frame → Moved

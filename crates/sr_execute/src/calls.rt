@@ -1,4 +1,4 @@
-ghost use Rattle.std.specs.Prelude.{◌≡◌, ◌∷◌, [], OnOk, true};
+ghost use Rattle.std.specs.Prelude.{◌≡◌, ◌++◌, ◌∷◌, [], OnOk, true};
 ghost use Rattle.sr_ask.specs.declared.request.Request.TheVariants as request;
 ghost use Rattle.sr_code.specs.Operands.{cap_on, call_on, drop_call, join_argument, join_place, name_on, put_targets};
 ghost use Rattle.sr_frame.specs.Scenes.{here_of};
@@ -70,6 +70,16 @@ pub fn pass_res(scene: &Scene, frame: &mut Frame, next: usize) -> Result<Step, N
     Ok(Step::Goes(next))
 }
 
+fn add_both(call: &mut Call, value: Value, place: Located) -> Result<(), NoMemory>
+    ensures target { OnOk result (call.new.target ≡ call.old.target) }
+    ensures values { OnOk result (call.new.values ≡ call.old.values ++ value ∷ []) }
+    ensures places { OnOk result (call.new.places ≡ call.old.places ++ place ∷ []) }
+{
+    call.values.push(value)?;
+    call.places.push(place)?;
+    Ok(())
+}
+
 /// A value joins the call as an argument, and a place for the result.
 pub fn pass_both(
     alloc: Global,
@@ -80,8 +90,7 @@ pub fn pass_both(
     ensures { OnOk result (operands.new ≡ join_place place (join_argument value operands.old)) }
 {
     let mut call = take_call(alloc, operands);
-    call.values.push(value)?;
-    call.places.push(place)?;
+    add_both(&mut call, value, place)?;
     operands.calls.push(call)?;
     Ok(())
 }
@@ -94,7 +103,7 @@ pub fn pass_var(scene: &Scene, frame: &mut Frame, next: usize) -> Result<Step, N
     match place.spot {
         Spot::Own(var) => match own_value(scene.alloc, &frame.own, var, &place.path) {
             Ok(value) => {
-                let place = take_place(scene.alloc, &mut frame.operands);
+                let _ = frame.operands.places.pop();
                 pass_both(scene.alloc, &mut frame.operands, value, place)?;
                 Ok(Step::Goes(next))
             }

@@ -1,8 +1,8 @@
-ghost use Rattle.std.specs.Prelude.{◌≡◌, ◌+◌, ◌<◌, ◌^◌};
+ghost use Rattle.std.specs.Prelude.{◌≡◌, ◌∷◌, ◌+◌, ◌<◌, ◌^◌, OnOk, Some};
 ghost use Rattle.sr_code.specs.Operands.{count_on};
 ghost use Rattle.sr_execute.specs.Replies.{IsFirstOut, completed_at, no_completed};
 ghost use Rattle.sr_frame.specs.Scenes.{here_of};
-ghost use Rattle.sr_execute.specs.Executes.{Does, Leads, begun};
+ghost use Rattle.sr_execute.specs.Executes.{Does, Leads, begun, moved, with_out};
 ghost use Rattle.sr_execute.specs.Meant.{resumes};
 ghost use Rattle.sr_code.specs.declared.instruction.Instruction.TheVariants as instruction;
 
@@ -11,8 +11,8 @@ use crate::places::take_place;
 use crate::step::Step;
 use crate::tops::top_or;
 use crate::variables::store_at;
-use sr_ask::{Answer, Out, Request};
-use sr_code::Completed;
+use sr_ask::{Answer, Located, Out, Request};
+use sr_code::{Completed, Stack};
 use sr_frame::{Scene, arm_of, ids_out, made, place_out, set_vars, turn_held};
 use sr_value::{Duplicate, NoMemory, Row, Value};
 use std::alloc::Global;
@@ -115,6 +115,22 @@ pub fn set_turn(
     Ok(Step::Goes(next))
 }
 
+/// Copies of results and of the places that they go to.
+fn put_results(
+    alloc: Global,
+    targets: &mut Stack<Row<Located>>,
+    lists: &mut Stack<Row<Value>>,
+    backs: &Row<Located>,
+    results: &Row<Value>,
+) -> Result<(), NoMemory>
+    ensures targets { OnOk result (targets.new ≡ backs.now ∷ targets.old) }
+    ensures lists { OnOk result (lists.new ≡ results.now ∷ lists.old) }
+{
+    targets.push(backs.copy(alloc)?)?;
+    lists.push(results.copy(alloc)?)?;
+    Ok(())
+}
+
 /// The results of the reply become a list.
 pub fn give_back(
     scene: &Scene,
@@ -129,10 +145,13 @@ pub fn give_back(
     match &completed.results {
         None => Ok(Step::Goes(none.min(next))),
         Some(results) => {
-            let places = completed.out.backs.copy(scene.alloc)?;
-            let results = results.copy(scene.alloc)?;
-            frame.operands.targets.push(places)?;
-            frame.operands.lists.push(results)?;
+            put_results(
+                scene.alloc,
+                &mut frame.operands.targets,
+                &mut frame.operands.lists,
+                &completed.out.backs,
+                results,
+            )?;
             Ok(Step::Goes(next))
         }
     }
@@ -144,6 +163,14 @@ pub struct Arm<'a> {
     pub arm: u32,
     pub vars: &'a [u32],
     pub has_place: bool,
+}
+
+/// One invocation more is out.
+fn push_out(frame: &mut Frame, out: Out, next: usize) -> Result<Option<usize>, NoMemory>
+    ensures { Leads result frame.old frame.new (Some (moved next frame.old.operands (with_out out frame.old))) }
+{
+    frame.out.push(out)?;
+    Ok(Some(next))
 }
 
 /// An invocation of a `co` was made.
@@ -159,21 +186,35 @@ pub fn start_made(
     let Some(id) = made(answer) else {
         return Ok(None);
     };
+    let arm = noted.arm;
     let turn = turn_held(alloc, &frame.own, noted.vars)?;
     let backs = frame.operands.targets.take(Row::new(alloc));
-    let place = if noted.has_place {
-        Some(take_place(alloc, &mut frame.operands))
+    if noted.has_place {
+        let place = Some(take_place(alloc, &mut frame.operands));
+        push_out(
+            frame,
+            Out {
+                id,
+                arm,
+                place,
+                backs,
+                turn,
+            },
+            next,
+        )
     } else {
-        None
-    };
-    frame.out.push(Out {
-        id,
-        arm: noted.arm,
-        place,
-        backs,
-        turn,
-    })?;
-    Ok(Some(next))
+        push_out(
+            frame,
+            Out {
+                id,
+                arm,
+                place: None,
+                backs,
+                turn,
+            },
+            next,
+        )
+    }
 }
 
 /// A reply of a `co` goes to its arm.

@@ -1,5 +1,6 @@
-ghost use Rattle.std.specs.Prelude.{◌≡◌};
-ghost use Rattle.sr_code.specs.Operands.{drop_reading, no_reading, reading_on};
+ghost use Rattle.std.specs.Prelude.{◌≡◌, IfOk, OnOk};
+ghost use Rattle.sr_code.specs.Operands.{drop_reading, no_reading, one_read, reading_on};
+ghost use Rattle.sr_code.specs.Stacks.{first};
 ghost use Rattle.sr_code.specs.Owners.{kind_asked};
 ghost use Rattle.sr_frame.specs.Scenes.{here_of};
 ghost use Rattle.sr_execute.specs.Executes.{Does, begun};
@@ -91,20 +92,28 @@ pub fn read_next(
     }
 }
 
-/// Stores an item in the next place of the `read`.
-pub fn store_read(scene: &Scene, frame: &mut Frame, next: usize) -> Result<Step, NoMemory>
-    ensures { Does result frame.new (begun scene.now.names.now instruction.StoreRead (here_of scene.now) next frame.old.operands frame.old) }
+/// Takes the next place of the `read`, for which an item came.
+fn take_target(alloc: Global, operands: &mut Operands) -> Result<Option<ReadTarget>, NoMemory>
+    ensures next { IfOk result (λ target. target ≡ first (reading_on operands.old).targets) }
+    ensures others { OnOk result (operands.new ≡ one_read operands.old) }
 {
-    let Reading { mut targets, count } = take_reading(scene.alloc, &mut frame.operands);
+    let Reading { mut targets, count } = take_reading(alloc, operands);
     let first = take_first(&mut targets);
     let Some(count) = count.checked_add(1) else {
         return Err(NoMemory);
     };
-    frame.operands.readings.push(Reading { targets, count })?;
+    operands.readings.push(Reading { targets, count })?;
+    Ok(first)
+}
+
+/// Stores an item in the next place of the `read`.
+pub fn store_read(scene: &Scene, frame: &mut Frame, next: usize) -> Result<Step, NoMemory>
+    ensures { Does result frame.new (begun scene.now.names.now instruction.StoreRead (here_of scene.now) next frame.old.operands frame.old) }
+{
     let value = frame.operands.values.take(Value::Bool(false));
-    match first {
+    match take_target(scene.alloc, &mut frame.operands)? {
         None => Ok(Step::Goes(next)),
-        Some(target) => store_at(frame, target.place.spot, target.place.path, value, next),
+        Some(ReadTarget { place, .. }) => store_at(frame, place.spot, place.path, value, next),
     }
 }
 

@@ -1,3 +1,8 @@
+ghost use Rattle.std.specs.Prelude.{◌≡◌};
+ghost use Rattle.sr_value.specs.Operators.{Answers};
+ghost use Rattle.sr_core.specs.Formals.{sent_after, sent_to};
+ghost use Rattle.sr_core.specs.Values.{formal_shape};
+ghost use Rattle.sr_code.specs.Operands.{list_on};
 ghost use Rattle.sr_frame.specs.Scenes.{here_of};
 ghost use Rattle.sr_execute.specs.Executes.{Does, begun};
 ghost use Rattle.sr_code.specs.declared.instruction.Instruction.TheVariants as instruction;
@@ -8,19 +13,22 @@ use crate::putting::put_shape;
 use crate::step::Step;
 use crate::tops::top_or;
 use crate::variables::{make_at, store_at};
+use sr_code::Operands;
 use sr_core::{FormalShape, Mode, Scope, formal_shape, sent_to};
 use sr_frame::{Scene, bounded_by, take_first};
 use sr_value::{Boxed, Dims, Fault, NoMemory, Row, Shape, Value, ValueFail};
+use std::alloc::Global;
 
 /// A number becomes the shape of strings of that length.
 pub fn string_shape(scene: &Scene, frame: &mut Frame, next: usize) -> Result<Step, NoMemory>
     ensures { Does result frame.new (begun scene.now.names.now instruction.StringShape (here_of scene.now) next frame.old.operands frame.old) }
 {
     let number = frame.operands.numbers.take(0);
-    match u32::try_from(number) {
-        Ok(most) => put_shape(frame, Shape::Str { most }, next),
-        Err(_) => Ok(Step::Faults(Fault::Range)),
+    if number < 0 {
+        return Ok(Step::Faults(Fault::Range));
     }
+    let most = number as u32;
+    put_shape(frame, Shape::Str { most }, next)
 }
 
 /// A shape becomes that of arrays of one dimension.
@@ -109,6 +117,20 @@ pub fn store_in(
     )
 }
 
+/// The type of a formal, by the next of the list.
+fn formal_found(
+    alloc: Global,
+    operands: &Operands,
+    mode: Mode,
+    shape: &FormalShape,
+) -> Result<Shape, ValueFail>
+    ensures { Answers result (formal_shape shape.now (sent_to mode (list_on operands.now))) }
+{
+    let none = Row::new(alloc);
+    let args = top_or(&operands.lists, &none).as_slice();
+    formal_shape(alloc, shape, sent_to(mode, args))
+}
+
 /// Makes a formal, whose argument is the next of the list.
 pub fn make_formal(
     scene: &Scene,
@@ -121,9 +143,7 @@ pub fn make_formal(
 ) -> Result<Step, NoMemory>
     ensures { Does result frame.new (begun scene.now.names.now (instruction.MakeFormal scope var mode shape.now) (here_of scene.now) next frame.old.operands frame.old) }
 {
-    let none = Row::new(scene.alloc);
-    let args = top_or(&frame.operands.lists, &none).as_slice();
-    match formal_shape(scene.alloc, shape, sent_to(mode, args)) {
+    match formal_found(scene.alloc, &frame.operands, mode, shape) {
         Ok(found) => make_at(
             scene.alloc,
             frame,
@@ -133,6 +153,18 @@ pub fn make_formal(
         ),
         Err(ValueFail::Fault(fault)) => Ok(Step::Faults(fault)),
         Err(ValueFail::NoMemory) => Err(NoMemory),
+    }
+}
+
+/// Takes what a formal is sent, where it is sent something.
+fn take_sent(mode: Mode, args: &mut Row<Value>) -> Option<Value>
+    ensures sent { result ≡ sent_to mode args.old }
+    ensures others { args.new ≡ sent_after mode args.old }
+{
+    match mode {
+        Mode::Val => take_first(args),
+        Mode::Var => take_first(args),
+        Mode::Res => None,
     }
 }
 
@@ -148,12 +180,9 @@ pub fn store_formal(
     ensures { Does result frame.new (begun scene.now.names.now (instruction.StoreFormal scope var mode) (here_of scene.now) next frame.old.operands frame.old) }
 {
     let mut args = frame.operands.lists.take(Row::new(scene.alloc));
-    let first = match mode {
-        Mode::Res => None,
-        _ => take_first(&mut args),
-    };
+    let sent = take_sent(mode, &mut args);
     frame.operands.lists.push(args)?;
-    match first {
+    match sent {
         None => Ok(Step::Goes(next)),
         Some(value) => store_at(
             frame,

@@ -1,4 +1,5 @@
-ghost use Rattle.std.specs.Prelude.{◌≡◌};
+ghost use Rattle.std.specs.Prelude.{◌≡◌, ◌∷◌, [], MatchOption};
+ghost use Rattle.sr_code.specs.Stacks.{below, first_or};
 ghost use Rattle.sr_code.specs.Operands.{number_on};
 ghost use Rattle.sr_frame.specs.Scenes.{here_of};
 ghost use Rattle.sr_execute.specs.Executes.{Does, begun, ticking, went};
@@ -8,8 +9,9 @@ use crate::frame::Frame;
 use crate::step::Step;
 use crate::tops::top_or;
 use sr_ask::Request;
+use sr_code::{Numbers, Stack};
 use sr_core::Direction;
-use sr_frame::Scene;
+use sr_frame::{Scene, number_own, set_own};
 use sr_value::{Fault, NoMemory};
 
 /// One statement begun, where a tick is left.
@@ -66,7 +68,26 @@ pub fn quantify(
 ) -> Result<Step, NoMemory>
     ensures { Does result frame.new (begun scene.now.names.now (instruction.Quantify direction) (here_of scene.now) next frame.old.operands frame.old) }
 {
-    Err(NoMemory)
+    let by = frame.operands.numbers.take(0);
+    let to = frame.operands.numbers.take(0);
+    let from = frame.operands.numbers.take(0);
+    match Numbers::new(direction, from, to, by) {
+        Ok(numbers) => {
+            frame.operands.loops.push(numbers)?;
+            Ok(Step::Goes(next))
+        }
+        Err(fault) => Ok(Step::Faults(fault)),
+    }
+}
+
+/// The next value of a quantifier, and what is left of it.
+fn next_number(loops: &mut Stack<Numbers>) -> Option<(i32, Numbers)>
+    ensures next { MatchOption result (first_or [] loops.old ≡ []) (λ found. first_or [] loops.old ≡ found.0 ∷ found.1) }
+    ensures others { loops.new ≡ below loops.old }
+{
+    let mut numbers = loops.pop()?;
+    let number = numbers.next()?;
+    Some((number, numbers))
 }
 
 /// The variable of a quantifier gets its next value, where one is left.
@@ -79,5 +100,14 @@ pub fn each(
 ) -> Result<Step, NoMemory>
     ensures { Does result frame.new (begun scene.now.names.now (instruction.Each var head) (here_of scene.now) next frame.old.operands frame.old) }
 {
-    Err(NoMemory)
+    let Some((number, rest)) = next_number(&mut frame.operands.loops) else {
+        return Ok(Step::Goes(next));
+    };
+    if frame.ticks == 0 {
+        return Ok(Step::OverTicks);
+    }
+    frame.ticks -= 1;
+    set_own(&mut frame.own, var, number_own(number));
+    frame.operands.loops.push(rest)?;
+    Ok(Step::Goes(head))
 }
