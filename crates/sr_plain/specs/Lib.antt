@@ -1,0 +1,5 @@
+pub mod Carrying
+pub mod Crew
+pub mod Engine
+pub mod Leaving
+pub mod Turns
