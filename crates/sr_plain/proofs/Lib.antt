@@ -6,5 +6,6 @@ pub mod LeaveLemmas
 pub mod LedLemmas
 pub mod MemberLemmas
 pub mod RestLemmas
+pub mod RotationLemmas
 pub mod TurnLemmas
 pub mod WalkLemmas

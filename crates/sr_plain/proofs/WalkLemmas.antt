@@ -111,7 +111,7 @@ module _ {X : Type 0} where
   all-taken (x ∷ xs) (suc n) is = ap (λ ys. x ∷ ys) (all-taken xs n (omega arith))
 
   pub rest_of_list : (xs : List X) (k : ℕ) → take (length xs - k) (drop k xs) ≡ drop k xs
-  rest_of_list [] zero = none-taken _ [] refl
-  rest_of_list [] (suc k) = none-taken _ [] refl
-  rest_of_list (x ∷ xs) zero = all-taken (x ∷ xs) _ (omega arith)
+  rest_of_list [] zero = none-taken (length {A = X} [] - 0) [] refl
+  rest_of_list [] (suc k) = none-taken (length {A = X} [] - suc k) [] refl
+  rest_of_list (x ∷ xs) zero = all-taken (x ∷ xs) (length (x ∷ xs) - 0) (omega arith)
   rest_of_list (x ∷ xs) (suc k) = let same : length (x ∷ xs) - suc k ≡ length xs - k = omega arith in ap (λ n. take n (drop k xs)) same ∙ rest_of_list xs k

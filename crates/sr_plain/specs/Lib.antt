@@ -2,4 +2,5 @@ pub mod Carrying
 pub mod Crew
 pub mod Engine
 pub mod Leaving
+pub mod Rotation
 pub mod Turns
