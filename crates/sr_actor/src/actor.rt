@@ -30,10 +30,10 @@ pub trait Actor: Drop {
     fn start(alloc: Global, start: &Start, ticks: u32) -> Result<Self, NoMemory>
         ensures { IfOk result (λ actor. (program : Self.Program) (more : List answers.Answer) → asks_after program actor more ≡ ask (core_of program) start.now ticks more) };
 
-    /// What it asks next. Asked again without an answer it says the same.
+    /// What it asks next. Asked again without an answer it says the same. After an error nothing is known of it.
     fn next(&mut self, program: &Self::Program) -> Result<Asks, NoMemory>
         ensures asks { IfOk result (λ asks. asks ≡ asks_after program.now self.old []) }
-        ensures same { (more : List answers.Answer) → asks_after program.now self.new more ≡ asks_after program.now self.old more }
+        ensures same { OnOk result ((more : List answers.Answer) → asks_after program.now self.new more ≡ asks_after program.now self.old more) }
         ensures asked { OnOk result (can_feed self.new) };
 
     /// Answers what it asked. It takes no memory.

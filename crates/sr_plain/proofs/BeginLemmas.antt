@@ -42,6 +42,10 @@ pub on_ok : {B E : Type 0} {P Q : Type 0} (r : Result B E) → (P → Q) → OnO
 on_ok (Ok b) f h = f h
 on_ok (Err e) f h = h
 
+pub on_both : {B E : Type 0} {P Q R : Type 0} (r : Result B E) → (P → Q → R) → OnOk r P → OnOk r Q → OnOk r R
+on_both (Ok b) f p q = f p q
+on_both (Err e) f p q = p
+
 module _ {A P : Type 0} (after : P → A → List Answer → Asks) (core_of : P → Core) (start : Start) (limit : ℕ) (old new : List (Member A)) (none : member_of old start.process ≡ None) where
   pub begun_place : (r : Result ℕ NoMemory) → IfOk r (λ at. at ≡ length old) → OnOk r (HasBegun after core_of start limit old new) → IfOk r (λ at. IsPlace start.process new at × (at < length new))
   begun_place (Ok at) place begun =

@@ -30,8 +30,17 @@ use Rattle.sr_plain.proofs.LedLemmas.{place-started}
 use Rattle.sr_plain.proofs.WalkLemmas.{all_blocked, found_first, found_second, none_here, one_here, rest_of_list}
 
 module _ {A : Type 0} (after : A → List Answer → Asks) (can_feed : A → Type 0) (core : Core) (limit : ℕ) (state : State) (events : List Event) where
-  pub kept_engine : (plain : Plain A) (w' : World) → IsEngine after can_feed core limit state events plain → w' ≡ plain.world → IsEngine after can_feed core limit state events (record plain { world = w' })
-  kept_engine plain w' engine same = record { world = same ∙ engine.world; ticks = engine.ticks; last = engine.last; stands = engine.stands }
+  -- ---- what a call answered
+
+  module _ (whose : Option Start) where
+    pub steps_err : (r : Result Plainly NoMemory) (e : NoMemory) (plain : Plain A) → r ≡ Err e → plain.world ≡ state.world → Steps after can_feed core limit state events whose r plain
+    steps_err r e plain is same = subst (λ (x : Result Plainly NoMemory). Steps after can_feed core limit state events whose x plain) (sym is) same
+
+    pub tries_err : (r : Result (Option Plainly) NoMemory) (e : NoMemory) (plain : Plain A) → r ≡ Err e → plain.world ≡ state.world → Tries after can_feed core limit state events whose r plain
+    tries_err r e plain is same = subst (λ (x : Result (Option Plainly) NoMemory). Tries after can_feed core limit state events whose x plain) (sym is) same
+
+    pub tries_as : (o o' : Option Plainly) (plain : Plain A) → o ≡ o' → Tries after can_feed core limit state events whose (Ok o) plain → Tries after can_feed core limit state events whose (Ok o') plain
+    tries_as o o' plain is = subst (λ (x : Option Plainly). Tries after can_feed core limit state events whose (Ok x) plain) is
 
   -- ---- a member
 

@@ -40,6 +40,27 @@ at-rest core name w = by (main_instance core w)
     by None = tt
     by (Some m) = closing m (may_close core m) _ _ _
 
+-- nothing that comes to rest waits
+pub never_cannot : (core : Core) (name : ℕ) (w w' : World) → Acts (quiesce core name w) w w' (Ok acted.Cannot) → ⊥
+never_cannot core name w w' acts = by (quiesce core name w) (at-rest core name w) acts
+  where
+    by : (d : Does) → AtRest d → Acts d w w' (Ok acted.Cannot) → ⊥
+    by (Did x a) rest h = h
+    by (Makes x a) rest h = h
+    by Cannot rest h = rest
+    by (Ends ending) rest h = h
+    by Undecided rest h = h
+
+pub never_undecided : (core : Core) (name : ℕ) (w w' : World) → Acts (quiesce core name w) w w' (Ok acted.Undecided) → ⊥
+never_undecided core name w w' acts = by (quiesce core name w) (at-rest core name w) acts
+  where
+    by : (d : Does) → AtRest d → Acts d w w' (Ok acted.Undecided) → ⊥
+    by (Did x a) rest h = h
+    by (Makes x a) rest h = h
+    by Cannot rest h = h
+    by (Ends ending) rest h = h
+    by Undecided rest h = rest
+
 -- an end doesn't depend on the number
 ends-any : (core : Core) (name other : ℕ) (w : World) (ending : End) → quiesce core name w ≡ Ends ending → quiesce core other w ≡ Ends ending
 ends-any core name other w ending is = by (main_instance core w) is

@@ -1,7 +1,8 @@
 -- Events whose items are made in turn, and input in pieces.
-use Rattle.std.proofs.Common.{◌≡◌, ℕ, not, Bool, true, false, cond, List, [], ◌∷◌, ◌++◌, Option, Some, refl, ap, sym, ◌∙◌, subst, true≢false, append_assoc}
+use Rattle.std.proofs.Common.{◌≡◌, ℕ, zero, suc, not, Bool, true, false, cond, List, [], ◌∷◌, ◌++◌, Option, None, Some, refl, ap, sym, ◌∙◌, subst, true≢false, append_assoc}
 use Rattle.std.specs.Prelude.{find, fold}
 use Rattle.sr_ask.specs.declared.item.Item.{Item}
+use Rattle.sr_ask.specs.declared.item.Item.TheVariants.{Step, Quiesce}
 use Rattle.sr_ask.specs.declared.start.Start.{Start}
 use Rattle.sr_core.specs.declared.component.Core.{Core}
 use Rattle.sr_world.specs.Runs.{Event, Makes_item, Gives, Closes, Next, Goes, Over, Illegal, State, after, after_event, asks_next, bytes_in, first, is_legal, items_in, next, where_true, with_input, without_more}
@@ -11,7 +12,7 @@ use Rattle.sr_runs.proofs.RunLemmas.{illegal-after, sound-first, sound-input, so
 use Rattle.sr_runs.specs.Laws.{closes, next_with_all, with_all, with_all_in}
 use Rattle.sr_plain.specs.Engine.{last_by}
 use Rattle.sr_plain.specs.Rotation.{GoOnInTurn, InTurnIsRotation, IsInTurn, OneMoreInTurn}
-use Rattle.sr_plain.specs.Turns.{IsTurn, Rotates, last_after, takes_turn, turn, walk}
+use Rattle.sr_plain.specs.Turns.{IsName, IsTurn, Rotates, last_after, takes_turn, turn, walk}
 
 module _ (core : Core) (limit : ℕ) where
   -- ---- one more event
@@ -43,8 +44,18 @@ module _ (core : Core) (limit : ℕ) where
     same-turn : (last : ℕ) → turn core limit (with_all_in bytes state) last ≡ turn core limit state last
     same-turn last = same-find (walk state.world last)
 
+    name-with-all : (name : ℕ) → IsName state.world name → IsName (with_all bytes state.world) name
+    name-with-all zero here = here
+    name-with-all (suc n) here = here
+
+    same-names : (t : Option Start) (item : Item) → IsTurn t state.world item → IsTurn t (with_all bytes state.world) item
+    same-names (Some s) (Step actor name) here = (here.0, name-with-all name here.1)
+    same-names (Some s) (Quiesce name) here = absurd here
+    same-names None (Step actor name) here = absurd here
+    same-names None (Quiesce name) here = name-with-all name here
+
     turn-with-all : (last : ℕ) (item : Item) → IsTurn (turn core limit state last) state.world item → IsTurn (turn core limit (with_all_in bytes state) last) (with_all bytes state.world) item
-    turn-with-all last item here = subst (λ t. IsTurn t state.world item) (sym (same-turn last)) here
+    turn-with-all last item here = subst (λ t. IsTurn t (with_all bytes state.world) item) (sym (same-turn last)) (same-names (turn core limit state last) item here)
 
   -- ---- along events
 

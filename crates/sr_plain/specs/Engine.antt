@@ -103,13 +103,13 @@ module _ {A : Type 0} (after : A → List Answer → Asks) (can_feed : A → Typ
   Comes (Over process) plain = IsOver core limit state process turn × IsEngine after can_feed core limit state events plain
   Comes (Ended item ending) plain = IsLast core limit state turn item ending × IsEngine after can_feed core limit state events plain
 
-  -- what comes of whose turn it is; after want of memory all is as before
+  -- what comes of whose turn it is; once memory has run out, only the world is as before
   abbrev pub Steps : Result Plainly NoMemory → Plain A → Type 0
   Steps (Ok plainly) plain = Comes plainly plain
-  Steps (Err out_of_memory) plain = IsEngine after can_feed core limit state events plain
+  Steps (Err out_of_memory) plain = plain.world ≡ state.world
 
   -- the same of some processes, where nobody among them may take a turn
   abbrev pub Tries : Result (Option Plainly) NoMemory → Plain A → Type 0
   Tries (Ok (Some plainly)) plain = IsSome turn × Comes plainly plain
   Tries (Ok None) plain = (turn ≡ None) × IsEngine after can_feed core limit state events plain
-  Tries (Err out_of_memory) plain = IsEngine after can_feed core limit state events plain
+  Tries (Err out_of_memory) plain = plain.world ≡ state.world

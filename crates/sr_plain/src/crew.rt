@@ -61,7 +61,7 @@ fn look_at<A: Actor>(
     at: usize,
 ) -> Result<(), NoMemory>
     requires { at < length crew.old }
-    ensures looks { (process : ℕ) (meant : List answers.Answer → asking.Asks) → IsPlace process crew.old at → Looks (A.asks_after program.now) A.can_feed meant process crew.old crew.new }
+    ensures looks { OnOk result ((process : ℕ) (meant : List answers.Answer → asking.Asks) → IsPlace process crew.old at → Looks (A.asks_after program.now) A.can_feed meant process crew.old crew.new) }
     ensures asking { OnOk result ((process : ℕ) → IsPlace process crew.old at → IsAsking process crew.new at) }
 {
     crew.at_mut(at).look(program)
@@ -75,7 +75,7 @@ pub(crate) fn look<A: Actor>(
     start: &Start,
     ticks: u32,
 ) -> Result<usize, NoMemory>
-    ensures looks { Looks (A.asks_after program.now) A.can_feed (ask (A.core_of program.now) start.now ticks) start.now.process crew.old crew.new }
+    ensures looks { OnOk result (Looks (A.asks_after program.now) A.can_feed (ask (A.core_of program.now) start.now ticks) start.now.process crew.old crew.new) }
     ensures asking { IfOk result (IsAsking start.now.process crew.new) }
 {
     let at = place_for(crew, alloc, start, ticks)?;

@@ -14,9 +14,9 @@ pub struct Member<A> {
 }
 
 impl<A: Actor> Member<A> {
-    /// Has the process ask, unless what it asks is known.
+    /// Has the process ask, unless what it asks is known. After an error nothing is known of it.
     pub(crate) fn look(&mut self, program: &A::Program) -> Result<(), NoMemory>
-        ensures same { IsSame (A.asks_after program.now) A.can_feed self.old self.new }
+        ensures same { OnOk result (IsSame (A.asks_after program.now) A.can_feed self.old self.new) }
         ensures known { OnOk result (IsSome self.new.asks) }
     {
         if self.asks.is_none() {

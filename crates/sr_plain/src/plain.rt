@@ -67,7 +67,7 @@ impl<A: Actor> Plain<A> {
         &self.world
     }
 
-    /// Makes the next item of the run.
+    /// Makes the next item of the run. After an error, and after the end of the run, no further call is allowed.
     pub fn step(&mut self, program: &A::Program) -> Result<Plainly, NoMemory>
         ensures { (limit : ℕ) (state : State) (events : List Event) → IsEngine (A.asks_after program.now) A.can_feed (A.core_of program.now) limit state events self.old → Steps (A.asks_after program.now) A.can_feed (A.core_of program.now) limit state events (turn (A.core_of program.now) limit state (last_in events)) result self.new }
     {
@@ -167,8 +167,7 @@ impl<A: Actor> Plain<A> {
                 item: Item::Quiesce { name: 0 },
                 end,
             }),
-            // nothing that comes to rest waits
-            Acted::Cannot | Acted::Undecided => Err(NoMemory),
+            Acted::Cannot | Acted::Undecided => unreachable!(),
         }
     }
 }
