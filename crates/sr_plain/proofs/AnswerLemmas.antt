@@ -1,16 +1,16 @@
 -- What comes of a request that the machine has carried out.
-use Rattle.std.proofs.Common.{◌≡◌, ◌==◌, ℕ, zero, suc, Bool, true, false, not, cond, List, [], ◌∷◌, ◌++◌, Option, Some, None, IsSome, refl, ap, sym, ◌∙◌, subst, eq-eqb}
-use Rattle.std.specs.Prelude.{Result, Ok, find, slice_get, slice_set}
+use Rattle.std.proofs.Common.{◌≡◌, ℕ, zero, suc, true, false, not, cond, List, [], ◌∷◌, ◌++◌, Some, None, IsSome, refl, ap, sym, ◌∙◌, subst, eq-eqb}
+use Rattle.std.specs.Prelude.{Ok, find, slice_get, slice_set}
 use Rattle.sr_ask.specs.declared.answer.Answer.{Answer}
 use Rattle.sr_ask.specs.declared.ask.Ask.{Ask}
 use Rattle.sr_ask.specs.declared.ask.Asks.{Asks}
 use Rattle.sr_ask.specs.declared.ask.Asks.TheVariants.{Asked, OverTicks}
-use Rattle.sr_ask.specs.declared.item.Item.TheVariants.{Step, Quiesce}
+use Rattle.sr_ask.specs.declared.item.Item.TheVariants.{Step}
 use Rattle.sr_ask.specs.declared.start.Start.{Start}
 use Rattle.sr_core.specs.declared.component.Core.{Core}
 use Rattle.sr_world.proofs.StepLemmas.{same-step}
 use Rattle.sr_world.specs.Acting.{Acts}
-use Rattle.sr_world.specs.Does.{Does, Did, Makes, Cannot, Ends, Undecided, IsOpen, comes_to, is_possible}
+use Rattle.sr_world.specs.Does.{Does, Did, Makes, Cannot, Ends, Undecided, comes_to, is_possible}
 use Rattle.sr_world.specs.Names.{IsLeastUnused}
 use Rattle.sr_world.specs.Runs.{Event, Makes_item, Goes, Over as run_over, State, asks_for, asks_next, is_blocked, next, step_of, stepped, where_true, with_answer}
 use Rattle.sr_world.specs.Sound.{times_used}
@@ -21,7 +21,7 @@ use Rattle.sr_world.specs.declared.acted.Acted.TheVariants as acted
 use Rattle.sr_world.specs.declared.ends.End.{End}
 use Rattle.sr_plain.specs.Carrying.{Names, written_of}
 use Rattle.sr_plain.specs.Crew.{IsFed, IsPlace}
-use Rattle.sr_plain.specs.Engine.{Comes, HasStepped, IsCarried, IsEngine, IsLast, Stands, Tries, WaitsForInput, last_in}
+use Rattle.sr_plain.specs.Engine.{Comes, IsCarried, IsEngine, Stands, Tries, WaitsForInput}
 use Rattle.sr_plain.specs.Leaving.{Leaves, LeavesIf, written_by}
 use Rattle.sr_plain.specs.Turns.{IsName, takes_turn}
 use Rattle.sr_plain.specs.declared.member.Member.{Member}

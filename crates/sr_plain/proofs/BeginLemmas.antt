@@ -1,5 +1,5 @@
 -- A look at a process that may have to begin.
-use Rattle.std.proofs.Common.{◌≡◌, ◌<◌, ◌⊎◌, inl, inr, ◌==◌, ◌++◌, ℕ, false, List, [], ◌∷◌, length, length-append, Option, Some, None, ap, arith, refl, sym, ◌∙◌, subst}
+use Rattle.std.proofs.Common.{◌≡◌, ◌<◌, inl, inr, ℕ, List, [], ◌∷◌, length, length-append, Option, Some, None, ap, arith, sym, ◌∙◌, subst}
 use Rattle.std.specs.Prelude.{Result, Ok, Err, IfOk, OnErr, OnOk}
 use Rattle.sr_ask.specs.declared.answer.Answer.{Answer}
 use Rattle.sr_ask.specs.declared.ask.Asks.{Asks}
@@ -7,7 +7,7 @@ use Rattle.sr_ask.specs.declared.start.Start.{Start}
 use Rattle.sr_core.specs.declared.component.Core.{Core}
 use Rattle.sr_meaning.specs.Processes.{ask}
 use Rattle.sr_value.specs.declared.memory.NoMemory.{NoMemory}
-use Rattle.sr_plain.specs.Crew.{Begins, HasBegun, IsKept, IsPlace, IsSame, LooksAt, Looks, Plays, is_member, member_of}
+use Rattle.sr_plain.specs.Crew.{Begins, HasBegun, IsKept, IsPlace, LooksAt, Looks, Plays, member_of}
 use Rattle.sr_plain.specs.declared.member.Member.{Member}
 use Rattle.sr_plain.proofs.CrewLemmas.{looks-push, looks-same, named, place-push}
 

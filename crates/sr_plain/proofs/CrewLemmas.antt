@@ -1,6 +1,6 @@
 -- Where processes stand in a crew, and what changes it.
 use Rattle.std.proofs.Common.{◌≡◌, ◌<◌, ◌≤◌, ◌+◌, ◌==◌, ℕ, zero, suc, Bool, true, false, not, cond, List, [], ◌∷◌, ◌++◌, length, Option, Some, None, IsSome, refl, ap, sym, ◌∙◌, subst, arith, eq-eqb, eqb-true}
-use Rattle.std.specs.Prelude.{find, position, slice_get, slice_set, nat_lt}
+use Rattle.std.specs.Prelude.{position, slice_get, slice_set, nat_lt}
 use Rattle.std.proofs.lemmas.Bool.{ltb-true, ltb-false}
 use Rattle.std.specs.List.{position_or_len}
 use Rattle.sr_ask.specs.declared.answer.Answer.{Answer}

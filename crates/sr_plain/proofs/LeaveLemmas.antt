@@ -1,7 +1,6 @@
 -- What each request leaves of who lives and of what was written.
-use Rattle.std.proofs.Common.{◌≡◌, ◌⊎◌, inl, inr, ℕ, zero, suc, ◌==◌, not, Bool, true, false, cond, pos, List, [], ◌∷◌, ◌++◌, Option, None, Some, refl, ap, sym, ◌∙◌, subst, eqb-true, append-nil}
+use Rattle.std.proofs.Common.{◌≡◌, ◌⊎◌, inl, inr, ℕ, zero, suc, ◌==◌, not, Bool, true, false, cond, List, [], ◌∷◌, ◌++◌, Option, None, Some, refl, ap, sym, ◌∙◌, subst, eqb-true, append-nil}
 use Rattle.std.specs.Prelude.{Result, Ok, Err, find, nat_lt, slice_get}
-use Rattle.sr_ask.specs.declared.answer.Answer.{Answer}
 use Rattle.sr_ask.specs.declared.answer.Answer.TheVariants as answer
 use Rattle.sr_ask.specs.declared.ask.Role.{Role}
 use Rattle.sr_ask.specs.declared.ask.Role.TheVariants.{Boot, Initial, Proc as proc_role, Final}
@@ -9,14 +8,12 @@ use Rattle.sr_ask.specs.declared.request.Request.{Request}
 use Rattle.sr_ask.specs.declared.request.Request.TheVariants as request
 use Rattle.sr_ask.specs.declared.start.Start.{Start}
 use Rattle.sr_calls.specs.Calls.{earliest_reply}
-use Rattle.sr_calls.specs.declared.held.Reply.{Reply}
 use Rattle.sr_core.specs.declared.component.Core.{Core}
 use Rattle.sr_core.specs.declared.site.Site.{Site}
 use Rattle.sr_instances.specs.Instances.{Instance, global_in, state_of}
 use Rattle.sr_instances.specs.declared.state.State.{State as InstanceState}
 use Rattle.sr_instances.specs.declared.state.State.TheVariants.{Starting, Ready, Closing, Gone}
 use Rattle.sr_processes.specs.Living.{is_process, without_process}
-use Rattle.sr_queue.specs.declared.pending.Pending.{Pending}
 use Rattle.sr_select.specs.declared.choice.Choice.{Choice}
 use Rattle.sr_select.specs.declared.choice.Choice.TheVariants as chosen
 use Rattle.sr_store.specs.Variables.{declared_in, loaded_in, stored_in}
@@ -26,13 +23,13 @@ use Rattle.sr_value.specs.declared.capability.Owner.{Owner}
 use Rattle.sr_value.specs.declared.fault.Fault.{Fault}
 use Rattle.sr_value.specs.declared.place.Place.{Place}
 use Rattle.sr_value.specs.declared.value.Value.{Value}
-use Rattle.sr_world.specs.Answering.{answer as answered, answer_held, duty_held, held_of}
-use Rattle.sr_world.specs.Does.{Does, Did, Makes, Cannot, Ends, Undecided, done_or, where_some}
+use Rattle.sr_world.specs.Answering.{answer as answered, answer_held, duty_held}
+use Rattle.sr_world.specs.Does.{Does, Makes, done_or, where_some}
 use Rattle.sr_world.specs.Endings.{answer_unless, close, close_or, destroy, end_after, finish, main_instance, may_close, quiesce, rest_of, status_in, stop_with}
-use Rattle.sr_world.specs.Inputs.{is_decided, item_read}
+use Rattle.sr_world.specs.Inputs.{is_decided}
 use Rattle.sr_world.specs.Invoking.{arrive, instance_of_process, invoke, is_gone, owner_instance}
 use Rattle.sr_world.specs.Making.{component_at, has_final_code, is_open, is_ready, make_ready, needs_ready, ready_from, run_final, run_initial, run_proc, start_in}
-use Rattle.sr_world.specs.Selecting.{by_choice, choice_of, service}
+use Rattle.sr_world.specs.Selecting.{by_choice, choice_of}
 use Rattle.sr_world.specs.Steps.{create_on, done_by, duty_for, ensure_found, on_machine, ready_after, reply}
 use Rattle.sr_world.specs.Updates.{add_instance, add_reply, drop_reply, end_all, end_instance, end_process, end_processes, fix, processes_of, release, set_state, use_name}
 use Rattle.sr_world.specs.Worlds.{World, is_live, started}

@@ -1,14 +1,13 @@
 -- What holds of every state that events lead to.
-use Rattle.std.proofs.Common.{◌≡◌, ◌+◌, ◌<◌, ◌≤◌, ◌==◌, ◌&&◌, ◌||◌, ℕ, zero, suc, Bool, true, false, not, cond, List, [], ◌∷◌, ◌++◌, Option, Some, None, is_some, refl, ap, sym, ◌∙◌, subst, arith, eq-eqb, eqb-true, true≢false, append_assoc}
+use Rattle.std.proofs.Common.{◌≡◌, ◌+◌, ◌≤◌, ◌==◌, ◌&&◌, ◌||◌, ℕ, zero, suc, Bool, true, false, not, cond, List, [], ◌∷◌, ◌++◌, Some, is_some, refl, ap, sym, ◌∙◌, arith, eq-eqb, eqb-true, true≢false, append_assoc}
 use Rattle.std.proofs.lemmas.List.Concat.{flat_map-append}
 use Rattle.std.specs.Prelude.{count_by, find, fold, slice_get}
 use Rattle.std.specs.List.{Contains, list_any}
-use Rattle.sr_ask.specs.declared.item.Item.{Item}
 use Rattle.sr_ask.specs.declared.start.Start.{Start}
 use Rattle.sr_core.specs.declared.component.Core.{Core}
 use Rattle.sr_processes.specs.Living.{is_process}
 use Rattle.sr_world.specs.Names.{IsLeastUnused}
-use Rattle.sr_world.specs.Runs.{Event, Makes_item, Goes, Next, State, after, after_event, and_then, first, is_new, is_used, item_in, items_in, led, next}
+use Rattle.sr_world.specs.Runs.{Event, Goes, Next, State, after, after_event, and_then, first, is_new, is_used, item_in, items_in, led}
 use Rattle.sr_world.specs.Sound.{IsSound, name_in, names_in, times_used}
 use Rattle.sr_world.specs.Worlds.{World, started}
 use Rattle.sr_runs.proofs.CountLemmas.{count-cons, one}

@@ -1,5 +1,5 @@
 -- The member of a crew whose request the machine carries out, and who stands at a place.
-use Rattle.std.proofs.Common.{◌≡◌, ◌-◌, ◌==◌, ◌++◌, ℕ, Bool, true, false, List, [], ◌∷◌, drop, take, length, Option, Some, None, IsSome, refl, ap, sym, ◌∙◌, subst, arith, eqb-true, true≢false}
+use Rattle.std.proofs.Common.{◌≡◌, ◌-◌, ◌++◌, ℕ, true, false, List, [], ◌∷◌, drop, take, length, Option, Some, None, IsSome, refl, ap, sym, ◌∙◌, subst, arith, eqb-true, true≢false}
 use Rattle.std.specs.Prelude.{Result, Ok, Err, find, slice_get}
 use Rattle.sr_ask.specs.declared.answer.Answer.{Answer}
 use Rattle.sr_ask.specs.declared.ask.Ask.{Ask}
@@ -16,7 +16,7 @@ use Rattle.sr_world.specs.Steps.{does}
 use Rattle.sr_world.specs.Worlds.{World, started}
 use Rattle.sr_world.specs.declared.acted.Acted.{Acted}
 use Rattle.sr_plain.specs.Carrying.{Names}
-use Rattle.sr_plain.specs.Crew.{IsAsking, IsPlace, Looks}
+use Rattle.sr_plain.specs.Crew.{IsAsking, Looks}
 use Rattle.sr_plain.specs.Engine.{Comes, IsCarried, IsEngine, Steps, Tries, last_in}
 use Rattle.sr_plain.specs.Turns.{takes_turn, turn}
 use Rattle.sr_plain.specs.declared.member.Member.{Member}

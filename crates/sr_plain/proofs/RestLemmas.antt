@@ -1,11 +1,12 @@
 -- What comes of a run in which no process can make a step.
-use Rattle.std.proofs.Common.{◌≡◌, ◌==◌, ℕ, zero, Bool, true, false, cond, List, [], ◌∷◌, ◌++◌, Option, Some, None, refl, ap, sym, ◌∙◌, subst, eq-eqb, append-nil}
-use Rattle.std.specs.Prelude.{Result, Ok}
+use Rattle.std.proofs.Common.{◌≡◌, ℕ, Bool, true, false, cond, List, [], Option, Some, None, refl, ap, sym, ◌∙◌, subst, eq-eqb}
+use Rattle.std.specs.Prelude.{Ok, Err}
 use Rattle.sr_ask.specs.declared.answer.Answer.{Answer}
 use Rattle.sr_ask.specs.declared.ask.Asks.{Asks}
 use Rattle.sr_ask.specs.declared.item.Item.TheVariants.{Quiesce}
 use Rattle.sr_core.specs.declared.component.Core.{Core}
 use Rattle.sr_instances.specs.Instances.{Instance}
+use Rattle.sr_value.specs.declared.memory.NoMemory.{NoMemory}
 use Rattle.sr_world.specs.Acting.{Acts}
 use Rattle.sr_world.specs.Does.{Does, Did, Makes, Cannot, Ends, Undecided}
 use Rattle.sr_world.specs.Endings.{close_or, main_instance, may_close, quiesce, rest_of}
@@ -14,7 +15,7 @@ use Rattle.sr_world.specs.Runs.{Event, Makes_item, Goes, Over as run_over, State
 use Rattle.sr_world.specs.Worlds.{World}
 use Rattle.sr_world.specs.declared.acted.Acted.TheVariants as acted
 use Rattle.sr_world.specs.declared.ends.End.{End}
-use Rattle.sr_plain.specs.Engine.{Comes, IsEngine, Stands}
+use Rattle.sr_plain.specs.Engine.{Comes, IsEngine}
 use Rattle.sr_plain.specs.Leaving.{Leaves, LeavesIf}
 use Rattle.sr_plain.specs.declared.plain.Plain.{Plain}
 use Rattle.sr_plain.specs.declared.plainly.Plainly.TheVariants as plainly
@@ -39,6 +40,14 @@ at-rest core name w = by (main_instance core w)
     by : (main : Option Instance) → AtRest (close_or core name None (rest_of w.fixed) w main)
     by None = tt
     by (Some m) = closing m (may_close core m) _ _ _
+
+-- where memory ran out all is as before
+pub failed-same : (d : Does) (old new : World) (e : NoMemory) → Acts d old new (Err e) → new ≡ old
+failed-same (Did w a) old new e same = same
+failed-same (Makes w a) old new e same = same
+failed-same Cannot old new e same = same
+failed-same (Ends ending) old new e same = same
+failed-same Undecided old new e same = same
 
 -- nothing that comes to rest waits
 pub never_cannot : (core : Core) (name : ℕ) (w w' : World) → Acts (quiesce core name w) w w' (Ok acted.Cannot) → ⊥

@@ -72,7 +72,7 @@ module _ (core : Core) (limit : ℕ) where
     where
       by : (now : Next) → next core limit state item ≡ now → is_legal (after core limit now events) ≡ true → GoOnInTurn core limit now (last_after last item) events
           → ((us : List Item) (s : State) → IsSound us s → is_legal (after core limit (Goes s) events) ≡ true → (s.world.ended ≡ true → bytes_in events ++ more ≡ [])
-              → GoOnInTurn core limit (Goes s) (last_after last item) events → Rotates core limit (Goes (with_all_in (bytes_in events ++ more) s)) (last_after last item) (items_in events))
+          → GoOnInTurn core limit (Goes s) (last_after last item) events → Rotates core limit (Goes (with_all_in (bytes_in events ++ more) s)) (last_after last item) (items_in events))
           → Rotates core limit (next_with_all (bytes_in events ++ more) now) (last_after last item) (items_in events)
       by (Goes s) is h go later =
           later (items ++ item ∷ []) s (sound-next items state sound core limit item s is) h (λ e. closed (sym (ended-next core limit items state s item sound is) ∙ e)) go
@@ -92,7 +92,7 @@ module _ (core : Core) (limit : ℕ) where
 
       by : (b : Bool) → state.world.ended ≡ b → is_legal (after core limit (where_true (not b) (Goes given)) events) ≡ true → GoOnInTurn core limit (where_true (not b) (Goes given)) last events
           → ((s : State) → IsSound items s → is_legal (after core limit (Goes s) events) ≡ true → (s.world.ended ≡ true → bytes_in events ++ more ≡ [])
-              → GoOnInTurn core limit (Goes s) last events → Rotates core limit (Goes (with_all_in (bytes_in events ++ more) s)) last (items_in events))
+          → GoOnInTurn core limit (Goes s) last events → Rotates core limit (Goes (with_all_in (bytes_in events ++ more) s)) last (items_in events))
           → Rotates core limit (Goes (with_all_in ((bytes ++ bytes_in events) ++ more) state)) last (items_in events)
       by false is h go later =
           subst (λ s. Rotates core limit (Goes s) last (items_in events)) (sym moved)
@@ -106,7 +106,7 @@ module _ (core : Core) (limit : ℕ) where
 
       by : (b : Bool) → state.world.ended ≡ b → is_legal (after core limit (where_true (not b) (Goes shut)) events) ≡ true → GoOnInTurn core limit (where_true (not b) (Goes shut)) last events
           → ((s : State) → IsSound items s → is_legal (after core limit (Goes s) events) ≡ true → (s.world.ended ≡ true → bytes_in events ++ more ≡ [])
-              → GoOnInTurn core limit (Goes s) last events → Rotates core limit (Goes (with_all_in (bytes_in events ++ more) s)) last (items_in events))
+          → GoOnInTurn core limit (Goes s) last events → Rotates core limit (Goes (with_all_in (bytes_in events ++ more) s)) last (items_in events))
           → Rotates core limit (Goes (with_all_in (bytes_in events ++ more) state)) last (items_in events)
       by false is h go later =
           let sound' : IsSound items shut = sound-input items state sound state.world.rest true in

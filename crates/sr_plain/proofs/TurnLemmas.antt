@@ -1,37 +1,21 @@
 -- What a turn does to an engine.
-use Rattle.std.proofs.Common.{◌≡◌, ◌⊎◌, inl, inr, ◌+◌, ◌<◌, ◌≤◌, ◌==◌, ℕ, zero, suc, Bool, true, false, not, cond, List, [], ◌∷◌, ◌++◌, Option, Some, None, IsSome, is_some, refl, ap, sym, ◌∙◌, subst, arith, eq-eqb, eqb-true, true≢false, append-nil, append_assoc}
-use Rattle.std.specs.Prelude.{Result, Ok, Err, find, slice_get, slice_set}
+use Rattle.std.proofs.Common.{◌≡◌, ◌⊎◌, inl, inr, ◌+◌, ◌≤◌, ◌==◌, ℕ, Bool, true, false, cond, List, [], ◌∷◌, ◌++◌, Option, Some, None, refl, ap, sym, ◌∙◌, subst, arith, eq-eqb, eqb-true, true≢false, append-nil, append_assoc}
+use Rattle.std.specs.Prelude.{slice_get, slice_set}
 use Rattle.sr_ask.specs.declared.answer.Answer.{Answer}
-use Rattle.sr_ask.specs.declared.ask.Ask.{Ask}
 use Rattle.sr_ask.specs.declared.ask.Asks.{Asks}
-use Rattle.sr_ask.specs.declared.ask.Asks.TheVariants.{Asked, OverTicks}
 use Rattle.sr_ask.specs.declared.item.Item.{Item}
-use Rattle.sr_ask.specs.declared.item.Item.TheVariants.{Step, Quiesce}
 use Rattle.sr_ask.specs.declared.start.Start.{Start}
 use Rattle.sr_core.specs.declared.component.Core.{Core}
 use Rattle.sr_meaning.specs.Processes.{ask}
-use Rattle.sr_processes.specs.Living.{is_process}
-use Rattle.sr_world.proofs.StepLemmas.{same-step}
-use Rattle.sr_world.specs.Acting.{Acts}
-use Rattle.sr_world.specs.Does.{Does, Did, Makes, Cannot, Ends, Undecided, Outcome, IsDone, IsMade, IsNot, IsEnd, IsOpen, comes_to, is_possible}
-use Rattle.sr_world.specs.Names.{IsLeastUnused}
-use Rattle.sr_world.specs.Runs.{Event, Makes_item, Next, Goes, Over as run_over, State, asks_for, asks_next, is_blocked, is_new, led, next, step_of, stepped, where_true, with_answer}
+use Rattle.sr_world.specs.Runs.{Event, Makes_item, Goes, State, asks_next, led, next, with_answer}
 use Rattle.sr_world.specs.Sound.{times_used}
-use Rattle.sr_world.specs.Steps.{does}
-use Rattle.sr_world.specs.Worlds.{World, started}
-use Rattle.sr_world.specs.declared.acted.Acted.{Acted}
-use Rattle.sr_world.specs.declared.acted.Acted.TheVariants as acted
-use Rattle.sr_world.specs.declared.ends.End.{End}
-use Rattle.sr_runs.proofs.CountLemmas.{find-passes}
-use Rattle.sr_plain.specs.Carrying.{Names}
-use Rattle.sr_plain.specs.Crew.{IsAsking, IsFed, IsKept, IsPlace, LooksAt, Looks, Plays, is_member, member_of}
-use Rattle.sr_plain.specs.Engine.{StandsFor, Stands, last_in}
-use Rattle.sr_plain.specs.Leaving.{Leaves, LeavesIf, written_by}
-use Rattle.sr_plain.specs.Turns.{IsName, IsTurn, takes_turn}
+use Rattle.sr_world.specs.Worlds.{started}
+use Rattle.sr_plain.specs.Crew.{IsFed, IsKept, IsPlace, LooksAt, Looks, Plays, is_member, member_of}
+use Rattle.sr_plain.specs.Engine.{StandsFor, Stands}
+use Rattle.sr_plain.specs.Leaving.{Leaves}
 use Rattle.sr_plain.specs.declared.member.Member.{Member}
 use Rattle.sr_plain.proofs.CrewLemmas.{found-at, member-here, others-set, place-set, set-at}
-use Rattle.sr_plain.proofs.LeaveLemmas.{leaves}
-use Rattle.sr_plain.proofs.LedLemmas.{least-new, least-unused, led-more, lives-used, sound, used-more}
+use Rattle.sr_plain.proofs.LedLemmas.{led-more, lives-used, sound, used-more}
 
 module _ {A : Type 0} (after : A → List Answer → Asks) (can_feed : A → Type 0) (core : Core) (limit : ℕ) (state : State) (events : List Event) where
   -- ---- a look

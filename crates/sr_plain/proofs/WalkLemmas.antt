@@ -1,8 +1,7 @@
 -- The walk over the living processes.
-use Rattle.std.proofs.Common.{◌≡◌, ◌+◌, ◌-◌, ◌<◌, ◌≤◌, ℕ, zero, suc, Bool, true, false, not, cond, List, [], ◌∷◌, ◌++◌, take, drop, length, Option, Some, None, IsSome, refl, ap, sym, ◌∙◌, subst, arith, ◌&&◌, true≢false}
+use Rattle.std.proofs.Common.{◌≡◌, ◌+◌, ◌-◌, ◌<◌, ◌≤◌, ℕ, zero, suc, Bool, true, false, not, cond, List, [], ◌∷◌, ◌++◌, take, drop, length, Some, None, IsSome, refl, ap, sym, ◌∙◌, arith, ◌&&◌, true≢false}
 use Rattle.std.specs.Prelude.{find, slice_get}
 use Rattle.std.specs.List.{list_all}
-use Rattle.std.proofs.lemmas.List.Folds.{find-append}
 
 module _ {X : Type 0} where
   -- what stands at a place, as a list

@@ -1,6 +1,5 @@
 -- Which events make their items in turn.
-use Rattle.std.specs.Prelude.{◌≡◌, ◌++◌, ℕ, true, List, [], ◌∷◌, Option}
-use Rattle.sr_ask.specs.declared.item.Item.{Item}
+use Rattle.std.specs.Prelude.{◌≡◌, ◌++◌, ℕ, true, List, [], ◌∷◌}
 use Rattle.sr_core.specs.declared.component.Core.{Core}
 use Rattle.sr_runs.specs.Laws.{closes}
 use Rattle.sr_world.specs.Runs.{Event, Makes_item, Next, Goes, State, after_event, bytes_in, first, is_legal, items_in, led}

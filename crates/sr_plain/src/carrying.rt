@@ -1,7 +1,7 @@
-ghost use Rattle.std.specs.Prelude.{◌≡◌, ◌<◌, ℕ, IfOk, IfSome, OnErr, Ok};
+ghost use Rattle.std.specs.Prelude.{◌≡◌, ℕ, IfOk, OnErr, Ok};
 ghost use Rattle.sr_plain.specs.Carrying.{Names, written_of};
 ghost use Rattle.sr_world.specs.Acting.{Acts, NeedsNew};
-ghost use Rattle.sr_world.specs.Does.{Does as what, comes_to, is_made};
+ghost use Rattle.sr_world.specs.Does.{Does as what};
 ghost use Rattle.sr_world.specs.Names.{IsLeastUnused};
 ghost use Rattle.sr_world.specs.Steps.{does};
 

@@ -6,7 +6,7 @@ pub returns-clause-looks : goal.returns-clause-looks
 returns-clause-looks g c =
     on_ok c.look.result
     (λ same process meant here.
-        looks-set process (g.A.Actor.asks_after c.args.program.now) g.A.Actor.can_feed meant c.args.crew.now c.args.at c.at_mut.result.now c.look.new.self here c.at_mut.ensures.value same)
+    looks-set process (g.A.Actor.asks_after c.args.program.now) g.A.Actor.can_feed meant c.args.crew.now c.args.at c.at_mut.result.now c.look.new.self here c.at_mut.ensures.value same)
     c.look.ensures.same
 
 pub returns-clause-asking : goal.returns-clause-asking

@@ -1,7 +1,6 @@
-use Rattle.std.proofs.Common.{ap, sym, ◌∙◌, refl, subst, Some, None, ◌∷◌, []}
+use Rattle.std.proofs.Common.{ap, sym, ◌∙◌, refl, subst, Some, ◌∷◌, []}
 use Rattle.std.specs.Prelude.{Ok, find, slice_set}
 use Rattle.sr_ask.specs.declared.item.Item.TheVariants.{Step}
-use Rattle.sr_world.specs.declared.acted.Acted.TheVariants as acted
 use Rattle.sr_plain.specs.Carrying.{written_of}
 use Rattle.sr_plain.specs.Engine.{IsCarried, Tries}
 use Rattle.sr_plain.specs.Turns.{takes_turn}

@@ -7,13 +7,12 @@ use Rattle.sr_value.specs.declared.memory.NoMemory.{NoMemory}
 use Rattle.sr_world.specs.Acting.{Acts}
 use Rattle.sr_world.specs.Endings.{quiesce}
 use Rattle.sr_world.specs.declared.acted.Acted.{Acted}
-use Rattle.sr_world.specs.declared.acted.Acted.TheVariants as acted
 use Rattle.sr_plain.specs.Engine.{Comes, Steps}
 use Rattle.sr_plain.specs.declared.plain.Plain.{Plain}
 use Rattle.sr_plain.specs.declared.plainly.Plainly.{Plainly}
 use Rattle.sr_plain.specs.declared.plainly.Plainly.TheVariants as plainly
 use Rattle.sr_plain.proofs.MemberLemmas.{steps_err}
-use Rattle.sr_plain.proofs.RestLemmas.{never_cannot, never_undecided, rest_begins, rest_ends}
+use Rattle.sr_plain.proofs.RestLemmas.{failed-same, never_cannot, never_undecided, rest_begins, rest_ends}
 use Rattle.sr_plain.proofs.plain.Plain.come_to_rest.Goals as goal
 use Rattle.sr_plain.proofs.plain.Plain.come_to_rest.Goals.{in-Done, in-Ends}
 
@@ -26,7 +25,8 @@ pub returns-in_err-end : goal.returns-in_err-end
 returns-in_err-end g c = λ limit state events engine none.
     let failed = err_from_is_err_and c.from_residual-in_err-end.result c.from_residual-in_err-end.ensures.1 in
     steps_err (g.A.Actor.asks_after c.args.program.now) g.A.Actor.can_feed (g.A.Actor.core_of c.args.program.now) limit state events None c.from_residual-in_err-end.result failed.0
-    (record c.args.self.now { world = c.quiesce.new.self }) failed.1 (c.in_err-end.ensures ∙ engine.world)
+    (record c.args.self.now { world = c.quiesce.new.self }) failed.1
+    (failed-same (quiesce c.core.result.now c.in_ok-name.name c.args.self.now.world) c.args.self.now.world c.quiesce.new.self c.in_err-end.field-0.0 c.in_err-end.ensures ∙ engine.world)
 
 pub unreachable-requires : goal.unreachable-requires
 unreachable-requires g c =

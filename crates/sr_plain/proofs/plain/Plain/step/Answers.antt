@@ -1,4 +1,4 @@
-use Rattle.std.proofs.Common.{◌-◌, drop, take, Option, None, Some}
+use Rattle.std.proofs.Common.{◌-◌, drop, take, None, Some}
 use Rattle.std.proofs.lemmas.Result.{err_from_is_err_and}
 use Rattle.std.specs.Prelude.{find}
 use Rattle.sr_plain.proofs.MemberLemmas.{first_range, nobodys_turn, nobody_steps, second_range, steps_err, tries_as}

@@ -26,7 +26,7 @@ returns-in_ok-carried-in-Some-Asked g c = λ limit state events start engine liv
     let asks : Ask = c.in-Some-Asked.ask in
     let carried = c.in_ok-carried-in-Some-Asked.carried in
     let here : Some m ≡ slice_get c.args.self.now.crew c.args.at = c.in-Some.ensures.value in
-    let known : m.asks ≡ Some (Asked asks) = c.in-Some-Asked.is ∙ ap Some c.in-Some-Asked.field-0-is in
+    let known : m.asks ≡ Some (Asked asks) = c.in-Some-Asked.is ∙ ap Some (rw c.in-Some-Asked.is at c.in-Some-Asked.field-0-is) in
     let acts = subst (λ (k : Core). Acts (does k c.args.self.now.world m.process asks carried.name) c.args.self.now.world c.carry_out.new.world (Ok carried.acted)) c.core-core.ensures c.in_ok-carried-in-Some-Asked.ensures.acts in
     let names = subst (λ (k : Core). Names (does k c.args.self.now.world m.process asks carried.name) c.args.self.now.world carried.name) c.core-core.ensures c.in_ok-carried-in-Some-Asked.ensures.names in
     c.answered.ensures c.args.program.now limit state events start
@@ -36,7 +36,7 @@ returns-in_ok-carried-in-Some-Asked g c = λ limit state events start engine liv
 pub returns-in-Some-OverTicks : goal.returns-in-Some-OverTicks
 returns-in-Some-OverTicks g c = λ limit state events start engine lives asking.
     let m = c.in-Some.member.now in
-    let known : m.asks ≡ Some OverTicks = c.in-Some-OverTicks.is ∙ ap Some c.in-Some-OverTicks.field-0-is in
+    let known : m.asks ≡ Some OverTicks = c.in-Some-OverTicks.is ∙ ap Some (rw c.in-Some-OverTicks.is at c.in-Some-OverTicks.field-0-is) in
     over_of (g.A.Actor.asks_after c.args.program.now) g.A.Actor.can_feed (g.A.Actor.core_of c.args.program.now) limit state events start c.args.self.now engine lives c.args.at asking m c.in-Some.ensures.value known
 
 pub returns-in-None-asks : goal.returns-in-None-asks
