@@ -71,7 +71,7 @@ module _ (core : Core) (limit : ℕ) where
           ap (λ (s : State). s.world.ended) (sym same)
       by false h = let parts = goes-where (name == 0) (Over (rest_of state.world.fixed) state) later h in absurd (cc)
 
-  ended-next : (items : List Item) (state later : State) (item : Item) → IsSound items state → next core limit state item ≡ Goes later → later.world.ended ≡ state.world.ended
+  pub ended-next : (items : List Item) (state later : State) (item : Item) → IsSound items state → next core limit state item ≡ Goes later → later.world.ended ≡ state.world.ended
   ended-next items state later (Step actor name) sound is = ended-step items state later actor name (started state.world actor) sound refl is
   ended-next items state later (Quiesce name) sound is =
       let parts = goes-where (no_step core limit state) (rested state name (quiesce core name state.world)) later is in
@@ -135,7 +135,7 @@ module _ (core : Core) (limit : ℕ) where
       waits-can actor (request.Read kind) is = refl
       waits-can actor r is = absurd (true≢false (sym is))
 
-      same-blocked : (process : ℕ) (asks : Asks) → is_blocked core (with_all bytes state.world) process asks ≡ is_blocked core state.world process asks
+      pub same-blocked : (process : ℕ) (asks : Asks) → is_blocked core (with_all bytes state.world) process asks ≡ is_blocked core state.world process asks
       same-blocked process OverTicks = refl
       same-blocked process (Asked ask) = by (awaits_input state.world ask.request) refl
         where
@@ -168,13 +168,13 @@ module _ (core : Core) (limit : ℕ) where
 
   -- ---- along events
 
-  legal-after : (now : Next) (events : List Event) → is_legal (after core limit now events) ≡ true → is_legal now ≡ true
+  pub legal-after : (now : Next) (events : List Event) → is_legal (after core limit now events) ≡ true → is_legal now ≡ true
   legal-after (Goes s) events legal = refl
   legal-after (Over ending s) events legal = refl
   legal-after Illegal events legal = sym (ap is_legal (illegal-after core limit events)) ∙ legal
 
   -- after an end nothing comes
-  over-last : (ending : End) (s : State) (events : List Event) → is_legal (after core limit (Over ending s) events) ≡ true → events ≡ []
+  pub over-last : (ending : End) (s : State) (events : List Event) → is_legal (after core limit (Over ending s) events) ≡ true → events ≡ []
   over-last ending s [] legal = refl
   over-last ending s (event ∷ events) legal = absurd (true≢false (sym legal ∙ ap is_legal (illegal-after core limit events)))
 
@@ -183,7 +183,7 @@ module _ (core : Core) (limit : ℕ) where
   legal-where false now legal = absurd (true≢false (sym legal))
 
   -- no bytes come after the end of the input
-  no-bytes : (items : List Item) (state : State) (events : List Event) → IsSound items state → state.world.ended ≡ true → is_legal (after core limit (Goes state) events) ≡ true → bytes_in events ≡ []
+  pub no-bytes : (items : List Item) (state : State) (events : List Event) → IsSound items state → state.world.ended ≡ true → is_legal (after core limit (Goes state) events) ≡ true → bytes_in events ≡ []
   no-bytes items state [] sound ended legal = refl
   no-bytes items state (Makes_item item ∷ events) sound ended legal =
       by (next core limit state item) refl legal (λ us s sound ended h. no-bytes us s events sound ended h)
