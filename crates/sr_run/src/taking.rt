@@ -1,0 +1,67 @@
+ghost use Rattle.std.specs.Prelude.{◌+◌, ◌<◌, ◌≤◌, ℕ, List, Option, length};
+ghost use Rattle.std.specs.Io.KnownBytes.{prepend_known};
+ghost use Rattle.sr_run.specs.Runs.{Call};
+ghost use Rattle.sr_run.specs.UnderWay.{Advances, IsWaiting, as_of};
+
+use crate::end::{LimitKind, RunEnd};
+use crate::intake::Intake;
+use sr_actor::Actor;
+use sr_plain::Plain;
+use sr_ports::Source;
+
+/// The most bytes of input that a run takes.
+const INPUT_MOST: u32 = 67_108_864;
+
+/// The bytes of input that are taken at a time.
+const PIECE: usize = 4_096;
+
+/// Takes the next bytes of the input, or its end.
+pub(crate) fn take_more<A: Actor, I: Source>(
+    plain: &mut Plain<A>,
+    intake: &mut Intake,
+    input: &mut I,
+) -> Option<RunEnd>
+    ensures { (program : A.Program) (call : Call)
+        → IsWaiting (A.asks_after program) A.can_feed
+          (as_of call (A.core_of program) (record call.now { left = I.left input.old; read_faults = I.faults input.old }) call.items)
+          intake.old plain.old
+        → Advances (A.asks_after program) A.can_feed
+          (as_of call (A.core_of program) (record call.now { left = I.left input.old; read_faults = I.faults input.old }) call.items)
+          (as_of call (A.core_of program) (record call.now { left = I.left input.new; read_faults = I.faults input.new }) call.items)
+          intake.old intake.new plain.new result }
+{
+    let most = PIECE.min((INPUT_MOST - intake.taken) as usize);
+    if most == 0 {
+        return Some(RunEnd::Limit(LimitKind::Input));
+    }
+    let mut room = [0; PIECE];
+    match input.take(&mut room[..most]) {
+        Ok(0) => {
+            plain.end_input();
+            intake.ended = true;
+            None
+        }
+        Ok(count) => give(plain, intake, &room[..count]),
+        Err(_) => Some(RunEnd::ReadFault),
+    }
+}
+
+/// Gives the engine bytes that were taken.
+fn give<A: Actor>(plain: &mut Plain<A>, intake: &mut Intake, bytes: &[u8]) -> Option<RunEnd>
+    requires some { 0 < length bytes.now }
+    requires most { intake.old.taken + length bytes.now ≤ 67108864 }
+    ensures { (program : A.Program) (call : Call) (left : Option (List ℕ))
+        → IsWaiting (A.asks_after program) A.can_feed (as_of call (A.core_of program) (record call.now { left = prepend_known bytes.now left }) call.items) intake.old plain.old
+        → Advances (A.asks_after program) A.can_feed
+          (as_of call (A.core_of program) (record call.now { left = prepend_known bytes.now left }) call.items)
+          (as_of call (A.core_of program) (record call.now { left = left }) call.items)
+          intake.old intake.new plain.new result }
+{
+    match plain.give(bytes) {
+        Ok(()) => {
+            intake.taken += bytes.len() as u32;
+            None
+        }
+        Err(_) => Some(RunEnd::NoMemory),
+    }
+}
