@@ -16,7 +16,7 @@ use Rattle.sr_run.specs.declared.end.RunEnd.{RunEnd}
 use Rattle.sr_run.specs.declared.end.RunEnd.TheVariants as end
 use Rattle.sr_run.specs.declared.intake.Intake.{Intake}
 use Rattle.sr_runs.specs.Laws.{closes}
-use Rattle.sr_world.specs.Runs.{Event, State, bytes_in, items_in}
+use Rattle.sr_world.specs.Runs.{Event, Goes, State, bytes_in, items_in, led}
 use Rattle.sr_world.specs.declared.ends.End.{End}
 
 -- a call as far as it has come: over this core, with the devices and the items as they are now
@@ -25,12 +25,10 @@ as_of call core now items = record call { core = core; now = now; items = items 
 
 -- ---- a run that goes on
 
--- An engine stands for the state that the items and the bytes which were taken lead to, each item in its turn, and all
+-- Events lead to this state, each item in its turn; they make the items and give the bytes that were taken; and all
 -- output was put.
-pub record IsUnderWay {A : Type 0} (after : A → List Answer → Asks) (can_feed : A → Type 0) (call : Call) (intake : Intake) (plain : Plain A) : Type 0 where
-  pub state : State
-  pub events : List Event
-  pub engine : IsEngine after can_feed call.core call.ticks state events plain
+pub record HasCome (call : Call) (intake : Intake) (state : State) (events : List Event) : Type 0 where
+  pub leads : led call.core call.ticks events ≡ Goes state
   pub in_turn : AreInTurn call.core call.ticks events
   pub makes : items_in events ≡ call.items
   pub took : Took call (bytes_in events) intake.ended
@@ -38,7 +36,14 @@ pub record IsUnderWay {A : Type 0} (after : A → List Answer → Asks) (can_fee
   pub closed : closes events ≡ intake.ended
   pub ended : state.world.ended ≡ intake.ended
   pub put : call.now.held ≡ append_known call.before.held state.world.output
+
+-- no device has failed, and an engine stands for the state that the run has come to
+pub record IsUnderWay {A : Type 0} (after : A → List Answer → Asks) (can_feed : A → Type 0) (call : Call) (intake : Intake) (plain : Plain A) : Type 0 where
+  pub state : State
+  pub events : List Event
+  pub come : HasCome call intake state events
   pub no_faults : NoFaults call
+  pub engine : IsEngine after can_feed call.core call.ticks state events plain
 
 -- it is under way, and whose turn it is reads what the bytes that were taken don't decide
 pub record IsWaiting {A : Type 0} (after : A → List Answer → Asks) (can_feed : A → Type 0) (call : Call) (intake : Intake) (plain : Plain A) : Type 0 where
@@ -48,6 +53,11 @@ pub record IsWaiting {A : Type 0} (after : A → List Answer → Asks) (can_feed
 
 -- ---- what each turn brings
 
+-- the run goes on, or it ends so
+abbrev pub Advances : {A : Type 0} → (A → List Answer → Asks) → (A → Type 0) → Call → Intake → Plain A → Option RunEnd → Type 0
+Advances after can_feed call intake plain None = IsUnderWay after can_feed call intake plain
+Advances after can_feed call intake plain (Some ending) = HasCause call ending
+
 -- how many bytes of input may still come, and its end
 abbrev pub open_input : Intake → ℕ
 open_input intake = (67108864 - intake.taken) + (if intake.ended then 0 else 1)
@@ -55,14 +65,7 @@ open_input intake = (67108864 - intake.taken) + (if intake.ended then 0 else 1)
 -- there is one item more, or the input is nearer to its end
 pub record Moves (items items_now : List Item) (intake intake_now : Intake) : Type 0 where
   pub no_fewer : length items ≤ length items_now
-  pub one_more : length items_now ≤ length items + 1
   pub nearer : length items + open_input intake_now < length items_now + open_input intake
-
--- the run goes on, or it ends so
-abbrev pub Advances : {A : Type 0} → (A → List Answer → Asks) → (A → Type 0) → Call → Call → Intake → Intake → Plain A → Option RunEnd → Type 0
-Advances after can_feed call call_now intake intake_now plain None =
-    IsUnderWay after can_feed call_now intake_now plain × Moves call.items call_now.items intake intake_now
-Advances after can_feed call call_now intake intake_now plain (Some ending) = HasCause call_now ending × (length call_now.items ≤ length call.items + 1)
 
 -- ---- an item
 

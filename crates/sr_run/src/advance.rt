@@ -1,6 +1,6 @@
-ghost use Rattle.std.specs.Prelude.{◌<◌, length};
+ghost use Rattle.std.specs.Prelude.{◌+◌, ◌<◌, ◌≤◌, IfNone, length};
 ghost use Rattle.sr_run.specs.Runs.{Call};
-ghost use Rattle.sr_run.specs.UnderWay.{Advances, IsUnderWay, as_of};
+ghost use Rattle.sr_run.specs.UnderWay.{Advances, IsUnderWay, Moves, as_of};
 
 use crate::end::{LimitKind, RunEnd};
 use crate::intake::Intake;
@@ -21,14 +21,17 @@ pub(crate) fn advance<A: Actor, I: Source, O: Sink>(
     output: &mut O,
     items: &mut Row<Item>,
 ) -> Option<RunEnd>
-    ensures { (call : Call) → length items.old < call.steps
+    requires { intake.old.taken ≤ 67108864 }
+    ensures within { intake.new.taken ≤ 67108864 }
+    ensures one_more { length items.new ≤ length items.old + 1 }
+    ensures moves { IfNone result (Moves items.old items.new intake.old intake.new) }
+    ensures advances { (call : Call) → length items.old < call.steps
         → IsUnderWay (A.asks_after program.now) A.can_feed
           (as_of call (A.core_of program.now) (record { left = I.left input.old; read_faults = I.faults input.old; held = O.held output.old; write_faults = O.faults output.old }) items.old)
           intake.old plain.old
         → Advances (A.asks_after program.now) A.can_feed
-          (as_of call (A.core_of program.now) (record { left = I.left input.old; read_faults = I.faults input.old; held = O.held output.old; write_faults = O.faults output.old }) items.old)
           (as_of call (A.core_of program.now) (record { left = I.left input.new; read_faults = I.faults input.new; held = O.held output.new; write_faults = O.faults output.new }) items.new)
-          intake.old intake.new plain.new result }
+          intake.new plain.new result }
 {
     match plain.step(program) {
         Ok(Plainly::Stepped { item, output: text }) => {

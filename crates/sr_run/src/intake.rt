@@ -1,5 +1,3 @@
-ghost use Rattle.std.specs.Prelude.{◌≤◌};
-
 /// How much of the input was taken.
 #[derive(Clone, Copy)]
 pub(crate) struct Intake {
@@ -7,5 +5,4 @@ pub(crate) struct Intake {
     pub taken: u32,
     /// Whether the input said that there are no more.
     pub ended: bool,
-    ghost most: { taken ≤ 67108864 },
 }
