@@ -27,11 +27,11 @@ pub(crate) fn advance<A: Actor, I: Source, O: Sink>(
     ensures moves { IfNone result (Moves items.old items.new intake.old intake.new) }
     ensures advances { (call : Call) → length items.old < call.steps
         → IsUnderWay (A.asks_after program.now) A.can_feed
-          (as_of call (A.core_of program.now) (record { left = I.left input.old; read_faults = I.faults input.old; held = O.held output.old; write_faults = O.faults output.old }) items.old)
-          intake.old plain.old
+        (as_of call (A.core_of program.now) (record { left = I.left input.old; read_faults = I.faults input.old; held = O.held output.old; write_faults = O.faults output.old }) items.old)
+        intake.old plain.old
         → Advances (A.asks_after program.now) A.can_feed
-          (as_of call (A.core_of program.now) (record { left = I.left input.new; read_faults = I.faults input.new; held = O.held output.new; write_faults = O.faults output.new }) items.new)
-          intake.new plain.new result }
+        (as_of call (A.core_of program.now) (record { left = I.left input.new; read_faults = I.faults input.new; held = O.held output.new; write_faults = O.faults output.new }) items.new)
+        intake.new plain.new result }
 {
     match plain.step(program) {
         Ok(Plainly::Stepped { item, output: text }) => {

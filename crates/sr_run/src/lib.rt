@@ -5,8 +5,8 @@ mod advance;
 mod end;
 mod intake;
 mod items;
-mod run;
 mod taking;
+mod whole;
 
 pub use end::{LimitKind, Run, RunEnd};
-pub use run::run;
+pub use whole::run;

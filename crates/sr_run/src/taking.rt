@@ -40,18 +40,41 @@ pub(crate) fn take_more<A: Actor, I: Source>(
     ensures nearer { IfNone result (open_input intake.new < open_input intake.old) }
     ensures advances { (program : A.Program) (call : Call)
         → IsWaiting (A.asks_after program) A.can_feed
-          (as_of call (A.core_of program) (record call.now { left = I.left input.old; read_faults = I.faults input.old }) call.items)
-          intake.old plain.old
+        (as_of call (A.core_of program) (record call.now { left = I.left input.old; read_faults = I.faults input.old }) call.items)
+        intake.old plain.old
         → Advances (A.asks_after program) A.can_feed
-          (as_of call (A.core_of program) (record call.now { left = I.left input.new; read_faults = I.faults input.new }) call.items)
-          intake.new plain.new result }
+        (as_of call (A.core_of program) (record call.now { left = I.left input.new; read_faults = I.faults input.new }) call.items)
+        intake.new plain.new result }
 {
     let most = piece_of(*intake);
     if most == 0 {
         return Some(RunEnd::Limit(LimitKind::Input));
     }
     let mut room = [0; PIECE];
-    match input.take(&mut room[..most]) {
+    take_into(plain, intake, input, &mut room[..most])
+}
+
+/// Takes the next bytes of an input that hasn't ended, as many as fit in the room.
+fn take_into<A: Actor, I: Source>(
+    plain: &mut Plain<A>,
+    intake: &mut Intake,
+    input: &mut I,
+    room: &mut [u8],
+) -> Option<RunEnd>
+    requires some { 0 < length room.old }
+    requires most { intake.old.taken + length room.old ≤ 67108864 }
+    requires open { intake.old.ended ≡ false }
+    ensures within { intake.new.taken ≤ 67108864 }
+    ensures nearer { IfNone result (open_input intake.new < open_input intake.old) }
+    ensures advances { (program : A.Program) (call : Call)
+        → IsWaiting (A.asks_after program) A.can_feed
+        (as_of call (A.core_of program) (record call.now { left = I.left input.old; read_faults = I.faults input.old }) call.items)
+        intake.old plain.old
+        → Advances (A.asks_after program) A.can_feed
+        (as_of call (A.core_of program) (record call.now { left = I.left input.new; read_faults = I.faults input.new }) call.items)
+        intake.new plain.new result }
+{
+    match input.take(room) {
         Ok(0) => {
             plain.end_input();
             intake.ended = true;

@@ -4,7 +4,7 @@ use Rattle.std.specs.Prelude.{Option}
 use Rattle.sr_run.proofs.Begun.{nothing_taken}
 use Rattle.sr_run.specs.Runs.{Call}
 use Rattle.sr_run.specs.UnderWay.{IsUnderWay, as_of, open_input}
-use Rattle.sr_run.proofs.run.run_on.Given as goal
+use Rattle.sr_run.proofs.whole.run_on.Given as goal
 
 abbrev pub invariant-loop-items : goal.invariant-loop-items
 invariant-loop-items g l = record {
@@ -12,11 +12,11 @@ invariant-loop-items g l = record {
   most : l.intake.taken ≤ 67108864;
   under_way : (call : Call) → call.steps ≡ l.steps
       → IsUnderWay (g.A.Actor.asks_after l.program) g.A.Actor.can_feed
-        (as_of call (g.A.Actor.core_of l.program) (record { left = g.I.Source.left l.fn.input; read_faults = g.I.Source.faults l.fn.input; held = g.O.Sink.held l.fn.output; write_faults = g.O.Sink.faults l.fn.output }) l.fn.items)
-        nothing_taken l.fn.plain
+      (as_of call (g.A.Actor.core_of l.program) (record { left = g.I.Source.left l.fn.input; read_faults = g.I.Source.faults l.fn.input; held = g.O.Sink.held l.fn.output; write_faults = g.O.Sink.faults l.fn.output }) l.fn.items)
+      nothing_taken l.fn.plain
       → IsUnderWay (g.A.Actor.asks_after l.program) g.A.Actor.can_feed
-        (as_of call (g.A.Actor.core_of l.program) (record { left = g.I.Source.left l.input; read_faults = g.I.Source.faults l.input; held = g.O.Sink.held l.output; write_faults = g.O.Sink.faults l.output }) l.items)
-        l.intake l.plain;
+      (as_of call (g.A.Actor.core_of l.program) (record { left = g.I.Source.left l.input; read_faults = g.I.Source.faults l.input; held = g.O.Sink.held l.output; write_faults = g.O.Sink.faults l.output }) l.items)
+      l.intake l.plain;
 }
 
 abbrev pub decreases-loop-items : goal.decreases-loop-items

@@ -56,11 +56,11 @@ fn run_on<A: Actor, I: Source, O: Sink>(
     ensures within { length items.new ≤ steps }
     ensures cause { (call : Call) → call.steps ≡ steps
         → IsUnderWay (A.asks_after program.now) A.can_feed
-          (as_of call (A.core_of program.now) (record { left = I.left input.old; read_faults = I.faults input.old; held = O.held output.old; write_faults = O.faults output.old }) items.old)
-          (record { taken = 0; ended = false }) plain.old
+        (as_of call (A.core_of program.now) (record { left = I.left input.old; read_faults = I.faults input.old; held = O.held output.old; write_faults = O.faults output.old }) items.old)
+        (record { taken = 0; ended = false }) plain.old
         → HasCause
-          (as_of call (A.core_of program.now) (record { left = I.left input.new; read_faults = I.faults input.new; held = O.held output.new; write_faults = O.faults output.new }) items.new)
-          result }
+        (as_of call (A.core_of program.now) (record { left = I.left input.new; read_faults = I.faults input.new; held = O.held output.new; write_faults = O.faults output.new }) items.new)
+        result }
 {
     let mut intake = Intake {
         taken: 0,
