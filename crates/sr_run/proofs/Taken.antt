@@ -12,6 +12,7 @@ use Rattle.sr_core.specs.declared.component.Core.{Core}
 use Rattle.sr_plain.proofs.RotationLemmas.{one_more_in_turn}
 use Rattle.sr_plain.specs.Engine.{WaitsForInput}
 use Rattle.sr_ports.specs.Faults.{Rose}
+use Rattle.sr_runs.specs.Laws.{closes}
 use Rattle.sr_world.proofs.DecideLemmas.{waits_is}
 use Rattle.sr_world.specs.Deciding.{awaits_input}
 use Rattle.sr_world.specs.Does.{IsOpen, comes_to, is_undecided}

@@ -36,11 +36,16 @@ pub fn run<A: Actor, I: Source, O: Sink>(
         result.end }
 {
     let mut items = Row::new(alloc);
-    let end = match Plain::<A>::begin(alloc, ticks) {
-        Ok(mut plain) => run_on(&mut plain, program, steps, input, output, &mut items),
-        Err(_) => RunEnd::NoMemory,
-    };
-    Run { items, end }
+    match Plain::<A>::begin(alloc, ticks) {
+        Ok(mut plain) => {
+            let end = run_on(&mut plain, program, steps, input, output, &mut items);
+            Run { items, end }
+        }
+        Err(_) => Run {
+            items,
+            end: RunEnd::NoMemory,
+        },
+    }
 }
 
 /// Carries a run out that has just begun.
@@ -67,8 +72,9 @@ fn run_on<A: Actor, I: Source, O: Sink>(
         ended: false,
     };
     while items.len() < steps as usize {
-        if let Some(end) = advance(plain, program, &mut intake, input, output, items) {
-            return end;
+        match advance(plain, program, &mut intake, input, output, items) {
+            None => {}
+            Some(end) => return end,
         }
     }
     RunEnd::Limit(LimitKind::Steps)

@@ -9,7 +9,7 @@ returns-in-Ok-clause-advances g c =
     input_given (g.A.Actor.asks_after program) g.A.Actor.can_feed (as_of call (g.A.Actor.core_of program) call.now call.items) c.args.intake.now c.args.plain.now waiting c.args.bytes.now left passed c.requires.most
     c.give.new.self
     (c.in-Ok.ensures.ok program call.ticks waiting.under_way.state waiting.under_way.events waiting.under_way.engine
-        (world_open (g.A.Actor.asks_after program) g.A.Actor.can_feed (as_of call (g.A.Actor.core_of program) call.now call.items) c.args.intake.now c.args.plain.now waiting))
+    (world_open (g.A.Actor.asks_after program) g.A.Actor.can_feed (as_of call (g.A.Actor.core_of program) call.now call.items) c.args.intake.now c.args.plain.now waiting))
 
 pub returns-in-Err-clause-advances : goal.returns-in-Err-clause-advances
 returns-in-Err-clause-advances g c =

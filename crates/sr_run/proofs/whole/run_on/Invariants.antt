@@ -6,8 +6,8 @@ use Rattle.sr_run.specs.Runs.{Call}
 use Rattle.sr_run.specs.UnderWay.{IsUnderWay, as_of, open_input}
 use Rattle.sr_run.proofs.whole.run_on.Given as goal
 
-abbrev pub invariant-loop-items : goal.invariant-loop-items
-invariant-loop-items g l = record {
+abbrev pub invariant-loop-intake : goal.invariant-loop-intake
+invariant-loop-intake g l = record {
   within : length l.items ≤ l.steps;
   most : l.intake.taken ≤ 67108864;
   under_way : (call : Call) → call.steps ≡ l.steps
@@ -19,5 +19,5 @@ invariant-loop-items g l = record {
       l.intake l.plain;
 }
 
-abbrev pub decreases-loop-items : goal.decreases-loop-items
-decreases-loop-items g l = (l.steps - length l.items) + open_input l.intake
+abbrev pub decreases-loop-intake : goal.decreases-loop-intake
+decreases-loop-intake g l = (l.steps - length l.items) + open_input l.intake
