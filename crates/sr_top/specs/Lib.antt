@@ -1,5 +1,5 @@
 pub mod Causes
+pub mod Headline
+pub mod Reading
 pub mod Report
-pub mod Run
-pub mod Small
 pub mod Words
