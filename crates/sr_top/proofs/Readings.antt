@@ -1,5 +1,5 @@
 -- How far the reading of some files has come.
-use Rattle.std.proofs.Common.{◌≡◌, ℕ, ◌+◌, ◌<◌, List, [], ◌∷◌, ◌++◌, length, map, take, get_or, Some, refl, ap, sym, ◌∙◌, subst, arith}
+use Rattle.std.proofs.Common.{◌≡◌, ℕ, ◌+◌, ◌<◌, List, [], ◌∷◌, ◌++◌, length, map, take, get_or, refl, ap, sym, ◌∙◌, subst, arith}
 use Rattle.std.specs.Prelude.{Option, Result, Ok, Err, IfOk, IfErr}
 use Rattle.std.specs.List.{All}
 use Rattle.std.proofs.lemmas.List.{length-map, map-append, take-map, take_all, take_more}
@@ -48,10 +48,11 @@ unread told text_of names at files less read =
 
 -- ---- the program in the files
 
-pub compiled_as : (told : Option (List (List ℕ × List ℕ))) (names : List (List ℕ)) (texts : List (List ℕ × List ℕ)) (result : Result Core Ending)
-    → AreRead told names texts → IfOk result (HasCore texts) → IfOk result (AreCompiled told names)
-compiled_as told names texts (Ok core) read has = record { files = texts; read = read; classes = has.classes; written_out = has.written_out }
-compiled_as told names texts (Err ending) read has = tt
+pub compiled_as : {P : Type 0} (core_of : P → Core) (told : Option (List (List ℕ × List ℕ))) (names : List (List ℕ)) (texts : List (List ℕ × List ℕ))
+    (result : Result P Ending) → AreRead told names texts → IfOk result (λ program. HasCore texts (core_of program))
+    → IfOk result (λ program. AreCompiled told names (core_of program))
+compiled_as core_of told names texts (Ok program) read has = record { files = texts; read = read; classes = has.classes; written_out = has.written_out }
+compiled_as core_of told names texts (Err ending) read has = tt
 
 ended_as : (told : Option (List (List ℕ × List ℕ))) (names : List (List ℕ)) (texts : List (List ℕ × List ℕ)) (faults faults_now : ℕ) (ending : Ending)
     → AreRead told names texts → faults_now ≡ faults → StopsCompiling texts ending → EndsCompiling told names faults faults_now ending
@@ -67,10 +68,10 @@ ended_as told names texts faults faults_now ReadFault read same stops = stops
 ended_as told names texts faults faults_now WriteFault read same stops = stops
 ended_as told names texts faults faults_now Usage read same stops = stops
 
-pub stopped_as : (told : Option (List (List ℕ × List ℕ))) (names : List (List ℕ)) (texts : List (List ℕ × List ℕ)) (faults faults_now : ℕ)
-    (result : Result Core Ending) → AreRead told names texts → faults_now ≡ faults → IfErr result (StopsCompiling texts)
+pub stopped_as : {P : Type 0} (told : Option (List (List ℕ × List ℕ))) (names : List (List ℕ)) (texts : List (List ℕ × List ℕ)) (faults faults_now : ℕ)
+    (result : Result P Ending) → AreRead told names texts → faults_now ≡ faults → IfErr result (StopsCompiling texts)
     → IfErr result (EndsCompiling told names faults faults_now)
-stopped_as told names texts faults faults_now (Ok core) read same stops = tt
+stopped_as told names texts faults faults_now (Ok program) read same stops = tt
 stopped_as told names texts faults faults_now (Err ending) read same stops = ended_as told names texts faults faults_now ending read same stops
 
 pub reading_as : (told : Option (List (List ℕ × List ℕ))) (names : List (List ℕ)) (faults faults_now : ℕ) (ending : Ending)

@@ -4,6 +4,7 @@
 mod compiling;
 mod diag;
 mod outcome;
+mod program;
 mod reading;
 mod report;
 mod top;

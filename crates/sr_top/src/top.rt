@@ -8,15 +8,12 @@ ghost use Rattle.sr_top.specs.declared.report.Side.TheVariants as sides;
 use crate::compiling::compile_files;
 use crate::diag::{put_diag, status_of};
 use crate::outcome::{Outcome, run_program, without_items};
+use crate::program::Process;
 use crate::report::{Ending, Report, Side};
 use crate::words::file_words;
 use sr_ports::{Files, Gate, Sink, Source};
-use sr_tree_actor::TreeActor;
 use sr_value::Row;
 use std::alloc::Global;
-
-/// What runs a process of the program.
-type Process = TreeActor;
 
 /// What the program does: reads its words, reads and compiles the files that they name, runs their program, and says how
 /// that ended.
@@ -123,7 +120,7 @@ fn run_words<F: Files, I: Source, O: Sink>(
         return without_items(alloc, Ending::Usage);
     };
     match compile_files(alloc, names, files) {
-        Ok(core) => run_program::<Process, I, O>(alloc, &core, input, output),
+        Ok(program) => run_program::<Process, I, O>(alloc, &program, input, output),
         Err(ending) => without_items(alloc, ending),
     }
 }
