@@ -1,2 +1,2 @@
-pub mod Values
-pub mod Written
+pub mod Endings
+pub mod Readings

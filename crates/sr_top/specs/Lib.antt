@@ -1,5 +1,6 @@
 pub mod Causes
+pub mod Headline
+pub mod Programs
+pub mod Reading
 pub mod Report
-pub mod Run
-pub mod Small
 pub mod Words

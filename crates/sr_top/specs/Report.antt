@@ -9,8 +9,8 @@ use Rattle.sr_value.specs.declared.fault.Fault.TheVariants.{Overflow, ZeroDiviso
 use Rattle.sr_text.specs.Labels.{kind_label}
 use Rattle.sr_top.specs.declared.report.Ending.{Ending}
 use Rattle.sr_top.specs.declared.report.Ending.TheVariants.{Done, Quiet, Stopped, Failed, Limit, Refused, NoFile, ReadFault, WriteFault, NoMemory, Usage}
-use Rattle.sr_top.specs.declared.report.LimitKind.{LimitKind}
-use Rattle.sr_top.specs.declared.report.LimitKind.TheVariants.{Steps, Ticks, Input}
+use Rattle.sr_run.specs.declared.end.LimitKind.{LimitKind}
+use Rattle.sr_run.specs.declared.end.LimitKind.TheVariants.{Steps, Ticks, Input}
 use Rattle.sr_top.specs.declared.report.Side.{Side}
 use Rattle.sr_top.specs.declared.report.Side.TheVariants as sides
 

@@ -1,10 +1,11 @@
-ghost use Rattle.std.specs.Prelude.{◌≡◌, [], ◌∷◌, ◌++◌, map, codes, IfOk};
+ghost use Rattle.std.specs.Prelude.{◌≡◌, [], ◌∷◌, ◌++◌, map, codes, string_bytes, IfOk};
 ghost use Rattle.std.specs.Fmt.{decimal};
 ghost use Rattle.sr_top.specs.Report as report_of;
 ghost use Rattle.sr_top.specs.declared.report.Ending.TheVariants as endings;
 
-use crate::report::{Ending, LimitKind, Side};
+use crate::report::{Ending, Side};
 use sr_ports::{PortFail, Sink, put_all};
+use sr_run::LimitKind;
 use sr_value::{Fault, NoMemory, Place, Text};
 use std::alloc::Global;
 
@@ -41,18 +42,18 @@ fn limit_label(kind: LimitKind) -> &'static str
     }
 }
 
-fn file_name<'a>(names: &[&'a str], file: u32) -> &'a str
-    ensures { result.now ≡ report_of.file_name (map (λ name. name.now) names.now) file }
+fn file_name<'a>(names: &'a [String], file: u32) -> &'a str
+    ensures { result.now ≡ report_of.file_name (map string_bytes names.now) file }
 {
     match names.get(file as usize) {
         None => "",
-        Some(name) => *name,
+        Some(name) => name.as_str(),
     }
 }
 
 /// A line that names a place and what is the matter there.
-fn placed_line(alloc: Global, names: &[&str], place: Place, label: &str) -> Result<Text, NoMemory>
-    ensures { IfOk result (λ text. text ≡ report_of.placed_line (map (λ name. name.now) names.now) place label.now) }
+fn placed_line(alloc: Global, names: &[String], place: Place, label: &str) -> Result<Text, NoMemory>
+    ensures { IfOk result (λ text. text ≡ report_of.placed_line (map string_bytes names.now) place label.now) }
 {
     let number = decimal_text(alloc, place.line)?;
     let mut text = Text::from_slice(alloc, b"sr: ")?;
@@ -83,8 +84,8 @@ fn line(alloc: Global, words: &str, more: &str) -> Result<Text, NoMemory>
 }
 
 /// The diagnostic text of an ending, for files of these names.
-pub fn diag_text(alloc: Global, names: &[&str], ending: Ending) -> Result<Text, NoMemory>
-    ensures { IfOk result (λ text. text ≡ report_of.diag_text (map (λ name. name.now) names.now) ending) }
+pub fn diag_text(alloc: Global, names: &[String], ending: Ending) -> Result<Text, NoMemory>
+    ensures { IfOk result (λ text. text ≡ report_of.diag_text (map string_bytes names.now) ending) }
 {
     match ending {
         Ending::Done => Ok(Text::new(alloc)),
@@ -147,8 +148,8 @@ pub fn status_of(ending: Ending, journal: Side) -> u8
 }
 
 /// Puts the diagnostic text of an ending.
-pub fn put_diag<D: Sink>(alloc: Global, names: &[&str], ending: Ending, diag: &mut D) -> Side
-    ensures { report_of.GotAsFar result (report_of.diag_text (map (λ name. name.now) names.now) ending) (D.held diag.old) (D.held diag.new) (D.faults diag.old) (D.faults diag.new) }
+pub fn put_diag<D: Sink>(alloc: Global, names: &[String], ending: Ending, diag: &mut D) -> Side
+    ensures { report_of.GotAsFar result (report_of.diag_text (map string_bytes names.now) ending) (D.held diag.old) (D.held diag.new) (D.faults diag.old) (D.faults diag.new) }
 {
     let Ok(text) = diag_text(alloc, names, ending) else {
         return Side::NoMemory;

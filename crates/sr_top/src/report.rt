@@ -1,4 +1,5 @@
 use sr_ask::Item;
+use sr_run::LimitKind;
 use sr_text::Refusal;
 use sr_value::{Fault, Place, Row};
 
@@ -27,17 +28,6 @@ pub enum Ending {
     NoMemory,
     /// The words are no command.
     Usage,
-}
-
-/// Which limit was reached.
-#[derive(Clone, Copy, Debug, PartialEq, Eq)]
-pub enum LimitKind {
-    /// That on the steps of the run.
-    Steps,
-    /// That on the ticks of this process since its last answer.
-    Ticks(u32),
-    /// That on the bytes of input.
-    Input,
 }
 
 /// How far the text of a sink got.

@@ -6,13 +6,15 @@ use sr_value::{NoMemory, Place, Row, Text};
 use std::alloc::Global;
 use std::test::Fail;
 
-/// A call with ports in memory: its words, the content of `a.sr`, the reads that fail, the most bytes of one
-/// put of the output, the puts of it that fail; and what is to come.
+/// A call with ports in memory: its words, the content of `a.sr`, the reads that fail, the input and the takes of it
+/// that fail, the most bytes of one put of the output, the puts of it that fail; and what is to come.
 #[derive(Clone, Copy)]
 struct Case<'a> {
     words: &'a [&'a str],
     content: &'a [u8],
     read_fails: &'a [u64],
+    input: &'a [u8],
+    take_fails: &'a [u64],
     most: usize,
     put_fails: &'a [u64],
     ending: Ending,
@@ -24,6 +26,12 @@ struct Case<'a> {
 
 /// A run of two writes.
 const TWO: &[u8] = b"resource main()\n  write(\"one\")\n  write(\"two\")\nend\n";
+
+/// A run that reads a number and writes its double.
+const DOUBLE: &[u8] = b"resource main()\n  var n : int\n  read(n)\n  write(2 * n)\nend\n";
+
+/// A component that `b.sr` has.
+const OTHER: &[u8] = b"global Other\n  const c := 7\nend\n";
 
 const NO_MAIN: Ending = Ending::Refused(Refusal {
     kind: Kind::Main,
@@ -41,15 +49,21 @@ fn called(alloc: Global, case: &Case<'_>) -> Result<(Report, MemSink, MemSink), 
         words.push(String::from_str(alloc, word)?)?;
     }
     let mut held = Row::new(alloc);
-    let name = Text::from_slice(alloc, b"a.sr")?;
-    held.push((name, Text::from_slice(alloc, case.content)?))?;
+    for (name, content) in [(b"a.sr", case.content), (b"b.sr", OTHER)] {
+        let name = Text::from_slice(alloc, name)?;
+        held.push((name, Text::from_slice(alloc, content)?))?;
+    }
     let mut output = MemSink::new(alloc, case.most.max(1), numbers(alloc, case.put_fails)?);
     let mut diag = MemSink::new(alloc, 100, numbers(alloc, &[])?);
     let report = sr_top(
         alloc,
         &words,
         &mut MemFiles::new(held, numbers(alloc, case.read_fails)?),
-        &mut MemSource::new(Text::new(alloc), 1, numbers(alloc, &[])?),
+        &mut MemSource::new(
+            Text::from_slice(alloc, case.input)?,
+            2,
+            numbers(alloc, case.take_fails)?,
+        ),
         &mut output,
         &mut diag,
         &mut MemSink::new(alloc, 1, numbers(alloc, &[])?),
@@ -64,6 +78,8 @@ fn run_case<'a>(content: &'a [u8], output: &'a [u8], items: usize) -> Case<'a> {
         words: &["run", "a.sr"],
         content,
         read_fails: &[],
+        input: b"",
+        take_fails: &[],
         most: 100,
         put_fails: &[],
         ending: Ending::Quiet,
@@ -80,6 +96,8 @@ fn early<'a>(words: &'a [&'a str], ending: Ending, status: u8, diag: &'a [u8]) -
         words,
         content: b"",
         read_fails: &[],
+        input: b"",
+        take_fails: &[],
         most: 100,
         put_fails: &[],
         ending,
@@ -117,6 +135,35 @@ fn calls_with_ports_in_memory(rt: HostRuntime) -> Result<(), Fail> {
         },
         run_case(TWO, b"one\ntwo\n", 7),
         Case {
+            input: b" 21",
+            ..run_case(DOUBLE, b"42\n", 10)
+        },
+        Case {
+            input: b"21 ",
+            take_fails: &[1],
+            ending: Ending::ReadFault,
+            status: 105,
+            diag: b"sr: input failed\n",
+            ..run_case(DOUBLE, b"", 2)
+        },
+        Case {
+            words: &["run", "b.sr", "a.sr"],
+            ..run_case(
+                b"resource main()\nimport Other\nwrite(Other.c)\nend",
+                b"7\n",
+                9,
+            )
+        },
+        Case {
+            read_fails: &[2],
+            ..early(
+                &["run", "b.sr", "a.sr"],
+                Ending::NoFile(1),
+                104,
+                b"sr: cannot read a.sr\n",
+            )
+        },
+        Case {
             read_fails: &[1],
             ..early(
                 &["run", "a.sr"],
@@ -126,17 +173,17 @@ fn calls_with_ports_in_memory(rt: HostRuntime) -> Result<(), Fail> {
             )
         },
         early(
-            &["run", "b.sr"],
+            &["run", "c.sr"],
             Ending::NoFile(0),
             104,
-            b"sr: cannot read b.sr\n",
+            b"sr: cannot read c.sr\n",
         ),
         early(&["run", "a.sr"], NO_MAIN, 103, s9),
         early(&[], Ending::Usage, 108, USAGE),
         early(&["run"], Ending::Usage, 108, USAGE),
         early(&["run", "-x"], Ending::Usage, 108, USAGE),
         early(&["walk", "a.sr"], Ending::Usage, 108, USAGE),
-        early(&["run", "a.sr", "a.sr"], Ending::Usage, 108, USAGE),
+        early(&["run", "a.sr", "--x"], Ending::Usage, 108, USAGE),
     ];
     for case in &cases {
         let (report, output, diag) = called(rt.alloc(), case)?;
@@ -170,10 +217,9 @@ fn items_of_hello(rt: HostRuntime) -> Result<(), Fail> {
 /// Texts that are refused, with the kind and the line.
 #[test]
 fn refused_texts(rt: HostRuntime) -> Result<(), Fail> {
-    let texts: [(&[u8], Kind, u32); 15] = [
+    let texts: [(&[u8], Kind, u32); 13] = [
         (b"", Kind::Main, 1),
         (b"resource main()\n  \x80\nend\n", Kind::BadByte, 2),
-        (b"resource main() # \x80\n  skip\nend\n", Kind::NotBuilt, 1),
         (
             b"resource main()\n  write(2147483648)\nend\n",
             Kind::BadToken,
@@ -192,14 +238,13 @@ fn refused_texts(rt: HostRuntime) -> Result<(), Fail> {
         ),
         (b"resource main\nend\n", Kind::Syntax, 2),
         (b"resource main()\nwrite(1,)\nend\n", Kind::Syntax, 2),
-        (b"resource main()\nwrite(-1)\nend\n", Kind::NotBuilt, 1),
-        (b"resource main()\ncall write(1)\nend\n", Kind::NotBuilt, 1),
-        (b"resource other()\nwrite(1)\nend\n", Kind::NotBuilt, 1),
         (
             b"resource main()\n  write(1,\n  1 + true)\nend\n",
             Kind::BadType,
             3,
         ),
+        (b"resource main()\n  write(x)\nend\n", Kind::Name, 2),
+        (b"resource main()\n  var x, x : int\nend\n", Kind::Twice, 2),
         (b"resource main()\n\n  exit\nend\n", Kind::BadUse, 3),
         (
             b"resource main()\n  op f(n : int) returns r : int\n  in f(n) returns r and f(n) = 1 -> skip ni\nend\n",

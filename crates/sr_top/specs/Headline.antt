@@ -1,0 +1,79 @@
+-- What a call of the program did.
+use Rattle.std.specs.Prelude.{◌≡◌, ◌≤◌, ◌⊎◌, ℕ, Bool, List, length, Option, Some, None, ◌≢◌}
+use Rattle.std.specs.Io.KnownBytes.{append_known}
+use Rattle.sr_core.specs.declared.component.Core.{Core}
+use Rattle.sr_ports.specs.Faults.{Rose}
+use Rattle.sr_ports.specs.Streams.{PutInPart}
+use Rattle.sr_run.specs.Runs as runs
+use Rattle.sr_top.specs.Causes.{Call, Compiles, RunsNothing, run_of}
+use Rattle.sr_top.specs.Words.{file_words, most_steps}
+use Rattle.sr_top.specs.declared.report.Ending.{Ending}
+use Rattle.sr_top.specs.declared.report.Ending.TheVariants.{Done, Quiet, Stopped, Failed, Limit, Refused, NoFile, ReadFault, WriteFault, NoMemory, Usage}
+use Rattle.sr_world.specs.declared.ends.End.{End}
+use Rattle.sr_world.specs.declared.ends.End.TheVariants as end
+
+-- ---- the headline
+
+-- The items are a run of the machine on the core of the accepted files, with the whole input, within the limits, in
+-- rotation. It has this ending, where it has one, and this output.
+pub record MakesRun (call : Call) (ending : Option End) (output : List ℕ) : Type 0 where
+  pub core : Core
+  pub compiled : Compiles call core
+  pub taken : List ℕ
+  pub ended : Bool
+  pub runs : runs.Runs (run_of call core) taken ended ending output
+  pub within : length call.items ≤ most_steps
+
+-- the bytes put are all of this output
+abbrev pub PutsAll : Call → List ℕ → Type 0
+PutsAll call output = call.now.held ≡ append_known call.before.held output
+
+-- a run that was made, and whose output was put
+pub record RunsWhole (call : Call) (ending : Option End) : Type 0 where
+  pub output : List ℕ
+  pub makes : MakesRun call ending output
+  pub put : PutsAll call output
+
+-- a run that hasn't ended, and whose output was put, or some first bytes of it
+pub record RunsInPart (call : Call) : Type 0 where
+  pub output : List ℕ
+  pub makes : MakesRun call None output
+  pub put : PutsAll call output ⊎ PutInPart call.before.held call.now.held output
+
+-- The items are a run of the program, the bytes put are its output, and the ending is the run's own, or a limit. Where a
+-- device failed or memory ran out the run hasn't ended. Where the words are unknown, or the files are refused or can't be
+-- read, nothing runs.
+abbrev pub Headline : Call → Ending → Type 0
+Headline call Done = ⊥
+Headline call Quiet = RunsWhole call (Some end.Quiet)
+Headline call (Stopped status) = RunsWhole call (Some (end.Stopped status))
+Headline call (Failed fault place) = RunsWhole call (Some (end.Failed fault place))
+Headline call (Limit kind) = RunsWhole call None
+Headline call (Refused refusal) = RunsNothing call
+Headline call (NoFile file) = RunsNothing call
+Headline call ReadFault = RunsWhole call None
+Headline call WriteFault = RunsInPart call
+Headline call NoMemory = RunsNothing call ⊎ RunsInPart call
+Headline call Usage = RunsNothing call
+
+-- ---- nothing is left out
+
+-- no count of the faults of the files, the input or the output rose
+pub record NoneRose (call : Call) : Type 0 where
+  pub files : ¬ Rose call.file_faults call.file_faults_now
+  pub input : ¬ Rose call.before.read_faults call.now.read_faults
+  pub output : ¬ Rose call.before.write_faults call.now.write_faults
+
+-- what blames neither the words nor a device
+abbrev pub IsOwn : Ending → Type 0
+IsOwn Done = ⊥
+IsOwn (NoFile file) = ⊥
+IsOwn ReadFault = ⊥
+IsOwn WriteFault = ⊥
+IsOwn Usage = ⊥
+IsOwn _ = Unit {0}
+
+-- where the words are right and no count rose, the files are refused, or the run ended by itself or at a limit, or memory
+-- ran out
+abbrev pub IsComplete : Call → Ending → Type 0
+IsComplete call ending = file_words call.words ≢ None → NoneRose call → IsOwn ending

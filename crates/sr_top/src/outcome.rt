@@ -1,0 +1,76 @@
+ghost use Rattle.std.specs.Prelude.{◌≡◌, [], ◌≤◌, length};
+ghost use Rattle.sr_top.specs.Causes.{EndsAs};
+ghost use Rattle.sr_top.specs.Causes as causes;
+ghost use Rattle.sr_top.specs.Words.{most_steps, most_ticks};
+
+use crate::report::Ending;
+use sr_actor::Actor;
+use sr_ask::Item;
+use sr_ports::{Sink, Source};
+use sr_run::{Run, RunEnd, run};
+use sr_value::Row;
+use sr_world::End;
+use std::alloc::Global;
+
+/// The most items of a run.
+const STEPS: u32 = 1_000_000;
+
+/// The most statements that a process may begin between two answers.
+const TICKS: u32 = 10_000_000;
+
+/// How a command ended, and the items that it made.
+#[derive(Debug, Drop)]
+pub struct Outcome {
+    pub ending: Ending,
+    pub items: Row<Item>,
+}
+
+/// An ending before any item.
+pub fn without_items(alloc: Global, ending: Ending) -> Outcome
+    ensures ending { result.ending ≡ ending }
+    ensures items { result.items ≡ [] }
+{
+    Outcome {
+        ending,
+        items: Row::new(alloc),
+    }
+}
+
+/// Runs a program, each process of it as an `A`.
+pub fn run_program<A: Actor, I: Source, O: Sink>(
+    alloc: Global,
+    program: &A::Program,
+    input: &mut I,
+    output: &mut O,
+) -> Outcome
+    ensures within { length result.items ≤ most_steps }
+    ensures ends { EndsAs
+        (record {
+          core = A.core_of program.now;
+          steps = most_steps;
+          ticks = most_ticks;
+          before = record { left = I.left input.old; read_faults = I.faults input.old; held = O.held output.old; write_faults = O.faults output.old };
+          now = record { left = I.left input.new; read_faults = I.faults input.new; held = O.held output.new; write_faults = O.faults output.new };
+          items = result.items;
+        })
+        result.ending }
+{
+    let Run { items, end } = run::<A, I, O>(alloc, program, STEPS, TICKS, input, output);
+    let ending = ending_of(end);
+    Outcome { ending, items }
+}
+
+/// The ending of a call whose run ended so.
+fn ending_of(end: RunEnd) -> Ending
+    ensures { result ≡ causes.ending_of end }
+{
+    match end {
+        RunEnd::Ended(End::Quiet) => Ending::Quiet,
+        RunEnd::Ended(End::Stopped(status)) => Ending::Stopped(status),
+        RunEnd::Ended(End::Failed { fault, place }) => Ending::Failed { fault, place },
+        RunEnd::Limit(kind) => Ending::Limit(kind),
+        RunEnd::ReadFault => Ending::ReadFault,
+        RunEnd::WriteFault => Ending::WriteFault,
+        RunEnd::NoMemory => Ending::NoMemory,
+    }
+}
