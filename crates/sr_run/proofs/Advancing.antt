@@ -4,9 +4,11 @@ use Rattle.sr_ask.specs.declared.answer.Answer.{Answer}
 use Rattle.sr_ask.specs.declared.ask.Asks.{Asks}
 use Rattle.sr_ask.specs.declared.item.Item.{Item}
 use Rattle.sr_ask.specs.declared.start.Start.{Start}
-use Rattle.sr_plain.specs.Engine.{HasStepped, IsEngine, IsLast, IsOver, WaitsForInput, last_in}
+use Rattle.sr_plain.specs.Engine.{Comes, HasStepped, IsLast, last_in}
 use Rattle.sr_plain.specs.Turns.{turn}
 use Rattle.sr_plain.specs.declared.plain.Plain.{Plain}
+use Rattle.sr_plain.specs.declared.plainly.Plainly.{Plainly}
+use Rattle.sr_plain.specs.declared.plainly.Plainly.TheVariants as answer
 use Rattle.sr_ports.specs.Faults.{Rose}
 use Rattle.sr_ports.specs.Streams.{PutInPart}
 use Rattle.sr_world.specs.Runs.{Event, Makes_item, State, bytes_in}
@@ -43,16 +45,26 @@ module _ {A : Type 0} (after : A → List Answer → Asks) (can_feed : A → Typ
   pub all_made : length call.items ≡ call.steps → EndsAtSteps call
   all_made all = at_steps call intake state_of events_of come no_faults all
 
-  pub over_ticks : (process : ℕ) → length call.items < call.steps → IsOver call.core call.ticks state_of process turn_of → EndsAtTicks call process
-  over_ticks process fewer over = at_ticks call intake state_of events_of come no_faults process fewer over
+  -- what the engine's answer says
+  abbrev pub ComesSo : Plainly → Plain A → Type 0
+  ComesSo answered later = Comes after can_feed call.core call.ticks state_of events_of turn_of answered later
 
-  pub wants_input : (later : Plain A) → length call.items < call.steps → WaitsForInput call.core call.ticks state_of turn_of → IsEngine after can_feed call.core call.ticks state_of events_of later
-      → IsWaiting after can_feed call intake later
-  wants_input later fewer wants engine = record {
-    under_way = record { state = state_of; events = events_of; come = come; no_faults = no_faults; engine = engine };
-    fewer = fewer;
-    waits = waits call intake state_of events_of come wants;
-  }
+  known : (given answered : Plainly) (later : Plain A) → given ≡ answered → ComesSo given later → ComesSo answered later
+  known given answered later is comes = subst (λ p. ComesSo p later) is comes
+
+  pub over_ticks : (given : Plainly) (process : ℕ) (later : Plain A) → length call.items < call.steps → given ≡ answer.Over process → ComesSo given later → EndsAtTicks call process
+  over_ticks given process later fewer is comes =
+      let came : ComesSo (answer.Over process) later = known given (answer.Over process) later is comes in
+      at_ticks call intake state_of events_of come no_faults process fewer came.0
+
+  pub wants_input : (given : Plainly) (later : Plain A) → length call.items < call.steps → given ≡ answer.Wants → ComesSo given later → IsWaiting after can_feed call intake later
+  wants_input given later fewer is comes =
+      let came : ComesSo answer.Wants later = known given answer.Wants later is comes in
+      record {
+        under_way = record { state = state_of; events = events_of; come = come; no_faults = no_faults; engine = came.1 };
+        fewer = fewer;
+        waits = waits call intake state_of events_of come came.0;
+      }
 
   module _ (item : Item) (items : List Item) where
     -- ---- the item ends the run
@@ -60,14 +72,19 @@ module _ {A : Type 0} (after : A → List Answer → Asks) (can_feed : A → Typ
     abbrev last_call : Call
     last_call = record call { items = items }
 
-    pub ends_with : (ending : End) (result : RunEnd) → IsLast call.core call.ticks state_of turn_of item ending → EndsWith item ending call.items items result → HasCause last_call result
-    ends_with ending (end.Ended given) last ends =
+    by_end : (ending : End) (result : RunEnd) → IsLast call.core call.ticks state_of turn_of item ending → EndsWith item ending call.items items result → HasCause last_call result
+    by_end ending (end.Ended given) last ends =
         subst (λ e. HasCause last_call (end.Ended e)) (sym ends.1)
         (ended_so call intake state_of events_of come item last.turn_of items ends.0 call.now.held call.now.write_faults ending last.ends refl (record { read = no_faults.read; write = no_faults.write }))
-    ends_with ending end.NoMemory last ends = subst (λ is. EndsEarly (record call { items = is })) (sym ends) out_of_memory
-    ends_with ending (end.Limit kind) last ends = absurd ends
-    ends_with ending end.ReadFault last ends = absurd ends
-    ends_with ending end.WriteFault last ends = absurd ends
+    by_end ending end.NoMemory last ends = subst (λ is. EndsEarly (record call { items = is })) (sym ends) out_of_memory
+    by_end ending (end.Limit kind) last ends = absurd ends
+    by_end ending end.ReadFault last ends = absurd ends
+    by_end ending end.WriteFault last ends = absurd ends
+
+    pub ends_with : (given : Plainly) (later : Plain A) (ending : End) (result : RunEnd) → given ≡ answer.Ended item ending → ComesSo given later → EndsWith item ending call.items items result
+        → HasCause last_call result
+    ends_with given later ending result is comes ends =
+        let came : ComesSo (answer.Ended item ending) later = known given (answer.Ended item ending) later is comes in by_end ending result came.0 ends
 
     -- ---- the item was made
 
@@ -94,7 +111,7 @@ module _ {A : Type 0} (after : A → List Answer → Asks) (can_feed : A → Typ
         cut : Adds item call.items items → PutInPart call.now.held held text → IsCutInWrite next_call
         cut added part = cut_in_write call intake state_of events_of come item stepped.turn_of items added held write_faults stepped.later stepped.goes text stepped.written part
 
-        pub goes_further : (result : Option RunEnd) → PutsItem item text call.items items call.now.held held call.now.write_faults write_faults result → Advances after can_feed next_call intake later result
+        goes_further : (result : Option RunEnd) → PutsItem item text call.items items call.now.held held call.now.write_faults write_faults result → Advances after can_feed next_call intake later result
         goes_further None puts = record {
           state = stepped.later;
           events = events_of ++ Makes_item item ∷ [];
@@ -112,3 +129,7 @@ module _ {A : Type 0} (after : A → List Answer → Asks) (can_feed : A → Typ
         goes_further (Some (end.Ended ending)) puts = absurd puts
         goes_further (Some (end.Limit kind)) puts = absurd puts
         goes_further (Some end.ReadFault) puts = absurd puts
+
+      pub steps_on : (given : Plainly) (later : Plain A) (result : Option RunEnd) → given ≡ answer.Stepped item text → ComesSo given later
+          → PutsItem item text call.items items call.now.held held call.now.write_faults write_faults result → Advances after can_feed next_call intake later result
+      steps_on given later result is comes puts = goes_further later (known given (answer.Stepped item text) later is comes) result puts

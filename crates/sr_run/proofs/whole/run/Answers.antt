@@ -10,7 +10,7 @@ returns-in-Ok-clause-cause g c =
     let call : Call = record { core = g.A.Actor.core_of c.args.program.now; steps = c.args.steps; ticks = c.args.ticks; before = devices; now = devices; items = [] } in
     c.run_on-end.ensures.cause call refl
     (begun (g.A.Actor.core_of c.args.program.now) c.args.steps c.args.ticks devices c.new-items.result c.new-items.ensures (g.A.Actor.asks_after c.args.program.now) g.A.Actor.can_feed c.in-Ok.plain
-        (c.in-Ok.ensures c.args.program.now))
+    (c.in-Ok.ensures c.args.program.now))
 
 pub returns-in-Err-clause-cause : goal.returns-in-Err-clause-cause
 returns-in-Err-clause-cause g c =
