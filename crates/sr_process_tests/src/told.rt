@@ -48,7 +48,7 @@ fn told_of(ask: &Ask) -> Told {
     }
 }
 
-fn told(asks: &Asks) -> Told {
+fn tell(asks: &Asks) -> Told {
     match asks {
         Asks::Asked(ask) => {
             if ask.place == LINE {
@@ -70,7 +70,7 @@ fn answer(give: Give) -> Answer {
 
 fn next_told(process: &mut Process, program: &Program) -> Result<Told, NoMemory> {
     let asks = process.next(program)?;
-    Ok(told(&asks))
+    Ok(tell(&asks))
 }
 
 fn told_by_copy(process: &Process, program: &Program) -> Result<Told, NoMemory> {
