@@ -1,5 +1,5 @@
 ghost use Rattle.std.specs.Prelude.{◌≡◌};
-ghost use Rattle.sr_compiled.specs.Agreement.{AsksTheSame};
+ghost use Rattle.sr_compiled.specs.Agreement.{AsksTheSame, AsksTheSame-prop};
 
 use sr_code::Program;
 
@@ -7,7 +7,7 @@ use sr_code::Program;
 #[derive(Drop)]
 pub struct Compiled {
     program: Program,
-    pub ghost agrees: { AsksTheSame program.core program.code },
+    pub ghost agrees: { AsksTheSame program.core program.code } by { AsksTheSame-prop program.core program.code },
 }
 
 impl Compiled {

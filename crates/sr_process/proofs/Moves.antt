@@ -1,11 +1,10 @@
 -- Each move of a process keeps what it asks, and leaves less to run.
-use Rattle.std.proofs.Common.{◌≡◌, ◌<◌, ◌≤◌, ◌+◌, ◌-◌, ◌*◌, ℕ, zero, suc, min, List, [], ◌∷◌, ◌++◌, length, Option, Some, None, ◌⊎◌, inl, inr, refl, sym, ap, subst, ◌∙◌, slice_get, IsSome, append_assoc, append-nil, arith}
+use Rattle.std.proofs.Common.{◌≡◌, ◌<◌, ◌+◌, ◌-◌, ◌*◌, ℕ, zero, suc, min, List, [], ◌∷◌, ◌++◌, length, Option, Some, None, inl, inr, refl, sym, ap, subst, ◌∙◌, slice_get, IsSome, append_assoc, append-nil, arith}
 use Rattle.std.proofs.Math.Nat.{mul-le-mul_right}
 use Rattle.std.proofs.lemmas.Option.{slice_get_within}
 use Rattle.sr_value.specs.declared.place.Place.{Place}
 use Rattle.sr_value.specs.declared.value.Value.{Value}
-use Rattle.sr_ask.specs.Asking.{none_takes}
-use Rattle.sr_ask.specs.Behaviors.{Stage, Outcome, Came, Stops, room}
+use Rattle.sr_ask.specs.Behaviors.{Stage, Outcome, Came, room}
 use Rattle.sr_ask.specs.Here.{ask_of, request}
 use Rattle.sr_ask.specs.Replies.{gives_now, results_now}
 use Rattle.sr_ask.specs.declared.answer.Answer.{Answer}
@@ -14,7 +13,7 @@ use Rattle.sr_ask.specs.declared.ask.Asks.TheVariants.{OverTicks as over_ticks}
 use Rattle.sr_ask.specs.declared.request.Request.{Request}
 use Rattle.sr_ask.specs.declared.request.Request.TheVariants.{Fail, Finish}
 use Rattle.sr_ask.specs.declared.start.Start.{Start}
-use Rattle.sr_code.specs.Acts.{Point, point, act}
+use Rattle.sr_code.specs.Acts.{Point, point}
 use Rattle.sr_code.specs.Laws.{Falls}
 use Rattle.sr_code.specs.Runs.{Machine, carried, code_ask, entry_of, finish, go, here_at, step_at, then_asks, work}
 use Rattle.sr_code.specs.declared.code.Coded.{Coded}

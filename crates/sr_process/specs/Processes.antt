@@ -1,5 +1,5 @@
 -- What a process asks, and what its moves keep.
-use Rattle.std.specs.Prelude.{◌≡◌, ◌<◌, false, ℕ, zero, suc, List, [], ◌∷◌, ◌++◌, Option, Some, None, replicate, slice_get}
+use Rattle.std.specs.Prelude.{◌≡◌, ℕ, zero, suc, List, [], ◌∷◌, ◌++◌, Option, Some, None, replicate, slice_get}
 use Rattle.sr_value.specs.declared.place.Place.{Place}
 use Rattle.sr_ask.specs.Here.{Here, ask_of}
 use Rattle.sr_ask.specs.declared.answer.Answer.{Answer}
@@ -7,7 +7,6 @@ use Rattle.sr_ask.specs.declared.ask.Asks.{Asks}
 use Rattle.sr_ask.specs.declared.ask.Asks.TheVariants.{OverTicks as over_ticks}
 use Rattle.sr_ask.specs.declared.ask.Role.{Role}
 use Rattle.sr_ask.specs.declared.ask.Role.TheVariants.{Boot, Initial, Proc as proc_role, Final}
-use Rattle.sr_ask.specs.declared.environment.Gives.{Gives}
 use Rattle.sr_ask.specs.declared.environment.Own.{Own}
 use Rattle.sr_ask.specs.declared.environment.Service.{Service}
 use Rattle.sr_ask.specs.declared.request.Request.{Request}
@@ -16,7 +15,7 @@ use Rattle.sr_ask.specs.declared.start.Start.{Start}
 use Rattle.sr_core.specs.declared.owner.Me.{Me}
 use Rattle.sr_code.specs.Acts.{point}
 use Rattle.sr_code.specs.Operands.{no_operands}
-use Rattle.sr_code.specs.Runs.{Machine, code_ask, ends_at, entry_of, first_line, go, here_at, machine_at, no_line, service_at, then_asks, work}
+use Rattle.sr_code.specs.Runs.{Machine, code_ask, entry_of, first_line, go, machine_at, no_line, service_at, then_asks, work}
 use Rattle.sr_code.specs.declared.code.Code.{Code}
 use Rattle.sr_code.specs.declared.code.Coded.{Coded}
 use Rattle.sr_code.specs.declared.code.Entry.{Entry}

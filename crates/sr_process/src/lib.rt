@@ -1,6 +1,7 @@
 //! A process: it runs flat code to its next request.
 #![tactic(auto)]
 
+mod actor;
 mod copies;
 mod entry;
 mod operands;

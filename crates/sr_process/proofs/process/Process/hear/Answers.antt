@@ -1,4 +1,4 @@
-use Rattle.std.proofs.Common.{◌≡◌, None, Option, Some, ap, sym, ◌∙◌}
+use Rattle.std.proofs.Common.{◌≡◌, None, Option, Some, ap, sym}
 use Rattle.sr_ask.specs.declared.answer.Answer.{Answer}
 use Rattle.std.proofs.lemmas.Result.{on_ok_weaker}
 use Rattle.sr_process.specs.declared.process.Process.{Process}
