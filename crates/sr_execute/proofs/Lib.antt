@@ -1,4 +1,4 @@
 pub mod Drops
 pub mod Meant
-pub mod Stacks
+pub mod Storing
 pub mod Taking

@@ -221,7 +221,7 @@ pub fn start_made(
 pub fn complete(
     frame: &mut Frame,
     answer: Answer,
-    arms: &[usize],
+    arms: &Row<usize>,
     next: usize,
 ) -> Result<Option<usize>, NoMemory>
     requires { next + 1 < 2 ^ 64 }
@@ -241,7 +241,7 @@ fn complete_at(
     frame: &mut Frame,
     at: usize,
     results: Option<Row<Value>>,
-    arms: &[usize],
+    arms: &Row<usize>,
     next: usize,
 ) -> Result<Option<usize>, NoMemory>
     requires first { IsFirstOut frame.old.out at }

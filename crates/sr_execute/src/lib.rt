@@ -3,7 +3,7 @@
 
 mod calls;
 mod co;
-mod execute;
+mod execution;
 mod frame;
 pub mod laws;
 mod operators;
@@ -12,7 +12,7 @@ mod places;
 mod putting;
 mod reading;
 mod results;
-mod resume;
+mod resumption;
 mod services;
 mod shapes;
 mod step;
@@ -21,7 +21,7 @@ mod tops;
 mod variables;
 mod writing;
 
-pub use execute::execute;
+pub use execution::execute;
 pub use frame::Frame;
-pub use resume::resume;
+pub use resumption::resume;
 pub use step::Step;

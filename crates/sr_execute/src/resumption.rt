@@ -340,7 +340,7 @@ pub fn resume(
             };
             start_made(alloc, frame, answer, &noted, next)
         },
-        Instruction::TakeReply { arms } => complete(frame, answer, arms.as_slice(), next),
+        Instruction::TakeReply { arms } => complete(frame, answer, arms, next),
         _ => Ok(None),
     }
 }

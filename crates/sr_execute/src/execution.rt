@@ -12,7 +12,7 @@ use crate::operators::{
     to_count, to_number, to_wait,
 };
 use crate::parts::{add_piece, add_repeated, make_array, part_at, part_at2, part_field};
-use crate::places::{extend, owner_in, place_at, place_at2, root_in, whole};
+use crate::places::{extend, owner_in, place_at, place_at2, root_in};
 use crate::putting::{put_list, put_number, put_pieces, put_place, put_shape, put_value};
 use crate::reading::{add_reading, begin_reading, end_read, number_read, read_next, store_read};
 use crate::results::store_results;
@@ -27,7 +27,7 @@ use crate::variables::{load, load_again, load_second, store, store_second};
 use crate::writing::write;
 use sr_ask::Request;
 use sr_code::Instruction;
-use sr_frame::Scene;
+use sr_frame::{Scene, whole};
 use sr_value::{Cap, Duplicate, NoMemory, Row, Sel, Value};
 
 /// Carries out an instruction, up to a request.
