@@ -1,10 +1,10 @@
 -- Whole programs: their code asks what their trees ask.
-use Rattle.std.proofs.Common.{◌≡◌, ℕ, zero, suc, ◌+◌, ◌≤◌, ◌<◌, ◌⊎◌, inl, inr, false, List, [], ◌∷◌, ◌++◌, length, replicate, Option, Some, None, option_map, refl, sym, ◌∙◌, ap, subst, get_or, slice_get, unwrap_or, arith, length-append}
+use Rattle.std.proofs.Common.{◌≡◌, ℕ, ◌+◌, ◌≤◌, ◌<◌, ◌⊎◌, inl, inr, false, List, [], ◌∷◌, ◌++◌, length, replicate, Option, Some, None, option_map, refl, sym, ◌∙◌, ap, subst, get_or, slice_get, unwrap_or, arith, length-append}
 use Rattle.std.proofs.lemmas.Option.{slice_get_past, slice_get_within, slice_get-get_or}
 use Rattle.std.specs.Option.{option_and_then}
 use Rattle.sr_value.specs.declared.place.Place.{Place}
 use Rattle.sr_ask.specs.Asking.{none_takes}
-use Rattle.sr_ask.specs.Behaviors.{Stage, Outcome, Came, Stops, Doing, and_then, asked, give, heard, ◌>>=◌}
+use Rattle.sr_ask.specs.Behaviors.{Stage, Outcome, Came, Stops, and_then, asked, heard}
 use Rattle.sr_ask.specs.declared.answer.Answer.{Answer}
 use Rattle.sr_ask.specs.declared.ask.Asks.{Asks}
 use Rattle.sr_ask.specs.declared.ask.Role.{Role}
@@ -34,7 +34,7 @@ use Rattle.sr_gen_expr.specs.Emitting.{tree_here}
 use Rattle.sr_gen_expr.proofs.Stretching.{follows_at}
 use Rattle.sr_gen.specs.Doing.{Ends}
 use Rattle.sr_gen.specs.Programs.{AsksTheSame, Enters, EntersEach, LaysOut, body_at, gives_at}
-use Rattle.sr_gen.proofs.Services.{appended, item_at, less_or_not}
+use Rattle.sr_gen.proofs.Services.{appended, less_or_not}
 
 -- ---- one process
 

@@ -1,4 +1,4 @@
-//! The code of statements.
+//! The code of statements, of the kinds of processes, and of a whole program.
 //!
 //! Code is emitted backwards: what runs last is emitted first.
 #![tactic(auto)]

@@ -1,10 +1,10 @@
 ghost use Rattle.std.specs.Prelude.{◌≡◌, ℕ, Some, IfOk, OnOk, length, slice_get};
 ghost use Rattle.sr_ask.specs.declared.ask.Role.TheVariants.{Boot, Initial, Proc as proc_role, Final};
 ghost use Rattle.sr_code.specs.Stretches.{Extends};
-ghost use Rattle.sr_meaning.specs.Processes.{component_of_proc, line_of_component, main_of};
+ghost use Rattle.sr_meaning.specs.Processes.{component_of_proc, line_of_component};
 ghost use Rattle.sr_gen.specs.Programs.{AsksTheSame, Enters, LaysOut};
 
-use crate::invocation::{arm_number, result_vars};
+use crate::invocation::{item_number, result_vars};
 use crate::role::{gen_boot, gen_final, gen_initial, gen_proc};
 use sr_ask::Gives;
 use sr_code::{Code, Coded, Entry};
@@ -35,7 +35,7 @@ fn enter_boot(alloc: Global, core: &Core, out: &mut Row<Coded>) -> Result<Entry,
     ensures grows { OnOk result (Extends out.old out.new) }
     ensures enters { IfOk result (λ entry. (number : ℕ) → Enters core.now Boot number entry out.new) }
 {
-    let main = arm_number(core.components.len().saturating_sub(1))?;
+    let main = item_number(core.components.len().saturating_sub(1))?;
     let place = line_at(core, main);
     gen_boot(core, place, main, out)?;
     Ok(Entry {
