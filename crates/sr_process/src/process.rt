@@ -17,7 +17,7 @@ use sr_value::{Duplicate, NoMemory, Place};
 use std::alloc::Global;
 
 /// How far a process has come.
-#[derive(Clone, Copy, Debug, PartialEq, Eq)]
+#[derive(Clone, Copy, PartialEq, Eq)]
 enum Phase {
     /// It hasn't begun.
     New,
