@@ -1,5 +1,5 @@
 -- What a step of the engine does to a run that is under way.
-use Rattle.std.proofs.Common.{◌≡◌, ◌⊎◌, ◌<◌, ◌≤◌, ℕ, List, [], ◌∷◌, ◌++◌, Option, None, Some, length, inl, inr, refl, ap, sym, ◌∙◌, subst}
+use Rattle.std.proofs.Common.{◌≡◌, ◌⊎◌, ◌<◌, ℕ, List, [], ◌∷◌, ◌++◌, Option, None, Some, length, inl, inr, refl, sym, ◌∙◌, subst}
 use Rattle.sr_ask.specs.declared.answer.Answer.{Answer}
 use Rattle.sr_ask.specs.declared.ask.Asks.{Asks}
 use Rattle.sr_ask.specs.declared.item.Item.{Item}
@@ -11,14 +11,13 @@ use Rattle.sr_plain.specs.declared.plainly.Plainly.{Plainly}
 use Rattle.sr_plain.specs.declared.plainly.Plainly.TheVariants as answer
 use Rattle.sr_ports.specs.Faults.{Rose}
 use Rattle.sr_ports.specs.Streams.{PutInPart}
-use Rattle.sr_world.specs.Runs.{Event, Makes_item, State, bytes_in}
+use Rattle.sr_world.specs.Runs.{Event, Makes_item, State}
 use Rattle.sr_world.specs.declared.ends.End.{End}
 use Rattle.sr_run.proofs.Reached.{at_steps, at_ticks, early, waits}
 use Rattle.sr_run.proofs.Stepped.{cut_in_write, ended_so, made_come}
 use Rattle.sr_run.specs.Causes.{EndsAtSteps, EndsAtTicks, EndsEarly, HasCause, IsCutInWrite, NoFaults}
-use Rattle.sr_run.specs.Runs.{Call, Took}
+use Rattle.sr_run.specs.Runs.{Call}
 use Rattle.sr_run.specs.UnderWay.{Adds, Advances, EndsWith, HasCome, IsUnderWay, IsWaiting, PutsItem}
-use Rattle.sr_run.specs.declared.end.LimitKind.{LimitKind}
 use Rattle.sr_run.specs.declared.end.RunEnd.{RunEnd}
 use Rattle.sr_run.specs.declared.end.RunEnd.TheVariants as end
 use Rattle.sr_run.specs.declared.intake.Intake.{Intake}

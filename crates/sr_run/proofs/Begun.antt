@@ -1,5 +1,5 @@
 -- The beginning of a run.
-use Rattle.std.proofs.Common.{◌≡◌, ℕ, false, List, [], length, refl, sym, arith, true≢false}
+use Rattle.std.proofs.Common.{◌≡◌, ℕ, false, List, [], refl, sym, arith, true≢false}
 use Rattle.sr_ask.specs.declared.answer.Answer.{Answer}
 use Rattle.sr_ask.specs.declared.ask.Asks.{Asks}
 use Rattle.sr_ask.specs.declared.item.Item.{Item}

@@ -1,7 +1,6 @@
 -- What one more event adds to what events make, give and close.
 use Rattle.std.proofs.Common.{◌≡◌, ◌||◌, ℕ, Bool, true, false, List, [], ◌∷◌, ◌++◌, refl, ap, sym, ◌∙◌, append-nil, append_assoc}
 use Rattle.std.specs.Prelude.{fold}
-use Rattle.sr_ask.specs.declared.item.Item.{Item}
 use Rattle.sr_core.specs.declared.component.Core.{Core}
 use Rattle.sr_plain.specs.Engine.{last_by, last_in}
 use Rattle.sr_plain.specs.Turns.{last_after}

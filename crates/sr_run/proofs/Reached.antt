@@ -1,8 +1,7 @@
 -- What events in turn say of a run.
-use Rattle.std.proofs.Common.{◌≡◌, ◌⊎◌, ◌<◌, ◌≤◌, ℕ, Bool, true, false, List, [], ◌∷◌, ◌++◌, Option, None, Some, length, inl, inr, refl, ap, sym, ◌∙◌, subst, arith}
+use Rattle.std.proofs.Common.{◌≡◌, ◌<◌, ℕ, Bool, true, List, [], ◌++◌, Option, None, Some, length, inl, refl, ap, sym, ◌∙◌, subst}
 use Rattle.std.specs.Prelude.{IfSome, fold}
-use Rattle.std.specs.Io.KnownBytes.{append_known, prepend_known}
-use Rattle.sr_ask.specs.declared.item.Item.{Item}
+use Rattle.std.specs.Io.KnownBytes.{prepend_known}
 use Rattle.sr_ask.specs.declared.start.Start.{Start}
 use Rattle.sr_core.specs.declared.component.Core.{Core}
 use Rattle.sr_plain.proofs.RotationLemmas.{in_turn_is_rotation}
@@ -12,7 +11,6 @@ use Rattle.sr_plain.specs.Turns.{last_after, turn}
 use Rattle.sr_world.proofs.PieceLemmas.{items_give_the_run}
 use Rattle.sr_world.specs.Laws.{closes, next_with_all}
 use Rattle.sr_world.specs.Runs.{Event, Goes, Illegal, Next, Over, State, bytes_in, ending_of, is_legal, items_in, led, output_of, run}
-use Rattle.sr_world.specs.declared.ends.End.{End}
 use Rattle.sr_run.proofs.Events.{last-items}
 use Rattle.sr_run.specs.Causes.{EndsAtSteps, EndsAtTicks, EndsEarly, NoFaults}
 use Rattle.sr_run.specs.Runs.{Call, GoesOn, IsRun, Reaches, Runs, Took, turn_after}

@@ -1,6 +1,6 @@
 -- What becomes of a run when an item is made.
-use Rattle.std.proofs.Common.{◌≡◌, ◌+◌, ◌<◌, ◌≤◌, ◌==◌, ◌||◌, ℕ, Bool, true, false, List, [], ◌∷◌, ◌++◌, Option, None, Some, length, refl, ap, sym, ◌∙◌, subst, arith, append-nil, append_assoc, length-append}
-use Rattle.std.specs.Io.KnownBytes.{append_known, prepend_known}
+use Rattle.std.proofs.Common.{◌≡◌, ◌<◌, ◌==◌, ℕ, true, List, [], ◌∷◌, ◌++◌, Option, None, Some, length, refl, ap, sym, ◌∙◌, subst, arith, append-nil}
+use Rattle.std.specs.Io.KnownBytes.{append_known}
 use Rattle.sr_ask.specs.declared.ask.Asks.{Asks}
 use Rattle.sr_ask.specs.declared.ask.Asks.TheVariants.{Asked, OverTicks}
 use Rattle.sr_ask.specs.declared.item.Item.{Item}
@@ -21,7 +21,7 @@ use Rattle.sr_world.proofs.RunLemmas.{goes-where, sound-led}
 use Rattle.sr_world.specs.Laws.{closes}
 use Rattle.sr_world.specs.Does.{Does, Did, Makes, Cannot, Ends, Undecided}
 use Rattle.sr_world.specs.Endings.{quiesce}
-use Rattle.sr_world.specs.Runs.{Event, Makes_item, Goes, Next, Over, State, asks_for, asks_next, bytes_in, ending_of, is_legal, is_new, items_in, led, next, no_step, output_of, rested, step_of, stepped, where_true, with_answer}
+use Rattle.sr_world.specs.Runs.{Event, Makes_item, Goes, Next, Over, State, asks_for, asks_next, bytes_in, ending_of, is_legal, is_new, items_in, next, no_step, output_of, rested, step_of, stepped, with_answer}
 use Rattle.sr_world.specs.Steps.{does}
 use Rattle.sr_world.specs.Worlds.{started}
 use Rattle.sr_world.specs.declared.ends.End.{End}

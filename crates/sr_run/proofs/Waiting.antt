@@ -1,5 +1,5 @@
 -- What becomes of a run that waits for input.
-use Rattle.std.proofs.Common.{◌≡◌, ◌+◌, ◌<◌, ◌≤◌, ℕ, true, false, List, [], ◌∷◌, ◌++◌, length, refl, ap, sym, ◌∙◌, subst}
+use Rattle.std.proofs.Common.{◌≡◌, ◌+◌, ◌≤◌, ℕ, true, false, List, [], ◌∷◌, ◌++◌, length, ◌∙◌, subst}
 use Rattle.std.specs.Prelude.{Option, IfSome}
 use Rattle.std.specs.Io.KnownBytes.{prepend_known}
 use Rattle.sr_ask.specs.declared.answer.Answer.{Answer}
@@ -11,7 +11,7 @@ use Rattle.sr_world.specs.Runs.{Event, Gives, Closes, State, with_input, without
 use Rattle.sr_run.proofs.Reached.{early}
 use Rattle.sr_run.proofs.Taken.{at_input, at_read, closed_come, failed_come, given_come, is_open, not-ended}
 use Rattle.sr_run.specs.Causes.{EndsAtInput, EndsAtRead, EndsEarly, NoFaults}
-use Rattle.sr_run.specs.Runs.{Call, turn_after}
+use Rattle.sr_run.specs.Runs.{Call}
 use Rattle.sr_run.specs.UnderWay.{HasCome, IsUnderWay, IsWaiting}
 use Rattle.sr_run.specs.declared.intake.Intake.{Intake}
 

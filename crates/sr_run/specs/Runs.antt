@@ -1,5 +1,5 @@
 -- What a whole run is: what it was lent, what it took from its input, and which items are a run of the machine.
-use Rattle.std.specs.Prelude.{◌≡◌, ◌≤◌, ◌++◌, ℕ, Bool, true, List, [], length, fold, Option, None, Some, IfSome}
+use Rattle.std.specs.Prelude.{◌≡◌, ◌≤◌, ◌++◌, ℕ, Bool, true, List, [], length, fold, Option, None, IfSome}
 use Rattle.std.specs.Io.KnownBytes.{append_known, prepend_known}
 use Rattle.sr_ask.specs.declared.item.Item.{Item}
 use Rattle.sr_ask.specs.declared.start.Start.{Start}

@@ -1,5 +1,5 @@
 -- A run begins with no item and no input, or memory runs out at once.
-use Rattle.std.proofs.Common.{[], length, refl, ap, arith}
+use Rattle.std.proofs.Common.{[], refl}
 use Rattle.sr_run.proofs.Begun.{begun, begun_early}
 use Rattle.sr_run.specs.Runs.{Call, Devices}
 use Rattle.sr_run.proofs.whole.run.Goals as goal

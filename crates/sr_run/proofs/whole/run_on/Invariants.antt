@@ -1,6 +1,5 @@
 -- There are no more items than steps, and the run is under way if it was at the beginning.
-use Rattle.std.proofs.Common.{◌≡◌, ◌+◌, ◌-◌, ◌≤◌, ℕ, List, length}
-use Rattle.std.specs.Prelude.{Option}
+use Rattle.std.proofs.Common.{◌≡◌, ◌+◌, ◌-◌, ◌≤◌, length}
 use Rattle.sr_run.proofs.Begun.{nothing_taken}
 use Rattle.sr_run.specs.Runs.{Call}
 use Rattle.sr_run.specs.UnderWay.{IsUnderWay, as_of, open_input}
