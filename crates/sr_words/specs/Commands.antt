@@ -1,4 +1,6 @@
--- The command that the words give.
+-- The command that the words after the program's name give. The first is the name of the command, exactly as written.
+-- In the rest an option may stand anywhere before a word `--`, is written `--x v` or `--x=v`, and stands at most once;
+-- `--journal` takes no value and is written alone. Each other word is a file or a seed.
 use Rattle.std.specs.Prelude.{ℕ, ◌==◌, Bool, true, false, nat_le, ◌&&◌, List, [], ◌∷◌, length, count_by, codes, Option, Some, None, if◌then◌else◌, option_and_then}
 use Rattle.std.specs.Option.{option_map}
 use Rattle.std.specs.List.{filter_map, list_all}
