@@ -65,14 +65,15 @@ fn called(
     ))
 }
 
-/// What is found of a case.
+/// What is found of a case. Its items are told where the case tells items.
 fn found(alloc: Global, case: &Case) -> Result<String, NoMemory> {
     let name = case.name.as_str();
     let file = format!(in alloc; "{name}.sr")?;
     let mut output = empty_sink(alloc);
     let mut diag = empty_sink(alloc);
     let report = called(alloc, file.as_str(), case, &mut output, &mut diag)?;
-    told(alloc, &report, output.held(), diag.held())
+    let tells_items = case.wanted.contains(" items\n");
+    told(alloc, &report, output.held(), diag.held(), tells_items)
 }
 
 /// Notes a case in the tally.

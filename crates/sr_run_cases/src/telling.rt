@@ -61,18 +61,19 @@ fn push_items(text: &mut String, items: &[Item]) -> Result<(), AllocError> {
     text.push('\n')
 }
 
-/// What a call did. Where nothing ran there are no items.
+/// What a call did, with its items or without.
 pub fn told(
     alloc: Global,
     report: &Report,
     output: &[u8],
     diag: &[u8],
+    tells_items: bool,
 ) -> Result<String, NoMemory> {
     let status = report.status;
     let mut text = format!(in alloc; "status {status}\n")?;
     push_lines(&mut text, "", diag)?;
     push_lines(&mut text, "> ", output)?;
-    if !report.items.is_empty() {
+    if tells_items {
         push_items(&mut text, report.items.as_slice())?;
     }
     Ok(text)

@@ -5,7 +5,7 @@ use Rattle.sr_core.specs.declared.component.Core.{Core}
 use Rattle.sr_ports.specs.Faults.{Rose}
 use Rattle.sr_ports.specs.Streams.{PutInPart}
 use Rattle.sr_run.specs.Runs as runs
-use Rattle.sr_top.specs.Causes.{Call, Compiles, RunsNothing, run_of}
+use Rattle.sr_top.specs.Causes.{Call, Compiles, EndsRefused, RunsNothing, run_of}
 use Rattle.sr_top.specs.Words.{file_words, most_steps}
 use Rattle.sr_top.specs.declared.report.Ending.{Ending}
 use Rattle.sr_top.specs.declared.report.Ending.TheVariants.{Done, Quiet, Stopped, Failed, Limit, Refused, NoFile, ReadFault, WriteFault, NoMemory, Usage}
@@ -41,15 +41,15 @@ pub record RunsInPart (call : Call) : Type 0 where
   pub put : PutsAll call output ⊎ PutInPart call.before.held call.now.held output
 
 -- The items are a run of the program, the bytes put are its output, and the ending is the run's own, or a limit. Where a
--- device failed or memory ran out the run hasn't ended. Where the words are unknown, or the files are refused or can't be
--- read, nothing runs.
+-- device failed or memory ran out the run hasn't ended. Files are refused as the verdict on them says. Where they are
+-- refused or can't be read, or the words are unknown, nothing runs.
 abbrev pub Headline : Call → Ending → Type 0
 Headline call Done = ⊥
 Headline call Quiet = RunsWhole call (Some end.Quiet)
 Headline call (Stopped status) = RunsWhole call (Some (end.Stopped status))
 Headline call (Failed fault place) = RunsWhole call (Some (end.Failed fault place))
 Headline call (Limit kind) = RunsWhole call None
-Headline call (Refused refusal) = RunsNothing call
+Headline call (Refused refusal) = EndsRefused call refusal
 Headline call (NoFile file) = RunsNothing call
 Headline call ReadFault = RunsWhole call None
 Headline call WriteFault = RunsInPart call
