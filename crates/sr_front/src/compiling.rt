@@ -1,6 +1,6 @@
 ghost use Rattle.std.specs.Prelude.{◌≡◌, ◌≤◌, length, IfOk, IfErr};
 ghost use Rattle.sr_core.specs.WellFormed.{IsWellFormed};
-ghost use Rattle.sr_gen.specs.Programs.{AsksTheSame};
+ghost use Rattle.sr_compiled.specs.Agreement.{AsksTheSame};
 ghost use Rattle.sr_front.specs.Cores.{IsCoreOf};
 ghost use Rattle.sr_front.specs.Program.{IsRefused};
 ghost use Rattle.sr_front.specs.Reading.{IsRefusal, contents_of};

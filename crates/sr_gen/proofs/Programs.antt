@@ -33,7 +33,8 @@ use Rattle.sr_meaning.specs.Processes.{ask, body_for, boot_meaning, component_fo
 use Rattle.sr_gen_expr.specs.Emitting.{tree_here}
 use Rattle.sr_gen_expr.proofs.Stretching.{follows_at}
 use Rattle.sr_gen.specs.Doing.{Ends}
-use Rattle.sr_gen.specs.Programs.{AsksTheSame, Enters, EntersEach, LaysOut, body_at, gives_at}
+use Rattle.sr_compiled.specs.Agreement.{AsksTheSame}
+use Rattle.sr_gen.specs.Programs.{Enters, EntersEach, LaysOut, body_at, gives_at}
 use Rattle.sr_gen.proofs.Services.{appended, less_or_not}
 
 -- ---- one process

@@ -1,22 +1,19 @@
 -- What the code of a whole program asks.
 use Rattle.std.specs.Prelude.{◌≡◌, ℕ, List, [], length, Option, Some, None, option_map, slice_get}
 use Rattle.std.specs.Option.{option_and_then}
-use Rattle.sr_ask.specs.declared.answer.Answer.{Answer}
 use Rattle.sr_ask.specs.declared.ask.Role.{Role}
 use Rattle.sr_ask.specs.declared.ask.Role.TheVariants.{Boot, Initial, Proc as proc_role, Final}
 use Rattle.sr_ask.specs.declared.environment.Gives.{Gives}
 use Rattle.sr_ask.specs.declared.environment.Gives.TheVariants.{Values, Instance}
-use Rattle.sr_ask.specs.declared.start.Start.{Start}
 use Rattle.sr_core.specs.declared.component.Body.{Body}
 use Rattle.sr_core.specs.declared.component.Core.{Core}
 use Rattle.sr_code.specs.Acts.{point}
-use Rattle.sr_code.specs.Runs.{Machine, code_ask, go}
+use Rattle.sr_code.specs.Runs.{Machine, go}
 use Rattle.sr_code.specs.Stretches.{Extends, Follows, Has}
-use Rattle.sr_code.specs.declared.code.Code.{Code}
 use Rattle.sr_code.specs.declared.code.Coded.{Coded}
 use Rattle.sr_code.specs.declared.code.Entry.{Entry}
 use Rattle.sr_code.specs.declared.operands.Operands.{Operands}
-use Rattle.sr_meaning.specs.Processes.{ask, component_for, line_of_component, owns_of, proc_gives, role_meaning}
+use Rattle.sr_meaning.specs.Processes.{component_for, line_of_component, owns_of, proc_gives, role_meaning}
 use Rattle.sr_gen_expr.specs.Emitting.{tree_here}
 
 -- the code of a kind of process, as the tree has it
@@ -50,7 +47,3 @@ pub record LaysOut (core : Core) (role : Role) (count : ℕ) (entries : List Ent
   pub grows : Extends old new
   pub each : EntersEach core role entries new
   pub all : length entries ≡ count
-
--- The code of a program asks what its trees ask: for every process, limit and list of answers.
-abbrev pub AsksTheSame : Core → Code → Type 0
-AsksTheSame core code = (start : Start) (limit : ℕ) (answers : List Answer) → code_ask core code start limit answers ≡ ask core start limit answers

@@ -2,7 +2,8 @@ ghost use Rattle.std.specs.Prelude.{◌≡◌, ℕ, Some, IfOk, OnOk, length, sl
 ghost use Rattle.sr_ask.specs.declared.ask.Role.TheVariants.{Boot, Initial, Proc as proc_role, Final};
 ghost use Rattle.sr_code.specs.Stretches.{Extends};
 ghost use Rattle.sr_meaning.specs.Processes.{component_of_proc, line_of_component};
-ghost use Rattle.sr_gen.specs.Programs.{AsksTheSame, Enters, LaysOut};
+ghost use Rattle.sr_compiled.specs.Agreement.{AsksTheSame};
+ghost use Rattle.sr_gen.specs.Programs.{Enters, LaysOut};
 
 use crate::invocation::{item_number, result_vars};
 use crate::role::{gen_boot, gen_final, gen_initial, gen_proc};
