@@ -1,3 +1,4 @@
 pub mod Lowering
 pub mod OneByOne
+pub mod Quantifiers
 pub mod Stretches

@@ -2,7 +2,7 @@ use crate::numbers::Numbers;
 use crate::stack::Stack;
 use sr_ask::{Located, Out, Pick, ReadTarget, Service};
 use sr_core::Piece;
-use sr_value::{Cap, Row, Shape, Value};
+use sr_value::{Cap, Duplicate, NoMemory, Row, Shape, Value};
 use std::alloc::Global;
 
 /// An invocation that is being made.
@@ -13,6 +13,18 @@ pub struct Call {
     pub values: Row<Value>,
     /// The places that results go to, so far.
     pub places: Row<Located>,
+}
+
+impl Duplicate for Call {
+    fn copy(&self, alloc: Global) -> Result<Call, NoMemory> {
+        let values = self.values.copy(alloc)?;
+        let places = self.places.copy(alloc)?;
+        Ok(Call {
+            target: self.target,
+            values,
+            places,
+        })
+    }
 }
 
 /// A `read` that is being carried out.

@@ -1,7 +1,7 @@
-ghost use Rattle.std.specs.Prelude.{◌≡◌, [], ◌∷◌, option_copied, OnOk};
+ghost use Rattle.std.specs.Prelude.{◌≡◌, [], ◌∷◌, option_copied, OnOk, reverse};
 ghost use Rattle.sr_code.specs.Stacks.{below, first, first_or};
 
-use sr_value::NoMemory;
+use sr_value::{Duplicate, NoMemory, Row};
 use std::alloc::Global;
 use std::marker::Model;
 
@@ -29,6 +29,22 @@ impl<T> Stack<T> {
         Stack {
             items: Vec::new(alloc),
         }
+    }
+
+    /// The stack of these items, the last of which is the top.
+    pub fn from_row(items: Row<T>) -> Self
+        ensures { result ≡ reverse items }
+    {
+        Stack {
+            items: items.into_vec(),
+        }
+    }
+
+    /// The items, of which the last is the top.
+    pub fn as_slice(&self) -> &[T]
+        ensures { self.now ≡ reverse result.now }
+    {
+        self.items.as_slice()
     }
 
     pub fn top(&self) -> Option<&T>
@@ -62,5 +78,15 @@ impl<T: Drop> Stack<T> {
             Some(item) => item,
             None => otherwise,
         }
+    }
+}
+
+impl<T: Duplicate + Drop> Duplicate for Stack<T> {
+    fn copy(&self, alloc: Global) -> Result<Stack<T>, NoMemory> {
+        let mut copies = Vec::with_capacity(alloc, self.items.len())?;
+        for item in &self.items {
+            copies.push(item.copy(alloc)?)?;
+        }
+        Ok(Stack { items: copies })
     }
 }

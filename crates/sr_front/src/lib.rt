@@ -1,13 +1,15 @@
 //! The front of the compiler: from the bytes of the files of a program to their trees and the meanings of their
-//! names, or the refusal of the program.
+//! names, and on to its core and its code; or the refusal of the program.
 #![tactic(auto)]
 
+mod compiling;
 mod cores;
 mod laws;
 mod phases;
 mod program;
 mod sources;
 
+pub use compiling::compile;
 pub use cores::core_of;
 pub use laws::spots_apart;
 pub use phases::MOST_BYTES;

@@ -4,6 +4,7 @@ pub mod Endings
 pub mod Listed
 pub mod Loops
 pub mod Patched
+pub mod Programs
 pub mod Roles
 pub mod Services
 pub mod Together

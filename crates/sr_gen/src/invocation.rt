@@ -113,8 +113,8 @@ fn is_back(formal: &Formal) -> bool
     }
 }
 
-/// The number of an arm, as far as memory has numbers for arms.
-pub fn arm_number(at: usize) -> Result<u32, NoMemory>
+/// The number of an item of a list, as far as there are numbers for items.
+pub fn item_number(at: usize) -> Result<u32, NoMemory>
     ensures { IfOk result (λ number. number ≡ at) }
 {
     match u32::try_from(at) {

@@ -1,13 +1,13 @@
-ghost use Rattle.std.specs.Prelude.{OnOk, Some};
+ghost use Rattle.std.specs.Prelude.{◌≡◌, OnOk, Some};
 ghost use Rattle.sr_value.specs.declared.place.Place.{Place};
-ghost use Rattle.sr_meaning.specs.Processes.{final_meaning, initial_meaning, proc_meaning};
+ghost use Rattle.sr_meaning.specs.Processes.{boot_meaning, final_meaning, initial_meaning, main_of, proc_meaning};
 ghost use Rattle.sr_gen.specs.Doing.{Ends, last_block};
 
 use crate::statement::gen_block;
 use crate::ways::one_way;
 use sr_code::{Coded, Instruction};
 use sr_core::{Body, Component, Core, Proc, Scope, Statement};
-use sr_gen_expr::{emit, gen_formals, gen_returned};
+use sr_gen_expr::{emit, gen_ensured, gen_formals, gen_returned, needs};
 use sr_value::{NoMemory, Place, Row};
 use std::alloc::Global;
 
@@ -76,5 +76,21 @@ pub fn gen_final(
     ensures { OnOk result (Ends core.now place (final_meaning (Some body.now)) out.old out.new) }
 {
     gen_last(alloc, core, place, body.block.as_slice(), out)?;
+    Ok(())
+}
+
+/// Emits what makes the globals of main and main itself, and waits for it.
+pub fn gen_boot(core: &Core, place: Place, main: u32, out: &mut Row<Coded>) -> Result<(), NoMemory>
+    requires { main ≡ main_of core.now }
+    ensures { OnOk result (Ends core.now place boot_meaning out.old out.new) }
+{
+    emit(place, Instruction::Jump { to: 0 }, out)?;
+    emit(place, Instruction::DropValue, out)?;
+    emit(place, Instruction::TakeInstance, out)?;
+    emit(place, Instruction::Create { resource: main }, out)?;
+    emit(place, Instruction::NoValues, out)?;
+    gen_ensured(place, needs(core, main), out)?;
+    emit(place, Instruction::ToCap, out)?;
+    emit(place, Instruction::MyMachine, out)?;
     Ok(())
 }

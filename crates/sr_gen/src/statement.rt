@@ -12,7 +12,7 @@ ghost use Rattle.sr_gen.specs.declared.ways.Ways.{Ways};
 use crate::action::gen_action;
 use crate::condition::{gen_condition, gen_truth};
 use crate::inner::Inner;
-use crate::invocation::{arm_number, gen_start, gen_stored, result_vars, variables};
+use crate::invocation::{gen_start, gen_stored, item_number, result_vars, variables};
 use crate::patching::patch;
 use crate::sends::gen_sends;
 use crate::site::{arms_of, gen_close, gen_named, has_else, names_of};
@@ -672,7 +672,7 @@ fn gen_calls(
         let arm = &arms[at];
         let quantifiers = arm.quantifiers.as_slice();
         let inner = Inner::Call {
-            arm: arm_number(at)?,
+            arm: item_number(at)?,
             call: &arm.call,
             quantifiers,
         };

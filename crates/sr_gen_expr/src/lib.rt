@@ -16,7 +16,7 @@ mod shape;
 mod typed;
 
 pub use call::gen_answer;
-pub use create::gen_ensured;
+pub use create::{gen_ensured, needs};
 pub use declaration::gen_declaration;
 pub use emitting::emit;
 pub use expression::{gen_arguments, gen_expr, gen_list, gen_place};

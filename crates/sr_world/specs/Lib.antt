@@ -6,11 +6,12 @@ pub mod Endings
 pub mod Histories
 pub mod Inputs
 pub mod Invoking
+pub mod Laws
 pub mod Making
 pub mod Names
 pub mod Parts
-pub mod Selecting
 pub mod Runs
+pub mod Selecting
 pub mod Sound
 pub mod Spots
 pub mod Steps

@@ -18,6 +18,7 @@ mod quiet;
 mod reading;
 mod reads;
 mod ready;
+pub mod run_laws;
 mod selecting;
 mod starting;
 mod storing;

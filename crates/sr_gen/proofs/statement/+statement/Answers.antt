@@ -198,7 +198,7 @@ gen_calls-loop-at-init t c = calls_begin c.args.core.now c.args.place c.args.arm
 pub gen_calls-loop-at-preserved : goal.gen_calls-loop-at-preserved
 gen_calls-loop-at-preserved t c =
     calls_step c.args.arms.now c.loop-at.at _ c.len-next.result c.index-arms-at.result c.as_slice-quantifiers.result.now c.one_way.result (omega arith) c.loop-at.invariant c.index-arms-at.is c.as_slice-quantifiers.ensures
-    c.in_ok-arm_number.ensures c.len-next.ensures c.one_way.ensures c.in_ok-gen_quantified.ensures
+    c.in_ok-item_number.ensures c.len-next.ensures c.one_way.ensures c.in_ok-gen_quantified.ensures
 
 pub gen_calls-returns : goal.gen_calls-returns
 gen_calls-returns t c = calls_end c.args.arms.now c.loop-at.at (omega arith) c.loop-at.invariant.1

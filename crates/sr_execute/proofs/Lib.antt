@@ -1,0 +1,4 @@
+pub mod Drops
+pub mod Meant
+pub mod Storing
+pub mod Taking

@@ -1,0 +1,27 @@
+//! Single instructions of flat code: carried out up to a request, and gone on with after an answer.
+#![tactic(auto)]
+
+mod calls;
+mod co;
+mod execution;
+mod frame;
+pub mod laws;
+mod operators;
+mod parts;
+mod places;
+mod putting;
+mod reading;
+mod results;
+mod resumption;
+mod services;
+mod shapes;
+mod step;
+mod ticks;
+mod tops;
+mod variables;
+mod writing;
+
+pub use execution::execute;
+pub use frame::Frame;
+pub use resumption::resume;
+pub use step::Step;

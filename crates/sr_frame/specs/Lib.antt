@@ -1,0 +1,3 @@
+pub mod Scenes
+pub mod Services
+pub mod Variables

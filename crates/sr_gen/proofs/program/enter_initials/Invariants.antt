@@ -1,0 +1,7 @@
+-- The first components are laid out, each with its entry.
+use Rattle.sr_ask.specs.declared.ask.Role.TheVariants.{Initial}
+use Rattle.sr_gen.specs.Programs.{LaysOut}
+use Rattle.sr_gen.proofs.program.enter_initials.Given as goal
+
+abbrev pub invariant-loop-component : goal.invariant-loop-component
+invariant-loop-component l = LaysOut l.core Initial l.component-index l.entries l.initial.out l.out

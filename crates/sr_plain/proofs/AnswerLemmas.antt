@@ -1,0 +1,213 @@
+-- What comes of a request that the machine has carried out.
+use Rattle.std.proofs.Common.{◌≡◌, ℕ, zero, suc, true, false, not, cond, List, [], ◌∷◌, ◌++◌, Some, None, IsSome, refl, ap, sym, ◌∙◌, subst, eq-eqb}
+use Rattle.std.specs.Prelude.{Ok, find, slice_get, slice_set}
+use Rattle.sr_ask.specs.declared.answer.Answer.{Answer}
+use Rattle.sr_ask.specs.declared.ask.Ask.{Ask}
+use Rattle.sr_ask.specs.declared.ask.Asks.{Asks}
+use Rattle.sr_ask.specs.declared.ask.Asks.TheVariants.{Asked, OverTicks}
+use Rattle.sr_ask.specs.declared.item.Item.TheVariants.{Step}
+use Rattle.sr_ask.specs.declared.start.Start.{Start}
+use Rattle.sr_core.specs.declared.component.Core.{Core}
+use Rattle.sr_world.proofs.StepLemmas.{same-step}
+use Rattle.sr_world.specs.Acting.{Acts}
+use Rattle.sr_world.specs.Does.{Does, Did, Makes, Cannot, Ends, Undecided, comes_to, is_possible}
+use Rattle.sr_world.specs.Names.{IsLeastUnused}
+use Rattle.sr_world.specs.Runs.{Event, Makes_item, Goes, Over as run_over, State, asks_for, asks_next, is_blocked, next, step_of, stepped, where_true, with_answer}
+use Rattle.sr_world.specs.Sound.{times_used}
+use Rattle.sr_world.specs.Steps.{does}
+use Rattle.sr_world.specs.Worlds.{World, started}
+use Rattle.sr_world.specs.declared.acted.Acted.{Acted}
+use Rattle.sr_world.specs.declared.acted.Acted.TheVariants as acted
+use Rattle.sr_world.specs.declared.ends.End.{End}
+use Rattle.sr_plain.specs.Carrying.{Names, written_of}
+use Rattle.sr_plain.specs.Crew.{IsFed, IsPlace}
+use Rattle.sr_plain.specs.Engine.{Comes, IsCarried, IsEngine, Stands, Tries, WaitsForInput}
+use Rattle.sr_plain.specs.Leaving.{Leaves, LeavesIf, written_by}
+use Rattle.sr_plain.specs.Turns.{IsName, takes_turn}
+use Rattle.sr_plain.specs.declared.member.Member.{Member}
+use Rattle.sr_plain.specs.declared.plain.Plain.{Plain}
+use Rattle.sr_plain.specs.declared.plainly.Plainly.{Plainly}
+use Rattle.sr_plain.specs.declared.plainly.Plainly.TheVariants as plainly
+use Rattle.sr_plain.proofs.LeaveLemmas.{leaves}
+use Rattle.sr_plain.proofs.LedLemmas.{last-more, least-new, least-unused, sound}
+use Rattle.sr_plain.proofs.TurnLemmas.{answered-stands, kept-is}
+
+pub least-name : (w : World) (name : ℕ) → IsLeastUnused w.used name → IsName w name
+least-name w zero least = tt
+least-name w (suc n) least = least
+
+-- whose turn it is, of one
+pub one-turn : (core : Core) (limit : ℕ) (state : State) (start : Start) → takes_turn core limit state start ≡ true → find (takes_turn core limit state) (start ∷ []) ≡ Some start
+one-turn core limit state start is = ap (λ b. cond b (Some start) None) is
+
+pub no-turn : (core : Core) (limit : ℕ) (state : State) (start : Start) → takes_turn core limit state start ≡ false → find (takes_turn core limit state) (start ∷ []) ≡ None
+no-turn core limit state start is = ap (λ b. cond b (Some start) None) is
+
+module _ {A : Type 0} (after : A → List Answer → Asks) (can_feed : A → Type 0) (core : Core) (limit : ℕ) (state : State) (events : List Event) (start : Start) where
+  module _ (asks : Ask) (name : ℕ) (is : Asked asks ≡ asks_next core limit state start) (lives : started state.world start.process ≡ Some start) where
+    next-is : (d : Does) → does core state.world start.process asks name ≡ d → next core limit state (Step start.process name) ≡ stepped state start.process name d
+    next-is d e =
+        ap (step_of core limit state start.process name) lives ∙ ap (λ a. stepped state start.process name (asks_for core state.world start.process name a)) (sym is) ∙ ap (stepped state start.process name) e
+
+    same-outcome : comes_to (does core state.world start.process asks 0) ≡ comes_to (does core state.world start.process asks name)
+    same-outcome = same-step core state.world asks.place 0 name start.process asks.role asks.request
+
+    takes-is : (d : Does) → does core state.world start.process asks name ≡ d → takes_turn core limit state start ≡ not (not (is_possible (comes_to d)))
+    takes-is d e =
+        ap (λ a. not (is_blocked core state.world start.process a)) (sym is) ∙ ap (λ o. not (not (is_possible o))) (same-outcome ∙ ap comes_to e)
+
+    -- a step that was done
+    record Finished (w' : World) (a : Answer) : Type 0 where
+      goes : next core limit state (Step start.process name) ≡ Goes (record { world = w'; given = with_answer start.process a state.given })
+      named : IsName state.world name
+      left : Leaves name (written_by asks.request) state.world w'
+      new : times_used state.world name ≡ 0
+      turn : takes_turn core limit state start ≡ true
+
+    goes-to : (w w' : World) (g a : Answer) → w' ≡ w → a ≡ g → next core limit state (Step start.process name) ≡ Goes (record { world = w; given = with_answer start.process g state.given })
+        → next core limit state (Step start.process name) ≡ Goes (record { world = w'; given = with_answer start.process a state.given })
+    goes-to w w' g a same-world same-answer goes =
+        goes ∙ ap (λ v. Goes (record { world = v; given = with_answer start.process g state.given })) (sym same-world)
+        ∙ ap (λ v. Goes (record { world = w'; given = with_answer start.process v state.given })) (sym same-answer)
+
+    left-by : (d : Does) → does core state.world start.process asks name ≡ d → LeavesIf name (written_by asks.request) state.world d
+    left-by d e = subst (LeavesIf name (written_by asks.request) state.world) e (leaves name state.world core start.process asks.place asks.role asks.request)
+
+    finished : (zero_unused : times_used state.world 0 ≡ 0) (w' : World) (a : Answer) (d : Does) → does core state.world start.process asks name ≡ d → Acts d state.world w' (Ok (acted.Done a)) → Names d state.world name → Finished w' a
+    finished zero_unused w' a (Did w g) e acts none = record {
+      goes = goes-to w w' g a acts.0 acts.1
+          (next-is (Did w g) e ∙ ap (λ b. where_true b (Goes (record { world = w; given = with_answer start.process g state.given }))) (eq-eqb name 0 none));
+      named = subst (IsName state.world) (sym none) tt;
+      left = subst (λ v. Leaves name (written_by asks.request) state.world v) (sym acts.0) (left-by (Did w g) e);
+      new = subst (λ n. times_used state.world n ≡ 0) (sym none) zero_unused;
+      turn = takes-is (Did w g) e;
+    }
+    finished zero_unused w' a (Makes w g) e acts least = record {
+      goes = goes-to w w' g a acts.0 acts.1
+          (next-is (Makes w g) e ∙ ap (λ b. where_true b (Goes (record { world = w; given = with_answer start.process g state.given }))) (least-new state.world name least));
+      named = least-name state.world name least;
+      left = subst (λ v. Leaves name (written_by asks.request) state.world v) (sym acts.0) (left-by (Makes w g) e);
+      new = least-unused state.world name least;
+      turn = takes-is (Makes w g) e;
+    }
+    finished zero_unused w' a Cannot e acts none = absurd acts
+    finished zero_unused w' a (Ends ending) e acts none = absurd acts
+    finished zero_unused w' a Undecided e acts none = absurd acts
+
+    -- one that can't be done
+    refused : (w' : World) (d : Does) → does core state.world start.process asks name ≡ d → Acts d state.world w' (Ok acted.Cannot) → (w' ≡ state.world) × (takes_turn core limit state start ≡ false)
+    refused w' (Did w g) e acts = absurd acts
+    refused w' (Makes w g) e acts = absurd acts
+    refused w' Cannot e acts = (acts, takes-is Cannot e)
+    refused w' (Ends ending) e acts = absurd acts
+    refused w' Undecided e acts = absurd acts
+
+    -- one that ends the run
+    record Final (w' : World) (ending : End) : Type 0 where
+      world : w' ≡ state.world
+      ends : next core limit state (Step start.process name) ≡ run_over ending state
+      named : IsName state.world name
+      turn : takes_turn core limit state start ≡ true
+
+    final : (w' : World) (given : End) (d : Does) → does core state.world start.process asks name ≡ d → Acts d state.world w' (Ok (acted.Ends given)) → Names d state.world name → Final w' given
+    final w' given (Did w g) e acts none = absurd acts
+    final w' given (Makes w g) e acts none = absurd acts
+    final w' given Cannot e acts none = absurd acts
+    final w' given (Ends ending) e acts none = record {
+      world = acts.0;
+      ends = next-is (Ends ending) e ∙ ap (λ b. where_true b (run_over ending state)) (eq-eqb name 0 none) ∙ ap (λ v. run_over v state) (sym acts.1);
+      named = subst (IsName state.world) (sym none) tt;
+      turn = takes-is (Ends ending) e;
+    }
+    final w' given Undecided e acts none = absurd acts
+
+    -- one that bytes decide which may still come
+    record Open (w' : World) : Type 0 where
+      world : w' ≡ state.world
+      waits : WaitsForInput core limit state (Some start)
+      turn : takes_turn core limit state start ≡ true
+
+    open_ended : (w' : World) (d : Does) → does core state.world start.process asks name ≡ d → Acts d state.world w' (Ok acted.Undecided) → Open w'
+    open_ended w' (Did w g) e acts = absurd acts
+    open_ended w' (Makes w g) e acts = absurd acts
+    open_ended w' Cannot e acts = absurd acts
+    open_ended w' (Ends ending) e acts = absurd acts
+    open_ended w' Undecided e acts = record {
+      world = acts;
+      waits = ap (λ a. comes_to (asks_for core state.world start.process 0 a)) (sym is) ∙ same-outcome ∙ ap comes_to e;
+      turn = takes-is Undecided e;
+    }
+
+  -- ---- engines
+
+  with-turn : (p : Plainly) (plain : Plain A) → takes_turn core limit state start ≡ true → Comes after can_feed core limit state events (Some start) p plain
+      → Tries after can_feed core limit state events (find (takes_turn core limit state) (start ∷ [])) (Ok (Some p)) plain
+  with-turn p plain takes comes = subst (λ t. IsSome t × Comes after can_feed core limit state events t p plain) (sym (one-turn core limit state start takes)) (refl, comes)
+
+  module _ (at name : ℕ) (plain : Plain A) where
+    engine-of : (a : Acted) → IsCarried after can_feed core limit state events start at name a plain → plain.world ≡ state.world → IsEngine after can_feed core limit state events plain
+    engine-of a c same = record { world = same; ticks = c.ticks; last = c.last; stands = c.stands }
+
+    asked-is : (a : Acted) (c : IsCarried after can_feed core limit state events start at name a plain) → Asked c.asks ≡ asks_next core limit state start
+    asked-is a c = (kept-is after can_feed core limit state events start plain.crew at c.member c.stands c.lives c.place c.here (Asked c.asks) c.asked).0
+
+    pub answered_not : IsCarried after can_feed core limit state events start at name acted.Cannot plain
+        → Tries after can_feed core limit state events (find (takes_turn core limit state) (start ∷ [])) (Ok None) plain
+    answered_not c =
+        let r = refused c.asks name (asked-is acted.Cannot c) c.lives plain.world (does core state.world start.process c.asks name) refl c.acts in
+        (no-turn core limit state start r.1, engine-of acted.Cannot c r.0)
+
+    pub answered_ends : (ending : End) → IsCarried after can_feed core limit state events start at name (acted.Ends ending) plain
+        → Tries after can_feed core limit state events (find (takes_turn core limit state) (start ∷ [])) (Ok (Some (plainly.Ended (Step start.process name) ending))) plain
+    answered_ends ending c =
+        let f = final c.asks name (asked-is (acted.Ends ending) c) c.lives plain.world ending (does core state.world start.process c.asks name) refl c.acts c.names in
+        with-turn (plainly.Ended (Step start.process name) ending) plain f.turn
+        (record { ends = f.ends; turn_of = (refl, f.named) }, engine-of (acted.Ends ending) c f.world)
+
+    pub answered_wants : IsCarried after can_feed core limit state events start at name acted.Undecided plain
+        → Tries after can_feed core limit state events (find (takes_turn core limit state) (start ∷ [])) (Ok (Some plainly.Wants)) plain
+    answered_wants c =
+        let o = open_ended c.asks name (asked-is acted.Undecided c) c.lives plain.world (does core state.world start.process c.asks name) refl c.acts in
+        with-turn plainly.Wants plain o.turn (o.waits, engine-of acted.Undecided c o.world)
+
+    pub answered_done : (a : Answer) (plain' : Plain A) (m m' : Member A) (output : List ℕ) → IsCarried after can_feed core limit state events start at name (acted.Done a) plain
+        → slice_get plain.crew at ≡ Some m → IsFed after can_feed a m m' → output ≡ written_of m.asks
+        → plain'.world ≡ plain.world → plain'.ticks ≡ plain.ticks → plain'.last ≡ start.process → plain'.crew ≡ slice_set plain.crew at m'
+        → Tries after can_feed core limit state events (find (takes_turn core limit state) (start ∷ [])) (Ok (Some (plainly.Stepped (Step start.process name) output))) plain'
+    answered_done a plain' m m' output c here fed wrote world ticks last crew =
+        with-turn (plainly.Stepped (Step start.process name) output) plain' f.turn (record {
+          later = later;
+          goes = f.goes;
+          turn_of = (refl, f.named);
+          written = f.left.output ∙ ap (λ text. state.world.output ++ text) (sym text);
+          engine = record {
+            world = world;
+            ticks = ticks ∙ c.ticks;
+            last = last ∙ sym (last-more events (Makes_item (Step start.process name)));
+            stands = subst (λ xs. Stands after can_feed core limit later (events ++ Makes_item (Step start.process name) ∷ []) xs) (sym crew)
+                (answered-stands after can_feed core limit state events start plain.crew at m c.stands c.lives c.place here (Asked c.asks) known a m' fed later name (written_by c.asks.request) (Step start.process name) refl f.left f.new f.goes);
+          };
+        })
+      where
+        same : c.member ≡ m
+        same = let there = c.here in cc
+
+        known : m.asks ≡ Some (Asked c.asks)
+        known = ap (λ (x : Member A). x.asks) (sym same) ∙ c.asked
+
+        text : output ≡ written_by c.asks.request
+        text = wrote ∙ ap written_of known
+
+        later : State
+        later = record { world = plain.world; given = with_answer start.process a state.given }
+
+        f : Finished c.asks name (asked-is (acted.Done a) c) c.lives plain.world a
+        f = finished c.asks name (asked-is (acted.Done a) c) c.lives (sound core limit events state c.stands.leads).numbers.zero_never plain.world a (does core state.world start.process c.asks name) refl c.acts c.names
+
+  -- one that is over its ticks
+  pub is_over : (at : ℕ) (plain : Plain A) (m : Member A) → IsEngine after can_feed core limit state events plain → started state.world start.process ≡ Some start
+      → IsPlace start.process plain.crew at → slice_get plain.crew at ≡ Some m → m.asks ≡ Some OverTicks
+      → Tries after can_feed core limit state events (find (takes_turn core limit state) (start ∷ [])) (Ok (Some (plainly.Over start.process))) plain
+  is_over at plain m engine lives place here known =
+      let is = (kept-is after can_feed core limit state events start plain.crew at m engine.stands lives place here OverTicks known).0 in
+      with-turn (plainly.Over start.process) plain (ap (λ a. not (is_blocked core state.world start.process a)) (sym is)) ((refl, sym is), engine)

@@ -1,0 +1,11 @@
+pub mod AnswerLemmas
+pub mod BeginLemmas
+pub mod CrewLemmas
+pub mod EngineLemmas
+pub mod LeaveLemmas
+pub mod LedLemmas
+pub mod MemberLemmas
+pub mod RestLemmas
+pub mod RotationLemmas
+pub mod TurnLemmas
+pub mod WalkLemmas

@@ -1,0 +1,168 @@
+-- What a turn does to an engine.
+use Rattle.std.proofs.Common.{◌≡◌, ◌⊎◌, inl, inr, ◌+◌, ◌≤◌, ◌==◌, ℕ, Bool, true, false, cond, List, [], ◌∷◌, ◌++◌, Option, Some, None, refl, ap, sym, ◌∙◌, subst, arith, eq-eqb, eqb-true, true≢false, append-nil, append_assoc}
+use Rattle.std.specs.Prelude.{slice_get, slice_set}
+use Rattle.sr_ask.specs.declared.answer.Answer.{Answer}
+use Rattle.sr_ask.specs.declared.ask.Asks.{Asks}
+use Rattle.sr_ask.specs.declared.item.Item.{Item}
+use Rattle.sr_ask.specs.declared.start.Start.{Start}
+use Rattle.sr_core.specs.declared.component.Core.{Core}
+use Rattle.sr_meaning.specs.Processes.{ask}
+use Rattle.sr_world.specs.Runs.{Event, Makes_item, Goes, State, asks_next, led, next, with_answer}
+use Rattle.sr_world.specs.Sound.{times_used}
+use Rattle.sr_world.specs.Worlds.{started}
+use Rattle.sr_plain.specs.Crew.{IsFed, IsKept, IsPlace, LooksAt, Looks, Plays, is_member, member_of}
+use Rattle.sr_plain.specs.Engine.{StandsFor, Stands}
+use Rattle.sr_plain.specs.Leaving.{Leaves}
+use Rattle.sr_plain.specs.declared.member.Member.{Member}
+use Rattle.sr_plain.proofs.CrewLemmas.{found-at, member-here, others-set, place-set, set-at}
+use Rattle.sr_plain.proofs.LedLemmas.{led-more, lives-used, sound, used-more}
+
+module _ {A : Type 0} (after : A → List Answer → Asks) (can_feed : A → Type 0) (core : Core) (limit : ℕ) (state : State) (events : List Event) where
+  -- ---- a look
+
+  looked-for : (s : Start) (answers : List Answer) (old new : Option (Member A)) → LooksAt after can_feed (ask core s limit) old new
+      → StandsFor after can_feed (ask core s limit) answers old → StandsFor after can_feed (ask core s limit) answers new
+  looked-for s answers None None looks stands = stands
+  looked-for s answers None (Some m) looks stands = record { actor = λ more. looks.actor more ∙ ap (λ xs. ask core s limit (xs ++ more)) (sym stands); kept = looks.kept }
+  looked-for s answers (Some m) None looks stands = absurd looks
+  looked-for s answers (Some m) (Some m') looks stands = record { actor = λ more. looks.actor more ∙ stands.actor more; kept = looks.kept stands.kept }
+
+  -- after a look an engine stands as before
+  pub looked-stands : (start : Start) (crew crew' : List (Member A)) → Stands after can_feed core limit state events crew → started state.world start.process ≡ Some start
+      → Looks after can_feed (ask core start limit) start.process crew crew' → Stands after can_feed core limit state events crew'
+  looked-stands start crew crew' stands lives looks = record { leads = stands.leads; living = living; unborn = unborn }
+    where
+      living-by : (q : ℕ) (s : Start) (b : Bool) → (start.process == q) ≡ b → started state.world q ≡ Some s → StandsFor after can_feed (ask core s limit) (state.given q) (member_of crew' q)
+      living-by q s false off is = subst (StandsFor after can_feed (ask core s limit) (state.given q)) (sym (looks.others q off)) (stands.living q s is)
+      living-by q s true same is =
+          let q-is : start.process ≡ q = eqb-true start.process q same in
+          let found : started state.world start.process ≡ Some s = subst (λ n. started state.world n ≡ Some s) (sym q-is) is in
+          let s-is : start ≡ s = cc in
+          let here : StandsFor after can_feed (ask core start limit) (state.given start.process) (member_of crew' start.process) =
+          looked-for start (state.given start.process) (member_of crew start.process) (member_of crew' start.process) looks.itself (stands.living start.process start lives) in
+          subst (λ n. StandsFor after can_feed (ask core s limit) (state.given n) (member_of crew' n)) q-is
+          (subst (λ t. StandsFor after can_feed (ask core t limit) (state.given start.process) (member_of crew' start.process)) s-is here)
+
+      living : (q : ℕ) (s : Start) → started state.world q ≡ Some s → StandsFor after can_feed (ask core s limit) (state.given q) (member_of crew' q)
+      living q s is = living-by q s (start.process == q) refl is
+
+      unborn-by : (q : ℕ) (b : Bool) → (start.process == q) ≡ b → times_used state.world q ≡ 0 → member_of crew' q ≡ None
+      unborn-by q false off none = looks.others q off ∙ stands.unborn q none
+      unborn-by q true same none =
+          let q-is : start.process ≡ q = eqb-true start.process q same in
+          let used : 1 ≤ times_used state.world q = subst (λ n. 1 ≤ times_used state.world n) q-is (lives-used core limit events state stands.leads start.process start lives) in
+          absurd (omega arith)
+
+      unborn : (q : ℕ) → times_used state.world q ≡ 0 → member_of crew' q ≡ None
+      unborn q none = unborn-by q (start.process == q) refl none
+
+  -- ---- a step of a process
+
+  module _ (start : Start) (crew : List (Member A)) (at : ℕ) (m : Member A) (stands : Stands after can_feed core limit state events crew) (lives : started state.world start.process ≡ Some start)
+      (place : IsPlace start.process crew at) (here : slice_get crew at ≡ Some m) where
+    plays : Plays after can_feed (λ more. ask core start limit (state.given start.process ++ more)) m
+    plays = subst (StandsFor after can_feed (ask core start limit) (state.given start.process)) (found-at start.process crew at place ∙ here) (stands.living start.process start lives)
+
+    -- what is kept beside the process is what it asks
+    pub kept-is : (asks : Asks) → m.asks ≡ Some asks → (asks ≡ asks_next core limit state start) × can_feed m.actor
+    kept-is asks is =
+        let kept : IsKept after can_feed m.actor (Some asks) = subst (IsKept after can_feed m.actor) is plays.kept in
+        (kept.0 ∙ plays.actor [] ∙ ap (ask core start limit) (append-nil (state.given start.process)), kept.1)
+
+    module _ (asks : Asks) (known : m.asks ≡ Some asks) (a : Answer) (m' : Member A) (fed : IsFed after can_feed a m m') (later : State) (name : ℕ) (text : List ℕ) (item : Item)
+        (given : later.given ≡ with_answer start.process a state.given) (left : Leaves name text state.world later.world) (new : times_used state.world name ≡ 0)
+        (goes : next core limit state item ≡ Goes later) where
+      later-leads : led core limit (events ++ Makes_item item ∷ []) ≡ Goes later
+      later-leads = led-more core limit events state later (Makes_item item) stands.leads goes
+
+      mine : is_member start.process m' ≡ true
+      mine = subst (λ n. (n == start.process) ≡ true) (sym fed.process) (member-here start.process crew at m place here)
+
+      itself : member_of (slice_set crew at m') start.process ≡ Some m'
+      itself = found-at start.process (slice_set crew at m') at (place-set start.process crew at m' place mine) ∙ set-at start.process crew at m' place
+
+      others : (q : ℕ) → (start.process == q) ≡ false → member_of (slice_set crew at m') q ≡ member_of crew q
+      others q off = others-set start.process q crew at m' place mine off
+
+      given-itself : later.given start.process ≡ state.given start.process ++ a ∷ []
+      given-itself = ap (λ (f : ℕ → List Answer). f start.process) given ∙ ap (λ b. cond b (state.given start.process ++ a ∷ []) (state.given start.process)) (eq-eqb start.process start.process refl)
+
+      given-other : (q : ℕ) → (start.process == q) ≡ false → later.given q ≡ state.given q
+      given-other q off = ap (λ (f : ℕ → List Answer). f q) given ∙ by (q == start.process) refl
+        where
+          by : (b : Bool) → (q == start.process) ≡ b → cond b (state.given q ++ a ∷ []) (state.given q) ≡ state.given q
+          by false is = refl
+          by true is = absurd (true≢false (sym (eq-eqb start.process q (sym (eqb-true q start.process is))) ∙ off))
+
+      answered-for : StandsFor after can_feed (ask core start limit) (later.given start.process) (member_of (slice_set crew at m') start.process)
+      answered-for =
+          let kept : IsKept after can_feed m'.actor m'.asks = subst (IsKept after can_feed m'.actor) (sym fed.asks) tt in
+          let may : can_feed m.actor = (kept-is asks known).1 in
+          let played : Plays after can_feed (λ more. ask core start limit ((state.given start.process ++ a ∷ []) ++ more)) m' = record {
+            actor = λ more. fed.actor may more ∙ plays.actor (a ∷ more) ∙ ap (ask core start limit) (sym (append_assoc (state.given start.process) (a ∷ []) more));
+            kept = kept;
+          } in
+          subst (λ o. StandsFor after can_feed (ask core start limit) (later.given start.process) o) (sym itself)
+          (subst (λ (xs : List Answer). Plays after can_feed (λ more. ask core start limit (xs ++ more)) m') (sym given-itself) played)
+
+      used-itself : 1 ≤ times_used state.world start.process
+      used-itself = lives-used core limit events state stands.leads start.process start lives
+
+      living-by : (q : ℕ) (s : Start) (b : Bool) → (start.process == q) ≡ b → (started state.world q ≡ Some s) ⊎ (q ≡ name)
+          → StandsFor after can_feed (ask core s limit) (later.given q) (member_of (slice_set crew at m') q)
+      living-by q s true same (inl was) =
+          let q-is : start.process ≡ q = eqb-true start.process q same in
+          let found : started state.world start.process ≡ Some s = subst (λ n. started state.world n ≡ Some s) (sym q-is) was in
+          let s-is : start ≡ s = cc in
+          subst (λ n. StandsFor after can_feed (ask core s limit) (later.given n) (member_of (slice_set crew at m') n)) q-is
+          (subst (λ t. StandsFor after can_feed (ask core t limit) (later.given start.process) (member_of (slice_set crew at m') start.process)) s-is answered-for)
+      living-by q s false off (inl was) =
+          subst (λ o. StandsFor after can_feed (ask core s limit) (later.given q) o) (sym (others q off))
+          (subst (λ xs. StandsFor after can_feed (ask core s limit) xs (member_of crew q)) (sym (given-other q off)) (stands.living q s was))
+      living-by q s true same (inr made) =
+          let q-is : start.process ≡ q = eqb-true start.process q same in
+          let unused : times_used state.world start.process ≡ 0 = subst (λ n. times_used state.world n ≡ 0) (sym (q-is ∙ made)) new in absurd (omega (arith, used-itself, unused))
+      living-by q s false off (inr made) =
+          let unused : times_used state.world q ≡ 0 = subst (λ n. times_used state.world n ≡ 0) (sym made) new in
+          let nobody : member_of (slice_set crew at m') q ≡ None = others q off ∙ stands.unborn q unused in
+          let nothing : later.given q ≡ [] = given-other q off ∙ (sound core limit events state stands.leads).processes.hearers q unused in
+          subst (λ o. StandsFor after can_feed (ask core s limit) (later.given q) o) (sym nobody) nothing
+
+      unborn-by : (q : ℕ) (b : Bool) → (start.process == q) ≡ b → times_used state.world q ≡ 0 → member_of (slice_set crew at m') q ≡ None
+      unborn-by q false off none = others q off ∙ stands.unborn q none
+      unborn-by q true same none =
+          let q-is : start.process ≡ q = eqb-true start.process q same in
+          let unused : times_used state.world start.process ≡ 0 = subst (λ n. times_used state.world n ≡ 0) (sym q-is) none in absurd (omega (arith, used-itself, unused))
+
+      -- after its answer an engine stands for the later state
+      pub answered-stands : Stands after can_feed core limit later (events ++ Makes_item item ∷ []) (slice_set crew at m')
+      answered-stands = record {
+        leads = later-leads;
+        living = λ q s is. living-by q s (start.process == q) refl (left.lives q s is);
+        unborn = λ q none. unborn-by q (start.process == q) refl
+            (omega (arith, used-more core limit events state stands.leads (Makes_item item) later later-leads q, none));
+      }
+
+  -- ---- a run that comes to rest
+
+  module _ (crew : List (Member A)) (stands : Stands after can_feed core limit state events crew) (later : State) (name : ℕ) (text : List ℕ) (item : Item)
+      (given : later.given ≡ state.given) (left : Leaves name text state.world later.world) (new : times_used state.world name ≡ 0) (goes : next core limit state item ≡ Goes later) where
+    rested-leads : led core limit (events ++ Makes_item item ∷ []) ≡ Goes later
+    rested-leads = led-more core limit events state later (Makes_item item) stands.leads goes
+
+    given-same : (q : ℕ) → later.given q ≡ state.given q
+    given-same q = ap (λ (f : ℕ → List Answer). f q) given
+
+    rested-living : (q : ℕ) (s : Start) → (started state.world q ≡ Some s) ⊎ (q ≡ name) → StandsFor after can_feed (ask core s limit) (later.given q) (member_of crew q)
+    rested-living q s (inl was) = subst (λ xs. StandsFor after can_feed (ask core s limit) xs (member_of crew q)) (sym (given-same q)) (stands.living q s was)
+    rested-living q s (inr made) =
+        let unused : times_used state.world q ≡ 0 = subst (λ n. times_used state.world n ≡ 0) (sym made) new in
+        let nothing : later.given q ≡ [] = given-same q ∙ (sound core limit events state stands.leads).processes.hearers q unused in
+        subst (λ o. StandsFor after can_feed (ask core s limit) (later.given q) o) (sym (stands.unborn q unused)) nothing
+
+    pub rested-stands : Stands after can_feed core limit later (events ++ Makes_item item ∷ []) crew
+    rested-stands = record {
+      leads = rested-leads;
+      living = λ q s is. rested-living q s (left.lives q s is);
+      unborn = λ q none. stands.unborn q (omega (arith, used-more core limit events state stands.leads (Makes_item item) later rested-leads q, none));
+    }

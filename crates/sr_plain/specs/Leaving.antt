@@ -1,0 +1,22 @@
+-- What a step leaves of who lives and of what was written.
+use Rattle.std.specs.Prelude.{◌≡◌, ◌⊎◌, ◌++◌, ℕ, List, [], Some}
+use Rattle.sr_ask.specs.declared.request.Request.{Request}
+use Rattle.sr_ask.specs.declared.request.Request.TheVariants.{Write}
+use Rattle.sr_ask.specs.declared.start.Start.{Start}
+use Rattle.sr_world.specs.Does.{Does, Did, Makes}
+use Rattle.sr_world.specs.Worlds.{World, started}
+
+-- only a write writes
+abbrev pub written_by : Request → List ℕ
+written_by (Write bytes) = bytes
+written_by _ = []
+
+-- who lives lived before, as it was started, unless it has the step's number; and this text was written
+pub record Leaves (name : ℕ) (text : List ℕ) (old new : World) : Type 0 where
+  pub lives : (process : ℕ) (start : Start) → started new process ≡ Some start → (started old process ≡ Some start) ⊎ (process ≡ name)
+  pub output : new.output ≡ old.output ++ text
+
+abbrev pub LeavesIf : ℕ → List ℕ → World → Does → Type 0
+LeavesIf name text old (Did new answer) = Leaves name text old new
+LeavesIf name text old (Makes new answer) = Leaves name text old new
+LeavesIf name text old _ = Unit {0}

@@ -1,0 +1,6 @@
+pub mod Carrying
+pub mod Crew
+pub mod Engine
+pub mod Leaving
+pub mod Rotation
+pub mod Turns

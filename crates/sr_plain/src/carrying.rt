@@ -1,0 +1,70 @@
+ghost use Rattle.std.specs.Prelude.{◌≡◌, ℕ, IfOk, OnErr, Ok};
+ghost use Rattle.sr_plain.specs.Carrying.{Names, written_of};
+ghost use Rattle.sr_world.specs.Acting.{Acts, NeedsNew};
+ghost use Rattle.sr_world.specs.Does.{Does as what};
+ghost use Rattle.sr_world.specs.Names.{IsLeastUnused};
+ghost use Rattle.sr_world.specs.Steps.{does};
+
+use sr_ask::{Ask, Asks, Request};
+use sr_core::Core;
+use sr_value::{NoMemory, Text};
+use sr_world::{Acted, World};
+use std::alloc::Global;
+
+/// What the machine did, and the number of the step.
+#[derive(Drop)]
+pub struct Carried {
+    pub name: u32,
+    pub acted: Acted,
+}
+
+/// The least unused number. Where each number has been given out there is no memory for more.
+pub fn new_name(world: &World) -> Result<u32, NoMemory>
+    ensures least { IfOk result (IsLeastUnused world.now.used) }
+    ensures needed { IfOk result (λ name. (meant : what) → NeedsNew meant world.now name) }
+{
+    match world.least_unused() {
+        Some(name) => {
+            if world.is_new(name) {
+                return Ok(name);
+            }
+            Err(NoMemory)
+        }
+        None => Err(NoMemory),
+    }
+}
+
+/// The number of the step of a request.
+fn name_for(world: &World, core: &Core, ask: &Ask) -> Result<u32, NoMemory>
+    ensures names { IfOk result (λ name. (actor : ℕ) → Names (does core.now world.now actor ask.now name) world.now name) }
+    ensures needed { IfOk result (λ name. (actor : ℕ) → NeedsNew (does core.now world.now actor ask.now name) world.now name) }
+{
+    if world.makes(core, ask) {
+        return new_name(world);
+    }
+    Ok(0)
+}
+
+/// Has the machine carry a request out.
+pub fn carry_out(world: &mut World, core: &Core, actor: u32, ask: &Ask) -> Result<Carried, NoMemory>
+    ensures acts { IfOk result (λ carried. Acts (does core.now world.old actor ask.now carried.name) world.old world.new (Ok carried.acted)) }
+    ensures names { IfOk result (λ carried. Names (does core.now world.old actor ask.now carried.name) world.old carried.name) }
+    ensures err { OnErr result (world.new ≡ world.old) }
+{
+    let name = name_for(world, core, ask)?;
+    let acted = world.act(core, actor, ask, name)?;
+    Ok(Carried { name, acted })
+}
+
+/// What a process wrote that asked so.
+pub fn written(alloc: Global, asks: Option<Asks>) -> Text
+    ensures { result ≡ written_of asks }
+{
+    match asks {
+        Some(Asks::Asked(ask)) => match ask.request {
+            Request::Write { bytes } => bytes,
+            _ => Text::new(alloc),
+        },
+        _ => Text::new(alloc),
+    }
+}

@@ -1,0 +1,24 @@
+ghost use Rattle.std.specs.Prelude.{[], ℕ};
+ghost use Rattle.sr_ask.specs.declared.ask.Ask.{Ask};
+ghost use Rattle.sr_core.specs.declared.component.Core.{Core};
+ghost use Rattle.sr_plain.specs.Leaving.{LeavesIf, written_by};
+ghost use Rattle.sr_plain.specs.Rotation.{InTurnIsRotation, OneMoreInTurn};
+ghost use Rattle.sr_world.specs.Endings.{quiesce};
+ghost use Rattle.sr_world.specs.Steps.{does};
+ghost use Rattle.sr_world.specs.Worlds.{World};
+
+/// A step starts no process but one of its own number, and only a write writes.
+pub fn others_live_on()
+    ensures step { (core : Core) (world : World) (actor name : ℕ) (ask : Ask) → LeavesIf name (written_by ask.request) world (does core world actor ask name) }
+    ensures rest { (core : Core) (world : World) (name : ℕ) → LeavesIf name [] world (quiesce core name world) }
+{}
+
+/// Events that are in turn stay so with one more in turn, as each step of the engine is, and with input.
+pub fn turns_go_on()
+    ensures { OneMoreInTurn }
+{}
+
+/// The items of events in turn are a rotation, in whatever pieces the input came.
+pub fn turns_are_a_rotation()
+    ensures { InTurnIsRotation }
+{}

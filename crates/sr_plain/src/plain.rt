@@ -1,0 +1,173 @@
+ghost use Rattle.std.specs.Prelude.{◌≡◌, ◌<◌, ◌-◌, ◌∷◌, ◌++◌, ℕ, [], List, IfOk, None, Ok, OnErr, OnOk, Some, drop, false, find, length, take, true};
+ghost use Rattle.sr_ask.specs.declared.start.Start as starts;
+ghost use Rattle.sr_plain.specs.Crew.{IsAsking};
+ghost use Rattle.sr_world.specs.Runs.{State, Event, Closes, Gives, first, no_step, with_input, without_more};
+ghost use Rattle.sr_world.specs.Worlds.{started};
+ghost use Rattle.sr_plain.specs.Turns.{takes_turn, turn};
+
+use crate::carrying::{Carried, carry_out, new_name, written};
+use crate::crew::look;
+use crate::member::Member;
+use crate::plainly::Plainly;
+use sr_actor::Actor;
+use sr_ask::{Asks, Item};
+use sr_value::{NoMemory, Row, Text};
+use sr_world::{Acted, World};
+use std::alloc::Global;
+
+/// A run as far as it has come.
+#[derive(Drop)]
+pub struct Plain<A> {
+    pub(crate) alloc: Global,
+    pub(crate) world: World,
+    /// How many statements a process may begin between two answers.
+    pub(crate) ticks: u32,
+    /// The processes that have begun.
+    pub(crate) crew: Row<Member<A>>,
+    /// Who made the last step, or 0.
+    pub(crate) last: u32,
+}
+
+impl<A: Actor> Plain<A> {
+    ghost use Rattle.sr_plain.specs.Engine.{IsCarried, IsEngine, Steps, Tries, last_in};
+
+    /// The beginning of a run, in which a process may begin `ticks` statements between two answers.
+    pub fn begin(alloc: Global, ticks: u32) -> Result<Self, NoMemory>
+        ensures { IfOk result (λ plain. (program : A.Program) → IsEngine (A.asks_after program) A.can_feed (A.core_of program) ticks first [] plain) }
+    {
+        let world = World::begin(alloc)?;
+        Ok(Plain {
+            alloc,
+            world,
+            ticks,
+            crew: Row::new(alloc),
+            last: 0,
+        })
+    }
+
+    /// Adds bytes to the input, where it hasn't ended.
+    pub fn give(&mut self, bytes: &[u8]) -> Result<(), NoMemory>
+        ensures ok { OnOk result ((program : A.Program) (limit : ℕ) (state : State) (events : List Event) → IsEngine (A.asks_after program) A.can_feed (A.core_of program) limit state events self.old → state.world.ended ≡ false → IsEngine (A.asks_after program) A.can_feed (A.core_of program) limit (record state { world = with_input bytes.now state.world }) (events ++ Gives bytes.now ∷ []) self.new) }
+        ensures err { OnErr result (self.new ≡ self.old) }
+    {
+        self.world.give(bytes)
+    }
+
+    /// Says that no more input will come, where it hasn't ended.
+    pub fn end_input(&mut self)
+        ensures { (program : A.Program) (limit : ℕ) (state : State) (events : List Event) → IsEngine (A.asks_after program) A.can_feed (A.core_of program) limit state events self.old → state.world.ended ≡ false → IsEngine (A.asks_after program) A.can_feed (A.core_of program) limit (record state { world = without_more state.world }) (events ++ Closes ∷ []) self.new }
+    {
+        self.world.end_input();
+    }
+
+    /// The world as it is.
+    pub fn world(&self) -> &World
+        ensures { result.now ≡ self.now.world }
+    {
+        &self.world
+    }
+
+    /// Makes the next item of the run. After an error, and after the end of the run, no further call is allowed.
+    pub fn step(&mut self, program: &A::Program) -> Result<Plainly, NoMemory>
+        ensures { (limit : ℕ) (state : State) (events : List Event) → IsEngine (A.asks_after program.now) A.can_feed (A.core_of program.now) limit state events self.old → Steps (A.asks_after program.now) A.can_feed (A.core_of program.now) limit state events (turn (A.core_of program.now) limit state (last_in events)) result self.new }
+    {
+        let from = self.world.made_after(self.last);
+        let to = self.world.len();
+        if let Some(plainly) = self.try_range(program, from, to)? {
+            return Ok(plainly);
+        }
+        if let Some(plainly) = self.try_range(program, 0, from)? {
+            return Ok(plainly);
+        }
+        self.come_to_rest(program)
+    }
+
+    /// Asks those in turn that stand from one place to another in the order of their making.
+    fn try_range(
+        &mut self,
+        program: &A::Program,
+        from: usize,
+        to: usize,
+    ) -> Result<Option<Plainly>, NoMemory>
+        ensures { (limit : ℕ) (state : State) (events : List Event) → IsEngine (A.asks_after program.now) A.can_feed (A.core_of program.now) limit state events self.old → Tries (A.asks_after program.now) A.can_feed (A.core_of program.now) limit state events (find (takes_turn (A.core_of program.now) limit state) (take (to - from) (drop from state.world.live))) result self.new }
+    {
+        for place in from..to {
+            if let Some(plainly) = self.try_at(program, place)? {
+                return Ok(Some(plainly));
+            }
+        }
+        Ok(None)
+    }
+
+    /// Asks who stands there in the order of their making.
+    fn try_at(&mut self, program: &A::Program, place: usize) -> Result<Option<Plainly>, NoMemory>
+        ensures { (limit : ℕ) (state : State) (events : List Event) → IsEngine (A.asks_after program.now) A.can_feed (A.core_of program.now) limit state events self.old → Tries (A.asks_after program.now) A.can_feed (A.core_of program.now) limit state events (find (takes_turn (A.core_of program.now) limit state) (take 1 (drop place state.world.live))) result self.new }
+    {
+        match self.world.live_at(place) {
+            Some(start) => {
+                let at = look(&mut self.crew, program, self.alloc, start, self.ticks)?;
+                self.try_member(program, at)
+            }
+            None => Ok(None),
+        }
+    }
+
+    /// Has the machine carry out what a process asks that has begun.
+    fn try_member(&mut self, program: &A::Program, at: usize) -> Result<Option<Plainly>, NoMemory>
+        ensures { (limit : ℕ) (state : State) (events : List Event) (start : starts.Start) → IsEngine (A.asks_after program.now) A.can_feed (A.core_of program.now) limit state events self.old → started state.world start.process ≡ Some start → IsAsking start.process self.old.crew at → Tries (A.asks_after program.now) A.can_feed (A.core_of program.now) limit state events (find (takes_turn (A.core_of program.now) limit state) (start ∷ [])) result self.new }
+    {
+        match self.crew.get(at) {
+            Some(member) => {
+                let actor = member.process;
+                match &member.asks {
+                    Some(Asks::Asked(ask)) => {
+                        let core = A::core(program);
+                        let carried = carry_out(&mut self.world, core, actor, ask)?;
+                        Ok(self.answered(at, actor, carried))
+                    }
+                    Some(Asks::OverTicks) => Ok(Some(Plainly::Over(actor))),
+                    None => Ok(None),
+                }
+            }
+            None => Ok(None),
+        }
+    }
+
+    /// Hands the process its answer, if it got one.
+    fn answered(&mut self, at: usize, actor: u32, carried: Carried) -> Option<Plainly>
+        requires { at < length self.old.crew }
+        ensures { (program : A.Program) (limit : ℕ) (state : State) (events : List Event) (start : starts.Start) → actor ≡ start.process → IsCarried (A.asks_after program) A.can_feed (A.core_of program) limit state events start at carried.name carried.acted self.old → Tries (A.asks_after program) A.can_feed (A.core_of program) limit state events (find (takes_turn (A.core_of program) limit state) (start ∷ [])) (Ok result) self.new }
+    {
+        let Carried { name, acted } = carried;
+        let item = Item::Step { actor, name };
+        match acted {
+            Acted::Done(answer) => {
+                let asks = self.crew.at_mut(at).answer(answer);
+                self.last = actor;
+                let output = written(self.alloc, asks);
+                Some(Plainly::Stepped { item, output })
+            }
+            Acted::Cannot => None,
+            Acted::Ends(end) => Some(Plainly::Ended { item, end }),
+            Acted::Undecided => Some(Plainly::Wants),
+        }
+    }
+
+    /// No process can make a step: main's final code begins, or the run ends.
+    fn come_to_rest(&mut self, program: &A::Program) -> Result<Plainly, NoMemory>
+        ensures { (limit : ℕ) (state : State) (events : List Event) → IsEngine (A.asks_after program.now) A.can_feed (A.core_of program.now) limit state events self.old → no_step (A.core_of program.now) limit state ≡ true → Steps (A.asks_after program.now) A.can_feed (A.core_of program.now) limit state events None result self.new }
+    {
+        let name = new_name(&self.world)?;
+        match self.world.quiesce(A::core(program), name)? {
+            Acted::Done(_) => Ok(Plainly::Stepped {
+                item: Item::Quiesce { name },
+                output: Text::new(self.alloc),
+            }),
+            Acted::Ends(end) => Ok(Plainly::Ended {
+                item: Item::Quiesce { name: 0 },
+                end,
+            }),
+            Acted::Cannot | Acted::Undecided => unreachable!(),
+        }
+    }
+}

@@ -1,0 +1,360 @@
+ghost use Rattle.std.specs.Prelude.{◌≡◌, ◌≢◌, ◌<◌, ◌∷◌, ◌++◌, [], IfOk, IsSome, IsErr, List, None, OnErr, OnOk, Some, ℕ, option_copied};
+ghost use Rattle.sr_ask.specs.declared.answer.Answer.{Answer as an_answer};
+ghost use Rattle.sr_ask.specs.declared.start.Start.{Start as a_start};
+ghost use Rattle.sr_code.specs.Runs.{code_ask};
+ghost use Rattle.sr_code.specs.declared.code.Program.{Program as a_program};
+ghost use Rattle.sr_process.specs.declared.process.Phase.TheVariants.{New as new_phase, Waiting as waiting_phase};
+ghost use Rattle.sr_process.specs.Processes.{Failed, Ready, Runs, Hears, ReadyIn, SameAsks, StandsFor, asked_by, asks_after, asking, coded_at, left, me_of, stepped};
+
+use crate::entry::{entry_address, entry_place, first_frame, no_frame};
+use crate::operands::copy_frame;
+use sr_ask::{Answer, Ask, Asks, Request, Start};
+use sr_code::{Code, Coded, Program};
+use sr_core::Me;
+use sr_execute::{Frame, Step, execute, resume};
+use sr_frame::{Scene, results_now};
+use sr_value::{Duplicate, NoMemory, Place};
+use std::alloc::Global;
+
+/// How far a process has come.
+#[derive(Clone, Copy, PartialEq, Eq)]
+enum Phase {
+    /// It hasn't begun.
+    New,
+    /// It stands at an instruction.
+    Running,
+    /// It asks, and an answer may lead on.
+    Waiting,
+    /// It asks this for good.
+    Stopped,
+    OutOfMemory,
+}
+
+/// A process of a program.
+///
+/// It runs to its next request, and stores no answers: [`Process::feed`] hands it one, and the next run hears it.
+#[derive(Drop)]
+pub struct Process {
+    alloc: Global,
+    start: Start,
+    limit: u32,
+    phase: Phase,
+    address: usize,
+    frame: Frame,
+    asks: Asks,
+    fed: Option<Answer>,
+}
+
+/// The instruction at an address.
+fn instruction_at(code: &Code, address: usize) -> Option<&Coded>
+    ensures { option_copied result ≡ coded_at code.now.items address }
+{
+    match address.checked_sub(1) {
+        Some(at) => code.items.get(at),
+        None => None,
+    }
+}
+
+fn copied_answer(alloc: Global, answer: &Option<Answer>) -> Result<Option<Answer>, NoMemory>
+    ensures { IfOk result (λ copy. copy ≡ answer.now) }
+{
+    match answer {
+        Some(answer) => Ok(Some(answer.copy(alloc)?)),
+        None => Ok(None),
+    }
+}
+
+impl Process {
+    /// A process that has run nothing yet. It may begin `ticks` statements between two answers.
+    pub fn start(alloc: Global, start: &Start, ticks: u32) -> Result<Process, NoMemory>
+        ensures { IfOk result (λ process. (program : a_program) → StandsFor program process start.now ticks []) }
+    {
+        Ok(Process::new(alloc, start.copy(alloc)?, ticks))
+    }
+
+    fn new(alloc: Global, start: Start, ticks: u32) -> Process
+        ensures alloc { result.alloc ≡ alloc }
+        ensures start { result.start ≡ start }
+        ensures limit { result.limit ≡ ticks }
+        ensures phase { result.phase ≡ new_phase }
+    {
+        Process {
+            alloc,
+            start,
+            limit: ticks,
+            phase: Phase::New,
+            address: 0,
+            frame: no_frame(alloc),
+            asks: Asks::OverTicks,
+            fed: None,
+        }
+    }
+
+    /// The process and its instance.
+    pub fn me(&self) -> Me
+        ensures { result ≡ me_of self.now }
+    {
+        Me {
+            process: self.start.process,
+            instance: self.start.instance,
+        }
+    }
+
+    /// What it asks, where it ran and no answer was fed since.
+    pub fn asked(&self) -> Option<&Asks>
+        ensures { option_copied result ≡ asked_by self.now }
+    {
+        match self.fed {
+            Some(_) => None,
+            None => match self.phase {
+                Phase::Waiting => Some(&self.asks),
+                Phase::Stopped => Some(&self.asks),
+                _ => None,
+            },
+        }
+    }
+
+    /// Hands it an answer to what it asks. It takes no memory.
+    pub fn feed(&mut self, answer: Answer)
+        ensures hears { IsSome (asked_by self.old) → (program : a_program) (more : List an_answer) → asks_after program self.new more ≡ asks_after program self.old (answer ∷ more) }
+        ensures stands { IsSome (asked_by self.old) → (program : a_program) (start : a_start) (limit : ℕ) (answers : List an_answer) → StandsFor program self.old start limit answers → StandsFor program self.new start limit (answers ++ answer ∷ []) }
+    {
+        self.fed = Some(answer);
+    }
+
+    /// Makes what it holds the same.
+    fn copy_held(&self, to: &mut Process) -> Result<(), NoMemory>
+        ensures { OnOk result (to.new ≡ record self.now { alloc = to.old.alloc; start = to.old.start; limit = to.old.limit }) }
+    {
+        copy_frame(self.alloc, &self.frame, &mut to.frame)?;
+        to.asks = self.asks.copy(self.alloc)?;
+        to.fed = copied_answer(self.alloc, &self.fed)?;
+        to.phase = self.phase;
+        to.address = self.address;
+        Ok(())
+    }
+
+    /// A process that goes on as this one would.
+    pub fn copy(&self) -> Result<Process, NoMemory>
+        ensures { IfOk result (λ copy. copy ≡ self.now) }
+    {
+        let start = self.start.copy(self.alloc)?;
+        let mut copy = Process::new(self.alloc, start, self.limit);
+        self.copy_held(&mut copy)?;
+        Ok(copy)
+    }
+
+    /// Asks at a line.
+    fn ask(&mut self, request: Request, place: Place)
+        ensures { self.new ≡ asking request place self.old }
+    {
+        self.asks = Asks::Asked(Ask {
+            place,
+            role: self.start.role,
+            request,
+        });
+    }
+
+    /// What an instruction leads to.
+    fn take_step(&mut self, step: Step, place: Place)
+        ensures { self.new ≡ stepped step place self.old }
+    {
+        match step {
+            Step::Goes(to) => self.address = to,
+            Step::Asks(request) => {
+                self.phase = Phase::Waiting;
+                self.ask(request, place);
+            }
+            Step::Faults(fault) => {
+                self.phase = Phase::Stopped;
+                self.ask(Request::Fail { fault }, place);
+            }
+            Step::OverTicks => {
+                self.phase = Phase::Stopped;
+                self.asks = Asks::OverTicks;
+            }
+        }
+    }
+
+    /// Begins the code of its role.
+    fn begin(&mut self, program: &Program) -> Result<(), NoMemory>
+        requires { self.old.phase ≡ new_phase }
+        ensures same { OnOk result (SameAsks program.now self.old self.new) }
+        ensures runs { OnOk result (Runs self.new) }
+    {
+        self.frame = first_frame(self.alloc, &program.code, &self.start, self.limit)?;
+        self.address = entry_address(&program.code, &self.start);
+        self.phase = Phase::Running;
+        self.fed = None;
+        Ok(())
+    }
+
+    /// One instruction.
+    fn carry_out(&mut self, program: &Program, coded: &Coded) -> Result<(), NoMemory>
+        requires runs { Runs self.old }
+        requires at { coded_at program.now.code.items self.old.address ≡ Some coded.now }
+        ensures same { OnOk result (SameAsks program.now self.old self.new) }
+        ensures ready { OnOk result (Ready self.new) }
+        ensures falls { OnOk result (left program.now self.new < left program.now self.old) }
+    {
+        let scene = Scene {
+            alloc: self.alloc,
+            names: &program.core.names,
+            start: &self.start,
+            limit: self.limit,
+            place: coded.place,
+        };
+        let next = self.address - 1;
+        let step = execute(&scene, &mut self.frame, &coded.instruction, next)?;
+        self.take_step(step, coded.place);
+        Ok(())
+    }
+
+    /// The end of its code.
+    fn finish(&mut self, program: &Program) -> Result<(), NoMemory>
+        requires runs { Runs self.old }
+        requires at { coded_at program.now.code.items self.old.address ≡ None }
+        ensures same { OnOk result (SameAsks program.now self.old self.new) }
+        ensures ready { OnOk result (Ready self.new) }
+        ensures falls { OnOk result (left program.now self.new < left program.now self.old) }
+    {
+        let place = entry_place(&program.code, &self.start);
+        let scene = Scene {
+            alloc: self.alloc,
+            names: &program.core.names,
+            start: &self.start,
+            limit: self.limit,
+            place,
+        };
+        let results = results_now(&scene, &self.frame.service.gives, &self.frame.own)?;
+        self.phase = Phase::Stopped;
+        self.ask(
+            Request::Finish {
+                answered: self.frame.service.answered,
+                back: self.frame.service.back,
+                results,
+            },
+            place,
+        );
+        Ok(())
+    }
+
+    /// One instruction, or the end of its code.
+    fn proceed(&mut self, program: &Program) -> Result<(), NoMemory>
+        requires { Runs self.old }
+        ensures same { OnOk result (SameAsks program.now self.old self.new) }
+        ensures ready { OnOk result (Ready self.new) }
+        ensures falls { OnOk result (left program.now self.new < left program.now self.old) }
+    {
+        match instruction_at(&program.code, self.address) {
+            Some(coded) => self.carry_out(program, coded),
+            None => self.finish(program),
+        }
+    }
+
+    /// Hears an answer at the instruction that it waits at.
+    fn hear_at(&mut self, coded: &Coded, answer: Answer) -> Result<(), NoMemory>
+        requires waits { self.old.phase ≡ waiting_phase }
+        requires within { self.old.address ≢ 0 }
+        ensures { OnOk result (Hears coded.now answer self.old self.new) }
+    {
+        let taken = resume(
+            self.alloc,
+            &mut self.frame,
+            &coded.instruction,
+            answer,
+            self.address - 1,
+        )?;
+        if let Some(to) = taken {
+            self.phase = Phase::Running;
+            self.address = to;
+            self.frame.ticks = self.limit;
+        }
+        Ok(())
+    }
+
+    /// Hears an answer that was fed.
+    fn hear(&mut self, program: &Program) -> Result<(), NoMemory>
+        requires { ReadyIn self.old.phase }
+        ensures same { OnOk result (SameAsks program.now self.old self.new) }
+        ensures ready { OnOk result (Ready self.new) }
+    {
+        let Some(answer) = std::mem::replace(&mut self.fed, None) else {
+            return Ok(());
+        };
+        match self.phase {
+            Phase::Waiting => match instruction_at(&program.code, self.address) {
+                Some(coded) => self.hear_at(coded, answer),
+                None => Ok(()),
+            },
+            _ => Ok(()),
+        }
+    }
+
+    /// Runs to its next request.
+    fn run(&mut self, program: &Program) -> Result<(), NoMemory>
+        requires { Ready self.old }
+        ensures same { OnOk result (SameAsks program.now self.old self.new) }
+        ensures asked { OnOk result (IsSome (asked_by self.new)) }
+    {
+        while self.phase == Phase::Running {
+            self.proceed(program)?;
+        }
+        Ok(())
+    }
+
+    /// Begins, hears what it was fed, and runs to its next request.
+    fn advance(&mut self, program: &Program) -> Result<(), NoMemory>
+        ensures same { OnOk result (SameAsks program.now self.old self.new) }
+        ensures asked { OnOk result (IsSome (asked_by self.new)) }
+        ensures failed { Failed self.old → IsErr result }
+    {
+        match self.phase {
+            Phase::OutOfMemory => return Err(NoMemory),
+            Phase::New => self.begin(program)?,
+            _ => self.hear(program)?,
+        }
+        self.run(program)
+    }
+
+    /// A copy of what it is known to ask.
+    fn copied_asks(&self) -> Result<Asks, NoMemory>
+        requires { IsSome (asked_by self.now) }
+        ensures { IfOk result (λ asks. asked_by self.now ≡ Some asks) }
+    {
+        self.asks.copy(self.alloc)
+    }
+
+    /// What it asks next, unless memory runs out.
+    fn find(&mut self, program: &Program) -> Result<Asks, NoMemory>
+        ensures same { OnOk result (SameAsks program.now self.old self.new) }
+        ensures known { IfOk result (λ asks. asked_by self.new ≡ Some asks) }
+        ensures failed { Failed self.old → IsErr result }
+    {
+        self.advance(program)?;
+        self.copied_asks()
+    }
+
+    /// Runs to its next request, and answers it. Asked again without an answer it does nothing more. After
+    /// [`NoMemory`] it answers that for good.
+    pub fn next(&mut self, program: &Program) -> Result<Asks, NoMemory>
+        ensures same { OnOk result (SameAsks program.now self.old self.new) }
+        ensures asks { IfOk result (λ asks. asks ≡ asks_after program.now self.old []) }
+
+        // The same of a process that stands for answers.
+        ensures stands { OnOk result ((start : a_start) (limit : ℕ) (answers : List an_answer) → StandsFor program.now self.old start limit answers → StandsFor program.now self.new start limit answers) }
+        ensures meant { IfOk result (λ asks. (start : a_start) (limit : ℕ) (answers : List an_answer) → StandsFor program.now self.old start limit answers → asks ≡ code_ask program.now.core program.now.code start limit answers) }
+
+        ensures known { IfOk result (λ asks. asked_by self.new ≡ Some asks) }
+        ensures failing { Failed self.old → IsErr result }
+        ensures failed { OnErr result (Failed self.new) }
+    {
+        match self.find(program) {
+            Ok(asks) => Ok(asks),
+            Err(NoMemory) => {
+                self.phase = Phase::OutOfMemory;
+                Err(NoMemory)
+            }
+        }
+    }
+}

@@ -1,0 +1,18 @@
+-- A run begins with no item and no input, or memory runs out at once.
+use Rattle.std.proofs.Common.{[], refl}
+use Rattle.sr_run.proofs.Begun.{begun, begun_early}
+use Rattle.sr_run.specs.Runs.{Call, Devices}
+use Rattle.sr_run.proofs.whole.run.Goals as goal
+
+pub returns-in-Ok-clause-cause : goal.returns-in-Ok-clause-cause
+returns-in-Ok-clause-cause g c =
+    let devices : Devices = record { left = g.I.Source.left c.args.input.now; read_faults = g.I.Source.faults c.args.input.now; held = g.O.Sink.held c.args.output.now; write_faults = g.O.Sink.faults c.args.output.now } in
+    let call : Call = record { core = g.A.Actor.core_of c.args.program.now; steps = c.args.steps; ticks = c.args.ticks; before = devices; now = devices; items = [] } in
+    c.run_on-end.ensures.cause call refl
+    (begun (g.A.Actor.core_of c.args.program.now) c.args.steps c.args.ticks devices c.new-items.result c.new-items.ensures (g.A.Actor.asks_after c.args.program.now) g.A.Actor.can_feed c.in-Ok.plain
+    (c.in-Ok.ensures c.args.program.now))
+
+pub returns-in-Err-clause-cause : goal.returns-in-Err-clause-cause
+returns-in-Err-clause-cause g c =
+    let devices : Devices = record { left = g.I.Source.left c.args.input.now; read_faults = g.I.Source.faults c.args.input.now; held = g.O.Sink.held c.args.output.now; write_faults = g.O.Sink.faults c.args.output.now } in
+    begun_early (g.A.Actor.core_of c.args.program.now) c.args.steps c.args.ticks devices c.new-items.result c.new-items.ensures

@@ -1,0 +1,91 @@
+-- A run that is under way, as the code carries it on.
+use Rattle.std.specs.Prelude.{◌≡◌, ◌⊎◌, ◌+◌, ◌-◌, ◌<◌, ◌≤◌, ◌++◌, ◌∷◌, ℕ, List, [], length, Option, None, Some, if◌then◌else◌}
+use Rattle.std.specs.Io.KnownBytes.{append_known}
+use Rattle.sr_ask.specs.declared.answer.Answer.{Answer}
+use Rattle.sr_ask.specs.declared.ask.Asks.{Asks}
+use Rattle.sr_ask.specs.declared.item.Item.{Item}
+use Rattle.sr_core.specs.declared.component.Core.{Core}
+use Rattle.sr_plain.specs.Engine.{IsEngine, WaitsForInput}
+use Rattle.sr_plain.specs.Rotation.{AreInTurn}
+use Rattle.sr_plain.specs.declared.plain.Plain.{Plain}
+use Rattle.sr_ports.specs.Faults.{Rose}
+use Rattle.sr_ports.specs.Streams.{PutInPart}
+use Rattle.sr_run.specs.Causes.{HasCause, NoFaults}
+use Rattle.sr_run.specs.Runs.{Call, Devices, Took, turn_after}
+use Rattle.sr_run.specs.declared.end.RunEnd.{RunEnd}
+use Rattle.sr_run.specs.declared.end.RunEnd.TheVariants as end
+use Rattle.sr_run.specs.declared.intake.Intake.{Intake}
+use Rattle.sr_world.specs.Laws.{closes}
+use Rattle.sr_world.specs.Runs.{Event, Goes, State, bytes_in, items_in, led}
+use Rattle.sr_world.specs.declared.ends.End.{End}
+
+-- a call as far as it has come: over this core, with the devices and the items as they are now
+abbrev pub as_of : Call → Core → Devices → List Item → Call
+as_of call core now items = record call { core = core; now = now; items = items }
+
+-- ---- a run that goes on
+
+-- Events lead to this state, each item in its turn; they make the items and give the bytes that were taken; and all
+-- output was put.
+pub record HasCome (call : Call) (intake : Intake) (state : State) (events : List Event) : Type 0 where
+  pub leads : led call.core call.ticks events ≡ Goes state
+  pub in_turn : AreInTurn call.core call.ticks events
+  pub makes : items_in events ≡ call.items
+  pub took : Took call (bytes_in events) intake.ended
+  pub count : length (bytes_in events) ≡ intake.taken
+  pub closed : closes events ≡ intake.ended
+  pub ended : state.world.ended ≡ intake.ended
+  pub put : call.now.held ≡ append_known call.before.held state.world.output
+
+-- no device has failed, and an engine stands for the state that the run has come to
+pub record IsUnderWay {A : Type 0} (after : A → List Answer → Asks) (can_feed : A → Type 0) (call : Call) (intake : Intake) (plain : Plain A) : Type 0 where
+  pub state : State
+  pub events : List Event
+  pub come : HasCome call intake state events
+  pub no_faults : NoFaults call
+  pub engine : IsEngine after can_feed call.core call.ticks state events plain
+
+-- it is under way, and whose turn it is reads what the bytes that were taken don't decide
+pub record IsWaiting {A : Type 0} (after : A → List Answer → Asks) (can_feed : A → Type 0) (call : Call) (intake : Intake) (plain : Plain A) : Type 0 where
+  pub under_way : IsUnderWay after can_feed call intake plain
+  pub fewer : length call.items < call.steps
+  pub waits : WaitsForInput call.core call.ticks under_way.state (turn_after call under_way.state)
+
+-- ---- what each turn brings
+
+-- the run goes on, or it ends so
+abbrev pub Advances : {A : Type 0} → (A → List Answer → Asks) → (A → Type 0) → Call → Intake → Plain A → Option RunEnd → Type 0
+Advances after can_feed call intake plain None = IsUnderWay after can_feed call intake plain
+Advances after can_feed call intake plain (Some ending) = HasCause call ending
+
+-- how many bytes of input may still come, and its end
+abbrev pub open_input : Intake → ℕ
+open_input intake = (67108864 - intake.taken) + (if intake.ended then 0 else 1)
+
+-- there is one item more, or the input is nearer to its end
+pub record Moves (items items_now : List Item) (intake intake_now : Intake) : Type 0 where
+  pub no_fewer : length items ≤ length items_now
+  pub nearer : length items + open_input intake_now < length items_now + open_input intake
+
+-- ---- an item
+
+-- the item was added
+abbrev pub Adds : Item → List Item → List Item → Type 0
+Adds item old new = new ≡ old ++ item ∷ []
+
+-- What becomes of an item and its text: both are there; or the sink failed, or memory ran out. So much for what the sink
+-- holds and the count of its faults, before and after.
+abbrev pub PutsItem : Item → List ℕ → List Item → List Item → Option (List ℕ) → Option (List ℕ) → ℕ → ℕ → Option RunEnd → Type 0
+PutsItem item text old new held held_now faults faults_now None =
+    Adds item old new × (held_now ≡ append_known held text) × (faults_now ≡ faults)
+PutsItem item text old new held held_now faults faults_now (Some end.WriteFault) =
+    Adds item old new × PutInPart held held_now text × Rose faults faults_now
+PutsItem item text old new held held_now faults faults_now (Some end.NoMemory) =
+    ((Adds item old new × PutInPart held held_now text) ⊎ ((new ≡ old) × (held_now ≡ held))) × (faults_now ≡ faults)
+PutsItem item text old new held held_now faults faults_now (Some ending) = ⊥
+
+-- the item that ends the run is there, or memory ran out
+abbrev pub EndsWith : Item → End → List Item → List Item → RunEnd → Type 0
+EndsWith item given old new (end.Ended ending) = Adds item old new × (ending ≡ given)
+EndsWith item given old new end.NoMemory = new ≡ old
+EndsWith item given old new ending = ⊥

@@ -1,0 +1,12 @@
+//! A whole run on one thread: what the engine makes item by item, with input from a source and output into a sink.
+#![tactic(auto)]
+
+mod advance;
+mod end;
+mod intake;
+mod items;
+mod taking;
+mod whole;
+
+pub use end::{LimitKind, Run, RunEnd};
+pub use whole::run;

@@ -1,5 +1,0 @@
-use Rattle.sr_runs.proofs.LawProofs.{answered_once}
-use Rattle.sr_runs.proofs.laws.calls_are_answered_once.Goals as goal
-
-pub returns : goal.returns
-returns c = answered_once

@@ -1,5 +1,0 @@
-use Rattle.sr_runs.proofs.LawProofs.{every_state_is_sound}
-use Rattle.sr_runs.proofs.laws.every_state_is_sound.Goals as goal
-
-pub returns : goal.returns
-returns c = every_state_is_sound

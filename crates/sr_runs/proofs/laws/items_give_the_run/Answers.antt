@@ -1,5 +1,0 @@
-use Rattle.sr_runs.proofs.PieceLemmas.{items_give_the_run}
-use Rattle.sr_runs.proofs.laws.items_give_the_run.Goals as goal
-
-pub returns : goal.returns
-returns c = items_give_the_run

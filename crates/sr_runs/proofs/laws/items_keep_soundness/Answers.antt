@@ -1,5 +1,0 @@
-use Rattle.sr_runs.proofs.LawProofs.{items_keep_soundness}
-use Rattle.sr_runs.proofs.laws.items_keep_soundness.Goals as goal
-
-pub returns : goal.returns
-returns c = items_keep_soundness

@@ -1,4 +1,0 @@
-//! Laws over whole runs of the machine.
-#![tactic(auto)]
-
-pub mod laws;

@@ -1,0 +1,4 @@
+mod Digits
+mod Found
+mod Reading
+mod Splitting

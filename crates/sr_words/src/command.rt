@@ -1,0 +1,50 @@
+ghost use Rattle.std.specs.Prelude.{◌≡◌};
+ghost use Rattle.sr_words.specs.declared.command.WordsFail.TheVariants.{NoMemory as out_of_memory};
+
+use sr_value::{NoMemory, Row, Text};
+
+/// What the program is asked to do.
+#[derive(Drop)]
+pub enum Command {
+    /// Runs the program of these files.
+    Run {
+        files: Row<Text>,
+        /// The threads that run it.
+        workers: u32,
+        /// The most steps of the run.
+        steps: u32,
+        /// The most ticks of a process between two of its requests.
+        ticks: u32,
+        /// Whether a journal of the run is written.
+        journal: bool,
+    },
+    /// Says whether the files are a program.
+    Check {
+        files: Row<Text>,
+    },
+    /// Says which operations of the program form a class.
+    Classes {
+        files: Row<Text>,
+    },
+    /// Makes the sample program of a seed, and runs it.
+    Gen {
+        seed: u32,
+        workers: u32,
+    },
+}
+
+/// Why the words give no command.
+#[derive(Clone, Copy, Debug, PartialEq, Eq)]
+pub enum WordsFail {
+    /// They are no command.
+    Usage,
+    NoMemory,
+}
+
+impl From<NoMemory> for WordsFail {
+    ghost from_gives = { λ _ e. e ≡ out_of_memory };
+
+    fn from(_: NoMemory) -> Self {
+        WordsFail::NoMemory
+    }
+}

@@ -1,0 +1,28 @@
+ghost use Rattle.std.specs.Prelude.{◌≡◌};
+ghost use Rattle.sr_words.specs.Commands as commands;
+
+/// The name of a command.
+#[derive(Clone, Copy, PartialEq, Eq)]
+pub enum Verb {
+    Run,
+    Check,
+    Classes,
+    Gen,
+}
+
+/// The command that is written as this word.
+pub fn verb_of(word: &[u8]) -> Option<Verb>
+    ensures { result ≡ commands.verb_of word.now }
+{
+    if word == b"run".as_slice() {
+        Some(Verb::Run)
+    } else if word == b"check".as_slice() {
+        Some(Verb::Check)
+    } else if word == b"classes".as_slice() {
+        Some(Verb::Classes)
+    } else if word == b"gen".as_slice() {
+        Some(Verb::Gen)
+    } else {
+        None
+    }
+}
