@@ -1,6 +1,7 @@
 -- What the files of a program are compiled to.
+use Rattle.sr_compiled.specs.declared.compiled.Compiled.{Compiled}
 use Rattle.sr_core.specs.declared.component.Core.{Core}
 
 -- the core of a program
-abbrev pub core_in : Core → Core
-core_in core = core
+abbrev pub core_in : Compiled → Core
+core_in compiled = compiled.program.core

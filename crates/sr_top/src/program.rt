@@ -5,18 +5,17 @@ ghost use Rattle.sr_top.specs.Programs.{core_in};
 ghost use Rattle.sr_top.specs.Reading.{HasCore, StopsCompiling};
 
 use crate::report::Ending;
-use sr_core::Core;
-use sr_front::core_of;
+use sr_compiled::Compiled;
+use sr_front::compile;
 use sr_text::FrontFail;
-use sr_tree_actor::TreeActor;
 use sr_value::Text;
 use std::alloc::Global;
 
-/// What runs a process of a program.
-pub type Process = TreeActor;
+// What runs a process of a program.
+pub use sr_process::Process;
 
 /// What the files of a program are compiled to, as a process needs it.
-pub type Program = Core;
+pub type Program = Compiled;
 
 /// The program in these files.
 pub fn compiled(alloc: Global, texts: &[(Text, Text)]) -> Result<Program, Ending>
@@ -24,8 +23,8 @@ pub fn compiled(alloc: Global, texts: &[(Text, Text)]) -> Result<Program, Ending
     ensures core { IfOk result (λ program. HasCore texts.now (core_in program)) }
     ensures ends { IfErr result (StopsCompiling texts.now) }
 {
-    match core_of(alloc, texts) {
-        Ok((core, _)) => Ok(core),
+    match compile(alloc, texts) {
+        Ok(program) => Ok(Compiled::new(program)),
         Err(FrontFail::Refused(refusal)) => Err(Ending::Refused(refusal)),
         Err(FrontFail::NoMemory) => Err(Ending::NoMemory),
     }

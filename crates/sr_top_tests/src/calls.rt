@@ -42,34 +42,109 @@ fn numbers(alloc: Global, of: &[u64]) -> Result<Row<u64>, NoMemory> {
     Ok(Row::from_vec(Vec::from_slice(alloc, of)?))
 }
 
-/// Makes the call of a case, and gives its report, the output and the diagnostic text.
-fn called(alloc: Global, case: &Case<'_>) -> Result<(Report, MemSink, MemSink), NoMemory> {
+fn words_of(alloc: Global, of: &[&str]) -> Result<Vec<String>, NoMemory> {
     let mut words = Vec::new(alloc);
-    for word in case.words {
+    for word in of {
         words.push(String::from_str(alloc, word)?)?;
     }
-    let mut held = Row::new(alloc);
-    for (name, content) in [(b"a.sr", case.content), (b"b.sr", OTHER)] {
-        let name = Text::from_slice(alloc, name)?;
-        held.push((name, Text::from_slice(alloc, content)?))?;
-    }
-    let mut output = MemSink::new(alloc, case.most.max(1), numbers(alloc, case.put_fails)?);
-    let mut diag = MemSink::new(alloc, 100, numbers(alloc, &[])?);
-    let report = sr_top(
+    Ok(words)
+}
+
+fn push_file(
+    alloc: Global,
+    files: &mut Row<(Text, Text)>,
+    name: &str,
+    content: &[u8],
+) -> Result<(), NoMemory> {
+    let name = Text::from_slice(alloc, name.as_bytes())?;
+    let content = Text::from_slice(alloc, content)?;
+    files.push((name, content))
+}
+
+/// The files `a.sr` and `b.sr`.
+fn files_of(alloc: Global, case: &Case<'_>) -> Result<MemFiles, NoMemory> {
+    let fails = numbers(alloc, case.read_fails)?;
+    let mut files = Row::new(alloc);
+    push_file(alloc, &mut files, "a.sr", case.content)?;
+    push_file(alloc, &mut files, "b.sr", OTHER)?;
+    Ok(MemFiles::new(files, fails))
+}
+
+fn source_of(alloc: Global, case: &Case<'_>) -> Result<MemSource, NoMemory> {
+    let fails = numbers(alloc, case.take_fails)?;
+    let input = Text::from_slice(alloc, case.input)?;
+    Ok(MemSource::new(input, 2, fails))
+}
+
+/// Makes the call of a case with these words and files.
+fn called_with(
+    alloc: Global,
+    case: &Case<'_>,
+    words: &[String],
+    files: &mut MemFiles,
+    output: &mut MemSink,
+    diag: &mut MemSink,
+) -> Result<Report, NoMemory> {
+    let mut input = source_of(alloc, case)?;
+    let mut journal = MemSink::new(alloc, 1, Row::new(alloc));
+    Ok(sr_top(
         alloc,
-        &words,
-        &mut MemFiles::new(held, numbers(alloc, case.read_fails)?),
-        &mut MemSource::new(
-            Text::from_slice(alloc, case.input)?,
-            2,
-            numbers(alloc, case.take_fails)?,
-        ),
-        &mut output,
-        &mut diag,
-        &mut MemSink::new(alloc, 1, numbers(alloc, &[])?),
+        words,
+        files,
+        &mut input,
+        output,
+        diag,
+        &mut journal,
         &FreeGate,
-    );
-    Ok((report, output, diag))
+    ))
+}
+
+/// Makes the call of a case, and gives its report.
+fn called(
+    alloc: Global,
+    case: &Case<'_>,
+    output: &mut MemSink,
+    diag: &mut MemSink,
+) -> Result<Report, NoMemory> {
+    let words = words_of(alloc, case.words)?;
+    let mut files = files_of(alloc, case)?;
+    called_with(alloc, case, &words, &mut files, output, diag)
+}
+
+/// Whether the call of a case ends and puts what is to come, and makes so many items.
+fn goes_so(alloc: Global, case: &Case<'_>) -> Result<bool, NoMemory> {
+    let fails = numbers(alloc, case.put_fails)?;
+    let mut output = MemSink::new(alloc, case.most.max(1), fails);
+    let mut diag = MemSink::new(alloc, 100, Row::new(alloc));
+    let report = called(alloc, case, &mut output, &mut diag)?;
+    Ok(
+        output.held() == case.output
+            && diag.held() == case.diag
+            && report.ending == case.ending
+            && report.status == case.status
+            && report.items.len() == case.items
+            && report.diag == Side::Whole,
+    )
+}
+
+/// Whether a run of this text makes these items.
+fn makes_items(alloc: Global, text: &[u8], items: &[Item]) -> Result<bool, NoMemory> {
+    let mut output = MemSink::new(alloc, 100, Row::new(alloc));
+    let mut diag = MemSink::new(alloc, 100, Row::new(alloc));
+    let case = run_case(text, b"", 0);
+    let report = called(alloc, &case, &mut output, &mut diag)?;
+    Ok(report.items.as_slice() == items)
+}
+
+/// Whether a text is refused so, and nothing is put.
+fn is_refused_so(alloc: Global, text: &[u8], kind: Kind, line: u32) -> Result<bool, NoMemory> {
+    let mut output = MemSink::new(alloc, 100, Row::new(alloc));
+    let mut diag = MemSink::new(alloc, 100, Row::new(alloc));
+    let case = run_case(text, b"", 0);
+    let report = called(alloc, &case, &mut output, &mut diag)?;
+    let place = Place { file: 0, line };
+    let ending = Ending::Refused(Refusal { kind, place });
+    Ok(report.ending == ending && output.held().is_empty())
 }
 
 /// The call of a run of `a.sr` that goes well.
@@ -185,22 +260,14 @@ fn calls_with_ports_in_memory(rt: HostRuntime) -> Result<(), Fail> {
         early(&["walk", "a.sr"], Ending::Usage, 108, USAGE),
         early(&["run", "a.sr", "--x"], Ending::Usage, 108, USAGE),
     ];
-    for case in &cases {
-        let (report, output, diag) = called(rt.alloc(), case)?;
-        assert_eq!(rt; output.held(), case.output);
-        assert_eq!(rt; diag.held(), case.diag);
-        assert_eq!(rt; report.ending, case.ending);
-        assert_eq!(rt; report.status, case.status);
-        assert_eq!(rt; report.items.len(), case.items);
-        assert_eq!(rt; report.diag, Side::Whole);
+    for (index, case) in cases.iter().enumerate() {
+        assert!(rt; goes_so(rt.alloc(), case)?, "case {index}");
     }
     Ok(())
 }
 
 #[test]
 fn items_of_hello(rt: HostRuntime) -> Result<(), Fail> {
-    let case = run_case(b"resource main()\nwrite(\"hello\", 3)\nend", b"", 0);
-    let (report, _, _) = called(rt.alloc(), &case)?;
     let step = |actor, name| Item::Step { actor, name };
     let items = [
         step(1, 2),
@@ -210,7 +277,8 @@ fn items_of_hello(rt: HostRuntime) -> Result<(), Fail> {
         step(1, 0),
         Item::Quiesce { name: 0 },
     ];
-    assert_eq!(rt; report.items.as_slice(), items.as_slice());
+    let hello = b"resource main()\nwrite(\"hello\", 3)\nend";
+    assert!(rt; makes_items(rt.alloc(), hello, &items)?);
     Ok(())
 }
 
@@ -253,28 +321,41 @@ fn refused_texts(rt: HostRuntime) -> Result<(), Fail> {
         ),
     ];
     for (text, kind, line) in texts {
-        let (report, output, _) = called(rt.alloc(), &run_case(text, b"", 0))?;
-        let place = Place { file: 0, line };
-        assert_eq!(rt; report.ending, Ending::Refused(Refusal { kind, place }));
-        assert_eq!(rt; output.held().len(), 0);
+        assert!(rt;
+            is_refused_so(rt.alloc(), text, kind, line)?,
+            "{kind:?} in line {line}"
+        );
     }
     Ok(())
+}
+
+/// Spaces past the limit on the bytes of a file.
+fn spaces(alloc: Global) -> Result<Vec<u8>, NoMemory> {
+    let mut spaces = Vec::new(alloc);
+    spaces.resize(1_048_577, b' ')?;
+    Ok(spaces)
+}
+
+/// Brackets in brackets, past the limit on them.
+fn brackets(alloc: Global) -> Result<Vec<u8>, NoMemory> {
+    let mut brackets = Vec::from_slice(alloc, b"resource main()\nwrite(")?;
+    for _ in 0..65 {
+        brackets.push(b'(')?;
+    }
+    Ok(brackets)
 }
 
 /// The limits on a file: its bytes, and brackets in brackets.
 #[test]
 fn large_texts(rt: HostRuntime) -> Result<(), Fail> {
-    let mut spaces = Vec::new(rt.alloc());
-    spaces.resize(1_048_577, b' ')?;
-    let mut brackets = Vec::from_slice(rt.alloc(), b"resource main()\nwrite(")?;
-    for _ in 0..65 {
-        brackets.push(b'(')?;
-    }
-    for (text, line) in [(spaces, 1), (brackets, 2)] {
-        let (report, _, _) = called(rt.alloc(), &run_case(&text, b"", 0))?;
-        let place = Place { file: 0, line };
-        let kind = Kind::Large;
-        assert_eq!(rt; report.ending, Ending::Refused(Refusal { kind, place }));
-    }
+    let spaces = spaces(rt.alloc())?;
+    assert!(rt; is_refused_so(rt.alloc(), &spaces, Kind::Large, 1)?);
+    Ok(())
+}
+
+#[test]
+fn deep_texts(rt: HostRuntime) -> Result<(), Fail> {
+    let brackets = brackets(rt.alloc())?;
+    assert!(rt; is_refused_so(rt.alloc(), &brackets, Kind::Large, 2)?);
     Ok(())
 }
