@@ -50,8 +50,14 @@ fn holds(alloc: Global, line: Line) -> Result<bool, NoMemory> {
     let text = Text::from_slice(alloc, line.input)?;
     let mut input = MemSource::new(text, line.most, numbers(alloc, line.takes)?);
     let mut output = MemSink::new(alloc, line.most, numbers(alloc, line.puts)?);
-    let run =
-        run::<TreeActor, _, _>(alloc, &core, line.steps, line.ticks, &mut input, &mut output);
+    let run = run::<TreeActor, _, _>(
+        alloc,
+        &core,
+        line.steps,
+        line.ticks,
+        &mut input,
+        &mut output,
+    );
     Ok(run.items.len() == line.items && run.end == line.end && output.held() == line.output)
 }
 
