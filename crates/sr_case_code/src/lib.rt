@@ -1,13 +1,6 @@
-//! The code of processes of declarations and expressions, and a plain runner of code, for the cases.
+//! What the code of a program asks, for the cases.
 #![tactic(auto)]
 
-mod calls;
-mod emitted;
-mod machine;
-mod places;
-mod reading;
-mod runner;
-mod values;
-mod variables;
+mod running;
 
-pub use runner::code_asks;
+pub use running::{code_asks, compiled};

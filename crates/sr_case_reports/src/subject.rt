@@ -1,6 +1,5 @@
 //! What the cases of a file are about.
 
-use crate::processes::Asked;
 use crate::{checks, cores, edits, names, processes};
 use sr_case_files::{Case, CaseFile, Tally, cases_in};
 use sr_case_trees::{Fragment, tell_fragment, tell_limits, tell_tokens};
@@ -64,8 +63,8 @@ impl Subject {
             Subject::Programs => checks::tell(alloc, case),
             Subject::Abbreviations => cores::tell_abbreviation(alloc, case),
             Subject::Classes => cores::tell_classes(alloc, case),
-            Subject::Processes => processes::tell(alloc, Asked::Tree, case),
-            Subject::Code => processes::tell(alloc, Asked::Code, case),
+            Subject::Processes => processes::tell(alloc, case),
+            Subject::Code => processes::tell(alloc, case),
             Subject::Files | Subject::Values => Ok(String::new(alloc)),
         }
     }
