@@ -1,11 +1,12 @@
 -- The compiled program keeps its core and its classes.
 use Rattle.std.proofs.Common.{subst, sym}
 use Rattle.sr_front.specs.Cores.{IsCoreOf}
+use Rattle.sr_front.specs.Reading.{contents_of}
 use Rattle.sr_top.proofs.program.compiled.Goals as goal
 
 pub returns-in-Ok-clause-core : goal.returns-in-Ok-clause-core
 returns-in-Ok-clause-core c =
     record {
       classes = c.in-Ok.program.classes;
-      written_out = subst (λ program. IsCoreOf _ (program.core, c.in-Ok.program.classes)) (sym c.new.ensures) c.in-Ok.ensures.core;
+      written_out = subst (λ program. IsCoreOf (contents_of c.args.texts.now) (program.core, c.in-Ok.program.classes)) (sym c.new.ensures) c.in-Ok.ensures.core;
     }
