@@ -118,12 +118,17 @@ fn statement(alloc: Global, what: Do) -> Result<Statement, NoMemory> {
     }
 }
 
-fn block(alloc: Global, code: &[Do]) -> Result<Row<Statement>, NoMemory> {
-    let mut block = Row::new(alloc);
+fn add_statements(alloc: Global, code: &[Do], block: &mut Row<Statement>) -> Result<(), NoMemory> {
     block.push(declaration())?;
     for what in code {
         block.push(statement(alloc, *what)?)?;
     }
+    Ok(())
+}
+
+fn block(alloc: Global, code: &[Do]) -> Result<Row<Statement>, NoMemory> {
+    let mut block = Row::new(alloc);
+    add_statements(alloc, code, &mut block)?;
     Ok(block)
 }
 
@@ -142,8 +147,9 @@ fn main(alloc: Global, block: Row<Statement>) -> Component {
 
 /// The program whose initial code this is.
 pub fn core(alloc: Global, code: &[Do]) -> Result<Core, NoMemory> {
+    let block = block(alloc, code)?;
     let mut components = Row::new(alloc);
-    components.push(main(alloc, block(alloc, code)?))?;
+    components.push(main(alloc, block))?;
     Ok(Core {
         components,
         operations: Row::new(alloc),

@@ -1,4 +1,5 @@
 use crate::program::{Do, LINE, core};
+use sr_core::Core;
 use sr_ports::{MemSink, MemSource};
 use sr_run::{LimitKind, RunEnd, run};
 use sr_tree_actor::TreeActor;
@@ -41,24 +42,47 @@ fn numbers(alloc: Global, of: &[u64]) -> Result<Row<u64>, NoMemory> {
     Ok(Row::from_vec(Vec::from_slice(alloc, of)?))
 }
 
+fn input_of(alloc: Global, line: Line) -> Result<MemSource, NoMemory> {
+    let fails = numbers(alloc, line.takes)?;
+    let bytes = Text::from_slice(alloc, line.input)?;
+    Ok(MemSource::new(bytes, line.most.max(1), fails))
+}
+
+fn output_of(alloc: Global, line: Line) -> Result<MemSink, NoMemory> {
+    let fails = numbers(alloc, line.puts)?;
+    Ok(MemSink::new(alloc, line.most.max(1), fails))
+}
+
+fn is_as_told(
+    alloc: Global,
+    core: &Core,
+    line: Line,
+    input: &mut MemSource,
+    output: &mut MemSink,
+) -> bool {
+    let run = run::<TreeActor, _, _>(alloc, core, line.steps, line.ticks, input, output);
+    run.items.len() == line.items && run.end == line.end && output.held() == line.output
+}
+
+fn holds_with(
+    alloc: Global,
+    core: &Core,
+    line: Line,
+    input: &mut MemSource,
+) -> Result<bool, NoMemory> {
+    let mut output = output_of(alloc, line)?;
+    Ok(is_as_told(alloc, core, line, input, &mut output))
+}
+
+fn holds_for(alloc: Global, core: &Core, line: Line) -> Result<bool, NoMemory> {
+    let mut input = input_of(alloc, line)?;
+    holds_with(alloc, core, line, &mut input)
+}
+
 /// Whether a run is as the line says.
 fn holds(alloc: Global, line: Line) -> Result<bool, NoMemory> {
-    if line.most == 0 {
-        return Ok(false);
-    }
     let core = core(alloc, line.code)?;
-    let text = Text::from_slice(alloc, line.input)?;
-    let mut input = MemSource::new(text, line.most, numbers(alloc, line.takes)?);
-    let mut output = MemSink::new(alloc, line.most, numbers(alloc, line.puts)?);
-    let run = run::<TreeActor, _, _>(
-        alloc,
-        &core,
-        line.steps,
-        line.ticks,
-        &mut input,
-        &mut output,
-    );
-    Ok(run.items.len() == line.items && run.end == line.end && output.held() == line.output)
+    holds_for(alloc, &core, line)
 }
 
 const TWO_LINES: &[Do] = &[Do::Write(1), Do::Write(2)];
