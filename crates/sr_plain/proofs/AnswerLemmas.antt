@@ -1,6 +1,6 @@
 -- What comes of a request that the machine has carried out.
-use Rattle.std.proofs.Common.{◌≡◌, ℕ, zero, suc, true, false, not, cond, List, [], ◌∷◌, ◌++◌, Some, None, IsSome, refl, ap, sym, ◌∙◌, subst, eq-eqb}
-use Rattle.std.specs.Prelude.{Ok, find, slice_get, slice_set}
+use Rattle.std.proofs.Common.{◌≡◌, ℕ, zero, suc, true, false, not, cond, List, [], ◌∷◌, ◌++◌, Option, Some, None, IsSome, refl, ap, sym, ◌∙◌, subst, eq-eqb}
+use Rattle.std.specs.Prelude.{Ok, find}
 use Rattle.sr_ask.specs.declared.answer.Answer.{Answer}
 use Rattle.sr_ask.specs.declared.ask.Ask.{Ask}
 use Rattle.sr_ask.specs.declared.ask.Asks.{Asks}
@@ -20,8 +20,8 @@ use Rattle.sr_world.specs.declared.acted.Acted.{Acted}
 use Rattle.sr_world.specs.declared.acted.Acted.TheVariants as acted
 use Rattle.sr_world.specs.declared.ends.End.{End}
 use Rattle.sr_plain.specs.Carrying.{Names, written_of}
-use Rattle.sr_plain.specs.Crew.{IsFed, IsPlace}
-use Rattle.sr_plain.specs.Engine.{Comes, IsCarried, IsEngine, Stands, Tries, WaitsForInput}
+use Rattle.sr_plain.specs.Crew.{Answers, member_of}
+use Rattle.sr_plain.specs.Engine.{Comes, IsCarried, IsEngine, Tries, WaitsForInput}
 use Rattle.sr_plain.specs.Leaving.{Leaves, LeavesIf, written_by}
 use Rattle.sr_plain.specs.Turns.{IsName, takes_turn}
 use Rattle.sr_plain.specs.declared.member.Member.{Member}
@@ -144,37 +144,37 @@ module _ {A : Type 0} (after : A → List Answer → Asks) (can_feed : A → Typ
       → Tries after can_feed core limit state events (find (takes_turn core limit state) (start ∷ [])) (Ok (Some p)) plain
   with-turn p plain takes comes = subst (λ t. IsSome t × Comes after can_feed core limit state events t p plain) (sym (one-turn core limit state start takes)) (refl, comes)
 
-  module _ (at name : ℕ) (plain : Plain A) where
-    engine-of : (a : Acted) → IsCarried after can_feed core limit state events start at name a plain → plain.world ≡ state.world → IsEngine after can_feed core limit state events plain
+  module _ (name : ℕ) (plain : Plain A) where
+    engine-of : (a : Acted) → IsCarried after can_feed core limit state events start name a plain → plain.world ≡ state.world → IsEngine after can_feed core limit state events plain
     engine-of a c same = record { world = same; ticks = c.ticks; last = c.last; stands = c.stands }
 
-    asked-is : (a : Acted) (c : IsCarried after can_feed core limit state events start at name a plain) → Asked c.asks ≡ asks_next core limit state start
-    asked-is a c = (kept-is after can_feed core limit state events start plain.crew at c.member c.stands c.lives c.place c.here (Asked c.asks) c.asked).0
+    asked-is : (a : Acted) (c : IsCarried after can_feed core limit state events start name a plain) → Asked c.asks ≡ asks_next core limit state start
+    asked-is a c = (kept-is after can_feed core limit state events start plain.crew c.member c.stands c.lives c.here (Asked c.asks) c.asked).0
 
-    pub answered_not : IsCarried after can_feed core limit state events start at name acted.Cannot plain
+    pub answered_not : IsCarried after can_feed core limit state events start name acted.Cannot plain
         → Tries after can_feed core limit state events (find (takes_turn core limit state) (start ∷ [])) (Ok None) plain
     answered_not c =
         let r = refused c.asks name (asked-is acted.Cannot c) c.lives plain.world (does core state.world start.process c.asks name) refl c.acts in
         (no-turn core limit state start r.1, engine-of acted.Cannot c r.0)
 
-    pub answered_ends : (ending : End) → IsCarried after can_feed core limit state events start at name (acted.Ends ending) plain
+    pub answered_ends : (ending : End) → IsCarried after can_feed core limit state events start name (acted.Ends ending) plain
         → Tries after can_feed core limit state events (find (takes_turn core limit state) (start ∷ [])) (Ok (Some (plainly.Ended (Step start.process name) ending))) plain
     answered_ends ending c =
         let f = final c.asks name (asked-is (acted.Ends ending) c) c.lives plain.world ending (does core state.world start.process c.asks name) refl c.acts c.names in
         with-turn (plainly.Ended (Step start.process name) ending) plain f.turn
         (record { ends = f.ends; turn_of = (refl, f.named) }, engine-of (acted.Ends ending) c f.world)
 
-    pub answered_wants : IsCarried after can_feed core limit state events start at name acted.Undecided plain
+    pub answered_wants : IsCarried after can_feed core limit state events start name acted.Undecided plain
         → Tries after can_feed core limit state events (find (takes_turn core limit state) (start ∷ [])) (Ok (Some plainly.Wants)) plain
     answered_wants c =
         let o = open_ended c.asks name (asked-is acted.Undecided c) c.lives plain.world (does core state.world start.process c.asks name) refl c.acts in
         with-turn plainly.Wants plain o.turn (o.waits, engine-of acted.Undecided c o.world)
 
-    pub answered_done : (a : Answer) (plain' : Plain A) (m m' : Member A) (output : List ℕ) → IsCarried after can_feed core limit state events start at name (acted.Done a) plain
-        → slice_get plain.crew at ≡ Some m → IsFed after can_feed a m m' → output ≡ written_of m.asks
-        → plain'.world ≡ plain.world → plain'.ticks ≡ plain.ticks → plain'.last ≡ start.process → plain'.crew ≡ slice_set plain.crew at m'
+    pub answered_done : (a : Answer) (plain' : Plain A) (asked : Option Asks) (output : List ℕ) → IsCarried after can_feed core limit state events start name (acted.Done a) plain
+        → ((m : Member A) → member_of plain.crew start.process ≡ Some m → Answers after can_feed start.process a m asked plain.crew plain'.crew) → output ≡ written_of asked
+        → plain'.world ≡ plain.world → plain'.ticks ≡ plain.ticks → plain'.last ≡ start.process
         → Tries after can_feed core limit state events (find (takes_turn core limit state) (start ∷ [])) (Ok (Some (plainly.Stepped (Step start.process name) output))) plain'
-    answered_done a plain' m m' output c here fed wrote world ticks last crew =
+    answered_done a plain' asked output c answers wrote world ticks last =
         with-turn (plainly.Stepped (Step start.process name) output) plain' f.turn (record {
           later = later;
           goes = f.goes;
@@ -184,19 +184,12 @@ module _ {A : Type 0} (after : A → List Answer → Asks) (can_feed : A → Typ
             world = world;
             ticks = ticks ∙ c.ticks;
             last = last ∙ sym (last-more events (Makes_item (Step start.process name)));
-            stands = subst (λ xs. Stands after can_feed core limit later (events ++ Makes_item (Step start.process name) ∷ []) xs) (sym crew)
-                (answered-stands after can_feed core limit state events start plain.crew at m c.stands c.lives c.place here (Asked c.asks) known a m' fed later name (written_by c.asks.request) (Step start.process name) refl f.left f.new f.goes);
+            stands = answered-stands after can_feed core limit state events start plain.crew c.member c.stands c.lives c.here (Asked c.asks) c.asked a plain'.crew asked (answers c.member c.here) later name (written_by c.asks.request) (Step start.process name) refl f.left f.new f.goes;
           };
         })
       where
-        same : c.member ≡ m
-        same = let there = c.here in cc
-
-        known : m.asks ≡ Some (Asked c.asks)
-        known = ap (λ (x : Member A). x.asks) (sym same) ∙ c.asked
-
         text : output ≡ written_by c.asks.request
-        text = wrote ∙ ap written_of known
+        text = wrote ∙ ap written_of ((answers c.member c.here).asked ∙ c.asked)
 
         later : State
         later = record { world = plain.world; given = with_answer start.process a state.given }
@@ -205,9 +198,9 @@ module _ {A : Type 0} (after : A → List Answer → Asks) (can_feed : A → Typ
         f = finished c.asks name (asked-is (acted.Done a) c) c.lives (sound core limit events state c.stands.leads).numbers.zero_never plain.world a (does core state.world start.process c.asks name) refl c.acts c.names
 
   -- one that is over its ticks
-  pub is_over : (at : ℕ) (plain : Plain A) (m : Member A) → IsEngine after can_feed core limit state events plain → started state.world start.process ≡ Some start
-      → IsPlace start.process plain.crew at → slice_get plain.crew at ≡ Some m → m.asks ≡ Some OverTicks
+  pub is_over : (plain : Plain A) (m : Member A) → IsEngine after can_feed core limit state events plain → started state.world start.process ≡ Some start
+      → member_of plain.crew start.process ≡ Some m → m.asks ≡ Some OverTicks
       → Tries after can_feed core limit state events (find (takes_turn core limit state) (start ∷ [])) (Ok (Some (plainly.Over start.process))) plain
-  is_over at plain m engine lives place here known =
-      let is = (kept-is after can_feed core limit state events start plain.crew at m engine.stands lives place here OverTicks known).0 in
+  is_over plain m engine lives here known =
+      let is = (kept-is after can_feed core limit state events start plain.crew m engine.stands lives here OverTicks known).0 in
       with-turn (plainly.Over start.process) plain (ap (λ a. not (is_blocked core state.world start.process a)) (sym is)) ((refl, sym is), engine)

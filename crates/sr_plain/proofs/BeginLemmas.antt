@@ -1,15 +1,15 @@
 -- A look at a process that may have to begin.
-use Rattle.std.proofs.Common.{◌≡◌, ◌<◌, inl, inr, ℕ, List, [], ◌∷◌, length, length-append, Option, Some, None, ap, arith, sym, ◌∙◌, subst}
-use Rattle.std.specs.Prelude.{Result, Ok, Err, IfOk, OnErr, OnOk}
+use Rattle.std.proofs.Common.{◌≡◌, inl, inr, ℕ, List, Option, Some, None, is_some, false, refl, sym, ◌∙◌, subst, true≢false}
+use Rattle.std.specs.BTreeMap.{BTreeMap}
+use Rattle.std.specs.Prelude.{Result, Ok, Err, OnOk}
 use Rattle.sr_ask.specs.declared.answer.Answer.{Answer}
 use Rattle.sr_ask.specs.declared.ask.Asks.{Asks}
 use Rattle.sr_ask.specs.declared.start.Start.{Start}
 use Rattle.sr_core.specs.declared.component.Core.{Core}
 use Rattle.sr_meaning.specs.Processes.{ask}
-use Rattle.sr_value.specs.declared.memory.NoMemory.{NoMemory}
-use Rattle.sr_plain.specs.Crew.{Begins, HasBegun, IsKept, IsPlace, LooksAt, Looks, Plays, member_of}
+use Rattle.sr_plain.specs.Crew.{Begins, IsKept, LooksAt, Looks, Plays, member_of}
 use Rattle.sr_plain.specs.declared.member.Member.{Member}
-use Rattle.sr_plain.proofs.CrewLemmas.{looks-push, looks-same, named, place-push}
+use Rattle.sr_plain.proofs.CrewLemmas.{looks-begun, looks-same}
 
 module _ {A : Type 0} (after : A → List Answer → Asks) (can_feed : A → Type 0) (meant : List Answer → Asks) where
   at-then : (a b c : Option (Member A)) → LooksAt after can_feed meant a b → LooksAt after can_feed meant b c → LooksAt after can_feed meant a c
@@ -19,22 +19,21 @@ module _ {A : Type 0} (after : A → List Answer → Asks) (can_feed : A → Typ
   at-then (Some m) None c first second = absurd first
   at-then (Some m) (Some m') None first second = absurd second
   at-then (Some m) (Some m') (Some m'') first second =
-      record { process = second.process ∙ first.process; actor = λ more. second.actor more ∙ first.actor more; kept = λ kept. second.kept (first.kept kept) }
+      record { actor = λ more. second.actor more ∙ first.actor more; kept = λ kept. second.kept (first.kept kept) }
 
-  pub looks-then : (p : ℕ) (a b c : List (Member A)) → Looks after can_feed meant p a b → Looks after can_feed meant p b c → Looks after can_feed meant p a c
+  pub looks-then : (p : ℕ) (a b c : BTreeMap ℕ (Member A)) → Looks after can_feed meant p a b → Looks after can_feed meant p b c → Looks after can_feed meant p a c
   looks-then p a b c first second = record {
     itself = at-then (member_of a p) (member_of b p) (member_of c p) first.itself second.itself;
     others = λ q off. second.others q off ∙ first.others q off;
   }
 
 module _ {A P : Type 0} (after : P → A → List Answer → Asks) (can_feed : A → Type 0) (core_of : P → Core) (start : Start) (limit : ℕ) (program : P) where
-  pub begins-looks : (old new : List (Member A)) → Begins after core_of start limit old new → Looks (after program) can_feed (ask (core_of program) start limit) start.process old new
+  pub begins-looks : (old new : BTreeMap ℕ (Member A)) → Begins after core_of start limit old new → Looks (after program) can_feed (ask (core_of program) start limit) start.process old new
   begins-looks old new (inl same) = subst (λ xs. Looks (after program) can_feed (ask (core_of program) start limit) start.process old xs) (sym same) (looks-same start.process (after program) can_feed (ask (core_of program) start limit) old)
   begins-looks old new (inr (none, begun)) =
       let kept : IsKept (after program) can_feed begun.member.actor begun.member.asks = subst (IsKept (after program) can_feed begun.member.actor) (sym begun.asks) tt in
       let plays : Plays (after program) can_feed (ask (core_of program) start limit) begun.member = record { actor = λ more. begun.actor program more; kept = kept } in
-      subst (λ xs. Looks (after program) can_feed (ask (core_of program) start limit) start.process old xs) (sym begun.pushed)
-      (looks-push start.process (after program) can_feed (ask (core_of program) start limit) old begun.member none (named start.process begun.member begun.process) plays)
+      looks-begun start.process (after program) can_feed (ask (core_of program) start limit) old new begun.member none begun.itself begun.others plays
 
 -- ---- what a call that may fail leaves
 
@@ -42,19 +41,6 @@ pub on_ok : {B E : Type 0} {P Q : Type 0} (r : Result B E) → (P → Q) → OnO
 on_ok (Ok b) f h = f h
 on_ok (Err e) f h = h
 
-pub on_both : {B E : Type 0} {P Q R : Type 0} (r : Result B E) → (P → Q → R) → OnOk r P → OnOk r Q → OnOk r R
-on_both (Ok b) f p q = f p q
-on_both (Err e) f p q = p
-
-module _ {A P : Type 0} (after : P → A → List Answer → Asks) (core_of : P → Core) (start : Start) (limit : ℕ) (old new : List (Member A)) (none : member_of old start.process ≡ None) where
-  pub begun_place : (r : Result ℕ NoMemory) → IfOk r (λ at. at ≡ length old) → OnOk r (HasBegun after core_of start limit old new) → IfOk r (λ at. IsPlace start.process new at × (at < length new))
-  begun_place (Ok at) place begun =
-      let here = place-push start.process old begun.member at place none (named start.process begun.member begun.process) in (
-        subst (λ xs. IsPlace start.process xs at) (sym begun.pushed) here,
-        omega (arith, place, ap length begun.pushed, length-append old (begun.member ∷ [])),
-      )
-  begun_place (Err e) place begun = place
-
-  pub begun_begins : (r : Result ℕ NoMemory) → OnOk r (HasBegun after core_of start limit old new) → OnErr r (new ≡ old) → Begins after core_of start limit old new
-  begun_begins (Ok at) begun same = inr (none, begun)
-  begun_begins (Err e) begun same = inl same
+pub absent-here : {A : Type 0} (o : Option A) → is_some o ≡ false → o ≡ None
+absent-here None none = refl
+absent-here (Some a) none = absurd (true≢false none)

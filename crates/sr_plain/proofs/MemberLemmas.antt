@@ -1,5 +1,6 @@
 -- The member of a crew whose request the machine carries out, and who stands at a place.
-use Rattle.std.proofs.Common.{◌≡◌, ◌-◌, ◌++◌, ℕ, true, false, List, [], ◌∷◌, drop, take, length, Option, Some, None, IsSome, refl, ap, sym, ◌∙◌, subst, arith, eqb-true, true≢false}
+use Rattle.std.proofs.Common.{◌≡◌, ◌-◌, ◌++◌, ℕ, true, false, List, [], ◌∷◌, drop, take, length, Option, Some, None, IsSome, refl, ap, sym, ◌∙◌, subst, arith, true≢false}
+use Rattle.std.specs.BTreeMap.{BTreeMap}
 use Rattle.std.specs.Prelude.{Result, Ok, Err, find, slice_get}
 use Rattle.sr_ask.specs.declared.answer.Answer.{Answer}
 use Rattle.sr_ask.specs.declared.ask.Ask.{Ask}
@@ -16,7 +17,7 @@ use Rattle.sr_world.specs.Steps.{does}
 use Rattle.sr_world.specs.Worlds.{World, started}
 use Rattle.sr_world.specs.declared.acted.Acted.{Acted}
 use Rattle.sr_plain.specs.Carrying.{Names}
-use Rattle.sr_plain.specs.Crew.{IsAsking, Looks}
+use Rattle.sr_plain.specs.Crew.{IsAsking, Looks, member_of}
 use Rattle.sr_plain.specs.Engine.{Comes, IsCarried, IsEngine, Steps, Tries, last_in}
 use Rattle.sr_plain.specs.Turns.{takes_turn, turn}
 use Rattle.sr_plain.specs.declared.member.Member.{Member}
@@ -24,7 +25,6 @@ use Rattle.sr_plain.specs.declared.plain.Plain.{Plain}
 use Rattle.sr_plain.specs.declared.plainly.Plainly.{Plainly}
 use Rattle.sr_plain.specs.declared.plainly.Plainly.TheVariants as plainly
 use Rattle.sr_plain.proofs.AnswerLemmas.{is_over}
-use Rattle.sr_plain.proofs.CrewLemmas.{member-here}
 use Rattle.sr_plain.proofs.EngineLemmas.{looked_engine}
 use Rattle.sr_plain.proofs.LedLemmas.{place-started}
 use Rattle.sr_plain.proofs.WalkLemmas.{all_blocked, found_first, found_second, none_here, one_here, rest_of_list}
@@ -44,44 +44,43 @@ module _ {A : Type 0} (after : A → List Answer → Asks) (can_feed : A → Typ
 
   -- ---- a member
 
-  module _ (start : Start) (plain : Plain A) (engine : IsEngine after can_feed core limit state events plain) (lives : started state.world start.process ≡ Some start) (at : ℕ)
-      (asking : IsAsking start.process plain.crew at) where
-    pub actor_is : (m : Member A) → Some m ≡ slice_get plain.crew at → m.process ≡ start.process
-    actor_is m here = eqb-true m.process start.process (member-here start.process plain.crew at m asking.place (sym here))
+  module _ (start : Start) (plain : Plain A) (engine : IsEngine after can_feed core limit state events plain) (lives : started state.world start.process ≡ Some start) (p : ℕ) (p-is : p ≡ start.process)
+      (asking : IsAsking p plain.crew) where
+    here-is : (m : Member A) → Some m ≡ member_of plain.crew p → member_of plain.crew start.process ≡ Some m
+    here-is m here = subst (λ q. member_of plain.crew q ≡ Some m) p-is (sym here)
 
-    pub carried_of : (m : Member A) → Some m ≡ slice_get plain.crew at → (asks : Ask) → m.asks ≡ Some (Asked asks) → (w' : World) (name : ℕ) (acted : Acted)
-        → Acts (does core plain.world m.process asks name) plain.world w' (Ok acted) → Names (does core plain.world m.process asks name) plain.world name
-        → IsCarried after can_feed core limit state events start at name acted (record plain { world = w' })
+    pub carried_of : (m : Member A) → Some m ≡ member_of plain.crew p → (asks : Ask) → m.asks ≡ Some (Asked asks) → (w' : World) (name : ℕ) (acted : Acted)
+        → Acts (does core plain.world p asks name) plain.world w' (Ok acted) → Names (does core plain.world p asks name) plain.world name
+        → IsCarried after can_feed core limit state events start name acted (record plain { world = w' })
     carried_of m here asks known w' name acted acts names = record {
       member = m;
       asks = asks;
-      place = asking.place;
-      here = sym here;
+      here = here-is m here;
       asked = known;
       lives = lives;
       acts = subst (λ (v : World). Acts (does core v start.process asks name) v w' (Ok acted)) engine.world
-          (subst (λ p. Acts (does core plain.world p asks name) plain.world w' (Ok acted)) (actor_is m here) acts);
+          (subst (λ q. Acts (does core plain.world q asks name) plain.world w' (Ok acted)) p-is acts);
       names = subst (λ (v : World). Names (does core v start.process asks name) v name) engine.world
-          (subst (λ p. Names (does core plain.world p asks name) plain.world name) (actor_is m here) names);
+          (subst (λ q. Names (does core plain.world q asks name) plain.world name) p-is names);
       ticks = engine.ticks;
       last = engine.last;
       stands = engine.stands;
     }
 
-    pub over_of : (m : Member A) → Some m ≡ slice_get plain.crew at → m.asks ≡ Some OverTicks
-        → Tries after can_feed core limit state events (find (takes_turn core limit state) (start ∷ [])) (Ok (Some (plainly.Over m.process))) plain
+    pub over_of : (m : Member A) → Some m ≡ member_of plain.crew p → m.asks ≡ Some OverTicks
+        → Tries after can_feed core limit state events (find (takes_turn core limit state) (start ∷ [])) (Ok (Some (plainly.Over p))) plain
     over_of m here known =
-        subst (λ p. Tries after can_feed core limit state events (find (takes_turn core limit state) (start ∷ [])) (Ok (Some (plainly.Over p))) plain) (sym (actor_is m here))
-        (is_over after can_feed core limit state events start at plain m engine lives asking.place (sym here) known)
+        subst (λ q. Tries after can_feed core limit state events (find (takes_turn core limit state) (start ∷ [])) (Ok (Some (plainly.Over q))) plain) (sym p-is)
+        (is_over after can_feed core limit state events start plain m engine lives (here-is m here) known)
 
-    pub never_unknown : (m : Member A) → Some m ≡ slice_get plain.crew at → m.asks ≡ None → ⊥
+    pub never_unknown : (m : Member A) → Some m ≡ member_of plain.crew p → m.asks ≡ None → ⊥
     never_unknown m here unknown =
         let there = asking.here in
         let same : asking.member ≡ m = cc in
         let none : asking.member.asks ≡ None = ap (λ (x : Member A). x.asks) same ∙ unknown in
         true≢false (sym (subst (λ (o : Option Asks). IsSome o) none asking.known))
 
-    pub never_absent : None ≡ slice_get plain.crew at → ⊥
+    pub never_absent : None ≡ member_of plain.crew p → ⊥
     never_absent absent = let there = asking.here in absurd (cc)
 
   -- ---- a place
@@ -100,7 +99,7 @@ module _ {A : Type 0} (after : A → List Answer → Asks) (can_feed : A → Typ
       pub lives_at : started state.world s.process ≡ Some s
       lives_at = place-started core limit events state engine.stands.leads place s stands_there
 
-      pub looked_at : (crew : List (Member A)) → Looks after can_feed (ask core s plain.ticks) s.process plain.crew crew → IsEngine after can_feed core limit state events (record plain { crew = crew })
+      pub looked_at : (crew : BTreeMap ℕ (Member A)) → Looks after can_feed (ask core s plain.ticks) s.process plain.crew crew → IsEngine after can_feed core limit state events (record plain { crew = crew })
       looked_at crew looks =
           looked_engine after can_feed core limit state events s plain crew engine lives_at (subst (λ t. Looks after can_feed (ask core s t) s.process plain.crew crew) engine.ticks looks)
 

@@ -1,6 +1,6 @@
 -- What a turn does to an engine.
-use Rattle.std.proofs.Common.{◌≡◌, ◌⊎◌, inl, inr, ◌+◌, ◌≤◌, ◌==◌, ℕ, Bool, true, false, cond, List, [], ◌∷◌, ◌++◌, Option, Some, None, refl, ap, sym, ◌∙◌, subst, arith, eq-eqb, eqb-true, true≢false, append-nil, append_assoc}
-use Rattle.std.specs.Prelude.{slice_get, slice_set}
+use Rattle.std.proofs.Common.{◌≡◌, ◌⊎◌, inl, inr, ◌+◌, ◌≤◌, ◌==◌, ℕ, Bool, true, false, cond, List, [], ◌∷◌, ◌++◌, Option, Some, None, is_some, refl, ap, sym, ◌∙◌, subst, arith, eq-eqb, eqb-true, true≢false, append-nil, append_assoc}
+use Rattle.std.specs.BTreeMap.{BTreeMap}
 use Rattle.sr_ask.specs.declared.answer.Answer.{Answer}
 use Rattle.sr_ask.specs.declared.ask.Asks.{Asks}
 use Rattle.sr_ask.specs.declared.item.Item.{Item}
@@ -10,11 +10,10 @@ use Rattle.sr_meaning.specs.Processes.{ask}
 use Rattle.sr_world.specs.Runs.{Event, Makes_item, Goes, State, asks_next, led, next, with_answer}
 use Rattle.sr_world.specs.Sound.{times_used}
 use Rattle.sr_world.specs.Worlds.{started}
-use Rattle.sr_plain.specs.Crew.{IsFed, IsKept, IsPlace, LooksAt, Looks, Plays, is_member, member_of}
+use Rattle.sr_plain.specs.Crew.{Answers, IsKept, KeepsLiving, LooksAt, Looks, Plays, member_of}
 use Rattle.sr_plain.specs.Engine.{StandsFor, Stands}
 use Rattle.sr_plain.specs.Leaving.{Leaves}
 use Rattle.sr_plain.specs.declared.member.Member.{Member}
-use Rattle.sr_plain.proofs.CrewLemmas.{found-at, member-here, others-set, place-set, set-at}
 use Rattle.sr_plain.proofs.LedLemmas.{led-more, lives-used, sound, used-more}
 
 module _ {A : Type 0} (after : A → List Answer → Asks) (can_feed : A → Type 0) (core : Core) (limit : ℕ) (state : State) (events : List Event) where
@@ -28,7 +27,7 @@ module _ {A : Type 0} (after : A → List Answer → Asks) (can_feed : A → Typ
   looked-for s answers (Some m) (Some m') looks stands = record { actor = λ more. looks.actor more ∙ stands.actor more; kept = looks.kept stands.kept }
 
   -- after a look an engine stands as before
-  pub looked-stands : (start : Start) (crew crew' : List (Member A)) → Stands after can_feed core limit state events crew → started state.world start.process ≡ Some start
+  pub looked-stands : (start : Start) (crew crew' : BTreeMap ℕ (Member A)) → Stands after can_feed core limit state events crew → started state.world start.process ≡ Some start
       → Looks after can_feed (ask core start limit) start.process crew crew' → Stands after can_feed core limit state events crew'
   looked-stands start crew crew' stands lives looks = record { leads = stands.leads; living = living; unborn = unborn }
     where
@@ -56,12 +55,20 @@ module _ {A : Type 0} (after : A → List Answer → Asks) (can_feed : A → Typ
       unborn : (q : ℕ) → times_used state.world q ≡ 0 → member_of crew' q ≡ None
       unborn q none = unborn-by q (start.process == q) refl none
 
+  -- after some that have ended left, an engine stands as before
+  pub kept-stands : (crew crew' : BTreeMap ℕ (Member A)) → Stands after can_feed core limit state events crew → KeepsLiving state.world crew crew' → Stands after can_feed core limit state events crew'
+  kept-stands crew crew' stands keeps = record {
+    leads = stands.leads;
+    living = λ q s is. subst (StandsFor after can_feed (ask core s limit) (state.given q)) (sym (keeps.living q (ap is_some is))) (stands.living q s is);
+    unborn = λ q none. keeps.unborn q (stands.unborn q none);
+  }
+
   -- ---- a step of a process
 
-  module _ (start : Start) (crew : List (Member A)) (at : ℕ) (m : Member A) (stands : Stands after can_feed core limit state events crew) (lives : started state.world start.process ≡ Some start)
-      (place : IsPlace start.process crew at) (here : slice_get crew at ≡ Some m) where
+  module _ (start : Start) (crew : BTreeMap ℕ (Member A)) (m : Member A) (stands : Stands after can_feed core limit state events crew) (lives : started state.world start.process ≡ Some start)
+      (here : member_of crew start.process ≡ Some m) where
     plays : Plays after can_feed (λ more. ask core start limit (state.given start.process ++ more)) m
-    plays = subst (StandsFor after can_feed (ask core start limit) (state.given start.process)) (found-at start.process crew at place ∙ here) (stands.living start.process start lives)
+    plays = subst (StandsFor after can_feed (ask core start limit) (state.given start.process)) here (stands.living start.process start lives)
 
     -- what is kept beside the process is what it asks
     pub kept-is : (asks : Asks) → m.asks ≡ Some asks → (asks ≡ asks_next core limit state start) × can_feed m.actor
@@ -69,20 +76,11 @@ module _ {A : Type 0} (after : A → List Answer → Asks) (can_feed : A → Typ
         let kept : IsKept after can_feed m.actor (Some asks) = subst (IsKept after can_feed m.actor) is plays.kept in
         (kept.0 ∙ plays.actor [] ∙ ap (ask core start limit) (append-nil (state.given start.process)), kept.1)
 
-    module _ (asks : Asks) (known : m.asks ≡ Some asks) (a : Answer) (m' : Member A) (fed : IsFed after can_feed a m m') (later : State) (name : ℕ) (text : List ℕ) (item : Item)
+    module _ (asks : Asks) (known : m.asks ≡ Some asks) (a : Answer) (crew' : BTreeMap ℕ (Member A)) (asked : Option Asks) (answers : Answers after can_feed start.process a m asked crew crew') (later : State) (name : ℕ) (text : List ℕ) (item : Item)
         (given : later.given ≡ with_answer start.process a state.given) (left : Leaves name text state.world later.world) (new : times_used state.world name ≡ 0)
         (goes : next core limit state item ≡ Goes later) where
       later-leads : led core limit (events ++ Makes_item item ∷ []) ≡ Goes later
       later-leads = led-more core limit events state later (Makes_item item) stands.leads goes
-
-      mine : is_member start.process m' ≡ true
-      mine = subst (λ n. (n == start.process) ≡ true) (sym fed.process) (member-here start.process crew at m place here)
-
-      itself : member_of (slice_set crew at m') start.process ≡ Some m'
-      itself = found-at start.process (slice_set crew at m') at (place-set start.process crew at m' place mine) ∙ set-at start.process crew at m' place
-
-      others : (q : ℕ) → (start.process == q) ≡ false → member_of (slice_set crew at m') q ≡ member_of crew q
-      others q off = others-set start.process q crew at m' place mine off
 
       given-itself : later.given start.process ≡ state.given start.process ++ a ∷ []
       given-itself = ap (λ (f : ℕ → List Answer). f start.process) given ∙ ap (λ b. cond b (state.given start.process ++ a ∷ []) (state.given start.process)) (eq-eqb start.process start.process refl)
@@ -94,48 +92,49 @@ module _ {A : Type 0} (after : A → List Answer → Asks) (can_feed : A → Typ
           by false is = refl
           by true is = absurd (true≢false (sym (eq-eqb start.process q (sym (eqb-true q start.process is))) ∙ off))
 
-      answered-for : StandsFor after can_feed (ask core start limit) (later.given start.process) (member_of (slice_set crew at m') start.process)
+      answered-for : StandsFor after can_feed (ask core start limit) (later.given start.process) (member_of crew' start.process)
       answered-for =
-          let kept : IsKept after can_feed m'.actor m'.asks = subst (IsKept after can_feed m'.actor) (sym fed.asks) tt in
+          let fed = answers.is_fed in
+          let kept : IsKept after can_feed answers.fed.actor answers.fed.asks = subst (IsKept after can_feed answers.fed.actor) (sym fed.asks) tt in
           let may : can_feed m.actor = (kept-is asks known).1 in
-          let played : Plays after can_feed (λ more. ask core start limit ((state.given start.process ++ a ∷ []) ++ more)) m' = record {
+          let played : Plays after can_feed (λ more. ask core start limit ((state.given start.process ++ a ∷ []) ++ more)) answers.fed = record {
             actor = λ more. fed.actor may more ∙ plays.actor (a ∷ more) ∙ ap (ask core start limit) (sym (append_assoc (state.given start.process) (a ∷ []) more));
             kept = kept;
           } in
-          subst (λ o. StandsFor after can_feed (ask core start limit) (later.given start.process) o) (sym itself)
-          (subst (λ (xs : List Answer). Plays after can_feed (λ more. ask core start limit (xs ++ more)) m') (sym given-itself) played)
+          subst (λ o. StandsFor after can_feed (ask core start limit) (later.given start.process) o) (sym answers.itself)
+          (subst (λ (xs : List Answer). Plays after can_feed (λ more. ask core start limit (xs ++ more)) answers.fed) (sym given-itself) played)
 
       used-itself : 1 ≤ times_used state.world start.process
       used-itself = lives-used core limit events state stands.leads start.process start lives
 
       living-by : (q : ℕ) (s : Start) (b : Bool) → (start.process == q) ≡ b → (started state.world q ≡ Some s) ⊎ (q ≡ name)
-          → StandsFor after can_feed (ask core s limit) (later.given q) (member_of (slice_set crew at m') q)
+          → StandsFor after can_feed (ask core s limit) (later.given q) (member_of crew' q)
       living-by q s true same (inl was) =
           let q-is : start.process ≡ q = eqb-true start.process q same in
           let found : started state.world start.process ≡ Some s = subst (λ n. started state.world n ≡ Some s) (sym q-is) was in
           let s-is : start ≡ s = cc in
-          subst (λ n. StandsFor after can_feed (ask core s limit) (later.given n) (member_of (slice_set crew at m') n)) q-is
-          (subst (λ t. StandsFor after can_feed (ask core t limit) (later.given start.process) (member_of (slice_set crew at m') start.process)) s-is answered-for)
+          subst (λ n. StandsFor after can_feed (ask core s limit) (later.given n) (member_of crew' n)) q-is
+          (subst (λ t. StandsFor after can_feed (ask core t limit) (later.given start.process) (member_of crew' start.process)) s-is answered-for)
       living-by q s false off (inl was) =
-          subst (λ o. StandsFor after can_feed (ask core s limit) (later.given q) o) (sym (others q off))
+          subst (λ o. StandsFor after can_feed (ask core s limit) (later.given q) o) (sym (answers.others q off))
           (subst (λ xs. StandsFor after can_feed (ask core s limit) xs (member_of crew q)) (sym (given-other q off)) (stands.living q s was))
       living-by q s true same (inr made) =
           let q-is : start.process ≡ q = eqb-true start.process q same in
           let unused : times_used state.world start.process ≡ 0 = subst (λ n. times_used state.world n ≡ 0) (sym (q-is ∙ made)) new in absurd (omega (arith, used-itself, unused))
       living-by q s false off (inr made) =
           let unused : times_used state.world q ≡ 0 = subst (λ n. times_used state.world n ≡ 0) (sym made) new in
-          let nobody : member_of (slice_set crew at m') q ≡ None = others q off ∙ stands.unborn q unused in
+          let nobody : member_of crew' q ≡ None = answers.others q off ∙ stands.unborn q unused in
           let nothing : later.given q ≡ [] = given-other q off ∙ (sound core limit events state stands.leads).processes.hearers q unused in
           subst (λ o. StandsFor after can_feed (ask core s limit) (later.given q) o) (sym nobody) nothing
 
-      unborn-by : (q : ℕ) (b : Bool) → (start.process == q) ≡ b → times_used state.world q ≡ 0 → member_of (slice_set crew at m') q ≡ None
-      unborn-by q false off none = others q off ∙ stands.unborn q none
+      unborn-by : (q : ℕ) (b : Bool) → (start.process == q) ≡ b → times_used state.world q ≡ 0 → member_of crew' q ≡ None
+      unborn-by q false off none = answers.others q off ∙ stands.unborn q none
       unborn-by q true same none =
           let q-is : start.process ≡ q = eqb-true start.process q same in
           let unused : times_used state.world start.process ≡ 0 = subst (λ n. times_used state.world n ≡ 0) (sym q-is) none in absurd (omega (arith, used-itself, unused))
 
       -- after its answer an engine stands for the later state
-      pub answered-stands : Stands after can_feed core limit later (events ++ Makes_item item ∷ []) (slice_set crew at m')
+      pub answered-stands : Stands after can_feed core limit later (events ++ Makes_item item ∷ []) crew'
       answered-stands = record {
         leads = later-leads;
         living = λ q s is. living-by q s (start.process == q) refl (left.lives q s is);
@@ -145,7 +144,7 @@ module _ {A : Type 0} (after : A → List Answer → Asks) (can_feed : A → Typ
 
   -- ---- a run that comes to rest
 
-  module _ (crew : List (Member A)) (stands : Stands after can_feed core limit state events crew) (later : State) (name : ℕ) (text : List ℕ) (item : Item)
+  module _ (crew : BTreeMap ℕ (Member A)) (stands : Stands after can_feed core limit state events crew) (later : State) (name : ℕ) (text : List ℕ) (item : Item)
       (given : later.given ≡ state.given) (left : Leaves name text state.world later.world) (new : times_used state.world name ≡ 0) (goes : next core limit state item ≡ Goes later) where
     rested-leads : led core limit (events ++ Makes_item item ∷ []) ≡ Goes later
     rested-leads = led-more core limit events state later (Makes_item item) stands.leads goes

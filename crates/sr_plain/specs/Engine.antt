@@ -1,5 +1,6 @@
 -- What an engine stands for, and what a step of it does.
-use Rattle.std.specs.Prelude.{◌≡◌, ◌++◌, ℕ, List, [], ◌∷◌, Option, Some, None, Result, Ok, Err, IsSome, fold, slice_get}
+use Rattle.std.specs.Prelude.{◌≡◌, ◌++◌, ℕ, List, [], ◌∷◌, Option, Some, None, Result, Ok, Err, IsSome, fold}
+use Rattle.std.specs.BTreeMap.{BTreeMap}
 use Rattle.sr_ask.specs.declared.answer.Answer.{Answer}
 use Rattle.sr_ask.specs.declared.ask.Ask.{Ask}
 use Rattle.sr_ask.specs.declared.ask.Asks.{Asks}
@@ -18,7 +19,7 @@ use Rattle.sr_world.specs.Worlds.{started}
 use Rattle.sr_world.specs.declared.acted.Acted.{Acted}
 use Rattle.sr_world.specs.declared.ends.End.{End}
 use Rattle.sr_plain.specs.Carrying.{Names}
-use Rattle.sr_plain.specs.Crew.{IsPlace, Plays, member_of}
+use Rattle.sr_plain.specs.Crew.{Plays, member_of}
 use Rattle.sr_plain.specs.Turns.{IsTurn, last_after}
 use Rattle.sr_plain.specs.declared.member.Member.{Member}
 use Rattle.sr_plain.specs.declared.plain.Plain.{Plain}
@@ -41,7 +42,7 @@ StandsFor after can_feed meant answers (Some member) = Plays after can_feed (λ 
 -- The events lead to the state, and each living process stands for its answers. Nobody has begun under a number that
 -- wasn't given out.
 pub record Stands {A : Type 0} (after : A → List Answer → Asks) (can_feed : A → Type 0) (core : Core) (limit : ℕ) (state : State) (events : List Event)
-    (members : List (Member A)) : Type 0 where
+    (members : BTreeMap ℕ (Member A)) : Type 0 where
   pub leads : led core limit events ≡ Goes state
   pub living : (process : ℕ) (start : Start) → started state.world process ≡ Some start
       → StandsFor after can_feed (ask core start limit) (state.given process) (member_of members process)
@@ -55,13 +56,12 @@ pub record IsEngine {A : Type 0} (after : A → List Answer → Asks) (can_feed 
   pub last : plain.last ≡ last_in events
   pub stands : Stands after can_feed core limit state events plain.crew
 
--- the machine has carried out what a process asks that stands here, and it isn't answered yet
+-- the machine has carried out what a process asks, and it isn't answered yet
 pub record IsCarried {A : Type 0} (after : A → List Answer → Asks) (can_feed : A → Type 0) (core : Core) (limit : ℕ) (state : State) (events : List Event)
-    (start : Start) (at name : ℕ) (acted : Acted) (plain : Plain A) : Type 0 where
+    (start : Start) (name : ℕ) (acted : Acted) (plain : Plain A) : Type 0 where
   pub member : Member A
   pub asks : Ask
-  pub place : IsPlace start.process plain.crew at
-  pub here : slice_get plain.crew at ≡ Some member
+  pub here : member_of plain.crew start.process ≡ Some member
   pub asked : member.asks ≡ Some (Asked asks)
   pub lives : started state.world start.process ≡ Some start
   pub acts : Acts (does core state.world start.process asks name) state.world plain.world (Ok acted)

@@ -8,7 +8,6 @@ use sr_value::NoMemory;
 /// A process that has begun, and what it asks, where that is known.
 #[derive(Drop)]
 pub struct Member<A> {
-    pub(crate) process: u32,
     pub(crate) actor: A,
     pub(crate) asks: Option<Asks>,
 }

@@ -1,4 +1,4 @@
-ghost use Rattle.std.specs.Prelude.{◌≡◌, ◌<◌, ◌-◌, ◌∷◌, ◌++◌, ℕ, [], List, IfOk, None, Ok, OnErr, OnOk, Some, drop, false, find, length, take, true};
+ghost use Rattle.std.specs.Prelude.{◌≡◌, ◌-◌, ◌∷◌, ◌++◌, ℕ, [], List, IfOk, None, Ok, OnErr, OnOk, Some, drop, false, find, take, true};
 ghost use Rattle.sr_ask.specs.declared.start.Start as starts;
 ghost use Rattle.sr_plain.specs.Crew.{IsAsking};
 ghost use Rattle.sr_world.specs.Runs.{State, Event, Closes, Gives, first, no_step, with_input, without_more};
@@ -6,14 +6,15 @@ ghost use Rattle.sr_world.specs.Worlds.{started};
 ghost use Rattle.sr_plain.specs.Turns.{takes_turn, turn};
 
 use crate::carrying::{Carried, carry_out, new_name, written};
-use crate::crew::look;
+use crate::crew::{answer, let_go, look};
 use crate::member::Member;
 use crate::plainly::Plainly;
 use sr_actor::Actor;
 use sr_ask::{Asks, Item};
-use sr_value::{NoMemory, Row, Text};
+use sr_value::{NoMemory, Text};
 use sr_world::{Acted, World};
 use std::alloc::Global;
+use std::collections::BTreeMap;
 
 /// A run as far as it has come.
 #[derive(Drop)]
@@ -22,8 +23,8 @@ pub struct Plain<A> {
     pub(crate) world: World,
     /// How many statements a process may begin between two answers.
     pub(crate) ticks: u32,
-    /// The processes that have begun.
-    pub(crate) crew: Row<Member<A>>,
+    /// The processes that have begun, by number.
+    pub(crate) crew: BTreeMap<u32, Member<A>>,
     /// Who made the last step, or 0.
     pub(crate) last: u32,
 }
@@ -40,7 +41,7 @@ impl<A: Actor> Plain<A> {
             alloc,
             world,
             ticks,
-            crew: Row::new(alloc),
+            crew: BTreeMap::new(alloc),
             last: 0,
         })
     }
@@ -69,6 +70,25 @@ impl<A: Actor> Plain<A> {
 
     /// Makes the next item of the run. After an error, and after the end of the run, no further call is allowed.
     pub fn step(&mut self, program: &A::Program) -> Result<Plainly, NoMemory>
+        ensures { (limit : ℕ) (state : State) (events : List Event) → IsEngine (A.asks_after program.now) A.can_feed (A.core_of program.now) limit state events self.old → Steps (A.asks_after program.now) A.can_feed (A.core_of program.now) limit state events (turn (A.core_of program.now) limit state (last_in events)) result self.new }
+    {
+        self.let_go()?;
+        self.take_turn(program)
+    }
+
+    /// Lets go of the processes that have ended, where more than half of all that have begun must have.
+    fn let_go(&mut self) -> Result<(), NoMemory>
+        ensures engine { (program : A.Program) (limit : ℕ) (state : State) (events : List Event) → IsEngine (A.asks_after program) A.can_feed (A.core_of program) limit state events self.old → IsEngine (A.asks_after program) A.can_feed (A.core_of program) limit state events self.new }
+        ensures world { self.new.world ≡ self.old.world }
+    {
+        if self.crew.len() / 2 <= self.world.len() {
+            return Ok(());
+        }
+        let_go(&mut self.crew, self.alloc, &self.world)
+    }
+
+    /// Asks the processes in turn.
+    fn take_turn(&mut self, program: &A::Program) -> Result<Plainly, NoMemory>
         ensures { (limit : ℕ) (state : State) (events : List Event) → IsEngine (A.asks_after program.now) A.can_feed (A.core_of program.now) limit state events self.old → Steps (A.asks_after program.now) A.can_feed (A.core_of program.now) limit state events (turn (A.core_of program.now) limit state (last_in events)) result self.new }
     {
         let from = self.world.made_after(self.last);
@@ -105,44 +125,45 @@ impl<A: Actor> Plain<A> {
     {
         match self.world.live_at(place) {
             Some(start) => {
-                let at = look(&mut self.crew, program, self.alloc, start, self.ticks)?;
-                self.try_member(program, at)
+                let process = start.process;
+                look(&mut self.crew, program, self.alloc, start, self.ticks)?;
+                self.try_member(program, process)
             }
             None => Ok(None),
         }
     }
 
     /// Has the machine carry out what a process asks that has begun.
-    fn try_member(&mut self, program: &A::Program, at: usize) -> Result<Option<Plainly>, NoMemory>
-        ensures { (limit : ℕ) (state : State) (events : List Event) (start : starts.Start) → IsEngine (A.asks_after program.now) A.can_feed (A.core_of program.now) limit state events self.old → started state.world start.process ≡ Some start → IsAsking start.process self.old.crew at → Tries (A.asks_after program.now) A.can_feed (A.core_of program.now) limit state events (find (takes_turn (A.core_of program.now) limit state) (start ∷ [])) result self.new }
+    fn try_member(
+        &mut self,
+        program: &A::Program,
+        process: u32,
+    ) -> Result<Option<Plainly>, NoMemory>
+        ensures { (limit : ℕ) (state : State) (events : List Event) (start : starts.Start) → IsEngine (A.asks_after program.now) A.can_feed (A.core_of program.now) limit state events self.old → started state.world start.process ≡ Some start → process ≡ start.process → IsAsking process self.old.crew → Tries (A.asks_after program.now) A.can_feed (A.core_of program.now) limit state events (find (takes_turn (A.core_of program.now) limit state) (start ∷ [])) result self.new }
     {
-        match self.crew.get(at) {
-            Some(member) => {
-                let actor = member.process;
-                match &member.asks {
-                    Some(Asks::Asked(ask)) => {
-                        let core = A::core(program);
-                        let carried = carry_out(&mut self.world, core, actor, ask)?;
-                        Ok(self.answered(at, actor, carried))
-                    }
-                    Some(Asks::OverTicks) => Ok(Some(Plainly::Over(actor))),
-                    None => Ok(None),
+        match self.crew.get(&process) {
+            Some(member) => match &member.asks {
+                Some(Asks::Asked(ask)) => {
+                    let core = A::core(program);
+                    let carried = carry_out(&mut self.world, core, process, ask)?;
+                    Ok(self.answered(process, carried))
                 }
-            }
+                Some(Asks::OverTicks) => Ok(Some(Plainly::Over(process))),
+                None => Ok(None),
+            },
             None => Ok(None),
         }
     }
 
     /// Hands the process its answer, if it got one.
-    fn answered(&mut self, at: usize, actor: u32, carried: Carried) -> Option<Plainly>
-        requires { at < length self.old.crew }
-        ensures { (program : A.Program) (limit : ℕ) (state : State) (events : List Event) (start : starts.Start) → actor ≡ start.process → IsCarried (A.asks_after program) A.can_feed (A.core_of program) limit state events start at carried.name carried.acted self.old → Tries (A.asks_after program) A.can_feed (A.core_of program) limit state events (find (takes_turn (A.core_of program) limit state) (start ∷ [])) (Ok result) self.new }
+    fn answered(&mut self, actor: u32, carried: Carried) -> Option<Plainly>
+        ensures { (program : A.Program) (limit : ℕ) (state : State) (events : List Event) (start : starts.Start) → actor ≡ start.process → IsCarried (A.asks_after program) A.can_feed (A.core_of program) limit state events start carried.name carried.acted self.old → Tries (A.asks_after program) A.can_feed (A.core_of program) limit state events (find (takes_turn (A.core_of program) limit state) (start ∷ [])) (Ok result) self.new }
     {
         let Carried { name, acted } = carried;
         let item = Item::Step { actor, name };
         match acted {
-            Acted::Done(answer) => {
-                let asks = self.crew.at_mut(at).answer(answer);
+            Acted::Done(given) => {
+                let asks = answer(&mut self.crew, actor, given);
                 self.last = actor;
                 let output = written(self.alloc, asks);
                 Some(Plainly::Stepped { item, output })

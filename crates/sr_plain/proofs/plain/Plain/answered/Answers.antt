@@ -1,9 +1,10 @@
-use Rattle.std.proofs.Common.{ap, sym, ◌∙◌, refl, subst, Some, ◌∷◌, []}
-use Rattle.std.specs.Prelude.{Ok, find, slice_set}
+use Rattle.std.proofs.Common.{◌≡◌, sym, refl, subst, Some, ◌∷◌, []}
+use Rattle.std.specs.Prelude.{Ok, find}
 use Rattle.sr_ask.specs.declared.item.Item.TheVariants.{Step}
-use Rattle.sr_plain.specs.Carrying.{written_of}
+use Rattle.sr_plain.specs.Crew.{Answers, member_of}
 use Rattle.sr_plain.specs.Engine.{IsCarried, Tries}
 use Rattle.sr_plain.specs.Turns.{takes_turn}
+use Rattle.sr_plain.specs.declared.member.Member.{Member}
 use Rattle.sr_plain.specs.declared.plain.Plain.{Plain}
 use Rattle.sr_plain.specs.declared.plainly.Plainly.TheVariants as plainly
 use Rattle.sr_plain.proofs.AnswerLemmas.{answered_done, answered_ends, answered_not, answered_wants}
@@ -13,30 +14,32 @@ pub returns-in-Done : goal.returns-in-Done
 returns-in-Done g c = λ program limit state events start same carried.
     let after = g.A.Actor.asks_after program in
     let core = g.A.Actor.core_of program in
-    let plain : Plain _ = record c.args.self.now { crew = slice_set c.args.self.now.crew c.args.at c.answer-asks.new.self; last = c.args.actor } in
-    let done = subst (λ a. IsCarried after g.A.Actor.can_feed core limit state events start c.args.at c.args.carried.name a c.args.self.now) c.in-Done.is carried in
+    let plain : Plain _ = record c.args.self.now { crew = c.answer-asks.new.crew; last = c.args.actor } in
+    let done = subst (λ a. IsCarried after g.A.Actor.can_feed core limit state events start c.args.carried.name a c.args.self.now) c.in-Done.is carried in
+    let answers = λ (m : Member _) (here : member_of c.args.self.now.crew start.process ≡ Some m).
+    subst (λ p. Answers after g.A.Actor.can_feed p c.in-Done.given m c.answer-asks.result c.args.self.now.crew c.answer-asks.new.crew) same
+    (c.answer-asks.ensures program m (subst (λ p. member_of c.args.self.now.crew p ≡ Some m) (sym same) here)) in
     subst (λ n. Tries after g.A.Actor.can_feed core limit state events (find (takes_turn core limit state) (start ∷ [])) (Ok (Some (plainly.Stepped (Step n c.args.carried.name) c.written-output.result))) plain) (sym same)
-    (answered_done after g.A.Actor.can_feed core limit state events start c.args.at c.args.carried.name c.args.self.now c.in-Done.answer plain c.at_mut.result.now c.answer-asks.new.self c.written-output.result done c.at_mut.ensures.value (c.answer-asks.ensures.fed program)
-    (c.written-output.ensures ∙ ap written_of c.answer-asks.ensures.asked) refl refl same refl)
+    (answered_done after g.A.Actor.can_feed core limit state events start c.args.carried.name c.args.self.now c.in-Done.given plain c.answer-asks.result c.written-output.result done answers c.written-output.ensures refl refl same)
 
 pub returns-in-Cannot : goal.returns-in-Cannot
 returns-in-Cannot g c = λ program limit state events start same carried.
     let after = g.A.Actor.asks_after program in
     let core = g.A.Actor.core_of program in
-    answered_not after g.A.Actor.can_feed core limit state events start c.args.at c.args.carried.name c.args.self.now
-    (subst (λ a. IsCarried after g.A.Actor.can_feed core limit state events start c.args.at c.args.carried.name a c.args.self.now) c.in-Cannot.is carried)
+    answered_not after g.A.Actor.can_feed core limit state events start c.args.carried.name c.args.self.now
+    (subst (λ a. IsCarried after g.A.Actor.can_feed core limit state events start c.args.carried.name a c.args.self.now) c.in-Cannot.is carried)
 
 pub returns-in-Ends : goal.returns-in-Ends
 returns-in-Ends g c = λ program limit state events start same carried.
     let after = g.A.Actor.asks_after program in
     let core = g.A.Actor.core_of program in
     subst (λ n. Tries after g.A.Actor.can_feed core limit state events (find (takes_turn core limit state) (start ∷ [])) (Ok (Some (plainly.Ended (Step n c.args.carried.name) c.in-Ends.end))) c.args.self.now) (sym same)
-    (answered_ends after g.A.Actor.can_feed core limit state events start c.args.at c.args.carried.name c.args.self.now c.in-Ends.end
-    (subst (λ a. IsCarried after g.A.Actor.can_feed core limit state events start c.args.at c.args.carried.name a c.args.self.now) c.in-Ends.is carried))
+    (answered_ends after g.A.Actor.can_feed core limit state events start c.args.carried.name c.args.self.now c.in-Ends.end
+    (subst (λ a. IsCarried after g.A.Actor.can_feed core limit state events start c.args.carried.name a c.args.self.now) c.in-Ends.is carried))
 
 pub returns-in-Undecided : goal.returns-in-Undecided
 returns-in-Undecided g c = λ program limit state events start same carried.
     let after = g.A.Actor.asks_after program in
     let core = g.A.Actor.core_of program in
-    answered_wants after g.A.Actor.can_feed core limit state events start c.args.at c.args.carried.name c.args.self.now
-    (subst (λ a. IsCarried after g.A.Actor.can_feed core limit state events start c.args.at c.args.carried.name a c.args.self.now) c.in-Undecided.is carried)
+    answered_wants after g.A.Actor.can_feed core limit state events start c.args.carried.name c.args.self.now
+    (subst (λ a. IsCarried after g.A.Actor.can_feed core limit state events start c.args.carried.name a c.args.self.now) c.in-Undecided.is carried)
