@@ -111,7 +111,7 @@ complete call Usage cause = λ named none. named cause.unknown
 -- what there is no program for says why the call ended
 pub stopped : (call : Call) (names : List (List ℕ)) (ending : Ending) → files_in call.words ≡ Some names → RunsNothing call
     → EndsCompiling call.files names call.file_faults call.file_faults_now ending → HasCause call ending
-stopped call names Done named nothing ends = ends
+stopped call names Done named nothing ends = absurd ends
 stopped call names Quiet named nothing ends = absurd ends
 stopped call names (Stopped status) named nothing ends = absurd ends
 stopped call names (Failed fault place) named nothing ends = absurd ends

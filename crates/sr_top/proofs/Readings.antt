@@ -1,8 +1,8 @@
 -- From the reading of files to the program in them.
-use Rattle.std.proofs.Common.{◌≡◌, ℕ, List, [], ◌∷◌, ◌++◌, ap, ◌∙◌}
+use Rattle.std.proofs.Common.{◌≡◌, ℕ, List, [], ◌∷◌, ◌++◌, ap, subst, ◌∙◌}
 use Rattle.std.specs.Prelude.{Option, Result, Ok, Err, IfOk, IfErr}
 use Rattle.sr_core.specs.declared.component.Core.{Core}
-use Rattle.sr_top.specs.Reading.{AreCompiled, AreRead, EndsCompiling, EndsReading, HasCore, StopsCompiling}
+use Rattle.sr_top.specs.Reading.{AreCompiled, AreRead, EndsCompiling, EndsReading, HasCore, IsRead, StopsCompiling}
 use Rattle.sr_top.specs.declared.report.Ending.{Ending}
 use Rattle.sr_top.specs.declared.report.Ending.TheVariants.{Done, Quiet, Stopped, Failed, Limit, Refused, NoFile, ReadFault, WriteFault, NoMemory, Usage}
 
@@ -53,3 +53,7 @@ reading_as told names faults faults_now Usage ends = ends
 pub added_as : (old new : List (List ℕ × List ℕ)) (file text name bytes : List ℕ) → new ≡ old ++ (file, text) ∷ [] → file ≡ name → text ≡ bytes
     → new ≡ old ++ (name, bytes) ∷ []
 added_as old new file text name bytes pushed named is = pushed ∙ ap (λ f. old ++ (f, text) ∷ []) named ∙ ap (λ t. old ++ (name, t) ∷ []) is
+
+-- a file that was read by its path was read by its name
+pub read_as : (told : Option (List (List ℕ × List ℕ))) (path name bytes : List ℕ) → path ≡ name → IsRead told (path, bytes) → IsRead told (name, bytes)
+read_as told path name bytes same read = subst (λ word. IsRead told (word, bytes)) same read

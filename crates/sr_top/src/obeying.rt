@@ -147,7 +147,7 @@ fn check_files<F: Files>(alloc: Global, names: &[Text], files: &mut F) -> Outcom
     ensures files { F.content files.new ≡ F.content files.old }
 {
     match compile_files(alloc, names, files) {
-        Ok(_) => without_items(alloc, Ending::Done),
+        Ok(_program) => without_items(alloc, Ending::Done),
         Err(ending) => without_items(alloc, ending),
     }
 }

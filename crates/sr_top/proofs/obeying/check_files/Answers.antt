@@ -8,14 +8,14 @@ use Rattle.sr_top.proofs.obeying.check_files.Goals as goal
 
 pub returns-in-Ok-clause-cause : goal.returns-in-Ok-clause-cause
 returns-in-Ok-clause-cause g c = λ words devices asked.
-    subst (HasCause _) (sym c.without_items-in-Ok.ensures.ending)
+    subst (HasCause _) (sym c.without_items.ensures.ending)
     (record {
       names = c.args.names.now;
       asked = asked;
       core = _;
       compiled = c.in-Ok.ensures.compiled;
       no_fault = c.in-Ok.ensures.no_fault;
-      nothing = record { no_items = c.without_items-in-Ok.ensures.items; untouched = refl };
+      nothing = record { no_items = c.without_items.ensures.items; untouched = refl };
     })
 
 pub returns-in-Err-clause-cause : goal.returns-in-Err-clause-cause

@@ -16,5 +16,5 @@ returns-in-Ok-clause-cause g c = λ words asked.
 
 pub returns-in-Err-clause-cause : goal.returns-in-Err-clause-cause
 returns-in-Err-clause-cause g c = λ words asked.
-    subst (HasCause _) (sym c.without_items-in-Err.ensures.ending)
-    (stopped _ c.args.names.now _ (ap (option_map files_of) asked) (record { no_items = c.without_items-in-Err.ensures.items; untouched = refl }) c.in-Err.ensures.ends)
+    subst (HasCause _) (sym c.without_items.ensures.ending)
+    (stopped _ c.args.names.now _ (ap (option_map files_of) asked) (record { no_items = c.without_items.ensures.items; untouched = refl }) c.in-Err.ensures.ends)
