@@ -1,50 +1,10 @@
--- How far the reading of some files has come.
-use Rattle.std.proofs.Common.{◌≡◌, ℕ, ◌+◌, ◌<◌, List, [], ◌∷◌, ◌++◌, length, map, take, get_or, refl, ap, sym, ◌∙◌, subst, arith}
+-- From the reading of files to the program in them.
+use Rattle.std.proofs.Common.{◌≡◌, ℕ, List, [], ◌∷◌, ◌++◌, ap, subst, ◌∙◌}
 use Rattle.std.specs.Prelude.{Option, Result, Ok, Err, IfOk, IfErr}
-use Rattle.std.specs.List.{All}
-use Rattle.std.proofs.lemmas.List.{length-map, map-append, take-map, take_all, take_more}
-use Rattle.std.proofs.lemmas.List.Elements.{All-nil, All-push}
 use Rattle.sr_core.specs.declared.component.Core.{Core}
-use Rattle.sr_top.specs.Reading.{AreCompiled, AreRead, EndsCompiling, EndsReading, HasCore, IsRead, IsUnread, ReadsOne, StopsCompiling}
+use Rattle.sr_top.specs.Reading.{AreCompiled, AreRead, EndsCompiling, EndsReading, HasCore, IsRead, StopsCompiling}
 use Rattle.sr_top.specs.declared.report.Ending.{Ending}
 use Rattle.sr_top.specs.declared.report.Ending.TheVariants.{Done, Quiet, Stopped, Failed, Limit, Refused, NoFile, ReadFault, WriteFault, NoMemory, Usage}
-
--- no file was read yet
-pub read_none : {S : Type 0} (told : Option (List (List ℕ × List ℕ))) (text_of : S → List ℕ) (names : List S) → AreRead told (map text_of (take 0 names)) []
-read_none told text_of names = record { named = refl; each = All-nil (IsRead told) }
-
-names_more : {S : Type 0} (text_of : S → List ℕ) (names : List S) (at : ℕ) (name : S) → at < length names → name ≡ get_or names at name
-    → map text_of (take (at + 1) names) ≡ map text_of (take at names) ++ text_of name ∷ []
-names_more text_of names at name less is =
-    ap (map text_of) (take_more names at name less ∙ ap (λ n. take at names ++ n ∷ []) (sym is)) ∙ map-append text_of (take at names) (name ∷ [])
-
--- one file more was read
-pub read_more : {S : Type 0} (told : Option (List (List ℕ × List ℕ))) (text_of : S → List ℕ) (names : List S) (at : ℕ) (name : S)
-    (old new : List (List ℕ × List ℕ)) → at < length names → name ≡ get_or names at name
-    → AreRead told (map text_of (take at names)) old → ReadsOne told (text_of name) old new → AreRead told (map text_of (take (at + 1) names)) new
-read_more told text_of names at name old new less is so_far one =
-    record {
-      named =
-          ap (map (λ file. file.0)) one.added ∙ map-append (λ file. file.0) old ((text_of name, one.bytes) ∷ [])
-          ∙ ap (λ ns. ns ++ text_of name ∷ []) so_far.named ∙ sym (names_more text_of names at name less is);
-      each = subst (All (IsRead told)) (sym one.added) (All-push (IsRead told) old (text_of name, one.bytes) so_far.each one.is);
-    }
-
--- all files were read
-pub read_all : {S : Type 0} (told : Option (List (List ℕ × List ℕ))) (text_of : S → List ℕ) (names : List S) (files : List (List ℕ × List ℕ))
-    → AreRead told (map text_of (take (length names) names)) files → AreRead told (map text_of names) files
-read_all told text_of names files read =
-    subst (λ ns. AreRead told (map text_of ns) files) (take_all (length names) names (omega arith)) read
-
--- the next file can't be read
-pub unread : {S : Type 0} (told : Option (List (List ℕ × List ℕ))) (text_of : S → List ℕ) (names : List S) (at : ℕ) (files : List (List ℕ × List ℕ))
-    → at < length names → AreRead told (map text_of (take at names)) files → IsUnread told (map text_of names) at
-unread told text_of names at files less read =
-    record {
-      within = omega (arith, less, length-map names text_of);
-      before = files;
-      read = subst (λ ns. AreRead told ns files) (sym (take-map text_of at names)) read;
-    }
 
 -- ---- the program in the files
 
@@ -93,3 +53,7 @@ reading_as told names faults faults_now Usage ends = ends
 pub added_as : (old new : List (List ℕ × List ℕ)) (file text name bytes : List ℕ) → new ≡ old ++ (file, text) ∷ [] → file ≡ name → text ≡ bytes
     → new ≡ old ++ (name, bytes) ∷ []
 added_as old new file text name bytes pushed named is = pushed ∙ ap (λ f. old ++ (f, text) ∷ []) named ∙ ap (λ t. old ++ (name, t) ∷ []) is
+
+-- a file that was read by its path was read by its name
+pub read_as : (told : Option (List (List ℕ × List ℕ))) (path name bytes : List ℕ) → path ≡ name → IsRead told (path, bytes) → IsRead told (name, bytes)
+read_as told path name bytes same read = subst (λ word. IsRead told (word, bytes)) same read

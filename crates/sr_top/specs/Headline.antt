@@ -5,8 +5,8 @@ use Rattle.sr_core.specs.declared.component.Core.{Core}
 use Rattle.sr_ports.specs.Faults.{Rose}
 use Rattle.sr_ports.specs.Streams.{PutInPart}
 use Rattle.sr_run.specs.Runs as runs
-use Rattle.sr_top.specs.Causes.{Call, Compiles, EndsRefused, RunsNothing, run_of}
-use Rattle.sr_top.specs.Words.{file_words, most_steps}
+use Rattle.sr_top.specs.Causes.{Call, Compiles, EndsDone, EndsRefused, RunsNothing, run_of}
+use Rattle.sr_top.specs.Tasks.{task}
 use Rattle.sr_top.specs.declared.report.Ending.{Ending}
 use Rattle.sr_top.specs.declared.report.Ending.TheVariants.{Done, Quiet, Stopped, Failed, Limit, Refused, NoFile, ReadFault, WriteFault, NoMemory, Usage}
 use Rattle.sr_world.specs.declared.ends.End.{End}
@@ -17,12 +17,14 @@ use Rattle.sr_world.specs.declared.ends.End.TheVariants as end
 -- The items are a run of the machine on the core of the accepted files, with the whole input, within the limits, in
 -- rotation. It has this ending, where it has one, and this output.
 pub record MakesRun (call : Call) (ending : Option End) (output : List ℕ) : Type 0 where
+  pub steps : ℕ
+  pub ticks : ℕ
   pub core : Core
-  pub compiled : Compiles call core
+  pub compiled : Compiles call steps ticks core
   pub taken : List ℕ
   pub ended : Bool
-  pub runs : runs.Runs (run_of call core) taken ended ending output
-  pub within : length call.items ≤ most_steps
+  pub runs : runs.Runs (run_of call steps ticks core) taken ended ending output
+  pub within : length call.items ≤ steps
 
 -- the bytes put are all of this output
 abbrev pub PutsAll : Call → List ℕ → Type 0
@@ -42,9 +44,9 @@ pub record RunsInPart (call : Call) : Type 0 where
 
 -- The items are a run of the program, the bytes put are its output, and the ending is the run's own, or a limit. Where a
 -- device failed or memory ran out the run hasn't ended. Files are refused as the verdict on them says. Where they are
--- refused or can't be read, or the words are unknown, nothing runs.
+-- refused or can't be read, or the words are unknown or ask for a check, nothing runs.
 abbrev pub Headline : Call → Ending → Type 0
-Headline call Done = ⊥
+Headline call Done = EndsDone call
 Headline call Quiet = RunsWhole call (Some end.Quiet)
 Headline call (Stopped status) = RunsWhole call (Some (end.Stopped status))
 Headline call (Failed fault place) = RunsWhole call (Some (end.Failed fault place))
@@ -66,14 +68,13 @@ pub record NoneRose (call : Call) : Type 0 where
 
 -- what blames neither the words nor a device
 abbrev pub IsOwn : Ending → Type 0
-IsOwn Done = ⊥
 IsOwn (NoFile file) = ⊥
 IsOwn ReadFault = ⊥
 IsOwn WriteFault = ⊥
 IsOwn Usage = ⊥
 IsOwn _ = Unit {0}
 
--- where the words are right and no count rose, the files are refused, or the run ended by itself or at a limit, or memory
--- ran out
+-- where the words are right and no count rose, the files are refused, or the check is done, or the run ended by itself or at
+-- a limit, or memory ran out
 abbrev pub IsComplete : Call → Ending → Type 0
-IsComplete call ending = file_words call.words ≢ None → NoneRose call → IsOwn ending
+IsComplete call ending = task call.words ≢ None → NoneRose call → IsOwn ending

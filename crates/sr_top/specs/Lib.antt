@@ -3,4 +3,4 @@ pub mod Headline
 pub mod Programs
 pub mod Reading
 pub mod Report
-pub mod Words
+pub mod Tasks

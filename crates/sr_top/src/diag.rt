@@ -1,4 +1,4 @@
-ghost use Rattle.std.specs.Prelude.{◌≡◌, [], ◌∷◌, ◌++◌, map, codes, string_bytes, IfOk};
+ghost use Rattle.std.specs.Prelude.{◌≡◌, [], ◌∷◌, ◌++◌, codes, IfOk};
 ghost use Rattle.std.specs.Fmt.{decimal};
 ghost use Rattle.sr_top.specs.Report as report_of;
 ghost use Rattle.sr_top.specs.declared.report.Ending.TheVariants as endings;
@@ -42,22 +42,22 @@ fn limit_label(kind: LimitKind) -> &'static str
     }
 }
 
-fn file_name<'a>(names: &'a [String], file: u32) -> &'a str
-    ensures { result.now ≡ report_of.file_name (map string_bytes names.now) file }
+fn file_name<'a>(names: &'a [Text], file: u32) -> &'a [u8]
+    ensures { result.now ≡ report_of.file_name names.now file }
 {
     match names.get(file as usize) {
-        None => "",
-        Some(name) => name.as_str(),
+        None => b"",
+        Some(name) => name.as_bytes(),
     }
 }
 
 /// A line that names a place and what is the matter there.
-fn placed_line(alloc: Global, names: &[String], place: Place, label: &str) -> Result<Text, NoMemory>
-    ensures { IfOk result (λ text. text ≡ report_of.placed_line (map string_bytes names.now) place label.now) }
+fn placed_line(alloc: Global, names: &[Text], place: Place, label: &str) -> Result<Text, NoMemory>
+    ensures { IfOk result (λ text. text ≡ report_of.placed_line names.now place label.now) }
 {
     let number = decimal_text(alloc, place.line)?;
     let mut text = Text::from_slice(alloc, b"sr: ")?;
-    text.push_all(file_name(names, place.file).as_bytes())?;
+    text.push_all(file_name(names, place.file))?;
     text.push_all(b":")?;
     text.push_all(number.as_bytes())?;
     text.push_all(b": ")?;
@@ -84,8 +84,8 @@ fn line(alloc: Global, words: &str, more: &str) -> Result<Text, NoMemory>
 }
 
 /// The diagnostic text of an ending, for files of these names.
-pub fn diag_text(alloc: Global, names: &[String], ending: Ending) -> Result<Text, NoMemory>
-    ensures { IfOk result (λ text. text ≡ report_of.diag_text (map string_bytes names.now) ending) }
+pub fn diag_text(alloc: Global, names: &[Text], ending: Ending) -> Result<Text, NoMemory>
+    ensures { IfOk result (λ text. text ≡ report_of.diag_text names.now ending) }
 {
     match ending {
         Ending::Done => Ok(Text::new(alloc)),
@@ -110,11 +110,13 @@ fn limit_line(alloc: Global, kind: LimitKind) -> Result<Text, NoMemory>
     Text::from_slice(alloc, text.as_bytes())
 }
 
-fn no_file_line(alloc: Global, name: &str) -> Result<Text, NoMemory>
+fn no_file_line(alloc: Global, name: &[u8]) -> Result<Text, NoMemory>
     ensures { IfOk result (λ text. text ≡ codes "sr: cannot read " ++ name.now ++ 10 ∷ []) }
 {
-    let text = format!(in alloc; "sr: cannot read {name}\n")?;
-    Text::from_slice(alloc, text.as_bytes())
+    let mut text = Text::from_slice(alloc, b"sr: cannot read ")?;
+    text.push_all(name)?;
+    text.push(b'\n')?;
+    Ok(text)
 }
 
 /// The exit status of an ending.
@@ -148,8 +150,8 @@ pub fn status_of(ending: Ending, journal: Side) -> u8
 }
 
 /// Puts the diagnostic text of an ending.
-pub fn put_diag<D: Sink>(alloc: Global, names: &[String], ending: Ending, diag: &mut D) -> Side
-    ensures { report_of.GotAsFar result (report_of.diag_text (map string_bytes names.now) ending) (D.held diag.old) (D.held diag.new) (D.faults diag.old) (D.faults diag.new) }
+pub fn put_diag<D: Sink>(alloc: Global, names: &[Text], ending: Ending, diag: &mut D) -> Side
+    ensures { report_of.GotAsFar result (report_of.diag_text names.now ending) (D.held diag.old) (D.held diag.new) (D.faults diag.old) (D.faults diag.new) }
 {
     let Ok(text) = diag_text(alloc, names, ending) else {
         return Side::NoMemory;

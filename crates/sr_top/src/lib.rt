@@ -3,12 +3,12 @@
 
 mod compiling;
 mod diag;
+mod obeying;
 mod outcome;
 mod program;
 mod reading;
 mod report;
 mod top;
-mod words;
 
 pub use report::{Ending, Report, Side, Stretch};
 pub use sr_run::LimitKind;

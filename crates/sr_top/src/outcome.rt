@@ -1,7 +1,6 @@
-ghost use Rattle.std.specs.Prelude.{◌≡◌, [], ◌≤◌, length};
+ghost use Rattle.std.specs.Prelude.{◌≡◌, []};
 ghost use Rattle.sr_top.specs.Causes.{EndsAs};
 ghost use Rattle.sr_top.specs.Causes as causes;
-ghost use Rattle.sr_top.specs.Words.{most_steps, most_ticks};
 
 use crate::report::Ending;
 use sr_actor::Actor;
@@ -11,12 +10,6 @@ use sr_run::{Run, RunEnd, run};
 use sr_value::Row;
 use sr_world::End;
 use std::alloc::Global;
-
-/// The most items of a run.
-const STEPS: u32 = 1_000_000;
-
-/// The most statements that a process may begin between two answers.
-const TICKS: u32 = 10_000_000;
 
 /// How a command ended, and the items that it made.
 #[derive(Debug, Drop)]
@@ -36,26 +29,27 @@ pub fn without_items(alloc: Global, ending: Ending) -> Outcome
     }
 }
 
-/// Runs a program, each process of it as an `A`.
+/// Runs a program, each process of it as an `A`, with these limits.
 pub fn run_program<A: Actor, I: Source, O: Sink>(
     alloc: Global,
     program: &A::Program,
+    steps: u32,
+    ticks: u32,
     input: &mut I,
     output: &mut O,
 ) -> Outcome
-    ensures within { length result.items ≤ most_steps }
-    ensures ends { EndsAs
+    ensures { EndsAs
         (record {
           core = A.core_of program.now;
-          steps = most_steps;
-          ticks = most_ticks;
+          steps = steps;
+          ticks = ticks;
           before = record { left = I.left input.old; read_faults = I.faults input.old; held = O.held output.old; write_faults = O.faults output.old };
           now = record { left = I.left input.new; read_faults = I.faults input.new; held = O.held output.new; write_faults = O.faults output.new };
           items = result.items;
         })
         result.ending }
 {
-    let Run { items, end } = run::<A, I, O>(alloc, program, STEPS, TICKS, input, output);
+    let Run { items, end } = run::<A, I, O>(alloc, program, steps, ticks, input, output);
     let ending = ending_of(end);
     Outcome { ending, items }
 }

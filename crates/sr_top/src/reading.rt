@@ -1,4 +1,4 @@
-ghost use Rattle.std.specs.Prelude.{◌≡◌, [], ◌≤◌, length, map, string_bytes, IfErr, OnErr, OnOk};
+ghost use Rattle.std.specs.Prelude.{◌≡◌, [], ◌≤◌, length, IfErr, OnErr, OnOk};
 ghost use Rattle.sr_ports.specs.Faults.{Counts};
 ghost use Rattle.sr_top.specs.Reading.{AreRead, EndsReading, ReadsOne};
 
@@ -13,20 +13,20 @@ const READ_MOST: usize = 1_048_577;
 /// Reads the files of these names in order, each with its name.
 pub fn read_files<F: Files>(
     alloc: Global,
-    names: &[String],
+    names: &[Text],
     files: &mut F,
     texts: &mut Row<(Text, Text)>,
 ) -> Result<(), Ending>
     requires few { length names.now ≤ 64 }
     requires none { texts.old ≡ [] }
-    ensures read { OnOk result (AreRead (F.content files.old) (map string_bytes names.now) texts.new) }
+    ensures read { OnOk result (AreRead (F.content files.old) names.now texts.new) }
     ensures no_fault { OnOk result (F.faults files.new ≡ F.faults files.old) }
-    ensures ends { IfErr result (EndsReading (F.content files.old) (map string_bytes names.now) (F.faults files.old) (F.faults files.new)) }
+    ensures ends { IfErr result (EndsReading (F.content files.old) names.now (F.faults files.old) (F.faults files.new)) }
     ensures kept { F.content files.new ≡ F.content files.old }
 {
     let mut number = 0u32;
     for name in names {
-        match read_file(alloc, name.as_str(), files, texts) {
+        match read_file(alloc, name, files, texts) {
             Ok(()) => {}
             Err(PortFail::Failed) => return Err(Ending::NoFile(number)),
             Err(PortFail::NoMemory) => return Err(Ending::NoMemory),
@@ -36,10 +36,10 @@ pub fn read_files<F: Files>(
     Ok(())
 }
 
-/// Reads one file.
+/// Reads one file. A name is a text, as the words are; for other bytes there is no memory.
 fn read_file<F: Files>(
     alloc: Global,
-    name: &str,
+    name: &Text,
     files: &mut F,
     texts: &mut Row<(Text, Text)>,
 ) -> Result<(), PortFail>
@@ -48,8 +48,11 @@ fn read_file<F: Files>(
     ensures err { OnErr result (texts.new ≡ texts.old) }
     ensures kept { F.content files.new ≡ F.content files.old }
 {
+    let Ok(path) = str::from_utf8(name.as_bytes()) else {
+        return Err(PortFail::NoMemory);
+    };
     let file = Text::from_slice(alloc, name.as_bytes())?;
-    let bytes = files.read(alloc, name, READ_MOST)?;
+    let bytes = files.read(alloc, path, READ_MOST)?;
     texts.push((file, Text::from_vec(bytes)))?;
     Ok(())
 }

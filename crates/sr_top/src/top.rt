@@ -1,18 +1,16 @@
-ghost use Rattle.std.specs.Prelude.{◌≡◌, ◌≤◌, [], length, map, string_bytes};
-ghost use Rattle.sr_top.specs.Causes.{Call, HasCause};
+ghost use Rattle.std.specs.Prelude.{◌≡◌, [], map, string_bytes};
+ghost use Rattle.sr_top.specs.Causes.{HasCause};
 ghost use Rattle.sr_top.specs.Headline.{Headline, IsComplete};
 ghost use Rattle.sr_top.specs.Report as report_of;
-ghost use Rattle.sr_top.specs.Words as words_of;
+ghost use Rattle.sr_top.specs.Tasks.{file_names};
 ghost use Rattle.sr_top.specs.declared.report.Side.TheVariants as sides;
 
-use crate::compiling::compile_files;
 use crate::diag::{put_diag, status_of};
-use crate::outcome::{Outcome, run_program, without_items};
-use crate::program::Process;
+use crate::obeying::{Obeyed, obey};
 use crate::report::{Ending, Report, Side};
-use crate::words::file_words;
 use sr_ports::{Files, Gate, Sink, Source};
 use sr_value::Row;
+use sr_words::{WordsFail, read_words};
 use std::alloc::Global;
 
 /// What the program does: reads its words, reads and compiles the files that they name, runs their program, and says how
@@ -63,16 +61,20 @@ pub fn sr_top<F: Files, I: Source, O: Sink, D: Sink, J: Sink, G: Gate + Sync>(
         })
         result.ending }
     ensures files { F.content files.new ≡ F.content files.old }
-    ensures diag { report_of.GotAsFar result.diag (report_of.diag_text (words_of.file_names (map string_bytes words.now)) result.ending)
+    ensures diag { report_of.GotAsFar result.diag (report_of.diag_text (file_names (map string_bytes words.now)) result.ending)
         (D.held diag.old) (D.held diag.new) (D.faults diag.old) (D.faults diag.new) }
     ensures status { result.status ≡ report_of.status_of result.ending result.journal }
     ensures journal { result.journal ≡ sides.Whole }
     ensures journal_untouched { journal.new ≡ journal.old }
     ensures no_rounds { result.rounds ≡ [] }
 {
-    let outcome = run_words(alloc, words, files, input, output);
-    let Outcome { ending, items } = outcome;
-    let diag = put_ending(alloc, words, ending, diag);
+    let obeyed = obey_words(alloc, words, files, input, output);
+    let Obeyed {
+        names,
+        ending,
+        items,
+    } = obeyed;
+    let diag = put_diag(alloc, names.as_slice(), ending, diag);
     Report {
         ending,
         diag,
@@ -83,25 +85,14 @@ pub fn sr_top<F: Files, I: Source, O: Sink, D: Sink, J: Sink, G: Gate + Sync>(
     }
 }
 
-/// Puts the diagnostic text of an ending, for the files that the words name.
-fn put_ending<D: Sink>(alloc: Global, words: &[String], ending: Ending, diag: &mut D) -> Side
-    ensures { report_of.GotAsFar result (report_of.diag_text (words_of.file_names (map string_bytes words.now)) ending)
-        (D.held diag.old) (D.held diag.new) (D.faults diag.old) (D.faults diag.new) }
-{
-    match file_words(words) {
-        None => put_diag(alloc, &[], ending, diag),
-        Some(names) => put_diag(alloc, names, ending, diag),
-    }
-}
-
 /// Does what the words say.
-fn run_words<F: Files, I: Source, O: Sink>(
+fn obey_words<F: Files, I: Source, O: Sink>(
     alloc: Global,
     words: &[String],
     files: &mut F,
     input: &mut I,
     output: &mut O,
-) -> Outcome
+) -> Obeyed
     ensures cause { HasCause
         (record {
           words = map string_bytes words.now;
@@ -113,14 +104,12 @@ fn run_words<F: Files, I: Source, O: Sink>(
           items = result.items;
         })
         result.ending }
-    ensures within { length result.items ≤ words_of.most_steps }
+    ensures names { report_of.diag_text result.names result.ending ≡ report_of.diag_text (file_names (map string_bytes words.now)) result.ending }
     ensures files { F.content files.new ≡ F.content files.old }
 {
-    let Some(names) = file_words(words) else {
-        return without_items(alloc, Ending::Usage);
-    };
-    match compile_files(alloc, names, files) {
-        Ok(program) => run_program::<Process, I, O>(alloc, &program, input, output),
-        Err(ending) => without_items(alloc, ending),
+    match read_words(alloc, words) {
+        Ok(command) => obey(alloc, command, files, input, output),
+        Err(WordsFail::Usage) => Obeyed::early(alloc, Ending::Usage),
+        Err(WordsFail::NoMemory) => Obeyed::early(alloc, Ending::NoMemory),
     }
 }

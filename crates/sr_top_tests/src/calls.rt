@@ -1,7 +1,7 @@
 use sr_ask::Item;
 use sr_ports::{FreeGate, MemFiles, MemSink, MemSource};
 use sr_text::{Kind, Refusal};
-use sr_top::{Ending, Report, Side, sr_top};
+use sr_top::{Ending, LimitKind, Report, Side, sr_top};
 use sr_value::{NoMemory, Place, Row, Text};
 use std::alloc::Global;
 use std::test::Fail;
@@ -259,6 +259,31 @@ fn calls_with_ports_in_memory(rt: HostRuntime) -> Result<(), Fail> {
         early(&["run", "-x"], Ending::Usage, 108, USAGE),
         early(&["walk", "a.sr"], Ending::Usage, 108, USAGE),
         early(&["run", "a.sr", "--x"], Ending::Usage, 108, USAGE),
+        early(
+            &["run", "a.sr", "--workers", "17"],
+            Ending::Usage,
+            108,
+            USAGE,
+        ),
+        Case {
+            words: &["run", "a.sr", "--steps", "5"],
+            ending: Ending::Limit(LimitKind::Steps),
+            status: 102,
+            diag: b"sr: limit: steps\n",
+            ..run_case(hello, b"hello 3\n", 5)
+        },
+        Case {
+            words: &["run", "a.sr", "--ticks", "1000"],
+            ending: Ending::Limit(LimitKind::Ticks(2)),
+            status: 102,
+            diag: b"sr: limit: ticks\n",
+            ..run_case(b"resource main()\ndo true -> skip od\nend\n", b"", 2)
+        },
+        Case {
+            words: &["check", "a.sr"],
+            ending: Ending::Done,
+            ..run_case(hello, b"", 0)
+        },
     ];
     for (index, case) in cases.iter().enumerate() {
         assert!(rt; goes_so(rt.alloc(), case)?, "case {index}");

@@ -1,9 +1,18 @@
 -- What the call did follows from why it ended.
+use Rattle.std.proofs.Common.{◌∙◌, ap, subst}
 use Rattle.sr_top.proofs.Endings.{complete, headline}
+use Rattle.sr_top.specs.Report.{GotAsFar, diag_text}
 use Rattle.sr_top.proofs.top.sr_top.Goals as goal
 
 pub returns-clause-headline : goal.returns-clause-headline
-returns-clause-headline g c = headline _ _ c.run_words-outcome.ensures.within c.run_words-outcome.ensures.cause
+returns-clause-headline g c = headline _ _ c.obey_words-obeyed.ensures.cause
 
 pub returns-clause-complete : goal.returns-clause-complete
-returns-clause-complete g c = complete _ _ c.run_words-outcome.ensures.cause
+returns-clause-complete g c = complete _ _ c.obey_words-obeyed.ensures.cause
+
+pub returns-clause-diag : goal.returns-clause-diag
+returns-clause-diag g c =
+    let before = c.args.diag.now in
+    let after = c.put_diag-diag.new.diag in
+    subst (λ text. GotAsFar c.put_diag-diag.result text (g.D.Sink.held before) (g.D.Sink.held after) (g.D.Sink.faults before) (g.D.Sink.faults after))
+    (ap (λ names. diag_text names c.obey_words-obeyed.result.ending) c.as_slice.ensures ∙ c.obey_words-obeyed.ensures.names) c.put_diag-diag.ensures
