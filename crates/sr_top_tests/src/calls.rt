@@ -277,7 +277,7 @@ fn calls_with_ports_in_memory(rt: HostRuntime) -> Result<(), Fail> {
             ending: Ending::Limit(LimitKind::Ticks(2)),
             status: 102,
             diag: b"sr: limit: ticks\n",
-            ..run_case(b"resource main()\ndo true -> skip od\nend\n", b"", 2)
+            ..run_case(b"resource main()\ndo true -> skip od\nend\n", b"", 1)
         },
         Case {
             words: &["check", "a.sr"],
