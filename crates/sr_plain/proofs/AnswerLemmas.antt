@@ -23,13 +23,15 @@ use Rattle.sr_plain.specs.Carrying.{Names, written_of}
 use Rattle.sr_plain.specs.Crew.{Answers, member_of}
 use Rattle.sr_plain.specs.Engine.{Comes, IsCarried, IsEngine, Tries, WaitsForInput}
 use Rattle.sr_plain.specs.Leaving.{Leaves, LeavesIf, written_by}
+use Rattle.sr_plain.specs.Order.{IsOrdered}
 use Rattle.sr_plain.specs.Turns.{IsName, takes_turn}
 use Rattle.sr_plain.specs.declared.member.Member.{Member}
 use Rattle.sr_plain.specs.declared.plain.Plain.{Plain}
 use Rattle.sr_plain.specs.declared.plainly.Plainly.{Plainly}
 use Rattle.sr_plain.specs.declared.plainly.Plainly.TheVariants as plainly
 use Rattle.sr_plain.proofs.LeaveLemmas.{leaves}
-use Rattle.sr_plain.proofs.LedLemmas.{last-more, least-new, least-unused, sound}
+use Rattle.sr_plain.proofs.LedLemmas.{last-more, least-new, least-unused, led-more, sound}
+use Rattle.sr_plain.proofs.OrderLemmas.{ordered-after}
 use Rattle.sr_plain.proofs.TurnLemmas.{answered-stands, kept-is}
 
 pub least-name : (w : World) (name : ℕ) → IsLeastUnused w.used name → IsName w name
@@ -184,7 +186,7 @@ module _ {A : Type 0} (after : A → List Answer → Asks) (can_feed : A → Typ
             world = world;
             ticks = ticks ∙ c.ticks;
             last = last ∙ sym (last-more events (Makes_item (Step start.process name)));
-            stands = answered-stands after can_feed core limit state events start plain.crew c.member c.stands c.lives c.here (Asked c.asks) c.asked a plain'.crew asked (answers c.member c.here) later name (written_by c.asks.request) (Step start.process name) refl f.left f.new f.goes;
+            stands = answered-stands after can_feed core limit state events start plain.crew c.member c.stands c.lives c.here (Asked c.asks) c.asked a plain'.crew asked (answers c.member c.here) later name (written_by c.asks.request) (Step start.process name) refl f.left f.new f.goes order.0 order.1;
           };
         })
       where
@@ -196,6 +198,11 @@ module _ {A : Type 0} (after : A → List Answer → Asks) (can_feed : A → Typ
 
         f : Finished c.asks name (asked-is (acted.Done a) c) c.lives plain.world a
         f = finished c.asks name (asked-is (acted.Done a) c) c.lives (sound core limit events state c.stands.leads).numbers.zero_never plain.world a (does core state.world start.process c.asks name) refl c.acts c.names
+
+        order : (n : ℕ) × IsOrdered later.world n
+        order =
+            ordered-after core limit events state later (Step start.process name) c.stands.leads (led-more core limit events state later (Makes_item (Step start.process name)) c.stands.leads f.goes) c.stands.next c.stands.order name
+            (written_by c.asks.request) refl f.named f.left
 
   -- one that is over its ticks
   pub is_over : (plain : Plain A) (m : Member A) → IsEngine after can_feed core limit state events plain → started state.world start.process ≡ Some start

@@ -1,5 +1,5 @@
 -- What leaves an engine standing for its state, and input.
-use Rattle.std.proofs.Common.{◌≡◌, ℕ, false, not, List, [], ◌∷◌, ◌++◌, None, Some, refl, ap, sym, ◌∙◌, subst}
+use Rattle.std.proofs.Common.{◌≡◌, ℕ, false, not, List, [], ◌∷◌, ◌++◌, None, Some, refl, ap, sym, ◌∙◌, subst, arith}
 use Rattle.std.specs.BTreeMap.{BTreeMap, is_at}
 use Rattle.std.specs.Map.{lookup}
 use Rattle.std.specs.Ordering.{nat_cmp}
@@ -12,6 +12,7 @@ use Rattle.sr_world.specs.Runs.{Event, Gives, Closes, Goes, State, first, where_
 use Rattle.sr_world.specs.Worlds.{World, beginning, started}
 use Rattle.sr_plain.specs.Crew.{KeepsLiving, Looks, member_of}
 use Rattle.sr_plain.specs.Engine.{IsEngine, StandsFor}
+use Rattle.sr_plain.specs.Order.{IsOrdered}
 use Rattle.sr_plain.specs.declared.member.Member.{Member}
 use Rattle.sr_plain.specs.declared.plain.Plain.{Plain}
 use Rattle.sr_plain.proofs.LedLemmas.{last-more, led-more}
@@ -38,6 +39,9 @@ module _ {A : Type 0} (after : A → List Answer → Asks) (can_feed : A → Typ
     stands = kept-stands after can_feed core limit state events plain.crew crew engine.stands (subst (λ w. KeepsLiving w plain.crew crew) engine.world keeps);
   }
 
+  pub engine_order : (state : State) (events : List Event) (plain : Plain A) (engine : IsEngine after can_feed core limit state events plain) → IsOrdered plain.world engine.stands.next
+  engine_order state events plain engine = subst (λ w. IsOrdered w engine.stands.next) (sym engine.world) engine.stands.order
+
   nobody : (crew : BTreeMap ℕ (Member A)) → crew.entries ≡ [] → (q : ℕ) → member_of crew q ≡ None
   nobody crew empty q = ap (lookup (is_at (nat_cmp q))) empty
 
@@ -51,6 +55,8 @@ module _ {A : Type 0} (after : A → List Answer → Asks) (can_feed : A → Typ
       leads = refl;
       living = λ q s is. subst (λ o. StandsFor after can_feed (ask core s limit) [] o) (sym (nobody plain.crew empty q)) refl;
       unborn = λ q none. nobody plain.crew empty q;
+      next = 2;
+      order = record { counted = (refl, refl); ascend = (omega arith, omega arith) };
     };
   }
 
@@ -66,6 +72,8 @@ module _ {A : Type 0} (after : A → List Answer → Asks) (can_feed : A → Typ
             (ap (λ b. where_true (not b) (Goes (record state { world = with_input bytes state.world }))) open_input);
         living = engine.stands.living;
         unborn = engine.stands.unborn;
+        next = engine.stands.next;
+        order = record { counted = engine.stands.order.counted; ascend = engine.stands.order.ascend };
       };
     }
 
@@ -80,5 +88,7 @@ module _ {A : Type 0} (after : A → List Answer → Asks) (can_feed : A → Typ
             (ap (λ b. where_true (not b) (Goes (record state { world = without_more state.world }))) open_input);
         living = engine.stands.living;
         unborn = engine.stands.unborn;
+        next = engine.stands.next;
+        order = record { counted = engine.stands.order.counted; ascend = engine.stands.order.ascend };
       };
     }

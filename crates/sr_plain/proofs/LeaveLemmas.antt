@@ -1,5 +1,5 @@
 -- What each request leaves of who lives and of what was written.
-use Rattle.std.proofs.Common.{◌≡◌, ◌⊎◌, inl, inr, ℕ, zero, suc, ◌==◌, not, Bool, true, false, cond, List, [], ◌∷◌, ◌++◌, Option, None, Some, refl, ap, sym, ◌∙◌, subst, eqb-true, append-nil}
+use Rattle.std.proofs.Common.{◌≡◌, ◌<◌, ◌≤◌, ◌⊎◌, inl, inr, ℕ, zero, suc, ◌==◌, not, Bool, true, false, cond, List, [], ◌∷◌, ◌++◌, Option, None, Some, refl, ap, sym, ◌∙◌, subst, eqb-true, append-nil, arith}
 use Rattle.std.specs.Prelude.{Result, Ok, Err, find, nat_lt, slice_get}
 use Rattle.sr_ask.specs.declared.answer.Answer.TheVariants as answer
 use Rattle.sr_ask.specs.declared.ask.Role.{Role}
@@ -37,6 +37,7 @@ use Rattle.sr_world.specs.declared.duty.Duty.{Duty}
 use Rattle.sr_world.specs.declared.ends.End.{End}
 use Rattle.sr_world.specs.declared.ends.End.TheVariants as end
 use Rattle.sr_plain.specs.Leaving.{Leaves, LeavesIf, written_by}
+use Rattle.sr_plain.specs.Order.{Ascend}
 
 -- ---- who is found
 
@@ -77,17 +78,36 @@ found-added (y ∷ ys) x q s is = by (q == y.process) is (found-added ys x q s)
     by true h more = inl h
     by false h more = more h
 
+-- ---- who stands in order
+
+pub within-ascend : (low : ℕ) (live : List Start) (high : ℕ) → Ascend low live high → low < high
+within-ascend low [] high is = is
+within-ascend low (x ∷ xs) high is = let more = within-ascend x.process xs high is.1 in let first = is.0 in omega arith
+
+pub lower-ascend : (low under : ℕ) (live : List Start) (high : ℕ) → under ≤ low → Ascend low live high → Ascend under live high
+lower-ascend low under [] high less is = omega arith
+lower-ascend low under (x ∷ xs) high less is = let first = is.0 in (omega arith, is.1)
+
+ascend-without : (live : List Start) (p low high : ℕ) → Ascend low live high → Ascend low (without_process live p) high
+ascend-without [] p low high is = is
+ascend-without (x ∷ xs) p low high is = by (p == x.process) (ascend-without xs p x.process high is.1)
+  where
+    by : (b : Bool) → Ascend x.process (without_process xs p) high → Ascend low (cond (not b) (x ∷ without_process xs p) (without_process xs p)) high
+    by true more = let first = is.0 in lower-ascend x.process low (without_process xs p) high (omega arith) more
+    by false more = (is.0, more)
+
 -- ---- what makes no process
 
 record Loses (w w' : World) : Type 0 where
   lives : (q : ℕ) (s : Start) → started w' q ≡ Some s → started w q ≡ Some s
   output : w'.output ≡ w.output
+  ascend : (low high : ℕ) → Ascend low w.live high → Ascend low w'.live high
 
 loses-same : (w w' : World) → w'.live ≡ w.live → w'.output ≡ w.output → Loses w w'
-loses-same w w' live output = record { lives = λ q s is. sym (ap (find (is_process q)) live) ∙ is; output = output }
+loses-same w w' live output = record { lives = λ q s is. sym (ap (find (is_process q)) live) ∙ is; output = output; ascend = λ low high is. subst (λ xs. Ascend low xs high) (sym live) is }
 
 loses-then : (w w1 w2 : World) → Loses w w1 → Loses w1 w2 → Loses w w2
-loses-then w w1 w2 first second = record { lives = λ q s is. first.lives q s (second.lives q s is); output = second.output ∙ first.output }
+loses-then w w1 w2 first second = record { lives = λ q s is. first.lives q s (second.lives q s is); output = second.output ∙ first.output; ascend = λ low high is. second.ascend low high (first.ascend low high is) }
 
 answered-loses : (duty : Duty) (results : Option (List Value)) (w : World) → Loses w (answered duty results w)
 answered-loses duty results w = by (is_live w duty.back)
@@ -107,7 +127,7 @@ make_ready-loses instance w = by (state_of w.places instance)
     by None = loses-same w w refl refl
 
 end_process-loses : (p : ℕ) (w : World) → Loses w (end_process p w)
-end_process-loses p w = record { lives = found-without w.live p; output = refl }
+end_process-loses p w = record { lives = found-without w.live p; output = refl; ascend = λ low high is. ascend-without w.live p low high is }
 
 end_processes-loses : (ps : List ℕ) (w : World) → Loses w (end_processes ps w)
 end_processes-loses [] w = loses-same w w refl refl
@@ -119,7 +139,7 @@ end_instance-loses instance w =
     loses-then w gone (end_instance instance w) (loses-same w gone refl refl) (end_processes-loses (processes_of instance w) gone)
 
 end_all-loses : (w : World) → Loses w (end_all w)
-end_all-loses w = record { lives = λ q s is. absurd (cc); output = refl }
+end_all-loses w = record { lives = λ q s is. absurd (cc); output = refl; ascend = λ low high is. within-ascend low w.live high is }
 
 end_after-loses : (role : Role) (back p : ℕ) (w : World) → Loses w (end_after role back p w)
 end_after-loses Boot back p w = end_process-loses p w
@@ -138,11 +158,11 @@ fix-loses (Some n) w = loses-same w (fix (Some n) w) refl refl
 
 module _ (name : ℕ) where
   took-away : (w w' : World) → Loses w w' → Leaves name [] w w'
-  took-away w w' loses = record { lives = λ q s is. inl (loses.lives q s is); output = loses.output ∙ sym (append-nil w.output) }
+  took-away w w' loses = record { lives = λ q s is. inl (loses.lives q s is); output = loses.output ∙ sym (append-nil w.output); stay = w'.live; ascend = loses.ascend; live = inl refl }
 
   -- a process of the step's number was added
   made-one : (w from w' : World) (start : Start) → Loses w from → start.process ≡ name → w'.live ≡ from.live ++ start ∷ [] → w'.output ≡ from.output → Leaves name [] w w'
-  made-one w from w' start loses named live output = record { lives = lives; output = output ∙ loses.output ∙ sym (append-nil w.output) }
+  made-one w from w' start loses named live output = record { lives = lives; output = output ∙ loses.output ∙ sym (append-nil w.output); stay = from.live; ascend = loses.ascend; live = inr (record { start = start; named = named; added = live }) }
     where
       by : (q : ℕ) (s : Start) → (find (is_process q) from.live ≡ Some s) ⊎ (q ≡ start.process) → (started w q ≡ Some s) ⊎ (q ≡ name)
       by q s (inl is) = inl (loses.lives q s is)
@@ -303,7 +323,7 @@ module _ (name : ℕ) where
     leaves core actor place role (request.Forward held back target args) =
         let released : World = release actor held w in if-invoked released (loses-same w released refl refl) core place target args (duty_held w actor held)
     leaves core actor place role (request.Count op) = if-some [] (slice_get core.operations op) _ (λ operation. nothing)
-    leaves core actor place role (request.Write bytes) = record { lives = λ q s is. inl is; output = refl }
+    leaves core actor place role (request.Write bytes) = record { lives = λ q s is. inl is; output = refl; stay = w.live; ascend = λ low high is. is; live = inl refl }
     leaves core actor place role (request.Read kind) = either [] (is_decided kind w.rest w.ended) _ _ (same _ refl refl) tt
     leaves core actor place role (request.EnsureGlobal global vm) =
         if-some [] (slice_get core.components global) _ (λ component. on-machine place vm _ (λ machine. if-found core global machine (global_in w.places global machine)))

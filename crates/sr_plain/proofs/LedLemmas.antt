@@ -46,14 +46,17 @@ module _ (core : Core) (limit : ℕ) (events : List Event) (state : State) (lead
   pub sound : IsSound (items_in events) state
   sound = sound-led core limit events state leads
 
+  -- what an event gave out comes after all that was given out before
+  pub used-grown : (event : Event) (later : State) → led core limit (events ++ event ∷ []) ≡ Goes later → later.world.used ≡ state.world.used ++ names_in (items_in (event ∷ []))
+  used-grown event later goes =
+      let s = sound-led core limit (events ++ event ∷ []) later goes in
+      s.used ∙ ap (λ items. 1 ∷ names_in items) (items-append events (event ∷ [])) ∙ ap (λ names. 1 ∷ names) (flat_map-append name_in (items_in events) (items_in (event ∷ [])))
+      ∙ sym (ap (λ used. used ++ names_in (items_in (event ∷ []))) sound.used)
+
   -- what was given out stays so
   pub used-more : (event : Event) (later : State) → led core limit (events ++ event ∷ []) ≡ Goes later → (q : ℕ) → times_used state.world q ≤ times_used later.world q
   used-more event later goes q =
-      let s = sound-led core limit (events ++ event ∷ []) later goes in
-      let grown : later.world.used ≡ state.world.used ++ names_in (items_in (event ∷ [])) =
-      s.used ∙ ap (λ items. 1 ∷ names_in items) (items-append events (event ∷ [])) ∙ ap (λ names. 1 ∷ names) (flat_map-append name_in (items_in events) (items_in (event ∷ [])))
-      ∙ sym (ap (λ used. used ++ names_in (items_in (event ∷ []))) sound.used) in
-      omega (arith, count-grows (λ u. u == q) state.world.used (names_in (items_in (event ∷ []))), ap (count_by (λ u. u == q)) grown)
+      omega (arith, count-grows (λ u. u == q) state.world.used (names_in (items_in (event ∷ []))), ap (count_by (λ u. u == q)) (used-grown event later goes))
 
   -- who lives has a number that was given out
   pub lives-used : (q : ℕ) (s : Start) → started state.world q ≡ Some s → 1 ≤ times_used state.world q
@@ -90,7 +93,7 @@ module _ (core : Core) (limit : ℕ) (events : List Event) (state : State) (lead
 
 -- ---- new numbers
 
-any-contains : (xs : List ℕ) (n : ℕ) → list_any (λ used. used == n) xs ≡ true → Contains xs n
+pub any-contains : (xs : List ℕ) (n : ℕ) → list_any (λ used. used == n) xs ≡ true → Contains xs n
 any-contains [] n is = absurd (true≢false (sym is))
 any-contains (x ∷ xs) n is = by (x == n) refl is (any-contains xs n)
   where

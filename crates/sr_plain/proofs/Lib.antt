@@ -5,6 +5,7 @@ pub mod EngineLemmas
 pub mod LeaveLemmas
 pub mod LedLemmas
 pub mod MemberLemmas
+pub mod OrderLemmas
 pub mod RestLemmas
 pub mod RotationLemmas
 pub mod TurnLemmas

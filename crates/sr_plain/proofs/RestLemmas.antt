@@ -21,7 +21,8 @@ use Rattle.sr_plain.specs.declared.plain.Plain.{Plain}
 use Rattle.sr_plain.specs.declared.plainly.Plainly.TheVariants as plainly
 use Rattle.sr_plain.proofs.AnswerLemmas.{least-name}
 use Rattle.sr_plain.proofs.LeaveLemmas.{leaves_at_rest}
-use Rattle.sr_plain.proofs.LedLemmas.{last-more, least-new, least-unused}
+use Rattle.sr_plain.proofs.LedLemmas.{last-more, least-new, least-unused, led-more}
+use Rattle.sr_plain.proofs.OrderLemmas.{ordered-after}
 use Rattle.sr_plain.proofs.TurnLemmas.{rested-stands}
 
 -- the final code begins or the run ends
@@ -104,6 +105,9 @@ module _ {A : Type 0} (after : A → List Answer → Asks) (can_feed : A → Typ
         let acts' : Acts (quiesce core name state.world) state.world w' (Ok (acted.Done a)) = subst (λ v. Acts (quiesce core name v) v w' (Ok (acted.Done a))) engine.world acts in
         let least' : IsLeastUnused state.world.used name = subst (λ (v : World). IsLeastUnused v.used name) engine.world least in
         let b = begins w' a (quiesce core name state.world) refl (at-rest core name state.world) acts' least' in
+        let rested_state : State = record state { world = w' } in
+        let order = ordered-after core limit events state rested_state (Quiesce name) engine.stands.leads (led-more core limit events state rested_state (Makes_item (Quiesce name)) engine.stands.leads b.0) engine.stands.next engine.stands.order name
+        [] refl (least-name state.world name least') b.1 in
         record {
           later = record state { world = w' };
           goes = b.0;
@@ -113,7 +117,7 @@ module _ {A : Type 0} (after : A → List Answer → Asks) (can_feed : A → Typ
             world = refl;
             ticks = engine.ticks;
             last = engine.last ∙ sym (last-more events (Makes_item (Quiesce name)));
-            stands = rested-stands after can_feed core limit state events plain.crew engine.stands (record state { world = w' }) name [] (Quiesce name) refl b.1 (least-unused state.world name least') b.0;
+            stands = rested-stands after can_feed core limit state events plain.crew engine.stands (record state { world = w' }) name [] (Quiesce name) refl b.1 (least-unused state.world name least') b.0 order.0 order.1;
           };
         }
 

@@ -13,6 +13,7 @@ use Rattle.sr_world.specs.Worlds.{started}
 use Rattle.sr_plain.specs.Crew.{Answers, IsKept, KeepsLiving, LooksAt, Looks, Plays, member_of}
 use Rattle.sr_plain.specs.Engine.{StandsFor, Stands}
 use Rattle.sr_plain.specs.Leaving.{Leaves}
+use Rattle.sr_plain.specs.Order.{IsOrdered}
 use Rattle.sr_plain.specs.declared.member.Member.{Member}
 use Rattle.sr_plain.proofs.LedLemmas.{led-more, lives-used, sound, used-more}
 
@@ -29,7 +30,7 @@ module _ {A : Type 0} (after : A → List Answer → Asks) (can_feed : A → Typ
   -- after a look an engine stands as before
   pub looked-stands : (start : Start) (crew crew' : BTreeMap ℕ (Member A)) → Stands after can_feed core limit state events crew → started state.world start.process ≡ Some start
       → Looks after can_feed (ask core start limit) start.process crew crew' → Stands after can_feed core limit state events crew'
-  looked-stands start crew crew' stands lives looks = record { leads = stands.leads; living = living; unborn = unborn }
+  looked-stands start crew crew' stands lives looks = record { leads = stands.leads; living = living; unborn = unborn; next = stands.next; order = stands.order }
     where
       living-by : (q : ℕ) (s : Start) (b : Bool) → (start.process == q) ≡ b → started state.world q ≡ Some s → StandsFor after can_feed (ask core s limit) (state.given q) (member_of crew' q)
       living-by q s false off is = subst (StandsFor after can_feed (ask core s limit) (state.given q)) (sym (looks.others q off)) (stands.living q s is)
@@ -61,6 +62,8 @@ module _ {A : Type 0} (after : A → List Answer → Asks) (can_feed : A → Typ
     leads = stands.leads;
     living = λ q s is. subst (StandsFor after can_feed (ask core s limit) (state.given q)) (sym (keeps.living q (ap is_some is))) (stands.living q s is);
     unborn = λ q none. keeps.unborn q (stands.unborn q none);
+    next = stands.next;
+    order = stands.order;
   }
 
   -- ---- a step of a process
@@ -78,7 +81,7 @@ module _ {A : Type 0} (after : A → List Answer → Asks) (can_feed : A → Typ
 
     module _ (asks : Asks) (known : m.asks ≡ Some asks) (a : Answer) (crew' : BTreeMap ℕ (Member A)) (asked : Option Asks) (answers : Answers after can_feed start.process a m asked crew crew') (later : State) (name : ℕ) (text : List ℕ) (item : Item)
         (given : later.given ≡ with_answer start.process a state.given) (left : Leaves name text state.world later.world) (new : times_used state.world name ≡ 0)
-        (goes : next core limit state item ≡ Goes later) where
+        (goes : next core limit state item ≡ Goes later) (number : ℕ) (ordered : IsOrdered later.world number) where
       later-leads : led core limit (events ++ Makes_item item ∷ []) ≡ Goes later
       later-leads = led-more core limit events state later (Makes_item item) stands.leads goes
 
@@ -140,12 +143,15 @@ module _ {A : Type 0} (after : A → List Answer → Asks) (can_feed : A → Typ
         living = λ q s is. living-by q s (start.process == q) refl (left.lives q s is);
         unborn = λ q none. unborn-by q (start.process == q) refl
             (omega (arith, used-more core limit events state stands.leads (Makes_item item) later later-leads q, none));
+        next = number;
+        order = ordered;
       }
 
   -- ---- a run that comes to rest
 
   module _ (crew : BTreeMap ℕ (Member A)) (stands : Stands after can_feed core limit state events crew) (later : State) (name : ℕ) (text : List ℕ) (item : Item)
-      (given : later.given ≡ state.given) (left : Leaves name text state.world later.world) (new : times_used state.world name ≡ 0) (goes : next core limit state item ≡ Goes later) where
+      (given : later.given ≡ state.given) (left : Leaves name text state.world later.world) (new : times_used state.world name ≡ 0) (goes : next core limit state item ≡ Goes later)
+      (number : ℕ) (ordered : IsOrdered later.world number) where
     rested-leads : led core limit (events ++ Makes_item item ∷ []) ≡ Goes later
     rested-leads = led-more core limit events state later (Makes_item item) stands.leads goes
 
@@ -164,4 +170,6 @@ module _ {A : Type 0} (after : A → List Answer → Asks) (can_feed : A → Typ
       leads = rested-leads;
       living = λ q s is. rested-living q s (left.lives q s is);
       unborn = λ q none. stands.unborn q (omega (arith, used-more core limit events state stands.leads (Makes_item item) later rested-leads q, none));
+      next = number;
+      order = ordered;
     }

@@ -20,6 +20,7 @@ use Rattle.sr_world.specs.declared.acted.Acted.{Acted}
 use Rattle.sr_world.specs.declared.ends.End.{End}
 use Rattle.sr_plain.specs.Carrying.{Names}
 use Rattle.sr_plain.specs.Crew.{Plays, member_of}
+use Rattle.sr_plain.specs.Order.{IsOrdered}
 use Rattle.sr_plain.specs.Turns.{IsTurn, last_after}
 use Rattle.sr_plain.specs.declared.member.Member.{Member}
 use Rattle.sr_plain.specs.declared.plain.Plain.{Plain}
@@ -40,13 +41,15 @@ StandsFor after can_feed meant answers None = answers ≡ []
 StandsFor after can_feed meant answers (Some member) = Plays after can_feed (λ more. meant (answers ++ more)) member
 
 -- The events lead to the state, and each living process stands for its answers. Nobody has begun under a number that
--- wasn't given out.
+-- wasn't given out. The numbers were given out in their order.
 pub record Stands {A : Type 0} (after : A → List Answer → Asks) (can_feed : A → Type 0) (core : Core) (limit : ℕ) (state : State) (events : List Event)
     (members : BTreeMap ℕ (Member A)) : Type 0 where
   pub leads : led core limit events ≡ Goes state
   pub living : (process : ℕ) (start : Start) → started state.world process ≡ Some start
       → StandsFor after can_feed (ask core start limit) (state.given process) (member_of members process)
   pub unborn : (process : ℕ) → times_used state.world process ≡ 0 → member_of members process ≡ None
+  pub next : ℕ
+  pub order : IsOrdered state.world next
 
 -- an engine stands for a state
 pub record IsEngine {A : Type 0} (after : A → List Answer → Asks) (can_feed : A → Type 0) (core : Core) (limit : ℕ) (state : State) (events : List Event)

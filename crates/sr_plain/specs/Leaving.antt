@@ -1,20 +1,31 @@
 -- What a step leaves of who lives and of what was written.
-use Rattle.std.specs.Prelude.{◌≡◌, ◌⊎◌, ◌++◌, ℕ, List, [], Some}
+use Rattle.std.specs.Prelude.{◌≡◌, ◌⊎◌, ◌++◌, ℕ, List, [], ◌∷◌, Some}
 use Rattle.sr_ask.specs.declared.request.Request.{Request}
 use Rattle.sr_ask.specs.declared.request.Request.TheVariants.{Write}
 use Rattle.sr_ask.specs.declared.start.Start.{Start}
 use Rattle.sr_world.specs.Does.{Does, Did, Makes}
 use Rattle.sr_world.specs.Worlds.{World, started}
+use Rattle.sr_plain.specs.Order.{Ascend}
 
 -- only a write writes
 abbrev pub written_by : Request → List ℕ
 written_by (Write bytes) = bytes
 written_by _ = []
 
--- who lives lived before, as it was started, unless it has the step's number; and this text was written
+-- one process more, of this number, stands after all of them
+pub record Adds (name : ℕ) (old new : List Start) : Type 0 where
+  pub start : Start
+  pub named : start.process ≡ name
+  pub added : new ≡ old ++ start ∷ []
+
+-- Who lives lived before, as it was started, unless it has the step's number; and this text was written. Those who stay
+-- are in the order in which they were.
 pub record Leaves (name : ℕ) (text : List ℕ) (old new : World) : Type 0 where
   pub lives : (process : ℕ) (start : Start) → started new process ≡ Some start → (started old process ≡ Some start) ⊎ (process ≡ name)
   pub output : new.output ≡ old.output ++ text
+  pub stay : List Start
+  pub ascend : (low high : ℕ) → Ascend low old.live high → Ascend low stay high
+  pub live : (new.live ≡ stay) ⊎ Adds name stay new.live
 
 abbrev pub LeavesIf : ℕ → List ℕ → World → Does → Type 0
 LeavesIf name text old (Did new answer) = Leaves name text old new

@@ -1,9 +1,11 @@
-ghost use Rattle.std.specs.Prelude.{◌≡◌, ◌-◌, ◌∷◌, ◌++◌, ℕ, [], List, IfOk, None, Ok, OnErr, OnOk, Some, drop, false, find, take, true};
+ghost use Rattle.std.specs.Prelude.{◌≡◌, ◌<◌, ◌≤◌, ◌-◌, ◌∷◌, ◌++◌, ℕ, [], List, IfOk, None, Ok, OnErr, OnOk, Some, drop, false, find, length, take, true};
 ghost use Rattle.sr_ask.specs.declared.start.Start as starts;
 ghost use Rattle.sr_plain.specs.Crew.{IsAsking};
 ghost use Rattle.sr_world.specs.Runs.{State, Event, Closes, Gives, first, no_step, with_input, without_more};
 ghost use Rattle.sr_world.specs.Worlds.{started};
+ghost use Rattle.sr_plain.specs.Order.{IsOrdered, IsSplit};
 ghost use Rattle.sr_plain.specs.Turns.{takes_turn, turn};
+ghost use Rattle.sr_world.specs.Names.{made_after};
 
 use crate::carrying::{Carried, carry_out, new_name, written};
 use crate::crew::{answer, let_go, look};
@@ -91,7 +93,7 @@ impl<A: Actor> Plain<A> {
     fn take_turn(&mut self, program: &A::Program) -> Result<Plainly, NoMemory>
         ensures { (limit : ℕ) (state : State) (events : List Event) → IsEngine (A.asks_after program.now) A.can_feed (A.core_of program.now) limit state events self.old → Steps (A.asks_after program.now) A.can_feed (A.core_of program.now) limit state events (turn (A.core_of program.now) limit state (last_in events)) result self.new }
     {
-        let from = self.world.made_after(self.last);
+        let from = self.place_after();
         let to = self.world.len();
         if let Some(plainly) = self.try_range(program, from, to)? {
             return Ok(plainly);
@@ -100,6 +102,45 @@ impl<A: Actor> Plain<A> {
             return Ok(plainly);
         }
         self.come_to_rest(program)
+    }
+
+    /// The place of the first living process that was made after the last actor.
+    fn place_after(&self) -> usize
+        ensures { (next : ℕ) → IsOrdered self.now.world next → result ≡ made_after self.now.world self.now.last }
+    {
+        if self.last == 0 {
+            return 0;
+        }
+        let mut low = 0;
+        let mut high = self.world.len();
+        while low < high {
+            let (from, to) = self.halved(low, high);
+            low = from;
+            high = to;
+        }
+        low
+    }
+
+    /// The half of these places in which it stands.
+    fn halved(&self, low: usize, high: usize) -> (usize, usize)
+        requires within { low < high }
+        requires inside { high ≤ length self.now.world.live }
+        ensures low { low ≤ result.0 }
+        ensures within { result.0 ≤ result.1 }
+        ensures high { result.1 ≤ high }
+        ensures less { result.1 - result.0 < high - low }
+        ensures split { (next : ℕ) → IsOrdered self.now.world next → IsSplit self.now.last self.now.world.live low high → IsSplit self.now.last self.now.world.live result.0 result.1 }
+    {
+        let middle = low + (high - low) / 2;
+        match self.world.live_at(middle) {
+            Some(start) => {
+                if self.last < start.process {
+                    return (low, middle);
+                }
+                (middle + 1, high)
+            }
+            None => unreachable!(),
+        }
     }
 
     /// Asks those in turn that stand from one place to another in the order of their making.
