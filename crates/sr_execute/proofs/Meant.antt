@@ -1,6 +1,6 @@
 -- An instruction does what it is to do: up to a request, and after answers.
-use Rattle.std.proofs.Common.{◌≡◌, ℕ, zero, suc, ℤ, pos, Bool, true, false, List, [], ◌∷◌, length, map, ◌+ℤ◌, Option, Some, None, Result, Ok, Err, refl, sym, ap, ◌∙◌, slice_get, slice_set}
-use Rattle.sr_value.specs.declared.capability.Cap.TheVariants.{Op, Res as a_resource, Vm}
+use Rattle.std.proofs.Common.{◌≡◌, ℕ, zero, suc, ℤ, pos, Bool, true, false, List, [], ◌∷◌, map, ◌+ℤ◌, Option, Some, None, Result, Ok, Err, refl, sym, ap, ◌∙◌, slice_get, slice_set}
+use Rattle.sr_value.specs.declared.capability.Cap.TheVariants.{Vm}
 use Rattle.sr_value.specs.declared.fault.Fault.{Fault}
 use Rattle.sr_value.specs.declared.shape.Sel.{Sel}
 use Rattle.sr_value.specs.declared.shape.Shape.{Shape}
@@ -14,7 +14,7 @@ use Rattle.sr_ask.specs.Asking.{none_takes, done, got, made, moment, number, rea
 use Rattle.sr_ask.specs.Behaviors.{◌>>=◌, Stage, Outcome, Came, Stops, Doing, and_then, give, hear, heard, ticked}
 use Rattle.sr_ask.specs.Here.{Here, ask_of, request, fail, settle}
 use Rattle.sr_ask.specs.Invocations.{default_given, taken, at_end, instance_in}
-use Rattle.sr_ask.specs.Places.{own_at, own_after, declare_own, load_at, store_at, make, whole}
+use Rattle.sr_ask.specs.Places.{own_at, own_after, declare_own, load_at, store_at, make}
 use Rattle.sr_ask.specs.Replies.{Completion, gives_now, mark_answered, reply_unless, forward_unless, push_out, took_one}
 use Rattle.sr_ask.specs.declared.answer.Answer.{Answer}
 use Rattle.sr_ask.specs.declared.ask.Asks.{Asks}
@@ -34,13 +34,13 @@ use Rattle.sr_core.specs.Values.{truth_of, number_of, cap_of, member_of, count_o
 use Rattle.sr_core.specs.declared.component.Core.{Core}
 use Rattle.sr_code.specs.Operands.{value_on, drop_value, number_on, drop_number, name_on, drop_name, put_name, put_number, cap_on, drop_cap, put_cap, pieces_on, drop_pieces, join_piece, put_call, call_of, put_shape, place_on, drop_place, put_place, shape_on, drop_shape, list_on, drop_list, join_argument, join_place, targets_on, drop_targets, reading_on, drop_reading, one_read, numbers_on, drop_numbers, count_on, completed_on, drop_completed, call_on, drop_call, drop_count, join_value, put_count, put_list, put_numbers, put_targets, put_value}
 use Rattle.sr_code.specs.Owners.{variable_in}
-use Rattle.sr_code.specs.Stacks.{first, first_or}
+use Rattle.sr_code.specs.Stacks.{first}
 use Rattle.sr_code.specs.declared.instruction.Instruction.{Instruction}
 use Rattle.sr_code.specs.declared.instruction.Instruction.TheVariants.{Constant, Operation, MyResource, MyMachine, Count, MakeMachine, Moment, ToNumber, ToCap, OperateOne, Operate, AndSkip, OrSkip, NoValues, Collect, Apply, NoPieces, AddPiece, AddRepeated, MakeArray, PartAt, PartAt2, PartField, Member, Spot as spot_instruction, At, At2, Field, Load, ToCall, PassValue, PassVar, PassRes, Invoke, Take, StoreResults, Default, EnsureGlobal, Create, TakeInstance, NoReadings, AddReading, ReadNext, StoreRead, NumberRead, EndRead, Jump, FixedShape, StringShape, OneDimension, TwoDimensions, Make, MakeLike, StoreIn, Arguments, MakeFormal, StoreFormal, DropList, DropValue, Send, Forward, Store, LoadAgain, LoadSecond, StoreSecond, Write, Number, Stop, Destroy, TakeDone, ToWait, Age, Wake, Reply, Tick, JumpUnless, Again, Quantify, Each, DropNumbers, ToCount, Repeat, AddNamed, Select, OpenService, EndService, OpenCo, StartCall, CountOuts, TakeReply, SetTurn, GiveBack, StoreValue, CloseCo}
 use Rattle.sr_code.specs.declared.operands.Call.{Call}
 use Rattle.sr_code.specs.declared.operands.Operands.{Operands}
 use Rattle.sr_frame.specs.Variables.{own_value, vars_set}
-use Rattle.sr_execute.specs.Executes.{begun, Began, Went, Waits, Moved, completing, declared, default_found, each_begun, end_found, forwards, holding, led, loads, makes, marked, moved, moved_to, named_found, puts, reads, repeat_begun, replies, settled, started, stores, stores_if, stores_item, stores_some, storing, storing_one, takes_reply, ticking, waits, went, went_to, with_own}
+use Rattle.sr_execute.specs.Executes.{begun, Began, Waits, Moved, completing, declared, default_found, each_begun, end_found, forwards, holding, led, loads, makes, marked, moved, moved_to, named_found, puts, reads, repeat_begun, replies, settled, started, stores, stores_if, stores_item, stores_some, storing, storing_one, takes_reply, ticking, waits, went, went_to, with_own}
 use Rattle.sr_execute.specs.Meant.{InstructionsAreCarriedOut, stage_of, heard_by, waiting, from_begun, resumes}
 use Rattle.sr_execute.specs.declared.frame.Frame.{Frame}
 

@@ -1,5 +1,5 @@
 -- Replies of a `co`.
-use Rattle.std.specs.Prelude.{◌≡◌, ◌==◌, ◌<◌, ℕ, List, [], length, Option, Some, None, slice_get}
+use Rattle.std.specs.Prelude.{◌≡◌, ◌==◌, ◌<◌, ℕ, List, length, Option, Some, None, slice_get}
 use Rattle.std.specs.List.{position}
 use Rattle.sr_value.specs.declared.value.Value.{Value}
 use Rattle.sr_ask.specs.declared.environment.Out.{Out}

@@ -2,7 +2,7 @@ ghost use Rattle.std.specs.Prelude.{◌≡◌, ◌++◌, ◌∷◌, [], OnOk, tr
 ghost use Rattle.sr_ask.specs.declared.request.Request.TheVariants as request;
 ghost use Rattle.sr_code.specs.Operands.{cap_on, call_on, drop_call, join_argument, join_place, name_on, put_targets};
 ghost use Rattle.sr_frame.specs.Scenes.{here_of};
-ghost use Rattle.sr_execute.specs.Executes.{Does, begun, waits, went};
+ghost use Rattle.sr_execute.specs.Executes.{Does, begun, waits};
 ghost use Rattle.sr_code.specs.declared.instruction.Instruction.TheVariants as instruction;
 
 use crate::frame::Frame;

@@ -1,7 +1,7 @@
 -- How the kinds of refusal are printed.
 use Rattle.std.specs.Prelude.{ℕ, List, codes}
 use Rattle.sr_text.specs.declared.refusal.Kind.{Kind}
-use Rattle.sr_text.specs.declared.refusal.Kind.TheVariants.{BadByte, BadToken, Syntax, Name, Twice, BadType, BadUse, Guard, Main, OutOfProfile, Large, Cycle, NotBuilt}
+use Rattle.sr_text.specs.declared.refusal.Kind.TheVariants.{BadByte, BadToken, Syntax, Name, Twice, BadType, BadUse, Guard, Main, OutOfProfile, Large, Cycle}
 
 abbrev pub kind_label : Kind → List ℕ
 kind_label BadByte = codes "S1 BadByte"
@@ -16,4 +16,3 @@ kind_label Main = codes "S9 Main"
 kind_label OutOfProfile = codes "S10 OutOfProfile"
 kind_label Large = codes "S11 Large"
 kind_label Cycle = codes "S12 Cycle"
-kind_label NotBuilt = codes "S13 NotBuilt"

@@ -33,8 +33,6 @@ pub enum Kind {
     Large,
     /// S12: globals that import each other in a cycle.
     Cycle,
-    /// S13: a program that this version can't run yet.
-    NotBuilt,
 }
 
 impl Compare for Kind {
@@ -61,7 +59,6 @@ impl Kind {
             Kind::OutOfProfile => "S10 OutOfProfile",
             Kind::Large => "S11 Large",
             Kind::Cycle => "S12 Cycle",
-            Kind::NotBuilt => "S13 NotBuilt",
         }
     }
 }

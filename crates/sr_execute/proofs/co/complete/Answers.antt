@@ -1,4 +1,4 @@
-use Rattle.std.proofs.Common.{◌≡◌, eqb, List, Option, Some, None, refl, sym, ap, subst, ◌∙◌}
+use Rattle.std.proofs.Common.{eqb, Option, refl, sym, ap, subst, ◌∙◌}
 use Rattle.std.specs.List.{position}
 use Rattle.sr_ask.specs.declared.answer.Answer.{Answer}
 use Rattle.sr_ask.specs.declared.environment.Out.{Out}
