@@ -30,6 +30,10 @@ const TWO: &[u8] = b"resource main()\n  write(\"one\")\n  write(\"two\")\nend\n"
 /// A run that reads a number and writes its double.
 const DOUBLE: &[u8] = b"resource main()\n  var n : int\n  read(n)\n  write(2 * n)\nend\n";
 
+/// A run that reads a number, reads on, and writes what it has.
+const READ_AGAIN: &[u8] =
+    b"resource main()\n  var n : int\n  read(n)\n  read(n)\n  write(n)\nend\n";
+
 /// A component that `b.sr` has.
 const OTHER: &[u8] = b"global Other\n  const c := 7\nend\n";
 
@@ -291,6 +295,58 @@ fn calls_with_ports_in_memory(rt: HostRuntime) -> Result<(), Fail> {
     Ok(())
 }
 
+/// The output fails at each of its puts, which take one byte each.
+#[test]
+fn failing_output(rt: HostRuntime) -> Result<(), Fail> {
+    let written = b"one\ntwo\n";
+    for put in 1..9 {
+        let fails = [put as u64];
+        let case = Case {
+            most: 1,
+            put_fails: &fails,
+            ending: Ending::WriteFault,
+            status: 106,
+            output: &written[..put - 1],
+            diag: b"sr: output failed\n",
+            items: if put <= 4 { 2 } else { 3 },
+            ..run_case(TWO, b"", 0)
+        };
+        assert!(rt; goes_so(rt.alloc(), &case)?, "put {put}");
+    }
+    Ok(())
+}
+
+/// The input, in pieces of two bytes, fails before its first byte, between pieces, and where it would tell its end. What
+/// no `read` wants isn't taken, so it can't fail.
+#[test]
+fn failing_input(rt: HostRuntime) -> Result<(), Fail> {
+    let failed = Case {
+        ending: Ending::ReadFault,
+        status: 105,
+        diag: b"sr: input failed\n",
+        ..run_case(DOUBLE, b"", 2)
+    };
+    let of = |input, take_fails, case| Case {
+        input,
+        take_fails,
+        ..case
+    };
+    let cases = [
+        of(b"21 ", &[1], failed),
+        of(b"21 ", &[2], failed),
+        of(b"21 ", &[3], run_case(DOUBLE, b"42\n", 10)),
+        of(b"", &[1], failed),
+        of(b"21", &[2], failed),
+        of(b"21", &[3], run_case(DOUBLE, b"42\n", 10)),
+        of(b"2 1", &[2], run_case(DOUBLE, b"4\n", 10)),
+        of(b"7", &[3], run_case(READ_AGAIN, b"7\n", 11)),
+    ];
+    for (index, case) in cases.iter().enumerate() {
+        assert!(rt; goes_so(rt.alloc(), case)?, "case {index}");
+    }
+    Ok(())
+}
+
 #[test]
 fn items_of_hello(rt: HostRuntime) -> Result<(), Fail> {
     let step = |actor, name| Item::Step { actor, name };
@@ -354,11 +410,20 @@ fn refused_texts(rt: HostRuntime) -> Result<(), Fail> {
     Ok(())
 }
 
-/// Spaces past the limit on the bytes of a file.
-fn spaces(alloc: Global) -> Result<Vec<u8>, NoMemory> {
-    let mut spaces = Vec::new(alloc);
-    spaces.resize(1_048_577, b' ')?;
-    Ok(spaces)
+/// The most bytes of a file.
+const MOST: usize = 1_048_576;
+
+/// A program with spaces after it, so many bytes in all.
+fn spaced(alloc: Global, bytes: usize) -> Result<Vec<u8>, NoMemory> {
+    let mut text = Vec::from_slice(alloc, b"resource main()\n  write(1)\nend\n")?;
+    text.resize(bytes, b' ')?;
+    Ok(text)
+}
+
+/// Whether a program with as many bytes as a file may have runs.
+fn runs_at_the_limit(alloc: Global) -> Result<bool, NoMemory> {
+    let text = spaced(alloc, MOST)?;
+    goes_so(alloc, &run_case(&text, b"1\n", 6))
 }
 
 /// Brackets in brackets, past the limit on them.
@@ -373,8 +438,9 @@ fn brackets(alloc: Global) -> Result<Vec<u8>, NoMemory> {
 /// The limits on a file: its bytes, and brackets in brackets.
 #[test]
 fn large_texts(rt: HostRuntime) -> Result<(), Fail> {
-    let spaces = spaces(rt.alloc())?;
-    assert!(rt; is_refused_so(rt.alloc(), &spaces, Kind::Large, 1)?);
+    assert!(rt; runs_at_the_limit(rt.alloc())?);
+    let text = spaced(rt.alloc(), MOST + 1)?;
+    assert!(rt; is_refused_so(rt.alloc(), &text, Kind::Large, 1)?);
     Ok(())
 }
 
