@@ -41,16 +41,13 @@ fn empty_sink(alloc: Global) -> MemSink {
 fn called(
     alloc: Global,
     file: &str,
-    case: &Case,
+    text: &str,
+    input: &str,
     output: &mut MemSink,
     diag: &mut MemSink,
 ) -> Result<Report, NoMemory> {
-    let input = match case.texts.get(1) {
-        Some(input) => input.as_str(),
-        None => "",
-    };
     let words = words_for(alloc, file)?;
-    let mut files = files_of(alloc, file, case.text())?;
+    let mut files = files_of(alloc, file, text)?;
     let mut input = source_of(alloc, input)?;
     let mut journal = empty_sink(alloc);
     Ok(sr_top(
@@ -69,9 +66,20 @@ fn called(
 fn found(alloc: Global, case: &Case) -> Result<String, NoMemory> {
     let name = case.name.as_str();
     let file = format!(in alloc; "{name}.sr")?;
+    let input = match case.texts.get(1) {
+        Some(input) => input.as_str(),
+        None => "",
+    };
     let mut output = empty_sink(alloc);
     let mut diag = empty_sink(alloc);
-    let report = called(alloc, file.as_str(), case, &mut output, &mut diag)?;
+    let report = called(
+        alloc,
+        file.as_str(),
+        case.text(),
+        input,
+        &mut output,
+        &mut diag,
+    )?;
     let tells_items = case.wanted.contains(" items\n");
     told(alloc, &report, output.held(), diag.held(), tells_items)
 }
@@ -91,4 +99,12 @@ pub fn report_of(alloc: Global, name: &str, content: &str) -> Result<String, NoM
         note(alloc, case, &mut tally)?;
     }
     Ok(tally.report(alloc, name)?)
+}
+
+/// Whether a program without input ends with status 0 and writes this, and nothing is told.
+pub fn writes(alloc: Global, file: &str, text: &str, wanted: &str) -> Result<bool, NoMemory> {
+    let mut output = empty_sink(alloc);
+    let mut diag = empty_sink(alloc);
+    let report = called(alloc, file, text, "", &mut output, &mut diag)?;
+    Ok(report.status == 0 && diag.held().is_empty() && output.held() == wanted.as_bytes())
 }

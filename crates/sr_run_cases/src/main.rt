@@ -1,12 +1,12 @@
 //! The program `sr_run_cases`: runs the programs in files of cases with ports in memory, and compares what the top call
 //! answers, puts and makes with what is written there. Its words are the names of the files. It prints a line for each
-//! file, and each case that differs.
+//! file, and each case that differs. A word `NAME.sr` is a program by itself, whose output stands in `NAME.out`.
 #![tactic(auto)]
 
 mod calls;
 mod telling;
 
-use crate::calls::report_of;
+use crate::calls::{report_of, writes};
 use std::rt::{Env, Files};
 use std::{env, fs, io};
 
@@ -19,9 +19,24 @@ fn report<R: Files + AllocGlobal + Print>(rt: &R, name: &str) -> io::Result<()> 
     }
 }
 
+/// Prints whether an example writes what stands beside it.
+fn try_example<R: Files + AllocGlobal + Print>(rt: &R, name: &str, stem: &str) -> io::Result<()> {
+    let text = fs::read_to_string(rt, name)?;
+    let output = format!(in rt.alloc(); "{stem}.out")?;
+    let wanted = fs::read_to_string(rt, output.as_str())?;
+    match writes(rt.alloc(), name, text.as_str(), wanted.as_str()) {
+        Ok(true) => println!(rt; "{name}: ok"),
+        Ok(false) => println!(rt; "{name}: differs"),
+        Err(_) => println!(rt; "{name}: no memory"),
+    }
+}
+
 fn main(rt: HostRuntime) -> io::Result<()> {
     for name in env::args(&rt)?.skip(1) {
-        report(&rt, name.as_str())?;
+        match name.strip_suffix(".sr") {
+            Some(stem) => try_example(&rt, name.as_str(), stem)?,
+            None => report(&rt, name.as_str())?,
+        }
     }
     Ok(())
 }
