@@ -1,23 +1,28 @@
 ghost use Rattle.std.specs.Prelude.{◌≡◌, ◌<◌, ◌≤◌, [], ◌∷◌, ◌++◌, length, remove, slice_get, IfErr, IfOk, IsOk, OnErr, OnOk};
+ghost use Rattle.std.specs.VecDeque.{deque_capacity};
 ghost use Rattle.sr_queue.specs.Queues.{waiting};
 
 use crate::pending::Pending;
 use sr_value::{Duplicate, NoMemory, Owner};
 use std::alloc::Global;
+use std::collections::VecDeque;
 use std::marker::Model;
 
 /// The greatest number of invocations that a queue holds.
 pub const MOST_PENDING: usize = 2_100_000_000;
 
+/// How many invocations the first room is for.
+const LEAST_ROOM: usize = 4;
+
 /// Pending invocations in the order in which they arrived.
 #[derive(Drop)]
 pub struct Queue {
-    pending: Vec<Pending>,
+    pending: VecDeque<Pending>,
 }
 
 impl Model for Queue {
     ghost use Rattle.std.specs.Prelude.{◌-◌, ◌≤◌, length};
-    ghost use Rattle.std.specs.Vec.{vec_capacity};
+    ghost use Rattle.std.specs.VecDeque.{deque_capacity};
     ghost use Rattle.std.specs.Coded.{codes};
     ghost use Rattle.sr_value.specs.contracts.value.Value as value;
     ghost use Rattle.sr_queue.specs.declared.queue.TheConstants.{MOST_PENDING};
@@ -27,7 +32,7 @@ impl Model for Queue {
 
     ghost coded = { Prim.hlevel (codes, value.the_row.coded) };
 
-    ghost view = { λ queue. record { items = queue.pending.items; room = vec_capacity queue.pending - length queue.pending.items } };
+    ghost view = { λ queue. record { items = queue.pending.items; room = deque_capacity queue.pending - length queue.pending.items } };
 
     ghost invariant = { λ queue. length queue.pending.items ≤ MOST_PENDING };
 }
@@ -38,7 +43,7 @@ impl Queue {
         ensures { result.items ≡ [] }
     {
         Queue {
-            pending: Vec::new(alloc),
+            pending: VecDeque::new(alloc),
         }
     }
 
@@ -74,7 +79,20 @@ impl Queue {
         ensures items { self.new.items ≡ self.old.items }
         ensures err { OnErr result (self.new ≡ self.old) }
     {
-        self.pending.try_reserve(1)?;
+        self.make_room()
+    }
+
+    /// Makes room for one more invocation. The room doubles where there is none.
+    fn make_room(&mut self) -> Result<(), NoMemory>
+        ensures items { self.new.items ≡ self.old.items }
+        ensures room { OnOk result (0 < self.new.room) }
+        ensures succeeds { 0 < self.old.room → IsOk result }
+        ensures err { OnErr result (self.new ≡ self.old) }
+    {
+        if self.pending.len() == self.pending.capacity() {
+            let more = self.pending.len().max(LEAST_ROOM);
+            self.pending.reserve_exact(more)?;
+        }
         Ok(())
     }
 
@@ -88,12 +106,12 @@ impl Queue {
         ensures back { IfErr result (λ refused. refused.1 ≡ pending) }
         ensures err { OnErr result (self.new ≡ self.old) }
     {
-        match self.pending.try_reserve(1) {
+        match self.make_room() {
             Ok(()) => {
-                self.pending.push_reserved(pending);
+                self.pending.push_back_reserved(pending);
                 Ok(())
             }
-            Err(_) => Err((NoMemory, pending)),
+            Err(no_memory) => Err((no_memory, pending)),
         }
     }
 
@@ -104,17 +122,30 @@ impl Queue {
         ensures others { self.new.items ≡ remove self.old.items i }
         ensures room { self.old.room ≤ self.new.room }
     {
-        self.pending.remove(i as usize)
+        take_out(&mut self.pending, i)
     }
 
     /// A queue of equal invocations in the same order.
     pub fn copy(&self, alloc: Global) -> Result<Queue, NoMemory>
         ensures { IfOk result (λ c. c.items ≡ self.now.items) }
     {
-        let mut pending = Vec::with_capacity(alloc, self.pending.len())?;
-        for item in &self.pending {
-            pending.push(item.copy(alloc)?)?;
+        let mut pending = VecDeque::with_capacity(alloc, self.pending.len())?;
+        for place in 0..self.pending.len() {
+            pending.push_back(self.pending[place].copy(alloc)?)?;
         }
         Ok(Queue { pending })
+    }
+}
+
+/// Takes the invocation at a place out of a list.
+fn take_out(pending: &mut VecDeque<Pending>, i: u32) -> Pending
+    requires { i < length pending.old.items }
+    ensures item { slice_get pending.old.items i ≡ Some result }
+    ensures others { pending.new.items ≡ remove pending.old.items i }
+    ensures room { deque_capacity pending.new ≡ deque_capacity pending.old }
+{
+    match pending.remove(i as usize) {
+        Some(taken) => taken,
+        None => unreachable!(),
     }
 }

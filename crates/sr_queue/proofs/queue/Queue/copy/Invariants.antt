@@ -1,5 +1,5 @@
 use Rattle.std.proofs.Common.{◌≡◌, take}
 use Rattle.sr_queue.proofs.queue.Queue.copy.Given as goal
 
-abbrev pub invariant-loop-item : goal.invariant-loop-item
-invariant-loop-item l = l.pending.items ≡ take l.item-index l.self.items
+abbrev pub invariant-loop-place : goal.invariant-loop-place
+invariant-loop-place l = l.pending.items ≡ take l.place l.self.items
