@@ -1,3 +1,4 @@
 pub mod Executes
 pub mod Meant
+pub mod Quick
 pub mod Replies

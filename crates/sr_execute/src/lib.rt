@@ -10,6 +10,7 @@ mod operators;
 mod parts;
 mod places;
 mod putting;
+mod quick;
 mod reading;
 mod results;
 mod resumption;
@@ -23,5 +24,6 @@ mod writing;
 
 pub use execution::execute;
 pub use frame::Frame;
+pub use quick::{Carried, execute_quickly};
 pub use resumption::resume;
 pub use step::Step;

@@ -1,7 +1,8 @@
 -- Each move of a process keeps what it asks, and leaves less to run.
-use Rattle.std.proofs.Common.{◌≡◌, ◌<◌, ◌+◌, ◌-◌, ◌*◌, ℕ, zero, suc, min, List, [], ◌∷◌, ◌++◌, length, Option, Some, None, inl, inr, refl, sym, ap, subst, ◌∙◌, slice_get, IsSome, append_assoc, append-nil, arith}
+use Rattle.std.proofs.Common.{◌≡◌, ◌<◌, ◌+◌, ◌-◌, ◌*◌, ℕ, zero, suc, min, true, Ok, List, [], ◌∷◌, ◌++◌, length, Option, Some, None, inl, inr, refl, sym, ap, subst, ◌∙◌, slice_get, IsSome, append_assoc, append-nil, arith}
 use Rattle.std.proofs.Math.Nat.{mul-le-mul_right}
 use Rattle.std.proofs.lemmas.Option.{slice_get_within}
+use Rattle.sr_value.specs.declared.fault.Fault.{Fault}
 use Rattle.sr_value.specs.declared.place.Place.{Place}
 use Rattle.sr_value.specs.declared.value.Value.{Value}
 use Rattle.sr_ask.specs.Behaviors.{Stage, Outcome, Came, room}
@@ -22,12 +23,15 @@ use Rattle.sr_code.specs.declared.operands.Operands.{Operands}
 use Rattle.sr_code.proofs.Lowering.{instructions_lower}
 use Rattle.sr_code.proofs.OneByOne.{one_by_one}
 use Rattle.sr_execute.specs.Executes.{Began, Moved, begun, shown}
+use Rattle.sr_execute.specs.Quick.{DoesOrLeaves}
 use Rattle.sr_execute.specs.Meant.{from_begun, heard_by, resumes, stage_of, waiting}
-use Rattle.sr_process.specs.Processes.{HearsBy, Ready, ReadyIn, Runs, SameAsks, StandsFor, asked_by, asked_in, asking, asks_after, asks_at, asks_from, asks_in, coded_at, frame_at, heard_at, here_in, left, left_in, machine_of, stepped, with_fed}
+use Rattle.sr_process.specs.Processes.{Carries, HearsBy, Ready, ReadyIn, Runs, SameAsks, StandsFor, asked_by, asked_in, asking, asks_after, asks_at, asks_from, asks_in, coded_at, frame_at, heard_at, here_in, left, left_in, machine_of, stepped, with_fed}
 use Rattle.sr_execute.specs.declared.frame.Frame.{Frame}
 use Rattle.sr_process.specs.declared.process.Phase.{Phase}
 use Rattle.sr_process.specs.declared.process.Phase.TheVariants.{New, Running, Waiting, Stopped, OutOfMemory}
 use Rattle.sr_process.specs.declared.process.Process.{Process}
+use Rattle.sr_execute.specs.declared.quick.Carried.{Carried}
+use Rattle.sr_execute.specs.declared.quick.Carried.TheVariants.{Goes as quick_goes, Faults as quick_faults, Left as quick_left}
 use Rattle.sr_execute.specs.declared.step.Step.{Step}
 use Rattle.sr_execute.specs.declared.step.Step.TheVariants.{Goes, Asks as a_request, Faults, OverTicks}
 use Rattle.sr_execute.proofs.Meant.{carried_out, never}
@@ -174,6 +178,35 @@ carry_falls program p new coded after step runs found does is =
 pub carry_ready : (p new : Process) (place : Place) (after : Frame) (step : Step) → Runs p → new ≡ stepped step place (record p { frame = after }) → Ready new
 carry_ready p new place after step runs is =
     let P : Process → Type 0 = λ q. Ready q in subst P (sym is) (stepped_ready step p place after runs)
+
+-- an instruction that was carried out
+carried_by : (program : Program) (p new : Process) (coded : Coded) (after : Frame) (step : Step) → Runs p → coded_at program.code.items p.address ≡ Some coded
+    → begun program.core.names coded.instruction (here_in p coded.place) (p.address - 1) p.frame.operands p.frame ≡ shown step after
+    → new ≡ stepped step coded.place (record p { frame = after }) → Carries program (Ok true) p new
+carried_by program p new coded after step runs found does is =
+    (carry_same program p new coded after step runs found does is, (carry_ready p new coded.place after step runs is, carry_falls program p new coded after step runs found does is))
+
+-- an instruction that was carried out quickly, where it goes on
+pub goes_quickly : (program : Program) (p new : Process) (coded : Coded) (after : Frame) (carried : Carried) (to : ℕ) → Runs p → coded_at program.code.items p.address ≡ Some coded
+    → DoesOrLeaves (Ok carried) p.frame after (begun program.core.names coded.instruction (here_in p coded.place) (p.address - 1) p.frame.operands p.frame)
+    → carried ≡ quick_goes to → new ≡ record p { frame = after; address = to } → Carries program (Ok true) p new
+goes_quickly program p new coded after carried to runs found does is moved =
+    let D : Carried → Type 0 = λ c. DoesOrLeaves (Ok c) p.frame after (begun program.core.names coded.instruction (here_in p coded.place) (p.address - 1) p.frame.operands p.frame) in
+    carried_by program p new coded after (Goes to) runs found (subst D is does) moved
+
+-- where it found a fault
+pub fails_quickly : (program : Program) (p new : Process) (coded : Coded) (after : Frame) (carried : Carried) (fault : Fault) → Runs p → coded_at program.code.items p.address ≡ Some coded
+    → DoesOrLeaves (Ok carried) p.frame after (begun program.core.names coded.instruction (here_in p coded.place) (p.address - 1) p.frame.operands p.frame)
+    → carried ≡ quick_faults fault → new ≡ stepped (Faults fault) coded.place (record p { frame = after }) → Carries program (Ok true) p new
+fails_quickly program p new coded after carried fault runs found does is moved =
+    let D : Carried → Type 0 = λ c. DoesOrLeaves (Ok c) p.frame after (begun program.core.names coded.instruction (here_in p coded.place) (p.address - 1) p.frame.operands p.frame) in
+    carried_by program p new coded after (Faults fault) runs found (subst D is does) moved
+
+-- where it was left alone
+pub left_quickly : (p : Process) (after : Frame) (carried : Carried) (meant : Began) → DoesOrLeaves (Ok carried) p.frame after meant → carried ≡ quick_left → record p { frame = after } ≡ p
+left_quickly p after carried meant does is =
+    let D : Carried → Type 0 = λ c. DoesOrLeaves (Ok c) p.frame after meant in
+    ap (λ (f : Frame). record p { frame = f }) (subst D is does)
 
 -- ---- the end
 

@@ -1,5 +1,6 @@
 -- What a process asks, and what its moves keep.
-use Rattle.std.specs.Prelude.{◌≡◌, ℕ, zero, suc, List, [], ◌∷◌, ◌++◌, Option, Some, None, replicate, slice_get}
+use Rattle.std.specs.Prelude.{◌≡◌, ◌<◌, ℕ, zero, suc, Bool, true, false, List, [], ◌∷◌, ◌++◌, Option, Some, None, Result, Ok, Err, replicate, slice_get}
+use Rattle.sr_value.specs.declared.memory.NoMemory.{NoMemory}
 use Rattle.sr_value.specs.declared.place.Place.{Place}
 use Rattle.sr_ask.specs.Here.{Here, ask_of}
 use Rattle.sr_ask.specs.declared.answer.Answer.{Answer}
@@ -151,6 +152,12 @@ stepped (Goes to) place p = record p { address = to }
 stepped (a_request request) place p = record p { phase = Waiting; asks = ask_of request (here_in p place) }
 stepped (Faults fault) place p = record p { phase = Stopped; asks = ask_of (Fail fault) (here_in p place) }
 stepped OverTicks place p = record p { phase = Stopped; asks = over_ticks }
+
+-- an instruction was carried out, or nothing has changed; or memory ran out
+abbrev pub Carries : Program → Result Bool NoMemory → Process → Process → Type 0
+Carries program (Ok true) old new = SameAsks program old new × (Ready new × (left program new < left program old))
+Carries program (Ok false) old new = new ≡ old
+Carries program (Err out) old new = Unit {0}
 
 -- a process that asks at a line
 abbrev pub asking : Request → Place → Process → Process

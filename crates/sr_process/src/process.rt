@@ -4,14 +4,14 @@ ghost use Rattle.sr_ask.specs.declared.start.Start.{Start as a_start};
 ghost use Rattle.sr_code.specs.Runs.{code_ask};
 ghost use Rattle.sr_code.specs.declared.code.Program.{Program as a_program};
 ghost use Rattle.sr_process.specs.declared.process.Phase.TheVariants.{New as new_phase, Waiting as waiting_phase};
-ghost use Rattle.sr_process.specs.Processes.{Failed, Ready, Runs, Hears, ReadyIn, SameAsks, StandsFor, asked_by, asks_after, asking, coded_at, left, me_of, stepped};
+ghost use Rattle.sr_process.specs.Processes.{Carries, Failed, Ready, Runs, Hears, ReadyIn, SameAsks, StandsFor, asked_by, asks_after, asking, coded_at, left, me_of, stepped};
 
 use crate::entry::{entry_address, entry_place, first_frame, no_frame};
 use crate::operands::copy_frame;
 use sr_ask::{Answer, Ask, Asks, Request, Start};
 use sr_code::{Code, Coded, Program};
 use sr_core::Me;
-use sr_execute::{Frame, Step, execute, resume};
+use sr_execute::{Carried, Frame, Step, execute, execute_quickly, resume};
 use sr_frame::{Scene, results_now};
 use sr_value::{Duplicate, NoMemory, Place};
 use std::alloc::Global;
@@ -189,6 +189,34 @@ impl Process {
         Ok(())
     }
 
+    /// One instruction that loops often use, and whether it was one.
+    fn carry_out_quickly(&mut self, program: &Program, coded: &Coded) -> Result<bool, NoMemory>
+        requires runs { Runs self.old }
+        requires at { coded_at program.now.code.items self.old.address ≡ Some coded.now }
+        ensures { Carries program.now result self.old self.new }
+    {
+        let scene = Scene {
+            alloc: self.alloc,
+            names: &program.core.names,
+            start: &self.start,
+            limit: self.limit,
+            place: coded.place,
+        };
+        let next = self.address - 1;
+        let carried = execute_quickly(&scene, &mut self.frame, &coded.instruction, next)?;
+        match carried {
+            Carried::Goes(to) => {
+                self.address = to;
+                Ok(true)
+            }
+            Carried::Faults(fault) => {
+                self.take_step(Step::Faults(fault), coded.place);
+                Ok(true)
+            }
+            Carried::Left => Ok(false),
+        }
+    }
+
     /// One instruction.
     fn carry_out(&mut self, program: &Program, coded: &Coded) -> Result<(), NoMemory>
         requires runs { Runs self.old }
@@ -247,7 +275,12 @@ impl Process {
         ensures falls { OnOk result (left program.now self.new < left program.now self.old) }
     {
         match instruction_at(&program.code, self.address) {
-            Some(coded) => self.carry_out(program, coded),
+            Some(coded) => {
+                if self.carry_out_quickly(program, coded)? {
+                    return Ok(());
+                }
+                self.carry_out(program, coded)
+            }
             None => self.finish(program),
         }
     }

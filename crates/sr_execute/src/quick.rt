@@ -1,0 +1,223 @@
+ghost use Rattle.sr_value.specs.Operators.{Answers};
+ghost use Rattle.sr_code.specs.Operands.{put_place, put_value};
+ghost use Rattle.sr_frame.specs.Scenes.{here_of};
+ghost use Rattle.sr_frame.specs.Variables.{own_value};
+ghost use Rattle.sr_execute.specs.Executes.{begun, ticking, went};
+ghost use Rattle.sr_execute.specs.Quick.{DoesOrLeaves};
+ghost use Rattle.sr_code.specs.declared.instruction.Instruction.TheVariants as instruction;
+
+use crate::frame::Frame;
+use crate::places::{root_in, take_place};
+use crate::tops::top_or;
+use sr_ask::{Located, Own, Spot};
+use sr_code::Instruction;
+use sr_core::{number, truth};
+use sr_frame::{Scene, own_stored, own_value, whole};
+use sr_value::{Fault, NoMemory, Operator, Row, Sel, Value, ValueFail, arith};
+use std::alloc::Global;
+
+/// Where an instruction leads that loops often use. It is smaller than a `Step`, which may hold a request.
+#[derive(Clone, Copy)]
+pub enum Carried {
+    /// The process goes on at an address.
+    Goes(usize),
+    /// It has found a fault.
+    Faults(Fault),
+    /// The instruction isn't one of these, or it asks. Nothing has changed.
+    Left,
+}
+
+/// Carries out an instruction that loops often use, where it asks nothing.
+pub fn execute_quickly(
+    scene: &Scene,
+    frame: &mut Frame,
+    instruction: &Instruction,
+    next: usize,
+) -> Result<Carried, NoMemory>
+    ensures { DoesOrLeaves result frame.old frame.new (begun scene.now.names.now instruction.now (here_of scene.now) next frame.old.operands frame.old) }
+{
+    match instruction {
+        Instruction::Constant(Value::Int(number)) => quick_value(frame, Value::Int(*number), next),
+        Instruction::Spot(root) => quick_place(
+            frame,
+            whole(scene.alloc, root_in(scene, *root)),
+            next,
+        ),
+        Instruction::Load => quick_load(scene, frame, next),
+        Instruction::LoadAgain => quick_load_again(scene, frame, next),
+        Instruction::Store => quick_store(scene, frame, next),
+        Instruction::Operate(op) => quick_operate(scene, frame, *op, next),
+        Instruction::ToNumber => quick_number(scene, frame, next),
+        Instruction::At => quick_at(scene, frame, next),
+        Instruction::Tick => quick_tick(frame, next),
+        Instruction::Again { to } => quick_tick(frame, *to),
+        Instruction::Jump { to } => Ok(Carried::Goes((*to).min(next))),
+        Instruction::JumpUnless { to } => quick_jump_unless(scene, frame, *to, next),
+        _ => Ok(Carried::Left),
+    }
+}
+
+/// A value goes on the operands.
+fn quick_value(frame: &mut Frame, value: Value, next: usize) -> Result<Carried, NoMemory>
+    ensures { DoesOrLeaves result frame.old frame.new (went next (put_value value frame.old.operands) frame.old) }
+{
+    frame.operands.values.push(value)?;
+    Ok(Carried::Goes(next))
+}
+
+/// A place goes on the operands.
+fn quick_place(frame: &mut Frame, place: Located, next: usize) -> Result<Carried, NoMemory>
+    ensures { DoesOrLeaves result frame.old frame.new (went next (put_place place frame.old.operands) frame.old) }
+{
+    frame.operands.places.push(place)?;
+    Ok(Carried::Goes(next))
+}
+
+/// What a part of an own variable holds. A whole number is looked at first.
+fn value_at(
+    alloc: Global,
+    own: &Row<Option<Own>>,
+    var: u32,
+    path: &Row<Sel>,
+) -> Result<Value, ValueFail>
+    ensures { Answers result (own_value own.now var path.now) }
+{
+    match path.as_slice() {
+        [] => match own.get(var as usize) {
+            Some(Some(held)) => match held.value {
+                Value::Int(number) => Ok(Value::Int(number)),
+                _ => own_value(alloc, own, var, path),
+            },
+            _ => Err(ValueFail::Fault(Fault::Early)),
+        },
+        _ => own_value(alloc, own, var, path),
+    }
+}
+
+/// A place in an own variable becomes what it holds.
+fn quick_load(scene: &Scene, frame: &mut Frame, next: usize) -> Result<Carried, NoMemory>
+    ensures { DoesOrLeaves result frame.old frame.new (begun scene.now.names.now instruction.Load (here_of scene.now) next frame.old.operands frame.old) }
+{
+    let none = whole(scene.alloc, Spot::Own(0));
+    let place = top_or(&frame.operands.places, &none);
+    let Spot::Own(var) = place.spot else {
+        return Ok(Carried::Left);
+    };
+    match value_at(scene.alloc, &frame.own, var, &place.path) {
+        Ok(value) => {
+            let _ = frame.operands.places.pop();
+            frame.operands.values.push(value)?;
+            Ok(Carried::Goes(next))
+        }
+        Err(ValueFail::Fault(fault)) => Ok(Carried::Faults(fault)),
+        Err(ValueFail::NoMemory) => Err(NoMemory),
+    }
+}
+
+/// What a place in an own variable holds goes on the operands, and the place stays.
+fn quick_load_again(scene: &Scene, frame: &mut Frame, next: usize) -> Result<Carried, NoMemory>
+    ensures { DoesOrLeaves result frame.old frame.new (begun scene.now.names.now instruction.LoadAgain (here_of scene.now) next frame.old.operands frame.old) }
+{
+    let none = whole(scene.alloc, Spot::Own(0));
+    let place = top_or(&frame.operands.places, &none);
+    let Spot::Own(var) = place.spot else {
+        return Ok(Carried::Left);
+    };
+    match value_at(scene.alloc, &frame.own, var, &place.path) {
+        Ok(value) => quick_value(frame, value, next),
+        Err(ValueFail::Fault(fault)) => Ok(Carried::Faults(fault)),
+        Err(ValueFail::NoMemory) => Err(NoMemory),
+    }
+}
+
+/// A value goes to the place on top, which is in an own variable.
+fn quick_store(scene: &Scene, frame: &mut Frame, next: usize) -> Result<Carried, NoMemory>
+    ensures { DoesOrLeaves result frame.old frame.new (begun scene.now.names.now instruction.Store (here_of scene.now) next frame.old.operands frame.old) }
+{
+    let none = whole(scene.alloc, Spot::Own(0));
+    let Spot::Own(var) = top_or(&frame.operands.places, &none).spot else {
+        return Ok(Carried::Left);
+    };
+    let value = frame.operands.values.take(Value::Bool(false));
+    let place = take_place(scene.alloc, &mut frame.operands);
+    match own_stored(&mut frame.own, var, place.path.as_slice(), value) {
+        Ok(()) => Ok(Carried::Goes(next)),
+        Err(fault) => Ok(Carried::Faults(fault)),
+    }
+}
+
+/// Two values become the result of an operator.
+fn quick_operate(
+    scene: &Scene,
+    frame: &mut Frame,
+    op: Operator,
+    next: usize,
+) -> Result<Carried, NoMemory>
+    ensures { DoesOrLeaves result frame.old frame.new (begun scene.now.names.now (instruction.Operate op) (here_of scene.now) next frame.old.operands frame.old) }
+{
+    let y = frame.operands.values.take(Value::Bool(false));
+    let x = frame.operands.values.take(Value::Bool(false));
+    match arith(scene.alloc, op, &x, &y) {
+        Ok(value) => {
+            frame.operands.values.push(value)?;
+            Ok(Carried::Goes(next))
+        }
+        Err(ValueFail::Fault(fault)) => Ok(Carried::Faults(fault)),
+        Err(ValueFail::NoMemory) => Err(NoMemory),
+    }
+}
+
+/// A value becomes a number.
+fn quick_number(scene: &Scene, frame: &mut Frame, next: usize) -> Result<Carried, NoMemory>
+    ensures { DoesOrLeaves result frame.old frame.new (begun scene.now.names.now instruction.ToNumber (here_of scene.now) next frame.old.operands frame.old) }
+{
+    let value = frame.operands.values.take(Value::Bool(false));
+    match number(&value) {
+        Ok(number) => {
+            frame.operands.numbers.push(number)?;
+            Ok(Carried::Goes(next))
+        }
+        Err(ValueFail::Fault(fault)) => Ok(Carried::Faults(fault)),
+        Err(ValueFail::NoMemory) => Err(NoMemory),
+    }
+}
+
+/// A place becomes its part at a number.
+fn quick_at(scene: &Scene, frame: &mut Frame, next: usize) -> Result<Carried, NoMemory>
+    ensures { DoesOrLeaves result frame.old frame.new (begun scene.now.names.now instruction.At (here_of scene.now) next frame.old.operands frame.old) }
+{
+    let index = frame.operands.numbers.take(0);
+    let Located { spot, mut path } = take_place(scene.alloc, &mut frame.operands);
+    path.push(Sel::At(index))?;
+    frame.operands.places.push(Located { spot, path })?;
+    Ok(Carried::Goes(next))
+}
+
+/// One statement begun, where a tick is left.
+fn quick_tick(frame: &mut Frame, to: usize) -> Result<Carried, NoMemory>
+    ensures { DoesOrLeaves result frame.old frame.new (ticking frame.old.ticks (λ f. went to frame.old.operands f) frame.old) }
+{
+    if frame.ticks == 0 {
+        return Ok(Carried::Left);
+    }
+    frame.ticks -= 1;
+    Ok(Carried::Goes(to))
+}
+
+/// Goes on where a value is true, or to `to`.
+fn quick_jump_unless(
+    scene: &Scene,
+    frame: &mut Frame,
+    to: usize,
+    next: usize,
+) -> Result<Carried, NoMemory>
+    ensures { DoesOrLeaves result frame.old frame.new (begun scene.now.names.now (instruction.JumpUnless to) (here_of scene.now) next frame.old.operands frame.old) }
+{
+    let value = frame.operands.values.take(Value::Bool(false));
+    match truth(&value) {
+        Ok(true) => Ok(Carried::Goes(next)),
+        Ok(false) => Ok(Carried::Goes(to.min(next))),
+        Err(ValueFail::Fault(fault)) => Ok(Carried::Faults(fault)),
+        Err(ValueFail::NoMemory) => Err(NoMemory),
+    }
+}
