@@ -24,11 +24,13 @@ use Rattle.sr_plain.specs.Crew.{Answers, member_of}
 use Rattle.sr_plain.specs.Engine.{Comes, IsCarried, IsEngine, Tries, WaitsForInput}
 use Rattle.sr_plain.specs.Leaving.{Leaves, LeavesIf, written_by}
 use Rattle.sr_plain.specs.Order.{IsOrdered}
+use Rattle.sr_plain.specs.Ready.{AreAside}
 use Rattle.sr_plain.specs.Turns.{IsName, takes_turn}
 use Rattle.sr_plain.specs.declared.member.Member.{Member}
 use Rattle.sr_plain.specs.declared.plain.Plain.{Plain}
 use Rattle.sr_plain.specs.declared.plainly.Plainly.{Plainly}
 use Rattle.sr_plain.specs.declared.plainly.Plainly.TheVariants as plainly
+use Rattle.sr_plain.proofs.AsideLemmas.{aside_step}
 use Rattle.sr_plain.proofs.LeaveLemmas.{leaves}
 use Rattle.sr_plain.proofs.LedLemmas.{last-more, least-new, least-unused, led-more, sound}
 use Rattle.sr_plain.proofs.OrderLemmas.{ordered-after}
@@ -147,8 +149,8 @@ module _ {A : Type 0} (after : A → List Answer → Asks) (can_feed : A → Typ
   with-turn p plain takes comes = subst (λ t. IsSome t × Comes after can_feed core limit state events t p plain) (sym (one-turn core limit state start takes)) (refl, comes)
 
   module _ (name : ℕ) (plain : Plain A) where
-    engine-of : (a : Acted) → IsCarried after can_feed core limit state events start name a plain → plain.world ≡ state.world → IsEngine after can_feed core limit state events plain
-    engine-of a c same = record { world = same; ticks = c.ticks; last = c.last; stands = c.stands }
+    engine-of : (a : Acted) → IsCarried after can_feed core limit state events start name a plain → plain.woken ≡ None → plain.world ≡ state.world → IsEngine after can_feed core limit state events plain
+    engine-of a c none same = record { world = same; ticks = c.ticks; last = c.last; stands = c.stands; aside = subst (λ w. AreAside core limit state plain.waiters w) (sym none) c.aside }
 
     asked-is : (a : Acted) (c : IsCarried after can_feed core limit state events start name a plain) → Asked c.asks ≡ asks_next core limit state start
     asked-is a c = (kept-is after can_feed core limit state events start plain.crew c.member c.stands c.lives c.here (Asked c.asks) c.asked).0
@@ -157,26 +159,26 @@ module _ {A : Type 0} (after : A → List Answer → Asks) (can_feed : A → Typ
         → Tries after can_feed core limit state events (find (takes_turn core limit state) (start ∷ [])) (Ok None) plain
     answered_not c =
         let r = refused c.asks name (asked-is acted.Cannot c) c.lives plain.world (does core state.world start.process c.asks name) refl c.acts in
-        (no-turn core limit state start r.1, engine-of acted.Cannot c r.0)
+        (no-turn core limit state start r.1, engine-of acted.Cannot c c.noted r.0)
 
     pub answered_ends : (ending : End) → IsCarried after can_feed core limit state events start name (acted.Ends ending) plain
         → Tries after can_feed core limit state events (find (takes_turn core limit state) (start ∷ [])) (Ok (Some (plainly.Ended (Step start.process name) ending))) plain
     answered_ends ending c =
         let f = final c.asks name (asked-is (acted.Ends ending) c) c.lives plain.world ending (does core state.world start.process c.asks name) refl c.acts c.names in
         with-turn (plainly.Ended (Step start.process name) ending) plain f.turn
-        (record { ends = f.ends; turn_of = (refl, f.named) }, engine-of (acted.Ends ending) c f.world)
+        (record { ends = f.ends; turn_of = (refl, f.named) }, engine-of (acted.Ends ending) c c.noted f.world)
 
     pub answered_wants : IsCarried after can_feed core limit state events start name acted.Undecided plain
         → Tries after can_feed core limit state events (find (takes_turn core limit state) (start ∷ [])) (Ok (Some plainly.Wants)) plain
     answered_wants c =
         let o = open_ended c.asks name (asked-is acted.Undecided c) c.lives plain.world (does core state.world start.process c.asks name) refl c.acts in
-        with-turn plainly.Wants plain o.turn (o.waits, engine-of acted.Undecided c o.world)
+        with-turn plainly.Wants plain o.turn (o.waits, engine-of acted.Undecided c c.noted o.world)
 
     pub answered_done : (a : Answer) (plain' : Plain A) (asked : Option Asks) (output : List ℕ) → IsCarried after can_feed core limit state events start name (acted.Done a) plain
         → ((m : Member A) → member_of plain.crew start.process ≡ Some m → Answers after can_feed start.process a m asked plain.crew plain'.crew) → output ≡ written_of asked
-        → plain'.world ≡ plain.world → plain'.ticks ≡ plain.ticks → plain'.last ≡ start.process
+        → plain'.world ≡ plain.world → plain'.ticks ≡ plain.ticks → plain'.last ≡ start.process → plain'.waiters ≡ plain.waiters → plain'.woken ≡ plain.woken
         → Tries after can_feed core limit state events (find (takes_turn core limit state) (start ∷ [])) (Ok (Some (plainly.Stepped (Step start.process name) output))) plain'
-    answered_done a plain' asked output c answers wrote world ticks last =
+    answered_done a plain' asked output c answers wrote world ticks last waiters woken =
         with-turn (plainly.Stepped (Step start.process name) output) plain' f.turn (record {
           later = later;
           goes = f.goes;
@@ -187,6 +189,8 @@ module _ {A : Type 0} (after : A → List Answer → Asks) (can_feed : A → Typ
             ticks = ticks ∙ c.ticks;
             last = last ∙ sym (last-more events (Makes_item (Step start.process name)));
             stands = answered-stands after can_feed core limit state events start plain.crew c.member c.stands c.lives c.here (Asked c.asks) c.asked a plain'.crew asked (answers c.member c.here) later name (written_by c.asks.request) (Step start.process name) refl f.left f.new f.goes order.0 order.1;
+            aside = subst (λ ws. AreAside core limit later ws plain'.woken) (sym waiters) (subst (λ w. AreAside core limit later plain.waiters w) (sym (woken ∙ c.noted.0))
+                (aside_step core limit state start c.asks name c.lives plain.world a plain.waiters c.acts f.left.lives c.noted.1 c.aside));
           };
         })
       where

@@ -1,5 +1,5 @@
 -- What leaves an engine standing for its state, and input.
-use Rattle.std.proofs.Common.{◌≡◌, ℕ, false, not, List, [], ◌∷◌, ◌++◌, None, Some, refl, ap, sym, ◌∙◌, subst, arith}
+use Rattle.std.proofs.Common.{◌≡◌, ◌==◌, ◌||◌, ℕ, true, false, not, Option, true≢false, List, [], ◌∷◌, ◌++◌, None, Some, refl, ap, sym, ◌∙◌, subst, arith}
 use Rattle.std.specs.BTreeMap.{BTreeMap, is_at}
 use Rattle.std.specs.Map.{lookup}
 use Rattle.std.specs.Ordering.{nat_cmp}
@@ -12,11 +12,24 @@ use Rattle.sr_world.specs.Runs.{Event, Gives, Closes, Goes, State, first, where_
 use Rattle.sr_world.specs.Worlds.{World, beginning, started}
 use Rattle.sr_plain.specs.Crew.{KeepsLiving, Looks, member_of}
 use Rattle.sr_plain.specs.Engine.{IsEngine, StandsFor}
-use Rattle.sr_plain.specs.Order.{IsOrdered}
+use Rattle.sr_plain.specs.Ready.{AreAside}
+use Rattle.sr_plain.specs.Waiting.{is_woken, waits, wakes}
+use Rattle.sr_plain.specs.declared.change.Change.TheVariants.{Everything}
+use Rattle.sr_plain.specs.declared.change.Woken.{Woken}
+use Rattle.sr_plain.specs.declared.waiters.Waiters.{Waiters}
+use Rattle.sr_plain.specs.Waking.{WakesUp}
+use Rattle.sr_plain.proofs.AsideLemmas.{aside_input, aside_woken}
 use Rattle.sr_plain.specs.declared.member.Member.{Member}
 use Rattle.sr_plain.specs.declared.plain.Plain.{Plain}
 use Rattle.sr_plain.proofs.LedLemmas.{last-more, led-more}
 use Rattle.sr_plain.proofs.TurnLemmas.{kept-stands, looked-stands}
+
+-- where everyone is woken nobody is aside
+pub everyone : (core : Core) (limit : ℕ) (state : State) (waiters : Waiters) (woken : Option Woken) (w : Woken) → woken ≡ Some w → w.change ≡ Everything → AreAside core limit state waiters woken
+everyone core limit state waiters woken w is everything = record { aside = λ q s lives unready unwoken. absurd (true≢false (sym (woken-all q) ∙ unwoken)) }
+  where
+    woken-all : (q : ℕ) → is_woken waiters woken q ≡ true
+    woken-all q = ap (λ o. is_woken waiters o q) is ∙ ap (λ c. wakes c (λ k. waits waiters k q) || (w.caller == q || w.made == q)) everything
 
 module _ {A : Type 0} (after : A → List Answer → Asks) (can_feed : A → Type 0) (core : Core) (limit : ℕ) where
   pub looked_engine : (state : State) (events : List Event) (start : Start) (plain : Plain A) (crew : BTreeMap ℕ (Member A)) → IsEngine after can_feed core limit state events plain
@@ -27,6 +40,7 @@ module _ {A : Type 0} (after : A → List Answer → Asks) (can_feed : A → Typ
     ticks = engine.ticks;
     last = engine.last;
     stands = looked-stands after can_feed core limit state events start plain.crew crew engine.stands lives looks;
+    aside = engine.aside;
   }
 
   -- after some that have ended left it stands as before
@@ -37,17 +51,36 @@ module _ {A : Type 0} (after : A → List Answer → Asks) (can_feed : A → Typ
     ticks = engine.ticks;
     last = engine.last;
     stands = kept-stands after can_feed core limit state events plain.crew crew engine.stands (subst (λ w. KeepsLiving w plain.crew crew) engine.world keeps);
+    aside = engine.aside;
   }
 
-  pub engine_order : (state : State) (events : List Event) (plain : Plain A) (engine : IsEngine after can_feed core limit state events plain) → IsOrdered plain.world engine.stands.next
-  engine_order state events plain engine = subst (λ w. IsOrdered w engine.stands.next) (sym engine.world) engine.stands.order
+  -- those whom the last step woke are ready
+  pub woken_engine : (state : State) (events : List Event) (plain : Plain A) → IsEngine after can_feed core limit state events plain → (woken : Woken) → plain.woken ≡ Some woken → (waiters : Waiters)
+      → WakesUp plain.world woken plain.waiters waiters → IsEngine after can_feed core limit state events (record plain { waiters = waiters; woken = None })
+  woken_engine state events plain engine woken is waiters wakes_up = record {
+    world = engine.world;
+    ticks = engine.ticks;
+    last = engine.last;
+    stands = engine.stands;
+    aside = aside_woken core limit state plain.waiters waiters woken (subst (λ w. AreAside core limit state plain.waiters w) is engine.aside) (subst (λ v. WakesUp v woken plain.waiters waiters) engine.world wakes_up);
+  }
+
+  pub awake_engine : (state : State) (events : List Event) (plain : Plain A) → IsEngine after can_feed core limit state events plain → plain.woken ≡ None → IsEngine after can_feed core limit state events (record plain { woken = None })
+  awake_engine state events plain engine is = record {
+    world = engine.world;
+    ticks = engine.ticks;
+    last = engine.last;
+    stands = engine.stands;
+    aside = subst (λ w. AreAside core limit state plain.waiters w) is engine.aside;
+  }
 
   nobody : (crew : BTreeMap ℕ (Member A)) → crew.entries ≡ [] → (q : ℕ) → member_of crew q ≡ None
   nobody crew empty q = ap (lookup (is_at (nat_cmp q))) empty
 
   -- an engine that has just begun stands for the first state
-  pub first_engine : (plain : Plain A) → plain.world ≡ beginning → plain.ticks ≡ limit → plain.last ≡ 0 → plain.crew.entries ≡ [] → IsEngine after can_feed core limit first [] plain
-  first_engine plain world ticks last empty = record {
+  pub first_engine : (plain : Plain A) → plain.world ≡ beginning → plain.ticks ≡ limit → plain.last ≡ 0 → plain.crew.entries ≡ [] → (woken : Woken) → plain.woken ≡ Some woken → woken.change ≡ Everything
+      → IsEngine after can_feed core limit first [] plain
+  first_engine plain world ticks last empty woken woken_is everything = record {
     world = world;
     ticks = ticks;
     last = last;
@@ -58,6 +91,7 @@ module _ {A : Type 0} (after : A → List Answer → Asks) (can_feed : A → Typ
       next = 2;
       order = record { counted = (refl, refl); ascend = (omega arith, omega arith) };
     };
+    aside = everyone core limit first plain.waiters plain.woken woken woken_is everything;
   }
 
   module _ (state : State) (events : List Event) (plain : Plain A) (engine : IsEngine after can_feed core limit state events plain) (open_input : state.world.ended ≡ false) where
@@ -75,6 +109,7 @@ module _ {A : Type 0} (after : A → List Answer → Asks) (can_feed : A → Typ
         next = engine.stands.next;
         order = record { counted = engine.stands.order.counted; ascend = engine.stands.order.ascend };
       };
+      aside = aside_input core limit state (state.world.rest ++ bytes) state.world.ended plain.waiters plain.woken engine.aside;
     }
 
     pub closed_engine : (w' : World) → w' ≡ without_more plain.world
@@ -91,4 +126,5 @@ module _ {A : Type 0} (after : A → List Answer → Asks) (can_feed : A → Typ
         next = engine.stands.next;
         order = record { counted = engine.stands.order.counted; ascend = engine.stands.order.ascend };
       };
+      aside = aside_input core limit state state.world.rest true plain.waiters plain.woken engine.aside;
     }

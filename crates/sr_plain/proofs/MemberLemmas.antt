@@ -1,33 +1,42 @@
--- The member of a crew whose request the machine carries out, and who stands at a place.
-use Rattle.std.proofs.Common.{◌≡◌, ◌-◌, ◌++◌, ℕ, true, false, List, [], ◌∷◌, drop, take, length, Option, Some, None, IsSome, refl, ap, sym, ◌∙◌, subst, arith, true≢false}
+-- The member of a crew whose request the machine carries out, and whose turn it is.
+use Rattle.std.proofs.Common.{◌≡◌, ℕ, Bool, true, false, cond, List, [], ◌∷◌, Option, Some, None, IsSome, refl, ap, sym, ◌∙◌, subst, true≢false}
 use Rattle.std.specs.BTreeMap.{BTreeMap}
-use Rattle.std.specs.Prelude.{Result, Ok, Err, find, slice_get}
+use Rattle.std.specs.Prelude.{IfNone, Result, Ok, Err, find}
 use Rattle.sr_ask.specs.declared.answer.Answer.{Answer}
 use Rattle.sr_ask.specs.declared.ask.Ask.{Ask}
 use Rattle.sr_ask.specs.declared.ask.Asks.{Asks}
 use Rattle.sr_ask.specs.declared.ask.Asks.TheVariants.{Asked, OverTicks}
 use Rattle.sr_ask.specs.declared.start.Start.{Start}
 use Rattle.sr_core.specs.declared.component.Core.{Core}
+use Rattle.sr_core.specs.declared.owner.Me.{Me}
 use Rattle.sr_meaning.specs.Processes.{ask}
 use Rattle.sr_value.specs.declared.memory.NoMemory.{NoMemory}
 use Rattle.sr_world.specs.Acting.{Acts}
-use Rattle.sr_world.specs.Names.{made_after}
-use Rattle.sr_world.specs.Runs.{Event, State, asks_next, is_blocked, no_step}
+use Rattle.sr_world.specs.Does.{Does, Did, Makes, Cannot, Ends, Undecided}
+use Rattle.sr_world.specs.Runs.{Event, State, asks_next, no_step}
 use Rattle.sr_world.specs.Steps.{does}
 use Rattle.sr_world.specs.Worlds.{World, started}
 use Rattle.sr_world.specs.declared.acted.Acted.{Acted}
+use Rattle.sr_world.specs.declared.acted.Acted.TheVariants as acted
+use Rattle.sr_world.specs.Callers.{caller_in}
 use Rattle.sr_plain.specs.Carrying.{Names}
-use Rattle.sr_plain.specs.Crew.{IsAsking, Looks, member_of}
+use Rattle.sr_plain.specs.Crew.{Looks, member_of}
 use Rattle.sr_plain.specs.Engine.{Comes, IsCarried, IsEngine, Steps, Tries, last_in}
-use Rattle.sr_plain.specs.Turns.{takes_turn, turn}
+use Rattle.sr_plain.specs.Noting.{NotesBy}
+use Rattle.sr_plain.specs.Ready.{AreAside, me_at}
+use Rattle.sr_plain.specs.Turns.{takes_turn, turn, turn_of}
+use Rattle.sr_plain.specs.Waiting.{IsNextAfter, IsTakenOut, is_ready}
+use Rattle.sr_plain.specs.declared.change.Woken.{Woken}
 use Rattle.sr_plain.specs.declared.member.Member.{Member}
 use Rattle.sr_plain.specs.declared.plain.Plain.{Plain}
 use Rattle.sr_plain.specs.declared.plainly.Plainly.{Plainly}
 use Rattle.sr_plain.specs.declared.plainly.Plainly.TheVariants as plainly
+use Rattle.sr_plain.specs.declared.waiters.Waiters.{Waiters}
 use Rattle.sr_plain.proofs.AnswerLemmas.{is_over}
+use Rattle.sr_plain.proofs.AsideLemmas.{aside_out, noted_aside, noted_is}
 use Rattle.sr_plain.proofs.EngineLemmas.{looked_engine}
-use Rattle.sr_plain.proofs.LedLemmas.{place-started}
-use Rattle.sr_plain.proofs.WalkLemmas.{all_blocked, found_first, found_second, none_here, one_here, rest_of_list}
+use Rattle.sr_plain.proofs.NextLemmas.{found-turn, no-turn-of, nobody-steps}
+use Rattle.sr_plain.proofs.TurnLemmas.{kept-is}
 
 module _ {A : Type 0} (after : A → List Answer → Asks) (can_feed : A → Type 0) (core : Core) (limit : ℕ) (state : State) (events : List Event) where
   -- ---- what a call answered
@@ -44,118 +53,128 @@ module _ {A : Type 0} (after : A → List Answer → Asks) (can_feed : A → Typ
 
   -- ---- a member
 
-  module _ (start : Start) (plain : Plain A) (engine : IsEngine after can_feed core limit state events plain) (lives : started state.world start.process ≡ Some start) (p : ℕ) (p-is : p ≡ start.process)
-      (asking : IsAsking p plain.crew) where
-    here-is : (m : Member A) → Some m ≡ member_of plain.crew p → member_of plain.crew start.process ≡ Some m
-    here-is m here = subst (λ q. member_of plain.crew q ≡ Some m) p-is (sym here)
+  module _ (start : Start) (plain : Plain A) (engine : IsEngine after can_feed core limit state events plain) (lives : started state.world start.process ≡ Some start) (me : Me) (me_is : me ≡ me_at start) where
+    process-is : me.process ≡ start.process
+    process-is = ap (λ (m : Me). m.process) me_is
 
-    pub carried_of : (m : Member A) → Some m ≡ member_of plain.crew p → (asks : Ask) → m.asks ≡ Some (Asked asks) → (w' : World) (name : ℕ) (acted : Acted)
-        → Acts (does core plain.world p asks name) plain.world w' (Ok acted) → Names (does core plain.world p asks name) plain.world name
-        → IsCarried after can_feed core limit state events start name acted (record plain { world = w' })
-    carried_of m here asks known w' name acted acts names = record {
-      member = m;
-      asks = asks;
-      here = here-is m here;
-      asked = known;
-      lives = lives;
-      acts = subst (λ (v : World). Acts (does core v start.process asks name) v w' (Ok acted)) engine.world
-          (subst (λ q. Acts (does core plain.world q asks name) plain.world w' (Ok acted)) p-is acts);
-      names = subst (λ (v : World). Names (does core v start.process asks name) v name) engine.world
-          (subst (λ q. Names (does core plain.world q asks name) plain.world name) p-is names);
+    here-is : (m : Member A) → Some m ≡ member_of plain.crew me.process → member_of plain.crew start.process ≡ Some m
+    here-is m here = subst (λ q. member_of plain.crew q ≡ Some m) process-is (sym here)
+
+    module _ (m : Member A) (here : Some m ≡ member_of plain.crew me.process) (asks : Ask) (known : m.asks ≡ Some (Asked asks)) (w' : World) (name : ℕ) (acted : Acted)
+        (acts : Acts (does core plain.world me.process asks name) plain.world w' (Ok acted)) (names : Names (does core plain.world me.process asks name) plain.world name)
+        (waiters : Waiters) (woken : Option Woken) (caller : ℕ) (caller_is : caller ≡ caller_in plain.world me.process asks.request)
+        (notes : NotesBy core me asks caller name acted plain.waiters waiters woken) (ready : is_ready plain.waiters me.process ≡ true) (awake : plain.woken ≡ None) where
+      acts-is : Acts (does core state.world start.process asks name) state.world w' (Ok acted)
+      acts-is =
+          subst (λ (v : World). Acts (does core v start.process asks name) v w' (Ok acted)) engine.world
+          (subst (λ q. Acts (does core plain.world q asks name) plain.world w' (Ok acted)) process-is acts)
+
+      caller-is : caller ≡ caller_in state.world start.process asks.request
+      caller-is = caller_is ∙ ap (λ q. caller_in plain.world q asks.request) process-is ∙ ap (λ (v : World). caller_in v start.process asks.request) engine.world
+
+      notes-is : NotesBy core (me_at start) asks caller name acted plain.waiters waiters woken
+      notes-is = subst (λ (x : Me). NotesBy core x asks caller name acted plain.waiters waiters woken) me_is notes
+
+      asked-is : asks_next core limit state start ≡ Asked asks
+      asked-is = sym (kept-is after can_feed core limit state events start plain.crew m engine.stands lives (here-is m here) (Asked asks) known).0
+
+      pub carried_of : IsCarried after can_feed core limit state events start name acted (record plain { world = w'; waiters = waiters; woken = woken })
+      carried_of = record {
+        member = m;
+        asks = asks;
+        here = here-is m here;
+        asked = known;
+        lives = lives;
+        acts = acts-is;
+        names = subst (λ (v : World). Names (does core v start.process asks name) v name) engine.world
+            (subst (λ q. Names (does core plain.world q asks name) plain.world name) process-is names);
+        ticks = engine.ticks;
+        last = engine.last;
+        stands = engine.stands;
+        aside = noted_aside core limit state start asks name lives caller caller-is plain.waiters waiters woken w' acted asked-is notes-is acts-is
+            (subst (λ w. AreAside core limit state plain.waiters w) awake engine.aside);
+        noted = noted_is core limit state start asks name lives caller caller-is plain.waiters waiters woken w' acted notes-is (subst (λ q. is_ready plain.waiters q ≡ true) process-is ready);
+      }
+
+    pub over_of : (m : Member A) → Some m ≡ member_of plain.crew me.process → m.asks ≡ Some OverTicks
+        → Tries after can_feed core limit state events (find (takes_turn core limit state) (start ∷ [])) (Ok (Some (plainly.Over me.process))) plain
+    over_of m here known =
+        subst (λ q. Tries after can_feed core limit state events (find (takes_turn core limit state) (start ∷ [])) (Ok (Some (plainly.Over q))) plain) (sym process-is)
+        (is_over after can_feed core limit state events start plain m engine lives (here-is m here) known)
+
+  -- ---- who is ready
+
+  pub live_is : (plain : Plain A) → IsEngine after can_feed core limit state events plain → (p : ℕ) (o : Option Start) → o ≡ started plain.world p → started state.world p ≡ o
+  live_is plain engine p o is = sym (is ∙ ap (λ (w : World). started w p) engine.world)
+
+  -- one that has ended
+  pub ended_tries : (plain : Plain A) → IsEngine after can_feed core limit state events plain → plain.woken ≡ None → (p : ℕ) → started state.world p ≡ None → (waiters : Waiters) → IsTakenOut p plain.waiters waiters
+      → Tries after can_feed core limit state events (turn_of core limit state (started state.world p)) (Ok None) (record plain { waiters = waiters })
+  ended_tries plain engine awake p ended waiters out = (
+    ap (turn_of core limit state) ended,
+    record {
+      world = engine.world;
       ticks = engine.ticks;
       last = engine.last;
       stands = engine.stands;
-    }
+      aside = subst (λ w. AreAside core limit state waiters w) (sym awake) (aside_out core limit state p plain.waiters waiters ended out (subst (λ w. AreAside core limit state plain.waiters w) awake engine.aside));
+    },
+  )
 
-    pub over_of : (m : Member A) → Some m ≡ member_of plain.crew p → m.asks ≡ Some OverTicks
-        → Tries after can_feed core limit state events (find (takes_turn core limit state) (start ∷ [])) (Ok (Some (plainly.Over p))) plain
-    over_of m here known =
-        subst (λ q. Tries after can_feed core limit state events (find (takes_turn core limit state) (start ∷ [])) (Ok (Some (plainly.Over q))) plain) (sym p-is)
-        (is_over after can_feed core limit state events start plain m engine lives (here-is m here) known)
-
-    pub never_unknown : (m : Member A) → Some m ≡ member_of plain.crew p → m.asks ≡ None → ⊥
-    never_unknown m here unknown =
-        let there = asking.here in
-        let same : asking.member ≡ m = cc in
-        let none : asking.member.asks ≡ None = ap (λ (x : Member A). x.asks) same ∙ unknown in
-        true≢false (sym (subst (λ (o : Option Asks). IsSome o) none asking.known))
-
-    pub never_absent : None ≡ member_of plain.crew p → ⊥
-    never_absent absent = let there = asking.here in absurd (cc)
-
-  -- ---- a place
-
-  module _ (plain : Plain A) (engine : IsEngine after can_feed core limit state events plain) (place : ℕ) where
-    pub none_at : None ≡ slice_get plain.world.live place
-        → Tries after can_feed core limit state events (find (takes_turn core limit state) (take 1 (drop place state.world.live))) (Ok None) plain
-    none_at none =
-        let there : slice_get state.world.live place ≡ None = sym (none ∙ ap (λ (v : World). slice_get v.live place) engine.world) in
-        (ap (find (takes_turn core limit state)) (none_here state.world.live place there), engine)
-
-    module _ (s : Start) (is : Some s ≡ slice_get plain.world.live place) where
-      stands_there : slice_get state.world.live place ≡ Some s
-      stands_there = sym (is ∙ ap (λ (v : World). slice_get v.live place) engine.world)
-
-      pub lives_at : started state.world s.process ≡ Some s
-      lives_at = place-started core limit events state engine.stands.leads place s stands_there
-
-      pub looked_at : (crew : BTreeMap ℕ (Member A)) → Looks after can_feed (ask core s plain.ticks) s.process plain.crew crew → IsEngine after can_feed core limit state events (record plain { crew = crew })
-      looked_at crew looks =
-          looked_engine after can_feed core limit state events s plain crew engine lives_at (subst (λ t. Looks after can_feed (ask core s t) s.process plain.crew crew) engine.ticks looks)
-
-      pub tried_at : (r : Result (Option Plainly) NoMemory) (plain' : Plain A) → Tries after can_feed core limit state events (find (takes_turn core limit state) (s ∷ [])) r plain'
-          → Tries after can_feed core limit state events (find (takes_turn core limit state) (take 1 (drop place state.world.live))) r plain'
-      tried_at r plain' tries =
-          subst (λ xs. Tries after can_feed core limit state events (find (takes_turn core limit state) xs) r plain') (sym (one_here state.world.live place s stands_there)) tries
+  pub lives_tries : (p : ℕ) (s : Start) (r : Result (Option Plainly) NoMemory) (plain' : Plain A) → started state.world p ≡ Some s → Tries after can_feed core limit state events (find (takes_turn core limit state) (s ∷ [])) r plain'
+      → Tries after can_feed core limit state events (turn_of core limit state (started state.world p)) r plain'
+  lives_tries p s r plain' lives tries = subst (λ o. Tries after can_feed core limit state events (turn_of core limit state o) r plain') (sym lives) tries
 
   -- ---- the whole walk
 
-  module _ (plain : Plain A) (engine : IsEngine after can_feed core limit state events plain) (from to : ℕ) (from_is : from ≡ made_after plain.world plain.last) (to_is : to ≡ length plain.world.live) where
-    walk_is : turn core limit state (last_in events) ≡ find (takes_turn core limit state) (drop from state.world.live ++ take from state.world.live)
-    walk_is =
-        let same : made_after state.world (last_in events) ≡ from = sym (from_is ∙ ap (λ (v : World). made_after v plain.last) engine.world ∙ ap (made_after state.world) engine.last) in
-        ap (λ k. find (takes_turn core limit state) (drop k state.world.live ++ take k state.world.live)) same
+  module _ (plain : Plain A) (engine : IsEngine after can_feed core limit state events plain) (awake : plain.woken ≡ None) where
+    aside-now : AreAside core limit state plain.waiters None
+    aside-now = subst (λ w. AreAside core limit state plain.waiters w) awake engine.aside
 
-    after_is : take (to - from) (drop from state.world.live) ≡ drop from state.world.live
-    after_is =
-        let same : to ≡ length state.world.live = to_is ∙ ap (λ (v : World). length v.live) engine.world in
-        ap (λ n. take (n - from) (drop from state.world.live)) same ∙ rest_of_list state.world.live from
-
-    before_is : take (from - 0) (drop 0 state.world.live) ≡ take from state.world.live
-    before_is = let same : from - 0 ≡ from = omega arith in ap (λ n. take n (drop 0 state.world.live)) same ∙ ap (take from) (all state.world.live)
-      where
-        all : (xs : List Start) → drop 0 xs ≡ xs
-        all [] = refl
-        all (x ∷ xs) = refl
-
-    pub first_range : (plainly : Plainly) (plain' : Plain A)
-        → Tries after can_feed core limit state events (find (takes_turn core limit state) (take (to - from) (drop from state.world.live))) (Ok (Some plainly)) plain'
+    pub ready_steps : (p : ℕ) (plainly : Plainly) (plain' : Plain A) → IsNextAfter plain.waiters plain.last p → Tries after can_feed core limit state events (turn_of core limit state (started state.world p)) (Ok (Some plainly)) plain'
         → Steps after can_feed core limit state events (turn core limit state (last_in events)) (Ok plainly) plain'
-    first_range plainly plain' tries =
-        let some : IsSome (find (takes_turn core limit state) (drop from state.world.live)) = subst (λ xs. IsSome (find (takes_turn core limit state) xs)) after_is tries.0 in
-        let whose = walk_is ∙ found_first (takes_turn core limit state) (drop from state.world.live) (take from state.world.live) some ∙ ap (find (takes_turn core limit state)) (sym after_is) in
-        subst (λ t. Comes after can_feed core limit state events t plainly plain') (sym whose) tries.1
+    ready_steps p plainly plain' is tries = by (started state.world p) refl tries
+      where
+        next-is : IsNextAfter plain.waiters (last_in events) p
+        next-is = subst (λ n. IsNextAfter plain.waiters n p) engine.last is
 
-    module _ (none : find (takes_turn core limit state) (take (to - from) (drop from state.world.live)) ≡ None) where
-      none_after : find (takes_turn core limit state) (drop from state.world.live) ≡ None
-      none_after = ap (find (takes_turn core limit state)) (sym after_is) ∙ none
+        taken : (s : Start) → started state.world p ≡ Some s → (b : Bool) → takes_turn core limit state s ≡ b → IsSome (cond b (Some s) None) × Comes after can_feed core limit state events (cond b (Some s) None) plainly plain'
+            → Comes after can_feed core limit state events (turn core limit state (last_in events)) plainly plain'
+        taken s lives true takes h =
+            subst (λ t. Comes after can_feed core limit state events t plainly plain')
+            (sym (found-turn core limit events state engine.stands.leads engine.stands.next engine.stands.order plain.waiters aside-now (last_in events) p s next-is lives takes)) h.1
+        taken s lives false takes h = absurd (true≢false (sym h.0))
 
-      pub second_range : (plainly : Plainly) (plain' : Plain A)
-          → Tries after can_feed core limit state events (find (takes_turn core limit state) (take (from - 0) (drop 0 state.world.live))) (Ok (Some plainly)) plain'
-          → Steps after can_feed core limit state events (turn core limit state (last_in events)) (Ok plainly) plain'
-      second_range plainly plain' tries =
-          let whose = walk_is ∙ found_second (takes_turn core limit state) (drop from state.world.live) (take from state.world.live) none_after ∙ ap (find (takes_turn core limit state)) (sym before_is) in
-          subst (λ t. Comes after can_feed core limit state events t plainly plain') (sym whose) tries.1
+        by : (o : Option Start) → started state.world p ≡ o → Tries after can_feed core limit state events (turn_of core limit state o) (Ok (Some plainly)) plain'
+            → Comes after can_feed core limit state events (turn core limit state (last_in events)) plainly plain'
+        by None ended h = absurd (true≢false (sym h.0))
+        by (Some s) lives h = taken s lives (takes_turn core limit state s) refl h
 
-      module _ (none_before : find (takes_turn core limit state) (take (from - 0) (drop 0 state.world.live)) ≡ None) where
-        before : find (takes_turn core limit state) (take from state.world.live) ≡ None
-        before = ap (find (takes_turn core limit state)) (sym before_is) ∙ none_before
+    pub nobody_ready : ((p : ℕ) → is_ready plain.waiters p ≡ false) → (r : Result Plainly NoMemory) (plain' : Plain A) → Steps after can_feed core limit state events None r plain'
+        → Steps after can_feed core limit state events (turn core limit state (last_in events)) r plain'
+    nobody_ready nobody r plain' steps =
+        subst (λ t. Steps after can_feed core limit state events t r plain')
+        (sym (no-turn-of core limit events state engine.stands.leads engine.stands.next engine.stands.order plain.waiters aside-now (last_in events) nobody)) steps
 
-        pub nobodys_turn : (r : Result Plainly NoMemory) (plain' : Plain A) → Steps after can_feed core limit state events None r plain'
-            → Steps after can_feed core limit state events (turn core limit state (last_in events)) r plain'
-        nobodys_turn r plain' steps =
-            let whose : turn core limit state (last_in events) ≡ None = walk_is ∙ found_second (takes_turn core limit state) (drop from state.world.live) (take from state.world.live) none_after ∙ before in
-            subst (λ t. Steps after can_feed core limit state events t r plain') (sym whose) steps
+    pub nobody_can : ((p : ℕ) → is_ready plain.waiters p ≡ false) → no_step core limit state ≡ true
+    nobody_can nobody = nobody-steps core limit events state engine.stands.leads engine.stands.next engine.stands.order plain.waiters aside-now (last_in events) nobody
 
-        pub nobody_steps : no_step core limit state ≡ true
-        nobody_steps = all_blocked (λ s. is_blocked core state.world s.process (asks_next core limit state s)) state.world.live from none_after before
+-- ---- a look at one that is ready
+
+module _ {A : Type 0} (after : A → List Answer → Asks) (can_feed : A → Type 0) (core : Core) (limit : ℕ) (state : State) (events : List Event) where
+  pub looked_now : (plain : Plain A) → IsEngine after can_feed core limit state events plain → (s : Start) → started state.world s.process ≡ Some s → (crew : BTreeMap ℕ (Member A))
+      → Looks after can_feed (ask core s plain.ticks) s.process plain.crew crew → IsEngine after can_feed core limit state events (record plain { crew = crew })
+  looked_now plain engine s lives crew looks =
+      looked_engine after can_feed core limit state events s plain crew engine lives (subst (λ t. Looks after can_feed (ask core s t) s.process plain.crew crew) engine.ticks looks)
+
+pub if_none : {X : Type 0} {P : Type 0} (o : Option X) → o ≡ None → IfNone o P → P
+if_none None is h = h
+if_none (Some x) is h = absurd (cc)
+
+-- one that can't be done leaves the world as it was
+pub cannot_same : (d : Does) (old new : World) → Acts d old new (Ok acted.Cannot) → new ≡ old
+cannot_same (Did w a) old new acts = absurd acts
+cannot_same (Makes w a) old new acts = absurd acts
+cannot_same Cannot old new acts = acts
+cannot_same (Ends ending) old new acts = absurd acts
+cannot_same Undecided old new acts = absurd acts

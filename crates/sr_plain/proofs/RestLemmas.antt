@@ -19,7 +19,10 @@ use Rattle.sr_plain.specs.Engine.{Comes, IsEngine}
 use Rattle.sr_plain.specs.Leaving.{Leaves, LeavesIf}
 use Rattle.sr_plain.specs.declared.plain.Plain.{Plain}
 use Rattle.sr_plain.specs.declared.plainly.Plainly.TheVariants as plainly
+use Rattle.sr_plain.specs.declared.change.Change.TheVariants.{Everything}
+use Rattle.sr_plain.specs.declared.change.Woken.{Woken}
 use Rattle.sr_plain.proofs.AnswerLemmas.{least-name}
+use Rattle.sr_plain.proofs.EngineLemmas.{everyone}
 use Rattle.sr_plain.proofs.LeaveLemmas.{leaves_at_rest}
 use Rattle.sr_plain.proofs.LedLemmas.{last-more, least-new, least-unused, led-more}
 use Rattle.sr_plain.proofs.OrderLemmas.{ordered-after}
@@ -100,8 +103,8 @@ module _ {A : Type 0} (after : A → List Answer → Asks) (can_feed : A → Typ
     begins w' a Undecided e rest acts least = absurd rest
 
     pub rest_begins : (w' : World) (a : Answer) → Acts (quiesce core name plain.world) plain.world w' (Ok (acted.Done a)) → IsLeastUnused plain.world.used name
-        → Comes after can_feed core limit state events None (plainly.Stepped (Quiesce name) []) (record plain { world = w' })
-    rest_begins w' a acts least =
+        → (woken : Woken) → woken.change ≡ Everything → Comes after can_feed core limit state events None (plainly.Stepped (Quiesce name) []) (record plain { world = w'; woken = Some woken })
+    rest_begins w' a acts least woken all =
         let acts' : Acts (quiesce core name state.world) state.world w' (Ok (acted.Done a)) = subst (λ v. Acts (quiesce core name v) v w' (Ok (acted.Done a))) engine.world acts in
         let least' : IsLeastUnused state.world.used name = subst (λ (v : World). IsLeastUnused v.used name) engine.world least in
         let b = begins w' a (quiesce core name state.world) refl (at-rest core name state.world) acts' least' in
@@ -118,6 +121,7 @@ module _ {A : Type 0} (after : A → List Answer → Asks) (can_feed : A → Typ
             ticks = engine.ticks;
             last = engine.last ∙ sym (last-more events (Makes_item (Quiesce name)));
             stands = rested-stands after can_feed core limit state events plain.crew engine.stands (record state { world = w' }) name [] (Quiesce name) refl b.1 (least-unused state.world name least') b.0 order.0 order.1;
+            aside = everyone core limit rested_state plain.waiters (Some woken) woken refl all;
           };
         }
 
@@ -132,12 +136,12 @@ module _ {A : Type 0} (after : A → List Answer → Asks) (can_feed : A → Typ
     ends w' given Undecided e rest acts = absurd rest
 
     pub rest_ends : (w' : World) (ending : End) → Acts (quiesce core name plain.world) plain.world w' (Ok (acted.Ends ending))
-        → Comes after can_feed core limit state events None (plainly.Ended (Quiesce 0) ending) (record plain { world = w' })
-    rest_ends w' ending acts =
+        → (woken : Woken) → woken.change ≡ Everything → Comes after can_feed core limit state events None (plainly.Ended (Quiesce 0) ending) (record plain { world = w'; woken = Some woken })
+    rest_ends w' ending acts woken all =
         let acts' : Acts (quiesce core name state.world) state.world w' (Ok (acted.Ends ending)) = subst (λ v. Acts (quiesce core name v) v w' (Ok (acted.Ends ending))) engine.world acts in
         let f = ends w' ending (quiesce core name state.world) refl (at-rest core name state.world) acts' in
-        (record { ends = f.1; turn_of = tt }, record { world = f.0; ticks = engine.ticks; last = engine.last; stands = engine.stands })
+        (record { ends = f.1; turn_of = tt }, record { world = f.0; ticks = engine.ticks; last = engine.last; stands = engine.stands; aside = everyone core limit state plain.waiters (Some woken) woken refl all })
 
     -- after want of memory, or where the machine answers what it never does
     pub same_engine : (w' : World) → w' ≡ plain.world → IsEngine after can_feed core limit state events (record plain { world = w' })
-    same_engine w' same = record { world = same ∙ engine.world; ticks = engine.ticks; last = engine.last; stands = engine.stands }
+    same_engine w' same = record { world = same ∙ engine.world; ticks = engine.ticks; last = engine.last; stands = engine.stands; aside = engine.aside }

@@ -21,6 +21,7 @@ use Rattle.sr_world.specs.declared.ends.End.{End}
 use Rattle.sr_plain.specs.Carrying.{Names}
 use Rattle.sr_plain.specs.Crew.{Plays, member_of}
 use Rattle.sr_plain.specs.Order.{IsOrdered}
+use Rattle.sr_plain.specs.Ready.{AreAside, IsNoted}
 use Rattle.sr_plain.specs.Turns.{IsTurn, last_after}
 use Rattle.sr_plain.specs.declared.member.Member.{Member}
 use Rattle.sr_plain.specs.declared.plain.Plain.{Plain}
@@ -51,13 +52,14 @@ pub record Stands {A : Type 0} (after : A → List Answer → Asks) (can_feed : 
   pub next : ℕ
   pub order : IsOrdered state.world next
 
--- an engine stands for a state
+-- an engine stands for a state, and asks whoever may be able to make a step
 pub record IsEngine {A : Type 0} (after : A → List Answer → Asks) (can_feed : A → Type 0) (core : Core) (limit : ℕ) (state : State) (events : List Event)
     (plain : Plain A) : Type 0 where
   pub world : plain.world ≡ state.world
   pub ticks : plain.ticks ≡ limit
   pub last : plain.last ≡ last_in events
   pub stands : Stands after can_feed core limit state events plain.crew
+  pub aside : AreAside core limit state plain.waiters plain.woken
 
 -- the machine has carried out what a process asks, and it isn't answered yet
 pub record IsCarried {A : Type 0} (after : A → List Answer → Asks) (can_feed : A → Type 0) (core : Core) (limit : ℕ) (state : State) (events : List Event)
@@ -72,6 +74,8 @@ pub record IsCarried {A : Type 0} (after : A → List Answer → Asks) (can_feed
   pub ticks : plain.ticks ≡ limit
   pub last : plain.last ≡ last_in events
   pub stands : Stands after can_feed core limit state events plain.crew
+  pub aside : AreAside core limit state plain.waiters None
+  pub noted : IsNoted core state.world start asks name acted plain.waiters plain.woken
 
 -- ---- what a step does
 

@@ -1,7 +1,12 @@
 pub mod Carrying
+pub mod Changes
 pub mod Crew
 pub mod Engine
 pub mod Leaving
+pub mod Noting
 pub mod Order
+pub mod Ready
 pub mod Rotation
 pub mod Turns
+pub mod Waiting
+pub mod Waking

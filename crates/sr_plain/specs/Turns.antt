@@ -20,6 +20,11 @@ takes_turn core limit state start = not (is_blocked core state.world start.proce
 abbrev pub turn : Core → ℕ → State → ℕ → Option Start
 turn core limit state last = find (takes_turn core limit state) (walk state.world last)
 
+-- a process, where it lives and takes its turn
+abbrev pub turn_of : Core → ℕ → State → Option Start → Option Start
+turn_of core limit state None = None
+turn_of core limit state (Some start) = find (takes_turn core limit state) (start ∷ [])
+
 -- ---- rotation
 
 -- a step that makes something gives it the least unused number

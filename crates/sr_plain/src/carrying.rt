@@ -1,6 +1,7 @@
 ghost use Rattle.std.specs.Prelude.{◌≡◌, ℕ, IfOk, OnErr, Ok};
 ghost use Rattle.sr_plain.specs.Carrying.{Names, written_of};
 ghost use Rattle.sr_world.specs.Acting.{Acts, NeedsNew};
+ghost use Rattle.sr_world.specs.Callers.{caller_in};
 ghost use Rattle.sr_world.specs.Does.{Does as what};
 ghost use Rattle.sr_world.specs.Names.{IsLeastUnused};
 ghost use Rattle.sr_world.specs.Steps.{does};
@@ -11,10 +12,11 @@ use sr_value::{NoMemory, Text};
 use sr_world::{Acted, World};
 use std::alloc::Global;
 
-/// What the machine did, and the number of the step.
+/// What the machine did, the number of the step, and who waited for what was answered.
 #[derive(Drop)]
 pub struct Carried {
     pub name: u32,
+    pub caller: u32,
     pub acted: Acted,
 }
 
@@ -49,11 +51,17 @@ fn name_for(world: &World, core: &Core, ask: &Ask) -> Result<u32, NoMemory>
 pub fn carry_out(world: &mut World, core: &Core, actor: u32, ask: &Ask) -> Result<Carried, NoMemory>
     ensures acts { IfOk result (λ carried. Acts (does core.now world.old actor ask.now carried.name) world.old world.new (Ok carried.acted)) }
     ensures names { IfOk result (λ carried. Names (does core.now world.old actor ask.now carried.name) world.old carried.name) }
+    ensures caller { IfOk result (λ carried. carried.caller ≡ caller_in world.old actor ask.now.request) }
     ensures err { OnErr result (world.new ≡ world.old) }
 {
     let name = name_for(world, core, ask)?;
+    let caller = world.caller(actor, &ask.request);
     let acted = world.act(core, actor, ask, name)?;
-    Ok(Carried { name, acted })
+    Ok(Carried {
+        name,
+        caller,
+        acted,
+    })
 }
 
 /// What a process wrote that asked so.

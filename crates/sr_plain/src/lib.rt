@@ -1,12 +1,16 @@
 //! The engine on one thread: it asks the processes in turn, and the machine carries out what they ask.
 #![tactic(auto)]
 
+mod aside;
 mod carrying;
+mod change;
 mod crew;
 pub mod laws;
 mod member;
 mod plain;
 mod plainly;
+mod waiters;
+mod waking;
 
 pub use plain::Plain;
 pub use plainly::Plainly;

@@ -1,18 +1,25 @@
-ghost use Rattle.std.specs.Prelude.{◌≡◌, ◌<◌, ◌≤◌, ◌-◌, ◌∷◌, ◌++◌, ℕ, [], List, IfOk, None, Ok, OnErr, OnOk, Some, drop, false, find, length, take, true};
+ghost use Rattle.std.specs.Prelude.{◌≡◌, ◌<◌, ◌∷◌, ◌++◌, ℕ, [], List, IfNone, IfOk, None, Ok, OnErr, OnOk, Some, false, find, true};
+ghost use Rattle.std.specs.BTreeSet.{btree_set_len};
 ghost use Rattle.sr_ask.specs.declared.start.Start as starts;
 ghost use Rattle.sr_plain.specs.Crew.{IsAsking};
+ghost use Rattle.sr_plain.specs.Ready.{me_at};
+ghost use Rattle.sr_plain.specs.Turns.{takes_turn, turn, turn_of};
+ghost use Rattle.sr_plain.specs.Waiting.{is_ready};
 ghost use Rattle.sr_world.specs.Runs.{State, Event, Closes, Gives, first, no_step, with_input, without_more};
 ghost use Rattle.sr_world.specs.Worlds.{started};
-ghost use Rattle.sr_plain.specs.Order.{IsOrdered, IsSplit};
-ghost use Rattle.sr_plain.specs.Turns.{takes_turn, turn};
-ghost use Rattle.sr_world.specs.Names.{made_after};
+ghost use Rattle.sr_world.specs.declared.acted.Acted.TheVariants.{Cannot};
 
+use crate::aside::note;
 use crate::carrying::{Carried, carry_out, new_name, written};
+use crate::change::Woken;
 use crate::crew::{answer, let_go, look};
 use crate::member::Member;
 use crate::plainly::Plainly;
+use crate::waiters::Waiters;
+use crate::waking::wake_up;
 use sr_actor::Actor;
 use sr_ask::{Asks, Item};
+use sr_core::Me;
 use sr_value::{NoMemory, Text};
 use sr_world::{Acted, World};
 use std::alloc::Global;
@@ -29,6 +36,10 @@ pub struct Plain<A> {
     pub(crate) crew: BTreeMap<u32, Member<A>>,
     /// Who made the last step, or 0.
     pub(crate) last: u32,
+    /// Who is asked in turn, and where the others wait.
+    pub(crate) waiters: Waiters,
+    /// Whom the last step woke, until they are made ready.
+    pub(crate) woken: Option<Woken>,
 }
 
 impl<A: Actor> Plain<A> {
@@ -45,6 +56,8 @@ impl<A: Actor> Plain<A> {
             ticks,
             crew: BTreeMap::new(alloc),
             last: 0,
+            waiters: Waiters::new(alloc),
+            woken: Some(Woken::everyone()),
         })
     }
 
@@ -75,6 +88,7 @@ impl<A: Actor> Plain<A> {
         ensures { (limit : ℕ) (state : State) (events : List Event) → IsEngine (A.asks_after program.now) A.can_feed (A.core_of program.now) limit state events self.old → Steps (A.asks_after program.now) A.can_feed (A.core_of program.now) limit state events (turn (A.core_of program.now) limit state (last_in events)) result self.new }
     {
         self.let_go()?;
+        self.wake_up()?;
         self.take_turn(program)
     }
 
@@ -89,118 +103,89 @@ impl<A: Actor> Plain<A> {
         let_go(&mut self.crew, self.alloc, &self.world)
     }
 
-    /// Asks the processes in turn.
+    /// Makes ready whom the last step woke.
+    fn wake_up(&mut self) -> Result<(), NoMemory>
+        ensures engine { OnOk result ((program : A.Program) (limit : ℕ) (state : State) (events : List Event) → IsEngine (A.asks_after program) A.can_feed (A.core_of program) limit state events self.old → IsEngine (A.asks_after program) A.can_feed (A.core_of program) limit state events self.new) }
+        ensures awake { OnOk result (self.new.woken ≡ None) }
+        ensures world { self.new.world ≡ self.old.world }
+    {
+        match self.woken {
+            Some(woken) => {
+                wake_up(&mut self.waiters, &self.world, woken)?;
+                self.woken = None;
+                Ok(())
+            }
+            None => Ok(()),
+        }
+    }
+
+    /// Asks in turn those who may be able to make a step.
     fn take_turn(&mut self, program: &A::Program) -> Result<Plainly, NoMemory>
+        requires { self.old.woken ≡ None }
         ensures { (limit : ℕ) (state : State) (events : List Event) → IsEngine (A.asks_after program.now) A.can_feed (A.core_of program.now) limit state events self.old → Steps (A.asks_after program.now) A.can_feed (A.core_of program.now) limit state events (turn (A.core_of program.now) limit state (last_in events)) result self.new }
     {
-        let from = self.place_after();
-        let to = self.world.len();
-        if let Some(plainly) = self.try_range(program, from, to)? {
-            return Ok(plainly);
-        }
-        if let Some(plainly) = self.try_range(program, 0, from)? {
-            return Ok(plainly);
+        while let Some(process) = self.waiters.next_after(self.last) {
+            if let Some(plainly) = self.try_ready(program, process)? {
+                return Ok(plainly);
+            }
         }
         self.come_to_rest(program)
     }
 
-    /// The place of the first living process that was made after the last actor.
-    fn place_after(&self) -> usize
-        ensures { (next : ℕ) → IsOrdered self.now.world next → result ≡ made_after self.now.world self.now.last }
+    /// Asks a process that is ready. It is ready no more where it makes no step.
+    fn try_ready(&mut self, program: &A::Program, process: u32) -> Result<Option<Plainly>, NoMemory>
+        requires ready { is_ready self.old.waiters process ≡ true }
+        requires awake { self.old.woken ≡ None }
+        ensures tries { (limit : ℕ) (state : State) (events : List Event) → IsEngine (A.asks_after program.now) A.can_feed (A.core_of program.now) limit state events self.old → Tries (A.asks_after program.now) A.can_feed (A.core_of program.now) limit state events (turn_of (A.core_of program.now) limit state (started state.world process)) result self.new }
+        ensures less { IfOk result (λ tried. IfNone tried (btree_set_len self.new.waiters.ready < btree_set_len self.old.waiters.ready)) }
+        ensures awake { IfOk result (λ tried. IfNone tried (self.new.woken ≡ None)) }
     {
-        if self.last == 0 {
-            return 0;
-        }
-        let mut low = 0;
-        let mut high = self.world.len();
-        while low < high {
-            let (from, to) = self.halved(low, high);
-            low = from;
-            high = to;
-        }
-        low
-    }
-
-    /// The half of these places in which it stands.
-    fn halved(&self, low: usize, high: usize) -> (usize, usize)
-        requires within { low < high }
-        requires inside { high ≤ length self.now.world.live }
-        ensures low { low ≤ result.0 }
-        ensures within { result.0 ≤ result.1 }
-        ensures high { result.1 ≤ high }
-        ensures less { result.1 - result.0 < high - low }
-        ensures split { (next : ℕ) → IsOrdered self.now.world next → IsSplit self.now.last self.now.world.live low high → IsSplit self.now.last self.now.world.live result.0 result.1 }
-    {
-        let middle = low + (high - low) / 2;
-        match self.world.live_at(middle) {
+        match self.world.started(process) {
             Some(start) => {
-                if self.last < start.process {
-                    return (low, middle);
-                }
-                (middle + 1, high)
-            }
-            None => unreachable!(),
-        }
-    }
-
-    /// Asks those in turn that stand from one place to another in the order of their making.
-    fn try_range(
-        &mut self,
-        program: &A::Program,
-        from: usize,
-        to: usize,
-    ) -> Result<Option<Plainly>, NoMemory>
-        ensures { (limit : ℕ) (state : State) (events : List Event) → IsEngine (A.asks_after program.now) A.can_feed (A.core_of program.now) limit state events self.old → Tries (A.asks_after program.now) A.can_feed (A.core_of program.now) limit state events (find (takes_turn (A.core_of program.now) limit state) (take (to - from) (drop from state.world.live))) result self.new }
-    {
-        for place in from..to {
-            if let Some(plainly) = self.try_at(program, place)? {
-                return Ok(Some(plainly));
-            }
-        }
-        Ok(None)
-    }
-
-    /// Asks who stands there in the order of their making.
-    fn try_at(&mut self, program: &A::Program, place: usize) -> Result<Option<Plainly>, NoMemory>
-        ensures { (limit : ℕ) (state : State) (events : List Event) → IsEngine (A.asks_after program.now) A.can_feed (A.core_of program.now) limit state events self.old → Tries (A.asks_after program.now) A.can_feed (A.core_of program.now) limit state events (find (takes_turn (A.core_of program.now) limit state) (take 1 (drop place state.world.live))) result self.new }
-    {
-        match self.world.live_at(place) {
-            Some(start) => {
-                let process = start.process;
+                let me = Me {
+                    process: start.process,
+                    instance: start.instance,
+                };
                 look(&mut self.crew, program, self.alloc, start, self.ticks)?;
-                self.try_member(program, process)
+                self.try_member(program, me)
             }
-            None => Ok(None),
+            None => {
+                self.waiters.take_out(process);
+                Ok(None)
+            }
         }
     }
 
     /// Has the machine carry out what a process asks that has begun.
-    fn try_member(
-        &mut self,
-        program: &A::Program,
-        process: u32,
-    ) -> Result<Option<Plainly>, NoMemory>
-        ensures { (limit : ℕ) (state : State) (events : List Event) (start : starts.Start) → IsEngine (A.asks_after program.now) A.can_feed (A.core_of program.now) limit state events self.old → started state.world start.process ≡ Some start → process ≡ start.process → IsAsking process self.old.crew → Tries (A.asks_after program.now) A.can_feed (A.core_of program.now) limit state events (find (takes_turn (A.core_of program.now) limit state) (start ∷ [])) result self.new }
+    fn try_member(&mut self, program: &A::Program, me: Me) -> Result<Option<Plainly>, NoMemory>
+        requires asking { IsAsking me.process self.old.crew }
+        ensures tries { (limit : ℕ) (state : State) (events : List Event) (start : starts.Start) → IsEngine (A.asks_after program.now) A.can_feed (A.core_of program.now) limit state events self.old → started state.world start.process ≡ Some start → me ≡ me_at start → is_ready self.old.waiters me.process ≡ true → self.old.woken ≡ None → Tries (A.asks_after program.now) A.can_feed (A.core_of program.now) limit state events (find (takes_turn (A.core_of program.now) limit state) (start ∷ [])) result self.new }
+        ensures less { is_ready self.old.waiters me.process ≡ true → IfOk result (λ tried. IfNone tried (btree_set_len self.new.waiters.ready < btree_set_len self.old.waiters.ready)) }
+        ensures awake { IfOk result (λ tried. IfNone tried (self.new.woken ≡ None)) }
     {
-        match self.crew.get(&process) {
+        match self.crew.get(&me.process) {
             Some(member) => match &member.asks {
                 Some(Asks::Asked(ask)) => {
                     let core = A::core(program);
-                    let carried = carry_out(&mut self.world, core, process, ask)?;
-                    Ok(self.answered(process, carried))
+                    let carried = carry_out(&mut self.world, core, me.process, ask)?;
+                    self.woken = note(&mut self.waiters, core, me, ask, &carried)?;
+                    Ok(self.answered(me.process, carried))
                 }
-                Some(Asks::OverTicks) => Ok(Some(Plainly::Over(process))),
-                None => Ok(None),
+                Some(Asks::OverTicks) => Ok(Some(Plainly::Over(me.process))),
+                None => unreachable!(),
             },
-            None => Ok(None),
+            None => unreachable!(),
         }
     }
 
     /// Hands the process its answer, if it got one.
     fn answered(&mut self, actor: u32, carried: Carried) -> Option<Plainly>
-        ensures { (program : A.Program) (limit : ℕ) (state : State) (events : List Event) (start : starts.Start) → actor ≡ start.process → IsCarried (A.asks_after program) A.can_feed (A.core_of program) limit state events start carried.name carried.acted self.old → Tries (A.asks_after program) A.can_feed (A.core_of program) limit state events (find (takes_turn (A.core_of program) limit state) (start ∷ [])) (Ok result) self.new }
+        ensures tries { (program : A.Program) (limit : ℕ) (state : State) (events : List Event) (start : starts.Start) → actor ≡ start.process → IsCarried (A.asks_after program) A.can_feed (A.core_of program) limit state events start carried.name carried.acted self.old → Tries (A.asks_after program) A.can_feed (A.core_of program) limit state events (find (takes_turn (A.core_of program) limit state) (start ∷ [])) (Ok result) self.new }
+        ensures cannot { IfNone result (carried.acted ≡ Cannot) }
+        ensures waiters { self.new.waiters ≡ self.old.waiters }
+        ensures woken { self.new.woken ≡ self.old.woken }
     {
-        let Carried { name, acted } = carried;
+        let Carried { name, acted, .. } = carried;
         let item = Item::Step { actor, name };
         match acted {
             Acted::Done(given) => {
@@ -220,6 +205,7 @@ impl<A: Actor> Plain<A> {
         ensures { (limit : ℕ) (state : State) (events : List Event) → IsEngine (A.asks_after program.now) A.can_feed (A.core_of program.now) limit state events self.old → no_step (A.core_of program.now) limit state ≡ true → Steps (A.asks_after program.now) A.can_feed (A.core_of program.now) limit state events None result self.new }
     {
         let name = new_name(&self.world)?;
+        self.woken = Some(Woken::everyone());
         match self.world.quiesce(A::core(program), name)? {
             Acted::Done(_) => Ok(Plainly::Stepped {
                 item: Item::Quiesce { name },

@@ -1,5 +1,6 @@
 pub mod Acting
 pub mod Answering
+pub mod Callers
 pub mod Deciding
 pub mod Does
 pub mod Endings

@@ -4,6 +4,7 @@
 mod act;
 mod acted;
 mod answering;
+mod caller;
 mod closing;
 mod deciding;
 mod duty;

@@ -1,0 +1,255 @@
+-- Who is aside stays so, where it isn't woken.
+use Rattle.std.proofs.Common.{◌≡◌, ◌≢◌, ◌⊎◌, inl, inr, ℕ, ◌==◌, ◌||◌, Bool, true, false, cond, List, [], ◌∷◌, ◌++◌, Option, None, Some, refl, ap, sym, ◌∙◌, subst, eq-eqb, eqb-true, true≢false}
+use Rattle.std.specs.BTreeMap as map
+use Rattle.std.specs.BTreeSet.{BTreeSet, contains}
+use Rattle.std.specs.Ordering.{nat_cmp}
+use Rattle.std.specs.Prelude.{Ok, find, option_map, unwrap_or}
+use Rattle.sr_ask.specs.declared.answer.Answer.{Answer}
+use Rattle.sr_ask.specs.declared.ask.Ask.{Ask}
+use Rattle.sr_ask.specs.declared.ask.Asks.TheVariants.{Asked}
+use Rattle.sr_ask.specs.declared.request.Request.{Request}
+use Rattle.sr_ask.specs.declared.request.Request.TheVariants as request
+use Rattle.sr_ask.specs.declared.start.Start.{Start}
+use Rattle.sr_core.specs.declared.component.Core.{Core}
+use Rattle.sr_core.specs.declared.owner.Me.{Me}
+use Rattle.sr_meaning.specs.Processes.{ask}
+use Rattle.sr_processes.specs.Living.{is_process}
+use Rattle.sr_world.proofs.StepLemmas.{same-step}
+use Rattle.sr_world.specs.Acting.{Acts}
+use Rattle.sr_world.specs.Deciding.{can_do}
+use Rattle.sr_world.specs.Does.{Does, Did, Makes, Cannot, Ends, Undecided, IsNot, comes_to}
+use Rattle.sr_world.specs.Runs.{State, asks_next, with_answer}
+use Rattle.sr_world.specs.Selecting.{me_of}
+use Rattle.sr_world.specs.Steps.{does}
+use Rattle.sr_world.specs.Worlds.{World, started}
+use Rattle.sr_world.specs.declared.acted.Acted.{Acted}
+use Rattle.sr_world.specs.declared.acted.Acted.TheVariants as acted
+use Rattle.sr_world.specs.Callers.{caller_in}
+use Rattle.sr_plain.specs.Changes.{change_of}
+use Rattle.sr_plain.specs.Noting.{IsSetAside, NotesBy}
+use Rattle.sr_plain.specs.Ready.{AreAside, IsAside, IsNoted, me_at}
+use Rattle.sr_plain.specs.Waiting.{IsTakenOut, WaitsFor, is_among, is_ready, waits, wakes}
+use Rattle.sr_plain.specs.Waking.{WakesUp}
+use Rattle.sr_plain.specs.declared.change.Woken.{Woken}
+use Rattle.sr_plain.specs.declared.waiters.Waiters.{Waiters}
+use Rattle.sr_plain.proofs.ChangeLemmas.{Keeps, KeepsIf, keeps}
+use Rattle.sr_plain.proofs.WakeLemmas.{as-before, still_waits}
+
+-- ---- who is found
+
+pub find-number : (live : List Start) (q : ℕ) (s : Start) → find (is_process q) live ≡ Some s → q ≡ s.process
+find-number [] q s is = absurd (cc)
+find-number (x ∷ xs) q s is = by (q == x.process) refl is (find-number xs q s)
+  where
+    by : (b : Bool) → (q == x.process) ≡ b → cond b (Some x) (find (is_process q) xs) ≡ Some s → (find (is_process q) xs ≡ Some s → q ≡ s.process) → q ≡ s.process
+    by true same h more = let here : x ≡ s = cc in eqb-true q x.process same ∙ ap (λ (y : Start). y.process) here
+    by false off h more = more h
+
+apart-number : (p q : ℕ) → p ≢ q → (p == q) ≡ false
+apart-number p q off = by (p == q) refl
+  where
+    by : (b : Bool) → (p == q) ≡ b → b ≡ false
+    by true is = absurd (off (eqb-true p q is))
+    by false is = refl
+
+apart-from : (p q : ℕ) → (p == q) ≡ false → q ≢ p
+apart-from p q off same = true≢false (sym (eq-eqb p q (sym same)) ∙ off)
+
+three-off : (a b c : Bool) → (a || (b || c)) ≡ false → (a ≡ false) × (b ≡ false) × (c ≡ false)
+three-off true b c h = absurd (true≢false h)
+three-off false true c h = absurd (true≢false h)
+three-off false false true h = absurd (true≢false h)
+three-off false false false h = (refl, refl, refl)
+
+-- who waits at more places waits as before
+waits-more : (core : Core) (me : Me) (at at' : ℕ → Bool) → ((k : ℕ) → at k ≡ true → at' k ≡ true) → (r : Request) → WaitsFor core me at r → WaitsFor core me at' r
+waits-more core me at at' more (request.Declare block var shape) w = more 0 w
+waits-more core me at at' more (request.Load block var path) w = more 0 w
+waits-more core me at at' more (request.Store block var path value) w = more 0 w
+waits-more core me at at' more (request.Invoke target args wants) w = more 0 w
+waits-more core me at at' more (request.Select site env) w = λ s found number arm is. more _ (w s found number arm is)
+waits-more core me at at' more (request.Take ids) w = tt
+waits-more core me at at' more (request.Reply held back results) w = more 0 w
+waits-more core me at at' more (request.Forward held back target args) w = more 0 w
+waits-more core me at at' more (request.Count op) w = more 0 w
+waits-more core me at at' more (request.Write bytes) w = more 0 w
+waits-more core me at at' more (request.Read kind) w = more 0 w
+waits-more core me at at' more (request.EnsureGlobal global vm) w = more 0 w
+waits-more core me at at' more (request.Create resource args vm) w = more 0 w
+waits-more core me at at' more request.MakeVm w = more 0 w
+waits-more core me at at' more (request.Destroy target) w = more 0 w
+waits-more core me at at' more (request.Finish answered back results) w = more 0 w
+waits-more core me at at' more (request.Stop status) w = more 0 w
+waits-more core me at at' more (request.Fail fault) w = more 0 w
+waits-more core me at at' more request.Age w = more 0 w
+waits-more core me at at' more (request.Wake until) w = tt
+
+module _ (core : Core) (limit : ℕ) (state : State) where
+  waits-on : (old new : Waiters) (s : Start) → ((k : ℕ) → waits old k s.process ≡ true → waits new k s.process ≡ true) → IsAside core limit state old s → IsAside core limit state new s
+  waits-on old new s more was = record {
+    asks = was.asks;
+    asked = was.asked;
+    cannot = was.cannot;
+    waiting = waits-more core (me_at s) (λ k. waits old k s.process) (λ k. waits new k s.process) more was.asks.request was.waiting;
+  }
+
+  -- ---- what is done to the waiters
+
+  pub aside_woken : (old new : Waiters) (woken : Woken) → AreAside core limit state old (Some woken) → WakesUp state.world woken old new → AreAside core limit state new None
+  aside_woken old new woken are wakes_up = record {
+    aside = λ q s lives unready unwoken.
+        waits-on old new s
+        (λ k here. wakes_up.go_on.waiting k s.process (subst (λ n. is_ready new n ≡ false) (find-number state.world.live q s lives) unready) here)
+        (are.aside q s lives (wakes_up.go_on.ready q unready) (wakes_up.unwoken q s lives unready));
+  }
+
+  same-places : (old new : Waiters) → new.aside ≡ old.aside → (k p : ℕ) → waits old k p ≡ true → waits new k p ≡ true
+  same-places old new same k p here = ap (λ (places : map.BTreeMap ℕ (BTreeSet ℕ)). is_among (map.get nat_cmp places k) p) same ∙ here
+
+  -- one that has ended is taken out
+  pub aside_out : (p : ℕ) (old new : Waiters) → started state.world p ≡ None → IsTakenOut p old new → AreAside core limit state old None → AreAside core limit state new None
+  aside_out p old new ended out are = record {
+    aside = λ q s lives unready unwoken.
+        waits-on old new s (λ k here. same-places old new out.waiting k s.process here)
+        (are.aside q s lives (sym (out.others q (apart-number p q (λ same. never q s lives same))) ∙ unready) refl);
+  }
+    where
+      never : (q : ℕ) (s : Start) → started state.world q ≡ Some s → p ≡ q → ⊥
+      never q s lives same = let gone = ap (started state.world) same in let here = ended in absurd (cc)
+
+  -- one that can't go on is set aside
+  pub aside_set : (start : Start) (asks : Ask) (old new : Waiters) → started state.world start.process ≡ Some start → asks_next core limit state start ≡ Asked asks
+      → comes_to (does core state.world start.process asks 0) ≡ IsNot → IsSetAside core (me_at start) asks old new → AreAside core limit state old None → AreAside core limit state new None
+  aside_set start asks old new lives asked cannot set are = record { aside = λ q s is unready unwoken. by q s is unready (start.process == q) refl }
+    where
+      itself : IsAside core limit state new start
+      itself = record {
+        asks = asks;
+        asked = asked;
+        cannot = cannot;
+        waiting = waits-more core (me_at start) (λ k. waits set.between k start.process) (λ k. waits new k start.process) (λ k here. same-places set.between new set.out.waiting k start.process here) asks.request set.waiting.itself;
+      }
+
+      by : (q : ℕ) (s : Start) → started state.world q ≡ Some s → is_ready new q ≡ false → (b : Bool) → (start.process == q) ≡ b → IsAside core limit state new s
+      by q s is unready true same =
+          let number : start.process ≡ q = eqb-true start.process q same in
+          let found : started state.world start.process ≡ Some s = subst (λ n. started state.world n ≡ Some s) (sym number) is in
+          let one : start ≡ s = cc in
+          subst (λ x. IsAside core limit state new x) one itself
+      by q s is unready false off =
+          let was : is_ready old q ≡ false = sym (ap (λ (r : BTreeSet ℕ). contains nat_cmp r q) set.waiting.ready) ∙ sym (set.out.others q off) ∙ unready in
+          waits-on old new s (λ k here. same-places set.between new set.out.waiting k s.process (set.waiting.others k s.process here)) (are.aside q s is was refl)
+
+  -- ---- input
+
+  input-can : (w : World) (rest : List ℕ) (ended : Bool) (p : ℕ) (r : Request) → can_do core w p r ≡ can_do core (record w { rest = rest; ended = ended }) p r
+  input-can w rest ended p (request.Declare block var shape) = refl
+  input-can w rest ended p (request.Load block var path) = refl
+  input-can w rest ended p (request.Store block var path value) = refl
+  input-can w rest ended p (request.Invoke target args wants) = refl
+  input-can w rest ended p (request.Select site env) = refl
+  input-can w rest ended p (request.Take ids) = refl
+  input-can w rest ended p (request.Reply held back results) = refl
+  input-can w rest ended p (request.Forward held back target args) = refl
+  input-can w rest ended p (request.Count op) = refl
+  input-can w rest ended p (request.Write bytes) = refl
+  input-can w rest ended p (request.Read kind) = refl
+  input-can w rest ended p (request.EnsureGlobal global vm) = refl
+  input-can w rest ended p (request.Create resource args vm) = refl
+  input-can w rest ended p request.MakeVm = refl
+  input-can w rest ended p (request.Destroy target) = refl
+  input-can w rest ended p (request.Finish answered back results) = refl
+  input-can w rest ended p (request.Stop status) = refl
+  input-can w rest ended p (request.Fail fault) = refl
+  input-can w rest ended p request.Age = refl
+  input-can w rest ended p (request.Wake until) = refl
+
+  pub aside_input : (rest : List ℕ) (ended : Bool) (waiters : Waiters) (woken : Option Woken) → AreAside core limit state waiters woken
+      → AreAside core limit (record state { world = record state.world { rest = rest; ended = ended } }) waiters woken
+  aside_input rest ended waiters woken are = record {
+    aside = λ q s lives unready unwoken. let was = are.aside q s lives unready unwoken in record {
+      asks = was.asks;
+      asked = was.asked;
+      cannot = as-before core state.world (record state.world { rest = rest; ended = ended }) s.process was.asks.place was.asks.role was.asks.request
+          (input-can state.world rest ended s.process was.asks.request) was.cannot;
+      waiting = was.waiting;
+    };
+  }
+
+  -- ---- a step
+
+  module _ (start : Start) (asks : Ask) (name : ℕ) (lives : started state.world start.process ≡ Some start) where
+    me-is : me_of state.world start.process ≡ me_at start
+    me-is =
+        let f : Option Start → Me = λ o. record { process = start.process; instance = unwrap_or (option_map (λ (s : Start). s.instance) o) 0 } in
+        ap f lives
+
+    done-keeps : (new : World) (a : Answer) (d : Does) → KeepsIf start.process (caller_in state.world start.process asks.request) (change_of core (me_at start) asks) state.world d → Acts d state.world new (Ok (acted.Done a))
+        → Keeps start.process (caller_in state.world start.process asks.request) (change_of core (me_at start) asks a) state.world new
+    done-keeps new a (Did w g) k acts =
+        subst (λ x. Keeps start.process (caller_in state.world start.process asks.request) (change_of core (me_at start) asks x) state.world new) (sym acts.1)
+        (subst (λ x. Keeps start.process (caller_in state.world start.process asks.request) (change_of core (me_at start) asks g) state.world x) (sym acts.0) k)
+    done-keeps new a (Makes w g) k acts =
+        subst (λ x. Keeps start.process (caller_in state.world start.process asks.request) (change_of core (me_at start) asks x) state.world new) (sym acts.1)
+        (subst (λ x. Keeps start.process (caller_in state.world start.process asks.request) (change_of core (me_at start) asks g) state.world x) (sym acts.0) k)
+    done-keeps new a Cannot k acts = absurd acts
+    done-keeps new a (Ends ending) k acts = absurd acts
+    done-keeps new a Undecided k acts = absurd acts
+
+    pub aside_step : (new : World) (a : Answer) (waiters : Waiters) → Acts (does core state.world start.process asks name) state.world new (Ok (acted.Done a))
+        → ((q : ℕ) (s : Start) → started new q ≡ Some s → (started state.world q ≡ Some s) ⊎ (q ≡ name)) → is_ready waiters start.process ≡ true → AreAside core limit state waiters None
+        → AreAside core limit (record { world = new; given = with_answer start.process a state.given }) waiters
+        (Some (record { change = change_of core (me_at start) asks a; caller = caller_in state.world start.process asks.request; made = name }))
+    aside_step new a waiters acts left ready are = record {
+      aside = λ q s is unready unwoken.
+          stays q s is unready (three-off (wakes (change_of core (me_at start) asks a) (λ k. waits waiters k q)) (caller_in state.world start.process asks.request == q) (name == q) unwoken);
+    }
+      where
+        kept : Keeps start.process (caller_in state.world start.process asks.request) (change_of core (me_at start) asks a) state.world new
+        kept = done-keeps new a (does core state.world start.process asks name) (keeps core state.world start.process (me_at start) me-is refl name asks.place asks.role asks.request) acts
+
+        lived : (q : ℕ) (s : Start) → (name == q) ≡ false → (started state.world q ≡ Some s) ⊎ (q ≡ name) → started state.world q ≡ Some s
+        lived q s off (inl was) = was
+        lived q s off (inr named) = absurd (apart-from name q off named)
+
+        stays : (q : ℕ) (s : Start) → started new q ≡ Some s → is_ready waiters q ≡ false
+            → (wakes (change_of core (me_at start) asks a) (λ k. waits waiters k q) ≡ false) × ((caller_in state.world start.process asks.request == q) ≡ false) × ((name == q) ≡ false)
+            → IsAside core limit (record { world = new; given = with_answer start.process a state.given }) waiters s
+        stays q s is unready off =
+            let number : q ≡ s.process = find-number new.live q s is in
+            let was : started state.world q ≡ Some s = lived q s off.2 (left q s is) in
+            let before = are.aside q s was unready refl in
+            let not_actor : s.process ≢ start.process = (λ same. true≢false (sym ready ∙ ap (is_ready waiters) (sym same ∙ sym number) ∙ unready)) in
+            let not_caller : s.process ≢ caller_in state.world start.process asks.request = (λ same. apart-from (caller_in state.world start.process asks.request) q off.1 (number ∙ same)) in
+            record {
+              asks = before.asks;
+              asked = ap (λ b. ask core s limit (cond b (state.given s.process ++ a ∷ []) (state.given s.process))) (apart-number s.process start.process not_actor) ∙ before.asked;
+              cannot = still_waits core state.world new s (subst (λ n. started state.world n ≡ Some s) number was) (subst (λ n. started new n ≡ Some s) number is)
+                  start.process (caller_in state.world start.process asks.request) not_actor not_caller (change_of core (me_at start) asks a) (λ k. waits waiters k s.process)
+                  (subst (λ n. wakes (change_of core (me_at start) asks a) (λ k. waits waiters k n) ≡ false) number off.0) kept before.asks before.waiting before.cannot;
+              waiting = before.waiting;
+            }
+
+    -- ---- what is noted
+
+    cannot-comes : (new : World) (d : Does) → does core state.world start.process asks name ≡ d → Acts d state.world new (Ok acted.Cannot) → comes_to (does core state.world start.process asks 0) ≡ IsNot
+    cannot-comes new (Did w g) is acts = absurd acts
+    cannot-comes new (Makes w g) is acts = absurd acts
+    cannot-comes new Cannot is acts = same-step core state.world asks.place 0 name start.process asks.role asks.request ∙ ap comes_to is
+    cannot-comes new (Ends ending) is acts = absurd acts
+    cannot-comes new Undecided is acts = absurd acts
+
+    module _ (caller : ℕ) (caller_is : caller ≡ caller_in state.world start.process asks.request) (old waiters : Waiters) (woken : Option Woken) (new : World) where
+      pub noted_aside : (a : Acted) → asks_next core limit state start ≡ Asked asks → NotesBy core (me_at start) asks caller name a old waiters woken → Acts (does core state.world start.process asks name) state.world new (Ok a)
+          → AreAside core limit state old None → AreAside core limit state waiters None
+      noted_aside (acted.Done answer) asked notes acts are = subst (λ ws. AreAside core limit state ws None) (sym notes.0) are
+      noted_aside acted.Cannot asked notes acts are = aside_set start asks old waiters lives asked (cannot-comes new (does core state.world start.process asks name) refl acts) notes.0 are
+      noted_aside (acted.Ends ending) asked notes acts are = subst (λ ws. AreAside core limit state ws None) (sym notes.0) are
+      noted_aside acted.Undecided asked notes acts are = subst (λ ws. AreAside core limit state ws None) (sym notes.0) are
+
+      pub noted_is : (a : Acted) → NotesBy core (me_at start) asks caller name a old waiters woken → is_ready old start.process ≡ true → IsNoted core state.world start asks name a waiters woken
+      noted_is (acted.Done answer) notes ready =
+          (notes.1 ∙ ap (λ n. Some (record { change = change_of core (me_at start) asks answer; caller = n; made = name })) caller_is, ap (λ (ws : Waiters). is_ready ws start.process) notes.0 ∙ ready)
+      noted_is acted.Cannot notes ready = notes.1
+      noted_is (acted.Ends ending) notes ready = notes.1
+      noted_is acted.Undecided notes ready = notes.1

@@ -1,0 +1,40 @@
+-- Who may be able to make a step.
+use Rattle.std.specs.Prelude.{◌≡◌, ℕ, false, true, Option, Some, None}
+use Rattle.sr_ask.specs.declared.ask.Ask.{Ask}
+use Rattle.sr_ask.specs.declared.ask.Asks.TheVariants.{Asked}
+use Rattle.sr_ask.specs.declared.start.Start.{Start}
+use Rattle.sr_core.specs.declared.component.Core.{Core}
+use Rattle.sr_core.specs.declared.owner.Me.{Me}
+use Rattle.sr_world.specs.Callers.{caller_in}
+use Rattle.sr_world.specs.Does.{IsNot, comes_to}
+use Rattle.sr_world.specs.Runs.{State, asks_next}
+use Rattle.sr_world.specs.Steps.{does}
+use Rattle.sr_world.specs.Worlds.{World, started}
+use Rattle.sr_world.specs.declared.acted.Acted.{Acted}
+use Rattle.sr_world.specs.declared.acted.Acted.TheVariants.{Done}
+use Rattle.sr_plain.specs.Changes.{change_of}
+use Rattle.sr_plain.specs.Waiting.{WaitsFor, is_ready, is_woken, waits}
+use Rattle.sr_plain.specs.declared.change.Woken.{Woken}
+use Rattle.sr_plain.specs.declared.waiters.Waiters.{Waiters}
+
+abbrev pub me_at : Start → Me
+me_at start = record { process = start.process; instance = start.instance }
+
+-- a process asks for what can't be done now, and waits for what lets it go on
+pub record IsAside (core : Core) (limit : ℕ) (state : State) (waiters : Waiters) (start : Start) : Type 0 where
+  pub asks : Ask
+  pub asked : asks_next core limit state start ≡ Asked asks
+  pub cannot : comes_to (does core state.world start.process asks 0) ≡ IsNot
+  pub waiting : WaitsFor core (me_at start) (λ key. waits waiters key start.process) asks.request
+
+-- so does each living process that is neither ready nor woken
+pub record AreAside (core : Core) (limit : ℕ) (state : State) (waiters : Waiters) (woken : Option Woken) : Type 0 where
+  pub aside : (process : ℕ) (start : Start) → started state.world process ≡ Some start → is_ready waiters process ≡ false → is_woken waiters woken process ≡ false
+      → IsAside core limit state waiters start
+
+-- what is noted of a request that was carried out; who made a step stays ready
+abbrev pub IsNoted : Core → World → Start → Ask → ℕ → Acted → Waiters → Option Woken → Type 0
+IsNoted core world start asks name (Done answer) waiters woken =
+    (woken ≡ Some (record { change = change_of core (me_at start) asks answer; caller = caller_in world start.process asks.request; made = name }))
+    × (is_ready waiters start.process ≡ true)
+IsNoted core world start asks name _ waiters woken = woken ≡ None

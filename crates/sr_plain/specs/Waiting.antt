@@ -1,0 +1,120 @@
+-- Who is asked in turn, and where the others wait.
+use Rattle.std.specs.Prelude.{◌≡◌, ◌+◌, ◌*◌, ◌<◌, ◌≤◌, ◌==◌, ◌||◌, ℕ, Bool, true, false, Option, Some, None, slice_get, if◌then◌else◌}
+use Rattle.std.specs.BTreeMap.{get}
+use Rattle.std.specs.BTreeSet.{BTreeSet, contains}
+use Rattle.std.specs.Ordering.{nat_cmp}
+use Rattle.sr_ask.specs.declared.request.Request.{Request}
+use Rattle.sr_ask.specs.declared.request.Request.TheVariants as request
+use Rattle.sr_core.specs.declared.component.Core.{Core}
+use Rattle.sr_core.specs.declared.owner.Me.{Me}
+use Rattle.sr_core.specs.declared.site.Arm.{Arm}
+use Rattle.sr_core.specs.declared.site.Site.{Site}
+use Rattle.sr_select.specs.Laws.{is_plain}
+use Rattle.sr_value.specs.declared.capability.Owner.{Owner}
+use Rattle.sr_value.specs.declared.capability.Owner.TheVariants.{Inst, Proc}
+use Rattle.sr_plain.specs.Changes.{owner_at}
+use Rattle.sr_plain.specs.declared.change.Change.{Change}
+use Rattle.sr_plain.specs.declared.change.Change.TheVariants.{Nothing, Watched, Class, Everything}
+use Rattle.sr_plain.specs.declared.change.Woken.{Woken}
+use Rattle.sr_plain.specs.declared.waiters.Waiters.{Waiters}
+
+-- ---- places
+
+-- where a process waits for invocations of an operation of an owner; who waits for more waits at 0
+abbrev pub number_of : Owner → ℕ
+number_of (Inst instance) = instance
+number_of (Proc process) = process
+
+abbrev pub key_of : Owner → ℕ → ℕ
+key_of owner op = number_of owner * 4294967296 + op
+
+-- a guard may read more than the invocations of its operation
+abbrev pub place_of : Owner → Arm → ℕ
+place_of owner arm = if is_plain arm then key_of owner arm.op else 0
+
+abbrev pub is_ready : Waiters → ℕ → Bool
+is_ready waiters process = contains nat_cmp waiters.ready process
+
+abbrev pub is_among : Option (BTreeSet ℕ) → ℕ → Bool
+is_among None process = false
+is_among (Some processes) process = contains nat_cmp processes process
+
+abbrev pub waits : Waiters → ℕ → ℕ → Bool
+waits waiters key process = is_among (get nat_cmp waiters.aside key) process
+
+-- ---- where a process waits, by what it asks
+
+abbrev pub WaitsAtSite : (ℕ → Bool) → Owner → Site → Type 0
+WaitsAtSite at owner site = (number : ℕ) (arm : Arm) → slice_get site.arms number ≡ Some arm → at (place_of owner arm) ≡ true
+
+-- A `Take` is woken by the reply, and a `Wake` by the moment. A `Select` waits at each of its arms.
+abbrev pub WaitsFor : Core → Me → (ℕ → Bool) → Request → Type 0
+WaitsFor core me at (request.Take ids) = Unit {0}
+WaitsFor core me at (request.Wake until) = Unit {0}
+WaitsFor core me at (request.Select site env) = (s : Site) → slice_get core.sites site ≡ Some s → WaitsAtSite at (owner_at s.scope me) s
+WaitsFor core me at _ = at 0 ≡ true
+
+-- ---- who is woken
+
+abbrev pub wakes : Change → (ℕ → Bool) → Bool
+wakes Nothing at = false
+wakes Watched at = at 0
+wakes (Class owner op) at = at 0 || at (key_of owner op)
+wakes Everything at = true
+
+abbrev pub wakes_by : Waiters → Woken → ℕ → Bool
+wakes_by waiters woken process = wakes woken.change (λ key. waits waiters key process) || (woken.caller == process || woken.made == process)
+
+abbrev pub is_woken : Waiters → Option Woken → ℕ → Bool
+is_woken waiters None process = false
+is_woken waiters (Some woken) process = wakes_by waiters woken process
+
+-- ---- what is done to those who wait
+
+-- who isn't ready wasn't, and waits where it waited
+pub record GoOn (old new : Waiters) : Type 0 where
+  pub ready : (process : ℕ) → is_ready new process ≡ false → is_ready old process ≡ false
+  pub waiting : (key process : ℕ) → is_ready new process ≡ false → waits old key process ≡ true → waits new key process ≡ true
+
+-- some more are ready
+pub record IsJoined (processes old new : BTreeSet ℕ) : Type 0 where
+  pub ready : (process : ℕ) → contains nat_cmp new process ≡ false → contains nat_cmp old process ≡ false
+  pub joined : (process : ℕ) → contains nat_cmp new process ≡ false → contains nat_cmp processes process ≡ false
+
+-- who waited there is ready
+pub record IsWokenAt (key : ℕ) (old new : Waiters) : Type 0 where
+  pub go_on : GoOn old new
+  pub woken : (process : ℕ) → is_ready new process ≡ false → waits old key process ≡ false
+
+pub record IsMadeReady (process : ℕ) (old new : Waiters) : Type 0 where
+  pub go_on : GoOn old new
+  pub apart : (other : ℕ) → is_ready new other ≡ false → (process == other) ≡ false
+
+-- a process waits there too
+pub record WaitsThere (key process : ℕ) (old new : Waiters) : Type 0 where
+  pub ready : new.ready ≡ old.ready
+  pub itself : waits new key process ≡ true
+  pub others : (k other : ℕ) → waits old k other ≡ true → waits new k other ≡ true
+
+-- a process waits for what lets its request go on
+pub record IsWaiting (core : Core) (me : Me) (asked : Request) (old new : Waiters) : Type 0 where
+  pub ready : new.ready ≡ old.ready
+  pub itself : WaitsFor core me (λ key. waits new key me.process) asked
+  pub others : (k other : ℕ) → waits old k other ≡ true → waits new k other ≡ true
+
+pub record IsTakenOut (process : ℕ) (old new : Waiters) : Type 0 where
+  pub others : (other : ℕ) → (process == other) ≡ false → is_ready new other ≡ is_ready old other
+  pub waiting : new.aside ≡ old.aside
+
+-- ---- who is next
+
+-- the first that is ready of those after the last actor, or else of all
+pub record IsNextAfter (waiters : Waiters) (last process : ℕ) : Type 0 where
+  pub ready : is_ready waiters process ≡ true
+  pub between : (other : ℕ) → last < other → other < process → is_ready waiters other ≡ false
+  pub later : process ≤ last → (other : ℕ) → last < other → is_ready waiters other ≡ false
+  pub sooner : process ≤ last → (other : ℕ) → other < process → is_ready waiters other ≡ false
+
+abbrev pub IsNext : Waiters → ℕ → Option ℕ → Type 0
+IsNext waiters last None = (process : ℕ) → is_ready waiters process ≡ false
+IsNext waiters last (Some process) = IsNextAfter waiters last process

@@ -1,0 +1,50 @@
+ghost use Rattle.std.specs.Prelude.{OnOk};
+ghost use Rattle.sr_plain.specs.Waking.{ReadiesAll, ReadiesIfLives, WakesUp, WakesByChange};
+
+use crate::change::{Change, Woken};
+use crate::waiters::{WATCHED, Waiters, key};
+use sr_value::NoMemory;
+use sr_world::World;
+
+fn wake_all(waiters: &mut Waiters, world: &World) -> Result<(), NoMemory>
+    ensures { OnOk result (ReadiesAll world.now waiters.old waiters.new) }
+{
+    for place in 0..world.len() {
+        if let Some(start) = world.live_at(place) {
+            waiters.make_ready(start.process)?;
+        }
+    }
+    Ok(())
+}
+
+fn wake_if_lives(waiters: &mut Waiters, world: &World, process: u32) -> Result<(), NoMemory>
+    ensures { OnOk result (ReadiesIfLives world.now process waiters.old waiters.new) }
+{
+    match world.started(process) {
+        Some(_) => waiters.make_ready(process),
+        None => Ok(()),
+    }
+}
+
+fn wake_by(waiters: &mut Waiters, world: &World, change: Change) -> Result<(), NoMemory>
+    ensures { OnOk result (WakesByChange world.now change waiters.old waiters.new) }
+{
+    match change {
+        Change::Nothing => Ok(()),
+        Change::Watched => waiters.wake(WATCHED),
+        Change::Class { owner, op } => {
+            waiters.wake(WATCHED)?;
+            waiters.wake(key(owner, op))
+        }
+        Change::Everything => wake_all(waiters, world),
+    }
+}
+
+/// Has those be asked in turn whom a step woke.
+pub(crate) fn wake_up(waiters: &mut Waiters, world: &World, woken: Woken) -> Result<(), NoMemory>
+    ensures { OnOk result (WakesUp world.now woken waiters.old waiters.new) }
+{
+    wake_by(waiters, world, woken.change)?;
+    wake_if_lives(waiters, world, woken.caller)?;
+    wake_if_lives(waiters, world, woken.made)
+}
