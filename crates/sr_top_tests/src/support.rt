@@ -103,7 +103,7 @@ pub fn goes_so(alloc: Global, case: &Case<'_>) -> Result<bool, NoMemory> {
     let mut output = MemSink::new(alloc, 1000, fails);
     let mut diag = MemSink::new(alloc, 1000, Row::new(alloc));
     let journal_fails = numbers(alloc, case.journal_fails)?;
-    let mut journal = MemSink::new(alloc, case.most, journal_fails);
+    let mut journal = MemSink::new(alloc, case.most.max(1), journal_fails);
     let report = called(alloc, case, &mut output, &mut diag, &mut journal)?;
     Ok(
         report.status == case.status
