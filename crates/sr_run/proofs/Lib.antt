@@ -1,3 +1,4 @@
+pub mod Actors
 pub mod Advancing
 pub mod Begun
 pub mod Events

@@ -1,3 +1,4 @@
 pub mod Causes
+pub mod Numbers
 pub mod Runs
 pub mod UnderWay

@@ -1,4 +1,6 @@
 ghost use Rattle.std.specs.Prelude.{◌+◌, ◌<◌, ◌≤◌, IfNone, length};
+ghost use Rattle.std.specs.List.{AllByRecursion};
+ghost use Rattle.sr_run.specs.Numbers.{FitsItem};
 ghost use Rattle.sr_run.specs.Runs.{Call};
 ghost use Rattle.sr_run.specs.UnderWay.{Advances, IsUnderWay, Moves, as_of};
 
@@ -24,6 +26,7 @@ pub(crate) fn advance<A: Actor, I: Source, O: Sink>(
     requires { intake.old.taken ≤ 67108864 }
     ensures within { intake.new.taken ≤ 67108864 }
     ensures one_more { length items.new ≤ length items.old + 1 }
+    ensures fit { AllByRecursion FitsItem items.old → AllByRecursion FitsItem items.new }
     ensures moves { IfNone result (Moves items.old items.new intake.old intake.new) }
     ensures advances { (call : Call) → length items.old < call.steps
         → IsUnderWay (A.asks_after program.now) A.can_feed

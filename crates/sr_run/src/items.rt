@@ -1,3 +1,5 @@
+ghost use Rattle.std.specs.List.{AllByRecursion};
+ghost use Rattle.sr_run.specs.Numbers.{FitsItem};
 ghost use Rattle.sr_run.specs.UnderWay.{EndsWith, PutsItem};
 
 use crate::end::RunEnd;
@@ -13,7 +15,8 @@ pub(crate) fn put_item<O: Sink>(
     output: &mut O,
     text: &[u8],
 ) -> Option<RunEnd>
-    ensures { PutsItem item text.now items.old items.new (O.held output.old) (O.held output.new) (O.faults output.old) (O.faults output.new) result }
+    ensures fit { AllByRecursion FitsItem items.old → AllByRecursion FitsItem items.new }
+    ensures puts { PutsItem item text.now items.old items.new (O.held output.old) (O.held output.new) (O.faults output.old) (O.faults output.new) result }
 {
     match items.push(item) {
         Ok(()) => match put_all(output, text) {
@@ -27,7 +30,8 @@ pub(crate) fn put_item<O: Sink>(
 
 /// Adds the item that ends the run.
 pub(crate) fn end_with(items: &mut Row<Item>, item: Item, end: End) -> RunEnd
-    ensures { EndsWith item end items.old items.new result }
+    ensures fit { AllByRecursion FitsItem items.old → AllByRecursion FitsItem items.new }
+    ensures ends { EndsWith item end items.old items.new result }
 {
     match items.push(item) {
         Ok(()) => RunEnd::Ended(end),

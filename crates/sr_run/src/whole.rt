@@ -1,5 +1,7 @@
 ghost use Rattle.std.specs.Prelude.{◌≡◌, ◌≤◌, [], false, length};
+ghost use Rattle.std.specs.List.{AllByRecursion};
 ghost use Rattle.sr_run.specs.Causes.{HasCause};
+ghost use Rattle.sr_run.specs.Numbers.{FitsItem, IsNumbered};
 ghost use Rattle.sr_run.specs.Runs.{Call};
 ghost use Rattle.sr_run.specs.UnderWay.{IsUnderWay, as_of};
 
@@ -24,6 +26,7 @@ pub fn run<A: Actor, I: Source, O: Sink>(
     output: &mut O,
 ) -> Run
     ensures within { length result.items ≤ steps }
+    ensures numbered { AllByRecursion IsNumbered result.items }
     ensures cause { HasCause
         (record {
           core = A.core_of program.now;
@@ -59,6 +62,7 @@ fn run_on<A: Actor, I: Source, O: Sink>(
 ) -> RunEnd
     requires { items.old ≡ [] }
     ensures within { length items.new ≤ steps }
+    ensures fit { AllByRecursion FitsItem items.new }
     ensures cause { (call : Call) → call.steps ≡ steps
         → IsUnderWay (A.asks_after program.now) A.can_feed
         (as_of call (A.core_of program.now) (record { left = I.left input.old; read_faults = I.faults input.old; held = O.held output.old; write_faults = O.faults output.old }) items.old)

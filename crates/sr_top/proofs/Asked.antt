@@ -1,10 +1,27 @@
 -- From the command that the words give to what the call is to do.
-use Rattle.std.proofs.Common.{◌≡◌, ◌∙◌, ℕ, List, Some, ap}
-use Rattle.sr_top.specs.Tasks.{Checks, task, task_in}
+use Rattle.std.proofs.Common.{◌≡◌, ◌∙◌, ℕ, List, [], None, Some, ap, sym, subst}
+use Rattle.std.specs.Prelude.{Option, unwrap_or}
+use Rattle.std.specs.Option.{option_map}
+use Rattle.sr_ask.specs.declared.item.Item.{Item}
+use Rattle.sr_journal.specs.declared.header.Header.{Header}
+use Rattle.sr_top.specs.Report.{diag_text}
+use Rattle.sr_top.specs.Tasks.{Task, file_names, names_of, origin_of, task, task_of}
+use Rattle.sr_top.specs.declared.report.Ending.{Ending}
 use Rattle.sr_words.specs.Commands.{command_of}
 use Rattle.sr_words.specs.declared.command.Command.{Command}
-use Rattle.sr_words.specs.declared.command.Command.TheVariants.{Check}
 
-pub check_task : (words : List (List ℕ)) (command : Command) (names : List (List ℕ)) → command_of words ≡ Some command → command ≡ Check names
-    → task words ≡ Some (Checks names)
-check_task words command names told is = ap task_in (told ∙ ap Some is)
+pub task_is : (words : List (List ℕ)) (command made : Command) (asked : Task) → command_of words ≡ Some command → command ≡ made → task_of made ≡ asked
+    → task words ≡ Some asked
+task_is words command made asked told is meant = ap (option_map task_of) (told ∙ ap Some is) ∙ ap Some meant
+
+-- the names of the task's files are those of the words
+pub named_as : (words names : List (List ℕ)) (asked : Task) (ending : Ending) → task words ≡ Some asked → names ≡ names_of (origin_of asked)
+    → diag_text names ending ≡ diag_text (file_names words) ending
+named_as words names asked ending told is =
+    ap (λ ns. diag_text ns ending) (is ∙ sym (ap (λ t. unwrap_or (option_map names_of (option_map origin_of t)) []) told))
+
+-- what holds of an outcome holds of what a command came to
+pub handed_on : (P : List Item → Ending → Option Header → Type 0) (items made : List Item) (ending given : Ending) (header kept : Option Header)
+    → items ≡ made → ending ≡ given → header ≡ kept → P made given kept → P items ending header
+handed_on P items made ending given header kept same is has known =
+    subst (λ us. P us ending header) (sym same) (subst (λ e. P made e header) (sym is) (subst (P made given) (sym has) known))

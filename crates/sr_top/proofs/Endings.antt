@@ -1,18 +1,20 @@
 -- What follows from the cause of an ending.
-use Rattle.std.proofs.Common.{◌≡◌, ℕ, ◌≤◌, ◌⊎◌, ◌++◌, Bool, List, length, None, Some, refl, inl, inr}
+use Rattle.std.proofs.Common.{◌≡◌, ◌∙◌, ℕ, ◌≤◌, ◌⊎◌, ◌++◌, Bool, List, length, None, Some, ap, refl, inl, inr}
 use Rattle.std.specs.Prelude.{Option}
 use Rattle.sr_core.specs.declared.component.Core.{Core}
 use Rattle.sr_ports.proofs.Growth.{PutInPart-after}
+use Rattle.sr_ports.specs.Faults.{Rose}
+use Rattle.sr_ports.specs.Streams.{PutInPart}
 use Rattle.sr_run.specs.Causes as run
 use Rattle.sr_run.specs.Runs as runs
 use Rattle.sr_run.specs.declared.end.LimitKind.{LimitKind}
 use Rattle.sr_run.specs.declared.end.LimitKind.TheVariants as limit
 use Rattle.sr_run.specs.declared.end.RunEnd.{RunEnd}
 use Rattle.sr_run.specs.declared.end.RunEnd.TheVariants as run_end
-use Rattle.sr_top.specs.Causes.{Call, Compiles, EndsEarly, EndsRun, HasCause, RunsNothing, ending_of, run_of}
-use Rattle.sr_top.specs.Headline.{Headline, IsComplete, MakesRun, RunsInPart, RunsWhole}
-use Rattle.sr_top.specs.Reading.{EndsCompiling}
-use Rattle.sr_top.specs.Tasks.{files_in}
+use Rattle.sr_top.specs.Causes.{Call, Compiles, EndsEarly, EndsEarlyInLines, EndsInLines, EndsNoFile, EndsRun, HasCause, HasLines, IsCutInLines, PutsLines, RunsNothing, ending_of, run_of}
+use Rattle.sr_top.specs.Headline.{Headline, IsComplete, MakesRun, NoneRose, RunsInPart, RunsWhole}
+use Rattle.sr_top.specs.Reading.{EndsCompiling, IsUnreadIn}
+use Rattle.sr_top.specs.Tasks.{Named, Origin, Sampled, origin_in}
 use Rattle.sr_top.specs.declared.report.Ending.{Ending}
 use Rattle.sr_top.specs.declared.report.Ending.TheVariants.{Done, Quiet, Stopped, Failed, Limit, Refused, NoFile, ReadFault, WriteFault, NoMemory, Usage}
 use Rattle.sr_world.specs.Runs.{State}
@@ -27,8 +29,8 @@ caused call steps ticks core (run_end.Ended (end.Stopped status)) compiled withi
 caused call steps ticks core (run_end.Ended (end.Failed fault place)) compiled within cause = record { steps = steps; ticks = ticks; core = core; compiled = compiled; within = within; cause = cause }
 caused call steps ticks core (run_end.Limit kind) compiled within cause = record { steps = steps; ticks = ticks; core = core; compiled = compiled; within = within; cause = cause }
 caused call steps ticks core run_end.ReadFault compiled within cause = record { steps = steps; ticks = ticks; core = core; compiled = compiled; within = within; cause = cause }
-caused call steps ticks core run_end.WriteFault compiled within cause = record { steps = steps; ticks = ticks; core = core; compiled = compiled; within = within; cause = cause }
-caused call steps ticks core run_end.NoMemory compiled within cause = inr (record { steps = steps; ticks = ticks; core = core; compiled = compiled; within = within; cause = cause })
+caused call steps ticks core run_end.WriteFault compiled within cause = inl (record { steps = steps; ticks = ticks; core = core; compiled = compiled; within = within; cause = cause })
+caused call steps ticks core run_end.NoMemory compiled within cause = inr (inl (record { steps = steps; ticks = ticks; core = core; compiled = compiled; within = within; cause = cause }))
 
 -- ---- the headline
 
@@ -74,9 +76,14 @@ cut_short call end ends (inl between) =
     }
 cut_short call end ends (inr cut) = in_write call end ends cut
 
-out_of_memory : (call : Call) → EndsEarly call ⊎ EndsRun call run_end.NoMemory → RunsNothing call ⊎ RunsInPart call
+written : (call : Call) → EndsRun call run_end.WriteFault ⊎ EndsInLines call → RunsInPart call ⊎ IsCutInLines call
+written call (inl ends) = inl (in_write call run_end.WriteFault ends ends.cause.cut)
+written call (inr lines) = inr lines.cut
+
+out_of_memory : (call : Call) → EndsEarly call ⊎ EndsRun call run_end.NoMemory ⊎ EndsEarlyInLines call → RunsNothing call ⊎ RunsInPart call ⊎ IsCutInLines call
 out_of_memory call (inl early) = inl early.nothing
-out_of_memory call (inr ends) = inr (cut_short call run_end.NoMemory ends ends.cause.cut)
+out_of_memory call (inr (inl ends)) = inr (inl (cut_short call run_end.NoMemory ends ends.cause.cut))
+out_of_memory call (inr (inr lines)) = inr (inr lines.cut)
 
 pub headline : (call : Call) (ending : Ending) → HasCause call ending → Headline call ending
 headline call Done cause = cause
@@ -87,11 +94,15 @@ headline call (Limit kind) cause = limited call kind cause
 headline call (Refused refusal) cause = cause
 headline call (NoFile file) cause = cause.nothing
 headline call ReadFault cause = going_on call run_end.ReadFault cause cause.cause.taken _ cause.cause.state cause.cause.goes_on
-headline call WriteFault cause = in_write call run_end.WriteFault cause cause.cause.cut
+headline call WriteFault cause = written call cause
 headline call NoMemory cause = out_of_memory call cause
 headline call Usage cause = cause.nothing
 
 -- ---- nothing is left out
+
+output_failed : (call : Call) → EndsRun call run_end.WriteFault ⊎ EndsInLines call → NoneRose call → ⊥
+output_failed call (inl ends) none = none.output ends.cause.failed
+output_failed call (inr lines) none = none.output lines.failed
 
 pub complete : (call : Call) (ending : Ending) → HasCause call ending → IsComplete call ending
 complete call Done cause = λ named none. tt
@@ -102,23 +113,56 @@ complete call (Limit kind) cause = λ named none. tt
 complete call (Refused refusal) cause = λ named none. tt
 complete call (NoFile file) cause = λ named none. none.files cause.failed
 complete call ReadFault cause = λ named none. none.input cause.cause.failed
-complete call WriteFault cause = λ named none. none.output cause.cause.failed
+complete call WriteFault cause = λ named none. output_failed call cause none
 complete call NoMemory cause = λ named none. tt
 complete call Usage cause = λ named none. named cause.unknown
 
 -- ---- before a run
 
 -- what there is no program for says why the call ended
-pub stopped : (call : Call) (names : List (List ℕ)) (ending : Ending) → files_in call.words ≡ Some names → RunsNothing call
-    → EndsCompiling call.files names call.file_faults call.file_faults_now ending → HasCause call ending
-stopped call names Done named nothing ends = absurd ends
-stopped call names Quiet named nothing ends = absurd ends
-stopped call names (Stopped status) named nothing ends = absurd ends
-stopped call names (Failed fault place) named nothing ends = absurd ends
-stopped call names (Limit kind) named nothing ends = absurd ends
-stopped call names (Refused refusal) named nothing ends = record { names = names; named = named; refused = ends.0; no_fault = ends.1; nothing = nothing }
-stopped call names (NoFile file) named nothing ends = record { names = names; named = named; unread = ends.0; failed = ends.1; nothing = nothing }
-stopped call names ReadFault named nothing ends = absurd ends
-stopped call names WriteFault named nothing ends = absurd ends
-stopped call names NoMemory named nothing ends = inl (record { no_fault = ends; nothing = nothing })
-stopped call names Usage named nothing ends = absurd ends
+unread : (call : Call) (origin : Origin) (file : ℕ) → origin_in call.words ≡ Some origin → RunsNothing call → IsUnreadIn call.files origin file → Rose call.file_faults call.file_faults_now
+    → EndsNoFile call file
+unread call (Named names) file named nothing is failed = record { names = names; named = named; unread = is; failed = failed; nothing = nothing }
+unread call (Sampled seed) file named nothing is failed = absurd is
+
+pub stopped : (call : Call) (origin : Origin) (ending : Ending) → origin_in call.words ≡ Some origin → RunsNothing call
+    → EndsCompiling call.files origin call.file_faults call.file_faults_now ending → HasCause call ending
+stopped call origin Done named nothing ends = absurd ends
+stopped call origin Quiet named nothing ends = absurd ends
+stopped call origin (Stopped status) named nothing ends = absurd ends
+stopped call origin (Failed fault place) named nothing ends = absurd ends
+stopped call origin (Limit kind) named nothing ends = absurd ends
+stopped call origin (Refused refusal) named nothing ends = record { origin = origin; named = named; refused = ends.0; no_fault = ends.1; nothing = nothing }
+stopped call origin (NoFile file) named nothing ends = unread call origin file named nothing ends.0 ends.1
+stopped call origin ReadFault named nothing ends = absurd ends
+stopped call origin WriteFault named nothing ends = absurd ends
+stopped call origin NoMemory named nothing ends = inl (record { no_fault = ends; nothing = nothing })
+stopped call origin Usage named nothing ends = absurd ends
+
+-- ---- the lines of classes
+
+-- what becomes of the lines says why the call ended
+pub listed : (call : Call) (lines : List ℕ) (ending : Ending) → HasLines call lines → PutsLines lines call.before.held call.now.held call.before.write_faults call.now.write_faults ending
+    → HasCause call ending
+listed call lines Done has puts = inr (record { lines = lines; has = has; put = puts.0; no_write_fault = puts.1 })
+listed call lines WriteFault has puts = inr (record { cut = record { lines = lines; has = has; put = puts.0 }; failed = puts.1 })
+listed call lines NoMemory has puts = by puts.0
+  where
+    by : PutInPart call.before.held call.now.held lines ⊎ (call.now.held ≡ call.before.held) → HasCause call NoMemory
+    by (inl part) = inr (inr (record { cut = record { lines = lines; has = has; put = part }; no_write_fault = puts.1 }))
+    by (inr same) = inl (record { no_fault = has.no_fault; nothing = record { no_items = has.no_items; untouched = devices_same call.before call.now has.left has.no_read_fault same puts.1 } })
+      where
+        devices_same : (before now : runs.Devices) → now.left ≡ before.left → now.read_faults ≡ before.read_faults → now.held ≡ before.held → now.write_faults ≡ before.write_faults → now ≡ before
+        devices_same before now left read held write =
+            ap (λ l. record now { left = l }) left
+            ∙ ap (λ n. record now { left = before.left; read_faults = n }) read
+            ∙ ap (λ h. record now { left = before.left; read_faults = before.read_faults; held = h }) held
+            ∙ ap (λ n. record before { write_faults = n }) write
+listed call lines Quiet has puts = absurd puts
+listed call lines (Stopped status) has puts = absurd puts
+listed call lines (Failed fault place) has puts = absurd puts
+listed call lines (Limit kind) has puts = absurd puts
+listed call lines (Refused refusal) has puts = absurd puts
+listed call lines (NoFile file) has puts = absurd puts
+listed call lines ReadFault has puts = absurd puts
+listed call lines Usage has puts = absurd puts

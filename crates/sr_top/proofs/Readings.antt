@@ -1,41 +1,50 @@
 -- From the reading of files to the program in them.
-use Rattle.std.proofs.Common.{◌≡◌, ℕ, List, [], ◌∷◌, ◌++◌, ap, subst, ◌∙◌}
-use Rattle.std.specs.Prelude.{Option, Result, Ok, Err, IfOk, IfErr}
+use Rattle.std.proofs.Common.{◌≡◌, ◌<◌, ◌+◌, ℕ, Bool, List, [], ◌∷◌, ◌++◌, get_or, length, map, take, ap, refl, subst, sym, ◌∙◌}
+use Rattle.std.proofs.lemmas.List.{map-append, take_more}
+use Rattle.std.specs.Prelude.{Option, Some, Result, Ok, Err, IfOk, IfErr, IfSome, OnOk}
+use Rattle.std.specs.List.{AllByRecursion}
+use Rattle.std.specs.Str.{IsUtf8}
 use Rattle.sr_core.specs.declared.component.Core.{Core}
-use Rattle.sr_top.specs.Reading.{AreCompiled, AreRead, EndsCompiling, EndsReading, HasCore, IsRead, StopsCompiling}
+use Rattle.sr_core.specs.declared.owner.Classes.{Classes}
+use Rattle.sr_front.specs.Cores.{IsCoreOf}
+use Rattle.sr_front.specs.Reading.{contents_of}
+use Rattle.sr_journal.specs.declared.header.Header.{Header}
+use Rattle.sr_top.specs.Journal.{IsPrepared}
+use Rattle.sr_top.specs.Reading.{AreCompiled, AreFiles, AreRead, EndsCompiling, EndsReading, IsRead, StopsCompiling, first_bytes, sample_files}
+use Rattle.sr_top.specs.Tasks.{Named, Origin, Sampled}
 use Rattle.sr_top.specs.declared.report.Ending.{Ending}
 use Rattle.sr_top.specs.declared.report.Ending.TheVariants.{Done, Quiet, Stopped, Failed, Limit, Refused, NoFile, ReadFault, WriteFault, NoMemory, Usage}
 
 -- ---- the program in the files
 
-pub compiled_as : {P : Type 0} (core_of : P → Core) (told : Option (List (List ℕ × List ℕ))) (names : List (List ℕ)) (texts : List (List ℕ × List ℕ))
-    (result : Result P Ending) → AreRead told names texts → IfOk result (λ program. HasCore texts (core_of program))
-    → IfOk result (λ program. AreCompiled told names (core_of program))
-compiled_as core_of told names texts (Ok program) read has = record { files = texts; read = read; classes = has.classes; written_out = has.written_out }
-compiled_as core_of told names texts (Err ending) read has = tt
+pub compiled_as : {P : Type 0} (core_of : P → Core) (classes_of : P → Classes) (told : Option (List (List ℕ × List ℕ))) (names : List (List ℕ)) (files : List (List ℕ × List ℕ))
+    (result : Result P Ending) → OnOk result (AreRead told names files) → IfOk result (λ program. IsCoreOf (contents_of files) (core_of program, classes_of program))
+    → IfOk result (λ program. AreCompiled told (Named names) (core_of program) (classes_of program))
+compiled_as core_of classes_of told names files (Ok program) read core = record { files = files; read = read; written_out = core }
+compiled_as core_of classes_of told names files (Err ending) read core = tt
 
-ended_as : (told : Option (List (List ℕ × List ℕ))) (names : List (List ℕ)) (texts : List (List ℕ × List ℕ)) (faults faults_now : ℕ) (ending : Ending)
-    → AreRead told names texts → faults_now ≡ faults → StopsCompiling texts ending → EndsCompiling told names faults faults_now ending
-ended_as told names texts faults faults_now (Refused refusal) read same stops = (record { files = texts; read = read; refused = stops }, same)
-ended_as told names texts faults faults_now NoMemory read same stops = same
-ended_as told names texts faults faults_now Done read same stops = stops
-ended_as told names texts faults faults_now Quiet read same stops = stops
-ended_as told names texts faults faults_now (Stopped status) read same stops = stops
-ended_as told names texts faults faults_now (Failed fault place) read same stops = stops
-ended_as told names texts faults faults_now (Limit kind) read same stops = stops
-ended_as told names texts faults faults_now (NoFile file) read same stops = absurd stops
-ended_as told names texts faults faults_now ReadFault read same stops = stops
-ended_as told names texts faults faults_now WriteFault read same stops = stops
-ended_as told names texts faults faults_now Usage read same stops = stops
+pub ended_as : (told : Option (List (List ℕ × List ℕ))) (origin : Origin) (files : List (List ℕ × List ℕ)) (faults faults_now : ℕ) (ending : Ending)
+    → AreFiles told origin files → faults_now ≡ faults → StopsCompiling files ending → EndsCompiling told origin faults faults_now ending
+ended_as told origin files faults faults_now (Refused refusal) read same stops = (record { files = files; read = read; refused = stops }, same)
+ended_as told origin files faults faults_now NoMemory read same stops = same
+ended_as told origin files faults faults_now Done read same stops = stops
+ended_as told origin files faults faults_now Quiet read same stops = stops
+ended_as told origin files faults faults_now (Stopped status) read same stops = stops
+ended_as told origin files faults faults_now (Failed fault place) read same stops = stops
+ended_as told origin files faults faults_now (Limit kind) read same stops = stops
+ended_as told origin files faults faults_now (NoFile file) read same stops = absurd stops
+ended_as told origin files faults faults_now ReadFault read same stops = stops
+ended_as told origin files faults faults_now WriteFault read same stops = stops
+ended_as told origin files faults faults_now Usage read same stops = stops
 
-pub stopped_as : {P : Type 0} (told : Option (List (List ℕ × List ℕ))) (names : List (List ℕ)) (texts : List (List ℕ × List ℕ)) (faults faults_now : ℕ)
-    (result : Result P Ending) → AreRead told names texts → faults_now ≡ faults → IfErr result (StopsCompiling texts)
-    → IfErr result (EndsCompiling told names faults faults_now)
-stopped_as told names texts faults faults_now (Ok program) read same stops = tt
-stopped_as told names texts faults faults_now (Err ending) read same stops = ended_as told names texts faults faults_now ending read same stops
+pub stopped_as : {P : Type 0} (told : Option (List (List ℕ × List ℕ))) (names : List (List ℕ)) (files : List (List ℕ × List ℕ)) (faults faults_now : ℕ)
+    (result : Result P Ending) → AreRead told names files → faults_now ≡ faults → IfErr result (StopsCompiling files)
+    → IfErr result (EndsCompiling told (Named names) faults faults_now)
+stopped_as told names files faults faults_now (Ok program) read same stops = tt
+stopped_as told names files faults faults_now (Err ending) read same stops = ended_as told (Named names) files faults faults_now ending read same stops
 
 pub reading_as : (told : Option (List (List ℕ × List ℕ))) (names : List (List ℕ)) (faults faults_now : ℕ) (ending : Ending)
-    → EndsReading told names faults faults_now ending → EndsCompiling told names faults faults_now ending
+    → EndsReading told names faults faults_now ending → EndsCompiling told (Named names) faults faults_now ending
 reading_as told names faults faults_now (Refused refusal) ends = absurd ends
 reading_as told names faults faults_now Done ends = ends
 reading_as told names faults faults_now Quiet ends = ends
@@ -48,12 +57,36 @@ reading_as told names faults faults_now WriteFault ends = ends
 reading_as told names faults faults_now NoMemory ends = ends
 reading_as told names faults faults_now Usage ends = ends
 
+pub compiled_of : (told : Option (List (List ℕ × List ℕ))) (names : List (List ℕ)) (steps ticks : ℕ) (journal : Bool) (core : Core) (classes : Classes) (header : Option Header)
+    → IsPrepared told names steps ticks journal core classes header → AreCompiled told (Named names) core classes
+compiled_of told names steps ticks journal core classes header prepared = record { files = prepared.files; read = prepared.read; written_out = prepared.written_out }
+
+pub sampled_of : (told : Option (List (List ℕ × List ℕ))) (seed : ℕ) (core : Core) (classes : Classes) → IsCoreOf (contents_of (sample_files seed)) (core, classes)
+    → AreCompiled told (Sampled seed) core classes
+sampled_of told seed core classes core_of = record { files = sample_files seed; read = refl; written_out = core_of }
+
 -- ---- one file
 
 pub added_as : (old new : List (List ℕ × List ℕ)) (file text name bytes : List ℕ) → new ≡ old ++ (file, text) ∷ [] → file ≡ name → text ≡ bytes
     → new ≡ old ++ (name, bytes) ∷ []
 added_as old new file text name bytes pushed named is = pushed ∙ ap (λ f. old ++ (f, text) ∷ []) named ∙ ap (λ t. old ++ (name, t) ∷ []) is
 
--- a file that was read by its path was read by its name
-pub read_as : (told : Option (List (List ℕ × List ℕ))) (path name bytes : List ℕ) → path ≡ name → IsRead told (path, bytes) → IsRead told (name, bytes)
-read_as told path name bytes same read = subst (λ word. IsRead told (word, bytes)) same read
+-- what holds of each and of one more holds of all
+pub all_pushed : {A : Type 0} (P : A → Type 0) (xs : List A) (x : A) → AllByRecursion P xs → P x → AllByRecursion P (xs ++ x ∷ [])
+all_pushed P [] x all holds = (holds, tt)
+all_pushed P (y ∷ xs) x all holds = (all.0, all_pushed P xs x all.1 holds)
+
+-- the files that were read have the names so far
+pub named_on : (names : List (List ℕ)) (i : ℕ) (name bytes : List ℕ) (old new : List (List ℕ × List ℕ)) → i < length names → name ≡ get_or names i name
+    → map (λ file. file.0) old ≡ take i names → new ≡ old ++ (name, bytes) ∷ [] → map (λ file. file.0) new ≡ take (i + 1) names
+named_on names i name bytes old new within at named added =
+    ap (map (λ (file : List ℕ × List ℕ). file.0)) added ∙ map-append (λ (file : List ℕ × List ℕ). file.0) old ((name, bytes) ∷ []) ∙ ap (λ ns. ns ++ name ∷ []) named
+    ∙ ap (λ n. take i names ++ n ∷ []) at ∙ sym (take_more names i name within)
+
+-- what the files tell stays the same
+pub read_of : (told told_now : Option (List (List ℕ × List ℕ))) (file : List ℕ × List ℕ) → told ≡ told_now → IsRead told file → IsRead told_now file
+read_of told told_now file same read = subst (λ known. IsRead known file) same read
+
+-- a file that was read by its path, which is text, was read by its name
+pub read_as : (told : Option (List (List ℕ × List ℕ))) (path name bytes : List ℕ) → path ≡ name → IsUtf8 name → IfSome told (λ held. first_bytes held path ≡ Some bytes) → IsRead told (name, bytes)
+read_as told path name bytes same text read = record { text = text; bytes = subst (λ word. IfSome told (λ held. first_bytes held word ≡ Some bytes)) same read }

@@ -1,15 +1,21 @@
 -- Why a call of the program ends as it does.
-use Rattle.std.specs.Prelude.{◌≡◌, ℕ, ◌≤◌, ◌⊎◌, List, [], length, Option, Some, None}
+use Rattle.std.specs.Prelude.{◌≡◌, ℕ, ◌≤◌, ◌⊎◌, Bool, List, [], length, Option, Some, None}
+use Rattle.std.specs.List.{AllByRecursion}
+use Rattle.std.specs.Io.KnownBytes.{append_known}
 use Rattle.sr_ask.specs.declared.item.Item.{Item}
 use Rattle.sr_core.specs.declared.component.Core.{Core}
+use Rattle.sr_core.specs.declared.owner.Classes.{Classes}
+use Rattle.sr_class_text.specs.Lines.{class_text}
 use Rattle.sr_ports.specs.Faults.{Rose}
+use Rattle.sr_ports.specs.Streams.{PutInPart}
 use Rattle.sr_run.specs.Causes as run
+use Rattle.sr_run.specs.Numbers.{IsNumbered}
 use Rattle.sr_run.specs.Runs as runs
 use Rattle.sr_run.specs.declared.end.RunEnd.{RunEnd}
 use Rattle.sr_run.specs.declared.end.RunEnd.TheVariants as run_end
 use Rattle.sr_text.specs.declared.refusal.Refusal.{Refusal}
 use Rattle.sr_top.specs.Reading.{AreCompiled, AreRefused, IsUnread}
-use Rattle.sr_top.specs.Tasks.{Checks, Runs, files_in, task}
+use Rattle.sr_top.specs.Tasks.{Checks, ListsClasses, Named, Origin, Runs, origin_in, task}
 use Rattle.sr_top.specs.declared.report.Ending.{Ending}
 use Rattle.sr_top.specs.declared.report.Ending.TheVariants.{Done, Quiet, Stopped, Failed, Limit, Refused, NoFile, ReadFault, WriteFault, NoMemory, Usage}
 use Rattle.sr_world.specs.declared.ends.End.TheVariants as end
@@ -41,16 +47,16 @@ pub record EndsUsage (call : Call) : Type 0 where
 -- the files failed while the one of this place was read; those before it were read
 pub record EndsNoFile (call : Call) (file : ℕ) : Type 0 where
   pub names : List (List ℕ)
-  pub named : files_in call.words ≡ Some names
+  pub named : origin_in call.words ≡ Some (Named names)
   pub unread : IsUnread call.files names file
   pub failed : Rose call.file_faults call.file_faults_now
   pub nothing : RunsNothing call
 
--- the files that the words name were read, and this is their refusal
+-- this is the refusal of the program that the words name
 pub record EndsRefused (call : Call) (refusal : Refusal) : Type 0 where
-  pub names : List (List ℕ)
-  pub named : files_in call.words ≡ Some names
-  pub refused : AreRefused call.files names refusal
+  pub origin : Origin
+  pub named : origin_in call.words ≡ Some origin
+  pub refused : AreRefused call.files origin refusal
   pub no_fault : call.file_faults_now ≡ call.file_faults
   pub nothing : RunsNothing call
 
@@ -62,21 +68,71 @@ pub record EndsEarly (call : Call) : Type 0 where
 -- ---- `check`
 
 -- the words ask for a check, and the files were read and accepted
-pub record EndsDone (call : Call) : Type 0 where
+pub record EndsChecked (call : Call) : Type 0 where
   pub names : List (List ℕ)
   pub asked : task call.words ≡ Some (Checks names)
   pub core : Core
-  pub compiled : AreCompiled call.files names core
+  pub classes : Classes
+  pub compiled : AreCompiled call.files (Named names) core classes
   pub no_fault : call.file_faults_now ≡ call.file_faults
   pub nothing : RunsNothing call
 
+-- ---- `classes`
+
+-- The words ask for classes, the files were read and accepted, and these are the lines of the classes. No item was made,
+-- and nothing was read.
+pub record HasLines (call : Call) (lines : List ℕ) : Type 0 where
+  pub names : List (List ℕ)
+  pub asked : task call.words ≡ Some (ListsClasses names)
+  pub core : Core
+  pub classes : Classes
+  pub compiled : AreCompiled call.files (Named names) core classes
+  pub are : lines ≡ class_text core classes.of
+  pub no_fault : call.file_faults_now ≡ call.file_faults
+  pub no_items : call.items ≡ []
+  pub left : call.now.left ≡ call.before.left
+  pub no_read_fault : call.now.read_faults ≡ call.before.read_faults
+
+-- the lines of the classes were put
+pub record EndsListed (call : Call) : Type 0 where
+  pub lines : List ℕ
+  pub has : HasLines call lines
+  pub put : call.now.held ≡ append_known call.before.held lines
+  pub no_write_fault : call.now.write_faults ≡ call.before.write_faults
+
+-- some first bytes of these lines were put, and not all
+pub record IsCutInLines (call : Call) : Type 0 where
+  pub lines : List ℕ
+  pub has : HasLines call lines
+  pub put : PutInPart call.before.held call.now.held lines
+
+-- the output failed in these lines
+pub record EndsInLines (call : Call) : Type 0 where
+  pub cut : IsCutInLines call
+  pub failed : Rose call.before.write_faults call.now.write_faults
+
+-- memory ran out in these lines
+pub record EndsEarlyInLines (call : Call) : Type 0 where
+  pub cut : IsCutInLines call
+  pub no_write_fault : call.now.write_faults ≡ call.before.write_faults
+
+-- what becomes of lines: they were put, or the output failed, or memory ran out; so much for what the output holds and the
+-- count of its faults, before and after
+abbrev pub PutsLines : List ℕ → Option (List ℕ) → Option (List ℕ) → ℕ → ℕ → Ending → Type 0
+PutsLines lines held held_now faults faults_now Done = (held_now ≡ append_known held lines) × (faults_now ≡ faults)
+PutsLines lines held held_now faults faults_now WriteFault = PutInPart held held_now lines × Rose faults faults_now
+PutsLines lines held held_now faults faults_now NoMemory = (PutInPart held held_now lines ⊎ (held_now ≡ held)) × (faults_now ≡ faults)
+PutsLines lines held held_now faults faults_now _ = ⊥
+
 -- ---- a run
 
--- the words ask for a run with these limits, the files were read and accepted, and this is the core of their program
+-- the words ask for a run with these limits, the program is accepted, and this is its core
 pub record Compiles (call : Call) (steps ticks : ℕ) (core : Core) : Type 0 where
-  pub names : List (List ℕ)
-  pub asked : task call.words ≡ Some (Runs names steps ticks)
-  pub compiled : AreCompiled call.files names core
+  pub origin : Origin
+  pub journal : Bool
+  pub asked : task call.words ≡ Some (Runs origin steps ticks journal)
+  pub classes : Classes
+  pub compiled : AreCompiled call.files origin core classes
   pub no_fault : call.file_faults_now ≡ call.file_faults
 
 -- what the call made of a core, with these limits
@@ -96,7 +152,7 @@ pub record EndsRun (call : Call) (ending : RunEnd) : Type 0 where
 
 -- what each ending says of the call
 abbrev pub HasCause : Call → Ending → Type 0
-HasCause call Done = EndsDone call
+HasCause call Done = EndsChecked call ⊎ EndsListed call
 HasCause call Quiet = EndsRun call (run_end.Ended end.Quiet)
 HasCause call (Stopped status) = EndsRun call (run_end.Ended (end.Stopped status))
 HasCause call (Failed fault place) = EndsRun call (run_end.Ended (end.Failed fault place))
@@ -104,8 +160,8 @@ HasCause call (Limit kind) = EndsRun call (run_end.Limit kind)
 HasCause call (Refused refusal) = EndsRefused call refusal
 HasCause call (NoFile file) = EndsNoFile call file
 HasCause call ReadFault = EndsRun call run_end.ReadFault
-HasCause call WriteFault = EndsRun call run_end.WriteFault
-HasCause call NoMemory = EndsEarly call ⊎ EndsRun call run_end.NoMemory
+HasCause call WriteFault = EndsRun call run_end.WriteFault ⊎ EndsInLines call
+HasCause call NoMemory = EndsEarly call ⊎ EndsRun call run_end.NoMemory ⊎ EndsEarlyInLines call
 HasCause call Usage = EndsUsage call
 
 -- ---- from the run to the call
@@ -120,9 +176,10 @@ ending_of run_end.ReadFault = ReadFault
 ending_of run_end.WriteFault = WriteFault
 ending_of run_end.NoMemory = NoMemory
 
--- a run ended, and the call with it
+-- a run ended, and the call with it; each item has numbers of a run
 pub record EndsAs (call : runs.Call) (ending : Ending) : Type 0 where
   pub end : RunEnd
   pub is : ending ≡ ending_of end
   pub within : length call.items ≤ call.steps
+  pub numbered : AllByRecursion IsNumbered call.items
   pub cause : run.HasCause call end

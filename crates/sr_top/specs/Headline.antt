@@ -5,7 +5,7 @@ use Rattle.sr_core.specs.declared.component.Core.{Core}
 use Rattle.sr_ports.specs.Faults.{Rose}
 use Rattle.sr_ports.specs.Streams.{PutInPart}
 use Rattle.sr_run.specs.Runs as runs
-use Rattle.sr_top.specs.Causes.{Call, Compiles, EndsDone, EndsRefused, RunsNothing, run_of}
+use Rattle.sr_top.specs.Causes.{Call, Compiles, EndsChecked, EndsListed, EndsRefused, IsCutInLines, RunsNothing, run_of}
 use Rattle.sr_top.specs.Tasks.{task}
 use Rattle.sr_top.specs.declared.report.Ending.{Ending}
 use Rattle.sr_top.specs.declared.report.Ending.TheVariants.{Done, Quiet, Stopped, Failed, Limit, Refused, NoFile, ReadFault, WriteFault, NoMemory, Usage}
@@ -44,9 +44,10 @@ pub record RunsInPart (call : Call) : Type 0 where
 
 -- The items are a run of the program, the bytes put are its output, and the ending is the run's own, or a limit. Where a
 -- device failed or memory ran out the run hasn't ended. Files are refused as the verdict on them says. Where they are
--- refused or can't be read, or the words are unknown or ask for a check, nothing runs.
+-- refused or can't be read, or the words are unknown or ask for a check or for classes, nothing runs; the lines of classes
+-- are put, or some first bytes of them, where the output failed or memory ran out.
 abbrev pub Headline : Call → Ending → Type 0
-Headline call Done = EndsDone call
+Headline call Done = EndsChecked call ⊎ EndsListed call
 Headline call Quiet = RunsWhole call (Some end.Quiet)
 Headline call (Stopped status) = RunsWhole call (Some (end.Stopped status))
 Headline call (Failed fault place) = RunsWhole call (Some (end.Failed fault place))
@@ -54,8 +55,8 @@ Headline call (Limit kind) = RunsWhole call None
 Headline call (Refused refusal) = EndsRefused call refusal
 Headline call (NoFile file) = RunsNothing call
 Headline call ReadFault = RunsWhole call None
-Headline call WriteFault = RunsInPart call
-Headline call NoMemory = RunsNothing call ⊎ RunsInPart call
+Headline call WriteFault = RunsInPart call ⊎ IsCutInLines call
+Headline call NoMemory = RunsNothing call ⊎ RunsInPart call ⊎ IsCutInLines call
 Headline call Usage = RunsNothing call
 
 -- ---- nothing is left out
@@ -74,7 +75,7 @@ IsOwn WriteFault = ⊥
 IsOwn Usage = ⊥
 IsOwn _ = Unit {0}
 
--- where the words are right and no count rose, the files are refused, or the check is done, or the run ended by itself or at
--- a limit, or memory ran out
+-- where the words are right and no count rose, the files are refused, or the check is done, or the classes are put, or the
+-- run ended by itself or at a limit, or memory ran out
 abbrev pub IsComplete : Call → Ending → Type 0
 IsComplete call ending = task call.words ≢ None → NoneRose call → IsOwn ending

@@ -1,7 +1,8 @@
 -- The files that a call reads, and the program in them.
 use Rattle.std.specs.Prelude.{◌≡◌, ℕ, ◌<◌, List, [], ◌∷◌, ◌++◌, length, map, take, Option, Some, IfSome}
-use Rattle.std.specs.List.{All}
+use Rattle.std.specs.List.{AllByRecursion}
 use Rattle.std.specs.Option.{option_map}
+use Rattle.std.specs.Str.{IsUtf8}
 use Rattle.sr_core.specs.declared.component.Core.{Core}
 use Rattle.sr_core.specs.declared.owner.Classes.{Classes}
 use Rattle.sr_front.specs.Cores.{IsCoreOf}
@@ -9,7 +10,9 @@ use Rattle.sr_front.specs.Program.{IsRefused}
 use Rattle.sr_front.specs.Reading.{contents_of}
 use Rattle.sr_ports.specs.Faults.{Rose}
 use Rattle.sr_ports.specs.Files.{bytes_of}
+use Rattle.sr_sample.specs.Sample.{sample_text}
 use Rattle.sr_text.specs.declared.refusal.Refusal.{Refusal}
+use Rattle.sr_top.specs.Tasks.{Origin, Named, Sampled, sample_name}
 use Rattle.sr_top.specs.declared.report.Ending.{Ending}
 use Rattle.sr_top.specs.declared.report.Ending.TheVariants.{NoFile, NoMemory, Refused}
 
@@ -17,14 +20,15 @@ use Rattle.sr_top.specs.declared.report.Ending.TheVariants.{NoFile, NoMemory, Re
 abbrev pub first_bytes : List (List ℕ × List ℕ) → List ℕ → Option (List ℕ)
 first_bytes held name = option_map (take 1048577) (bytes_of held name)
 
--- a file was read by its name: where the files tell, these are its first bytes
-abbrev pub IsRead : Option (List (List ℕ × List ℕ)) → List ℕ × List ℕ → Type 0
-IsRead told file = IfSome told (λ held. first_bytes held file.0 ≡ Some file.1)
+-- a file was read by its name, which is text: where the files tell, these are its first bytes
+pub record IsRead (told : Option (List (List ℕ × List ℕ))) (file : List ℕ × List ℕ) : Type 0 where
+  pub text : IsUtf8 file.0
+  pub bytes : IfSome told (λ held. first_bytes held file.0 ≡ Some file.1)
 
 -- the files of these names were read, in order
 pub record AreRead (told : Option (List (List ℕ × List ℕ))) (names : List (List ℕ)) (files : List (List ℕ × List ℕ)) : Type 0 where
   pub named : map (λ file. file.0) files ≡ names
-  pub each : All (IsRead told) files
+  pub each : AllByRecursion (IsRead told) files
 
 -- one more file was read
 pub record ReadsOne (told : Option (List (List ℕ × List ℕ))) (name : List ℕ) (old new : List (List ℕ × List ℕ)) : Type 0 where
@@ -46,31 +50,41 @@ EndsReading told names faults faults_now _ = ⊥
 
 -- ---- the program in the files
 
--- the files of these names were read and accepted, and this is the core of their program
-pub record AreCompiled (told : Option (List (List ℕ × List ℕ))) (names : List (List ℕ)) (core : Core) : Type 0 where
+-- the one file of the sample of a seed
+abbrev pub sample_files : ℕ → List (List ℕ × List ℕ)
+sample_files seed = (sample_name, sample_text seed) ∷ []
+
+-- the files of the program, with their names: those that were read, or the sample alone
+abbrev pub AreFiles : Option (List (List ℕ × List ℕ)) → Origin → List (List ℕ × List ℕ) → Type 0
+AreFiles told (Named names) files = AreRead told names files
+AreFiles told (Sampled seed) files = files ≡ sample_files seed
+
+-- the files of the program are accepted, and these are its core and its classes
+pub record AreCompiled (told : Option (List (List ℕ × List ℕ))) (origin : Origin) (core : Core) (classes : Classes) : Type 0 where
   pub files : List (List ℕ × List ℕ)
-  pub read : AreRead told names files
-  pub classes : Classes
+  pub read : AreFiles told origin files
   pub written_out : IsCoreOf (contents_of files) (core, classes)
 
--- the files of these names were read, and this is their refusal
-pub record AreRefused (told : Option (List (List ℕ × List ℕ))) (names : List (List ℕ)) (refusal : Refusal) : Type 0 where
+-- this is the refusal of the files of the program
+pub record AreRefused (told : Option (List (List ℕ × List ℕ))) (origin : Origin) (refusal : Refusal) : Type 0 where
   pub files : List (List ℕ × List ℕ)
-  pub read : AreRead told names files
+  pub read : AreFiles told origin files
   pub refused : IsRefused (contents_of files) refusal
 
--- texts that were read are accepted, and this is the core of their program
-pub record HasCore (texts : List (List ℕ × List ℕ)) (core : Core) : Type 0 where
-  pub classes : Classes
-  pub written_out : IsCoreOf (contents_of texts) (core, classes)
-
--- why texts that were read have no program
+-- why files have no program
 abbrev pub StopsCompiling : List (List ℕ × List ℕ) → Ending → Type 0
-StopsCompiling texts (Refused refusal) = IsRefused (contents_of texts) refusal
-StopsCompiling texts NoMemory = Unit {0}
-StopsCompiling texts _ = ⊥
+StopsCompiling files (Refused refusal) = IsRefused (contents_of files) refusal
+StopsCompiling files NoMemory = Unit {0}
+StopsCompiling files _ = ⊥
 
--- why there is no program: the files are refused, or no more was read, or memory ran out
-abbrev pub EndsCompiling : Option (List (List ℕ × List ℕ)) → List (List ℕ) → ℕ → ℕ → Ending → Type 0
-EndsCompiling told names faults faults_now (Refused refusal) = AreRefused told names refusal × (faults_now ≡ faults)
-EndsCompiling told names faults faults_now ending = EndsReading told names faults faults_now ending
+-- the file of this place can't be read; a sample is in no file
+abbrev pub IsUnreadIn : Option (List (List ℕ × List ℕ)) → Origin → ℕ → Type 0
+IsUnreadIn told (Named names) file = IsUnread told names file
+IsUnreadIn told (Sampled seed) file = ⊥
+
+-- why there is no program: its files are refused, or one of them can't be read, or memory ran out
+abbrev pub EndsCompiling : Option (List (List ℕ × List ℕ)) → Origin → ℕ → ℕ → Ending → Type 0
+EndsCompiling told origin faults faults_now (Refused refusal) = AreRefused told origin refusal × (faults_now ≡ faults)
+EndsCompiling told origin faults faults_now (NoFile file) = IsUnreadIn told origin file × Rose faults faults_now
+EndsCompiling told origin faults faults_now NoMemory = faults_now ≡ faults
+EndsCompiling told origin faults faults_now _ = ⊥

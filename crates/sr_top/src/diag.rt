@@ -3,8 +3,9 @@ ghost use Rattle.std.specs.Fmt.{decimal};
 ghost use Rattle.sr_top.specs.Report as report_of;
 ghost use Rattle.sr_top.specs.declared.report.Ending.TheVariants as endings;
 
+use crate::putting::put_text;
 use crate::report::{Ending, Side};
-use sr_ports::{PortFail, Sink, put_all};
+use sr_ports::Sink;
 use sr_run::LimitKind;
 use sr_value::{Fault, NoMemory, Place, Text};
 use std::alloc::Global;
@@ -156,9 +157,5 @@ pub fn put_diag<D: Sink>(alloc: Global, names: &[Text], ending: Ending, diag: &m
     let Ok(text) = diag_text(alloc, names, ending) else {
         return Side::NoMemory;
     };
-    match put_all(diag, text.as_bytes()) {
-        Ok(()) => Side::Whole,
-        Err(PortFail::Failed) => Side::Failed,
-        Err(PortFail::NoMemory) => Side::NoMemory,
-    }
+    put_text(text.as_bytes(), diag)
 }

@@ -3,9 +3,13 @@
 
 mod compiling;
 mod diag;
+mod journal;
+mod listing;
 mod obeying;
 mod outcome;
+mod preparing;
 mod program;
+mod putting;
 mod reading;
 mod report;
 mod top;

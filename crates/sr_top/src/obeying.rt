@@ -1,26 +1,39 @@
-ghost use Rattle.std.specs.Prelude.{◌≡◌, ℕ, List, [], Some};
+ghost use Rattle.std.specs.Prelude.{◌≡◌, ℕ, false, List, [], ◌∷◌, Option, None, Some, IfOk, IfSome};
+ghost use Rattle.sr_journal.specs.Journal.{IsInRange};
 ghost use Rattle.sr_run.specs.Runs.{Devices};
 ghost use Rattle.sr_top.specs.Causes.{HasCause};
+ghost use Rattle.sr_top.specs.Journal.{CanBeAsked, HasHeaderIf};
 ghost use Rattle.sr_top.specs.Report as report_of;
 ghost use Rattle.sr_top.specs.Tasks as tasks;
-ghost use Rattle.sr_words.specs.Commands.{command_of};
+ghost use Rattle.sr_words.specs.Commands.{command_of, default_of};
+ghost use Rattle.sr_words.specs.declared.part.Setting.TheVariants as settings;
 
-use crate::compiling::compile_files;
+use crate::compiling::{SAMPLE_NAME, compile_files, compile_sample};
+use crate::listing::list_classes;
 use crate::outcome::{Outcome, run_program, without_items};
+use crate::preparing::{Prepared, prepare};
 use crate::program::Process;
 use crate::report::Ending;
 use sr_ask::Item;
+use sr_journal::Header;
 use sr_ports::{Files, Sink, Source};
-use sr_value::{Row, Text};
+use sr_value::{NoMemory, Row, Text};
 use sr_words::Command;
 use std::alloc::Global;
 
-/// What a command came to: the names of its files, how it ended, and the items that it made.
+/// The limits of the run of a sample.
+const SAMPLE_STEPS: u32 = 1_000_000;
+
+const SAMPLE_TICKS: u32 = 10_000_000;
+
+/// What a command came to: the names of its files, how it ended, and the items that it made; and what stands before them
+/// in its journal, where one is kept.
 #[derive(Debug, Drop)]
 pub struct Obeyed {
     pub names: Row<Text>,
     pub ending: Ending,
     pub items: Row<Item>,
+    pub header: Option<Header>,
 }
 
 impl Obeyed {
@@ -29,11 +42,13 @@ impl Obeyed {
         ensures names { result.names ≡ [] }
         ensures ending { result.ending ≡ ending }
         ensures items { result.items ≡ [] }
+        ensures header { result.header ≡ None }
     {
         Obeyed {
             names: Row::new(alloc),
             ending,
             items: Row::new(alloc),
+            header: None,
         }
     }
 
@@ -41,17 +56,23 @@ impl Obeyed {
         ensures names { result.names ≡ names }
         ensures ending { result.ending ≡ outcome.ending }
         ensures items { result.items ≡ outcome.items }
+        ensures header { result.header ≡ outcome.header }
     {
-        let Outcome { ending, items } = outcome;
+        let Outcome {
+            ending,
+            items,
+            header,
+        } = outcome;
         Obeyed {
             names,
             ending,
             items,
+            header,
         }
     }
 }
 
-/// Does what a command says. Journals, `classes` and `gen` come later.
+/// Does what a command says.
 pub fn obey<F: Files, I: Source, O: Sink>(
     alloc: Global,
     command: Command,
@@ -70,6 +91,18 @@ pub fn obey<F: Files, I: Source, O: Sink>(
           items = result.items;
         })
         result.ending }
+    ensures header { (words : List (List ℕ)) → command_of words ≡ Some command → HasHeaderIf
+        (record {
+          words = words;
+          files = F.content files.old;
+          file_faults = F.faults files.old;
+          file_faults_now = F.faults files.new;
+          before = record { left = I.left input.old; read_faults = I.faults input.old; held = O.held output.old; write_faults = O.faults output.old };
+          now = record { left = I.left input.new; read_faults = I.faults input.new; held = O.held output.new; write_faults = O.faults output.new };
+          items = result.items;
+        })
+        result.ending result.header }
+    ensures in_range { (words : List (List ℕ)) → command_of words ≡ Some command → IfSome result.header (λ header. IsInRange header result.items) }
     ensures names { (words : List (List ℕ)) → command_of words ≡ Some command
         → report_of.diag_text result.names result.ending ≡ report_of.diag_text (tasks.file_names words) result.ending }
     ensures files { F.content files.new ≡ F.content files.old }
@@ -82,22 +115,44 @@ pub fn obey<F: Files, I: Source, O: Sink>(
             ticks,
             journal,
         } => {
-            if journal {
-                return Obeyed::early(alloc, Ending::Usage);
-            }
-            let outcome = run_files(alloc, names.as_slice(), steps, ticks, files, input, output);
+            let outcome = run_files(
+                alloc,
+                names.as_slice(),
+                steps,
+                ticks,
+                journal,
+                files,
+                input,
+                output,
+            );
             Obeyed::named(names, outcome)
         }
         Command::Check { files: names } => {
             let outcome = check_files(alloc, names.as_slice(), files);
             Obeyed::named(names, outcome)
         }
-        Command::Classes { files: _ } => Obeyed::early(alloc, Ending::Usage),
-        Command::Gen {
-            seed: _,
-            workers: _,
-        } => Obeyed::early(alloc, Ending::Usage),
+        Command::Classes { files: names } => {
+            let outcome = list_classes(alloc, names.as_slice(), files, output);
+            Obeyed::named(names, outcome)
+        }
+        Command::Gen { seed, workers: _ } => match sample_names(alloc) {
+            Ok(names) => {
+                let outcome = run_sample(alloc, seed, input, output);
+                Obeyed::named(names, outcome)
+            }
+            Err(_) => Obeyed::early(alloc, Ending::NoMemory),
+        },
     }
+}
+
+/// The name of the one file of a sample, in a list.
+fn sample_names(alloc: Global) -> Result<Row<Text>, NoMemory>
+    ensures { IfOk result (λ names. names ≡ tasks.sample_name ∷ []) }
+{
+    let name = Text::from_slice(alloc, SAMPLE_NAME.as_bytes())?;
+    let mut names = Row::new(alloc);
+    names.push(name)?;
+    Ok(names)
 }
 
 /// Runs the program of the files of these names.
@@ -106,11 +161,12 @@ fn run_files<F: Files, I: Source, O: Sink>(
     names: &[Text],
     steps: u32,
     ticks: u32,
+    journal: bool,
     files: &mut F,
     input: &mut I,
     output: &mut O,
 ) -> Outcome
-    ensures cause { (words : List (List ℕ)) → tasks.task words ≡ Some (tasks.Runs names.now steps ticks) → HasCause
+    ensures cause { (words : List (List ℕ)) → tasks.task words ≡ Some (tasks.Runs (tasks.Named names.now) steps ticks journal) → HasCause
         (record {
           words = words;
           files = F.content files.old;
@@ -121,12 +177,59 @@ fn run_files<F: Files, I: Source, O: Sink>(
           items = result.items;
         })
         result.ending }
+    ensures header { (words : List (List ℕ)) → tasks.task words ≡ Some (tasks.Runs (tasks.Named names.now) steps ticks journal) → HasHeaderIf
+        (record {
+          words = words;
+          files = F.content files.old;
+          file_faults = F.faults files.old;
+          file_faults_now = F.faults files.new;
+          before = record { left = I.left input.old; read_faults = I.faults input.old; held = O.held output.old; write_faults = O.faults output.old };
+          now = record { left = I.left input.new; read_faults = I.faults input.new; held = O.held output.new; write_faults = O.faults output.new };
+          items = result.items;
+        })
+        result.ending result.header }
+    ensures in_range { CanBeAsked names.now steps ticks → IfSome result.header (λ header. IsInRange header result.items) }
     ensures files { F.content files.new ≡ F.content files.old }
 {
-    match compile_files(alloc, names, files) {
-        Ok(program) => {
-            run_program::<Process, I, O>(alloc, &program, steps, ticks, input, output)
+    match prepare(alloc, names, steps, ticks, journal, files) {
+        Ok(Prepared { program, header }) => {
+            run_program::<Process, I, O>(alloc, &program, header, steps, ticks, input, output)
         }
+        Err(ending) => without_items(alloc, ending),
+    }
+}
+
+/// Runs the sample program of a seed.
+fn run_sample<I: Source, O: Sink>(
+    alloc: Global,
+    seed: u32,
+    input: &mut I,
+    output: &mut O,
+) -> Outcome
+    ensures cause { (words : List (List ℕ)) (files : Option (List (List ℕ × List ℕ))) (faults : ℕ)
+        → tasks.task words ≡ Some (tasks.Runs (tasks.Sampled seed) (default_of settings.Steps) (default_of settings.Ticks) false) → HasCause
+        (record {
+          words = words;
+          files = files;
+          file_faults = faults;
+          file_faults_now = faults;
+          before = record { left = I.left input.old; read_faults = I.faults input.old; held = O.held output.old; write_faults = O.faults output.old };
+          now = record { left = I.left input.new; read_faults = I.faults input.new; held = O.held output.new; write_faults = O.faults output.new };
+          items = result.items;
+        })
+        result.ending }
+    ensures header { result.header ≡ None }
+{
+    match compile_sample(alloc, seed) {
+        Ok(program) => run_program::<Process, I, O>(
+            alloc,
+            &program,
+            None,
+            SAMPLE_STEPS,
+            SAMPLE_TICKS,
+            input,
+            output,
+        ),
         Err(ending) => without_items(alloc, ending),
     }
 }
@@ -144,6 +247,7 @@ fn check_files<F: Files>(alloc: Global, names: &[Text], files: &mut F) -> Outcom
           items = result.items;
         })
         result.ending }
+    ensures header { result.header ≡ None }
     ensures files { F.content files.new ≡ F.content files.old }
 {
     match compile_files(alloc, names, files) {

@@ -1,31 +1,35 @@
-ghost use Rattle.std.specs.Prelude.{◌≡◌, []};
+ghost use Rattle.std.specs.Prelude.{◌≡◌, [], None};
 ghost use Rattle.sr_top.specs.Causes.{EndsAs};
 ghost use Rattle.sr_top.specs.Causes as causes;
 
 use crate::report::Ending;
 use sr_actor::Actor;
 use sr_ask::Item;
+use sr_journal::Header;
 use sr_ports::{Sink, Source};
 use sr_run::{Run, RunEnd, run};
 use sr_value::Row;
 use sr_world::End;
 use std::alloc::Global;
 
-/// How a command ended, and the items that it made.
+/// How a command ended, and the items that it made; and what stands before them in its journal, where one is kept.
 #[derive(Debug, Drop)]
 pub struct Outcome {
     pub ending: Ending,
     pub items: Row<Item>,
+    pub header: Option<Header>,
 }
 
 /// An ending before any item.
 pub fn without_items(alloc: Global, ending: Ending) -> Outcome
     ensures ending { result.ending ≡ ending }
     ensures items { result.items ≡ [] }
+    ensures header { result.header ≡ None }
 {
     Outcome {
         ending,
         items: Row::new(alloc),
+        header: None,
     }
 }
 
@@ -33,12 +37,13 @@ pub fn without_items(alloc: Global, ending: Ending) -> Outcome
 pub fn run_program<A: Actor, I: Source, O: Sink>(
     alloc: Global,
     program: &A::Program,
+    header: Option<Header>,
     steps: u32,
     ticks: u32,
     input: &mut I,
     output: &mut O,
 ) -> Outcome
-    ensures { EndsAs
+    ensures ends { EndsAs
         (record {
           core = A.core_of program.now;
           steps = steps;
@@ -48,10 +53,15 @@ pub fn run_program<A: Actor, I: Source, O: Sink>(
           items = result.items;
         })
         result.ending }
+    ensures header { result.header ≡ header }
 {
     let Run { items, end } = run::<A, I, O>(alloc, program, steps, ticks, input, output);
     let ending = ending_of(end);
-    Outcome { ending, items }
+    Outcome {
+        ending,
+        items,
+        header,
+    }
 }
 
 /// The ending of a call whose run ended so.

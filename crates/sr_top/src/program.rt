@@ -1,8 +1,9 @@
 ghost use Rattle.std.specs.Prelude.{◌≤◌, length, IfErr, IfOk};
+ghost use Rattle.sr_front.specs.Cores.{IsCoreOf};
 ghost use Rattle.sr_front.specs.Program.{IsRefused};
 ghost use Rattle.sr_front.specs.Reading.{contents_of};
-ghost use Rattle.sr_top.specs.Programs.{core_in};
-ghost use Rattle.sr_top.specs.Reading.{HasCore, StopsCompiling};
+ghost use Rattle.sr_top.specs.Programs.{classes_in, core_in};
+ghost use Rattle.sr_top.specs.Reading.{StopsCompiling};
 
 use crate::report::Ending;
 use sr_compiled::Compiled;
@@ -20,7 +21,7 @@ pub type Program = Compiled;
 /// The program in these files.
 pub fn compiled(alloc: Global, texts: &[(Text, Text)]) -> Result<Program, Ending>
     requires few { length texts.now ≤ 64 }
-    ensures core { IfOk result (λ program. HasCore texts.now (core_in program)) }
+    ensures core { IfOk result (λ program. IsCoreOf (contents_of texts.now) (core_in program, classes_in program)) }
     ensures ends { IfErr result (StopsCompiling texts.now) }
 {
     match compile(alloc, texts) {

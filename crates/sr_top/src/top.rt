@@ -1,22 +1,24 @@
-ghost use Rattle.std.specs.Prelude.{◌≡◌, [], map, string_bytes};
+ghost use Rattle.std.specs.Prelude.{◌≡◌, ◌⊎◌, [], map, string_bytes, IfSome};
+ghost use Rattle.sr_journal.specs.Journal.{IsInRange};
 ghost use Rattle.sr_top.specs.Causes.{HasCause};
 ghost use Rattle.sr_top.specs.Headline.{Headline, IsComplete};
+ghost use Rattle.sr_top.specs.Journal.{HasHeaderIf, HasNoJournal, PutsJournal};
 ghost use Rattle.sr_top.specs.Report as report_of;
 ghost use Rattle.sr_top.specs.Tasks.{file_names};
-ghost use Rattle.sr_top.specs.declared.report.Side.TheVariants as sides;
 
 use crate::diag::{put_diag, status_of};
+use crate::journal::put_journal;
 use crate::obeying::{Obeyed, obey};
-use crate::report::{Ending, Report, Side};
+use crate::report::{Ending, Report};
 use sr_ports::{Files, Gate, Sink, Source};
 use sr_value::Row;
 use sr_words::{WordsFail, read_words};
 use std::alloc::Global;
 
 /// What the program does: reads its words, reads and compiles the files that they name, runs their program, and says how
-/// that ended.
+/// that ended. Where the words ask for a journal of a run, it is put at the end.
 ///
-/// `gate` is for workers, which this version can't run yet, and nothing is put on `journal`.
+/// `gate` is for workers, which this version can't run yet.
 pub fn sr_top<F: Files, I: Source, O: Sink, D: Sink, J: Sink, G: Gate + Sync>(
     alloc: Global,
     words: &[String],
@@ -64,8 +66,28 @@ pub fn sr_top<F: Files, I: Source, O: Sink, D: Sink, J: Sink, G: Gate + Sync>(
     ensures diag { report_of.GotAsFar result.diag (report_of.diag_text (file_names (map string_bytes words.now)) result.ending)
         (D.held diag.old) (D.held diag.new) (D.faults diag.old) (D.faults diag.new) }
     ensures status { result.status ≡ report_of.status_of result.ending result.journal }
-    ensures journal { result.journal ≡ sides.Whole }
-    ensures journal_untouched { journal.new ≡ journal.old }
+    ensures journal { PutsJournal
+        (record {
+          words = map string_bytes words.now;
+          files = F.content files.old;
+          file_faults = F.faults files.old;
+          file_faults_now = F.faults files.new;
+          before = record { left = I.left input.old; read_faults = I.faults input.old; held = O.held output.old; write_faults = O.faults output.old };
+          now = record { left = I.left input.new; read_faults = I.faults input.new; held = O.held output.new; write_faults = O.faults output.new };
+          items = result.items;
+        })
+        result.ending result.journal (J.held journal.old) (J.held journal.new) (J.faults journal.old) (J.faults journal.new)
+        ⊎ (HasNoJournal
+        (record {
+          words = map string_bytes words.now;
+          files = F.content files.old;
+          file_faults = F.faults files.old;
+          file_faults_now = F.faults files.new;
+          before = record { left = I.left input.old; read_faults = I.faults input.old; held = O.held output.old; write_faults = O.faults output.old };
+          now = record { left = I.left input.new; read_faults = I.faults input.new; held = O.held output.new; write_faults = O.faults output.new };
+          items = result.items;
+        })
+        result.ending result.journal × (journal.new ≡ journal.old)) }
     ensures no_rounds { result.rounds ≡ [] }
 {
     let obeyed = obey_words(alloc, words, files, input, output);
@@ -73,13 +95,15 @@ pub fn sr_top<F: Files, I: Source, O: Sink, D: Sink, J: Sink, G: Gate + Sync>(
         names,
         ending,
         items,
+        header,
     } = obeyed;
     let diag = put_diag(alloc, names.as_slice(), ending, diag);
+    let journal = put_journal(alloc, &header, &items, journal);
     Report {
         ending,
         diag,
-        journal: Side::Whole,
-        status: status_of(ending, Side::Whole),
+        journal,
+        status: status_of(ending, journal),
         items,
         rounds: Row::new(alloc),
     }
@@ -104,6 +128,18 @@ fn obey_words<F: Files, I: Source, O: Sink>(
           items = result.items;
         })
         result.ending }
+    ensures header { HasHeaderIf
+        (record {
+          words = map string_bytes words.now;
+          files = F.content files.old;
+          file_faults = F.faults files.old;
+          file_faults_now = F.faults files.new;
+          before = record { left = I.left input.old; read_faults = I.faults input.old; held = O.held output.old; write_faults = O.faults output.old };
+          now = record { left = I.left input.new; read_faults = I.faults input.new; held = O.held output.new; write_faults = O.faults output.new };
+          items = result.items;
+        })
+        result.ending result.header }
+    ensures in_range { IfSome result.header (λ header. IsInRange header result.items) }
     ensures names { report_of.diag_text result.names result.ending ≡ report_of.diag_text (file_names (map string_bytes words.now)) result.ending }
     ensures files { F.content files.new ≡ F.content files.old }
 {

@@ -3,3 +3,9 @@
 
 #[cfg(test)]
 mod calls;
+#[cfg(test)]
+mod commands;
+#[cfg(test)]
+mod journals;
+#[cfg(test)]
+mod support;

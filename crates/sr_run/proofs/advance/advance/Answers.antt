@@ -16,7 +16,7 @@ returns-in-Ok-Stepped-clause-advances g c =
     (subst
     (λ bytes. PutsItem c.in-Ok-Stepped.item bytes c.args.items.now c.put_item.new.items (g.O.Sink.held c.args.output.now) (g.O.Sink.held c.put_item.new.output)
     (g.O.Sink.faults c.args.output.now) (g.O.Sink.faults c.put_item.new.output) c.put_item.result)
-    same c.put_item.ensures)
+    same c.put_item.ensures.puts)
 
 pub returns-in-Ok-Wants-clause-advances : goal.returns-in-Ok-Wants-clause-advances
 returns-in-Ok-Wants-clause-advances g c =
@@ -39,7 +39,7 @@ returns-in-Ok-Ended-clause-advances g c =
     let present = as_of call (g.A.Actor.core_of c.args.program.now)
     (record { left = g.I.Source.left c.args.input.now; read_faults = g.I.Source.faults c.args.input.now; held = g.O.Sink.held c.args.output.now; write_faults = g.O.Sink.faults c.args.output.now }) c.args.items.now in
     ends_with (g.A.Actor.asks_after c.args.program.now) g.A.Actor.can_feed present c.args.intake.now c.args.plain.now under_way c.in-Ok-Ended.item c.end_with.new.items
-    c.in-Ok-Ended.field-0 c.step.new.self c.in-Ok-Ended.end c.end_with.result c.in-Ok-Ended.field-0-is (c.in-Ok-Ended.ensures call.ticks under_way.state under_way.events under_way.engine) c.end_with.ensures
+    c.in-Ok-Ended.field-0 c.step.new.self c.in-Ok-Ended.end c.end_with.result c.in-Ok-Ended.field-0-is (c.in-Ok-Ended.ensures call.ticks under_way.state under_way.events under_way.engine) c.end_with.ensures.ends
 
 pub returns-in-Err-clause-advances : goal.returns-in-Err-clause-advances
 returns-in-Err-clause-advances g c =

@@ -1,6 +1,9 @@
 -- A run begins with no item and no input, or memory runs out at once.
-use Rattle.std.proofs.Common.{[], refl}
+use Rattle.std.proofs.Common.{[], refl, subst, sym}
+use Rattle.std.specs.List.{AllByRecursion}
+use Rattle.sr_run.proofs.Actors.{made-by, numbered}
 use Rattle.sr_run.proofs.Begun.{begun, begun_early}
+use Rattle.sr_run.specs.Numbers.{IsNumbered}
 use Rattle.sr_run.specs.Runs.{Call, Devices}
 use Rattle.sr_run.proofs.whole.run.Goals as goal
 
@@ -16,3 +19,9 @@ pub returns-in-Err-clause-cause : goal.returns-in-Err-clause-cause
 returns-in-Err-clause-cause g c =
     let devices : Devices = record { left = g.I.Source.left c.args.input.now; read_faults = g.I.Source.faults c.args.input.now; held = g.O.Sink.held c.args.output.now; write_faults = g.O.Sink.faults c.args.output.now } in
     begun_early (g.A.Actor.core_of c.args.program.now) c.args.steps c.args.ticks devices c.new-items.result c.new-items.ensures
+
+pub returns-in-Ok-clause-numbered : goal.returns-in-Ok-clause-numbered
+returns-in-Ok-clause-numbered g c = numbered _ (made-by _ _ (returns-in-Ok-clause-cause g c)) c.run_on-end.ensures.fit
+
+pub returns-in-Err-clause-numbered : goal.returns-in-Err-clause-numbered
+returns-in-Err-clause-numbered g c = subst (AllByRecursion IsNumbered) (sym c.new-items.ensures) tt

@@ -1,6 +1,8 @@
 -- There are no more items than steps, and the run is under way if it was at the beginning.
 use Rattle.std.proofs.Common.{◌≡◌, ◌+◌, ◌-◌, ◌≤◌, length}
+use Rattle.std.specs.List.{AllByRecursion}
 use Rattle.sr_run.proofs.Begun.{nothing_taken}
+use Rattle.sr_run.specs.Numbers.{FitsItem}
 use Rattle.sr_run.specs.Runs.{Call}
 use Rattle.sr_run.specs.UnderWay.{IsUnderWay, as_of, open_input}
 use Rattle.sr_run.proofs.whole.run_on.Given as goal
@@ -8,6 +10,7 @@ use Rattle.sr_run.proofs.whole.run_on.Given as goal
 abbrev pub invariant-loop-intake : goal.invariant-loop-intake
 invariant-loop-intake g l = record {
   within : length l.items ≤ l.steps;
+  fit : AllByRecursion FitsItem l.items;
   most : l.intake.taken ≤ 67108864;
   under_way : (call : Call) → call.steps ≡ l.steps
       → IsUnderWay (g.A.Actor.asks_after l.program) g.A.Actor.can_feed

@@ -1,32 +1,182 @@
--- A check leaves input and output as they are.
-use Rattle.std.proofs.Common.{◌∙◌, List, Some, ap, subst, sym}
+-- What each command does is handed on with the names of its files.
+use Rattle.std.proofs.Common.{◌∙◌, List, [], None, Some, ap, false, inl, inr, refl, subst, sym}
+use Rattle.std.specs.Prelude.{IfSome, unwrap_or}
+use Rattle.std.specs.Option.{option_map}
 use Rattle.sr_ask.specs.declared.item.Item.{Item}
-use Rattle.sr_run.specs.Runs.{Devices}
-use Rattle.sr_top.proofs.Asked.{check_task}
+use Rattle.sr_journal.specs.Journal.{IsInRange}
+use Rattle.sr_top.proofs.Asked.{handed_on, named_as, task_is}
+use Rattle.sr_top.proofs.Commands.{can_be_asked}
 use Rattle.sr_top.specs.Causes.{Call, HasCause}
-use Rattle.sr_top.specs.Tasks.{Checks}
+use Rattle.sr_top.specs.Journal.{CanBeAsked, EndsBeforeRun, HasHeaderIf, without}
+use Rattle.sr_top.specs.Tasks.{Checks, ListsClasses, Named, Runs, Sampled, keeps_journal}
+use Rattle.sr_words.specs.Commands.{default_of}
+use Rattle.sr_words.specs.declared.part.Setting.TheVariants.{Steps, Ticks}
 use Rattle.sr_top.proofs.obeying.obey.Goals as goal
+
+pub returns-in-Run-clause-cause : goal.returns-in-Run-clause-cause
+returns-in-Run-clause-cause g c = λ words told.
+    let call : List Item → Call =
+    λ items. record {
+      words = words;
+      files = g.F.Files.content c.args.files.now;
+      file_faults = g.F.Files.faults c.args.files.now;
+      file_faults_now = g.F.Files.faults c.run_files-outcome.new.files;
+      before = record {
+        left = g.I.Source.left c.args.input.now;
+        read_faults = g.I.Source.faults c.args.input.now;
+        held = g.O.Sink.held c.args.output.now;
+        write_faults = g.O.Sink.faults c.args.output.now;
+      };
+      now = record {
+        left = g.I.Source.left c.run_files-outcome.new.input;
+        read_faults = g.I.Source.faults c.run_files-outcome.new.input;
+        held = g.O.Sink.held c.run_files-outcome.new.output;
+        write_faults = g.O.Sink.faults c.run_files-outcome.new.output;
+      };
+      items = items;
+    } in
+    handed_on (λ items ending header. HasCause (call items) ending) _ _ _ _ _ _ c.named.ensures.items c.named.ensures.ending c.named.ensures.header
+    (c.run_files-outcome.ensures.cause words (task_is words _ _ _ told c.in-Run.is refl ∙ ap (λ names. Some (Runs (Named names) c.in-Run.steps c.in-Run.ticks c.in-Run.journal)) (sym c.as_slice.ensures)))
+
+pub returns-in-Run-clause-header : goal.returns-in-Run-clause-header
+returns-in-Run-clause-header g c = λ words told.
+    let call : List Item → Call =
+    λ items. record {
+      words = words;
+      files = g.F.Files.content c.args.files.now;
+      file_faults = g.F.Files.faults c.args.files.now;
+      file_faults_now = g.F.Files.faults c.run_files-outcome.new.files;
+      before = record {
+        left = g.I.Source.left c.args.input.now;
+        read_faults = g.I.Source.faults c.args.input.now;
+        held = g.O.Sink.held c.args.output.now;
+        write_faults = g.O.Sink.faults c.args.output.now;
+      };
+      now = record {
+        left = g.I.Source.left c.run_files-outcome.new.input;
+        read_faults = g.I.Source.faults c.run_files-outcome.new.input;
+        held = g.O.Sink.held c.run_files-outcome.new.output;
+        write_faults = g.O.Sink.faults c.run_files-outcome.new.output;
+      };
+      items = items;
+    } in
+    handed_on (λ items ending header. HasHeaderIf (call items) ending header) _ _ _ _ _ _ c.named.ensures.items c.named.ensures.ending c.named.ensures.header
+    (c.run_files-outcome.ensures.header words (task_is words _ _ _ told c.in-Run.is refl ∙ ap (λ names. Some (Runs (Named names) c.in-Run.steps c.in-Run.ticks c.in-Run.journal)) (sym c.as_slice.ensures)))
+
+pub returns-in-Run-clause-in_range : goal.returns-in-Run-clause-in_range
+returns-in-Run-clause-in_range g c = λ words told.
+    handed_on (λ items ending header. IfSome header (λ h. IsInRange h items)) _ _ _ _ _ _ c.named.ensures.items c.named.ensures.ending c.named.ensures.header
+    (c.run_files-outcome.ensures.in_range (subst (λ names. CanBeAsked names c.in-Run.steps c.in-Run.ticks) (sym c.as_slice.ensures) (can_be_asked _ _ _ _ _ words (told ∙ ap Some c.in-Run.is))))
+
+pub returns-in-Run-clause-names : goal.returns-in-Run-clause-names
+returns-in-Run-clause-names g c = λ words told. named_as words c.named.result.names _ _ (task_is words _ _ _ told c.in-Run.is refl) c.named.ensures.names
 
 pub returns-in-Check-clause-cause : goal.returns-in-Check-clause-cause
 returns-in-Check-clause-cause g c = λ words told.
-    let devices : Devices =
-    record {
-      left = g.I.Source.left c.args.input.now;
-      read_faults = g.I.Source.faults c.args.input.now;
-      held = g.O.Sink.held c.args.output.now;
-      write_faults = g.O.Sink.faults c.args.output.now;
-    } in
     let call : List Item → Call =
     λ items. record {
       words = words;
       files = g.F.Files.content c.args.files.now;
       file_faults = g.F.Files.faults c.args.files.now;
       file_faults_now = g.F.Files.faults c.check_files-outcome.new.files;
-      before = devices;
-      now = devices;
+      before = record {
+        left = g.I.Source.left c.args.input.now;
+        read_faults = g.I.Source.faults c.args.input.now;
+        held = g.O.Sink.held c.args.output.now;
+        write_faults = g.O.Sink.faults c.args.output.now;
+      };
+      now = record {
+        left = g.I.Source.left c.args.input.now;
+        read_faults = g.I.Source.faults c.args.input.now;
+        held = g.O.Sink.held c.args.output.now;
+        write_faults = g.O.Sink.faults c.args.output.now;
+      };
       items = items;
     } in
-    subst (λ items. HasCause (call items) c.named-in-Check.result.ending) (sym c.named-in-Check.ensures.items)
-    (subst (HasCause (call c.check_files-outcome.result.items)) (sym c.named-in-Check.ensures.ending)
-    (c.check_files-outcome.ensures.cause words devices
-    (check_task words _ _ told c.in-Check.is ∙ ap (λ names. Some (Checks names)) (sym c.as_slice-in-Check.ensures))))
+    handed_on (λ items ending header. HasCause (call items) ending) _ _ _ _ _ _ c.named-in-Check.ensures.items c.named-in-Check.ensures.ending c.named-in-Check.ensures.header
+    (c.check_files-outcome.ensures.cause words (call []).before (task_is words _ _ _ told c.in-Check.is refl ∙ ap (λ names. Some (Checks names)) (sym c.as_slice-in-Check.ensures)))
+
+pub returns-in-Check-clause-header : goal.returns-in-Check-clause-header
+returns-in-Check-clause-header g c = λ words told.
+    subst (HasHeaderIf _ _) (sym (c.named-in-Check.ensures.header ∙ c.check_files-outcome.ensures.header)) (without (inl (ap (λ t. unwrap_or (option_map keeps_journal t) false) (task_is words _ _ _ told c.in-Check.is refl))))
+
+pub returns-in-Check-clause-in_range : goal.returns-in-Check-clause-in_range
+returns-in-Check-clause-in_range g c = λ words told. subst (λ o. IfSome o (λ h. IsInRange h c.named-in-Check.result.items)) (sym (c.named-in-Check.ensures.header ∙ c.check_files-outcome.ensures.header)) tt
+
+pub returns-in-Check-clause-names : goal.returns-in-Check-clause-names
+returns-in-Check-clause-names g c = λ words told. named_as words c.named-in-Check.result.names _ _ (task_is words _ _ _ told c.in-Check.is refl) c.named-in-Check.ensures.names
+
+pub returns-in-Classes-clause-cause : goal.returns-in-Classes-clause-cause
+returns-in-Classes-clause-cause g c = λ words told.
+    let call : List Item → Call =
+    λ items. record {
+      words = words;
+      files = g.F.Files.content c.args.files.now;
+      file_faults = g.F.Files.faults c.args.files.now;
+      file_faults_now = g.F.Files.faults c.list_classes-outcome.new.files;
+      before = record {
+        left = g.I.Source.left c.args.input.now;
+        read_faults = g.I.Source.faults c.args.input.now;
+        held = g.O.Sink.held c.args.output.now;
+        write_faults = g.O.Sink.faults c.args.output.now;
+      };
+      now = record {
+        left = g.I.Source.left c.args.input.now;
+        read_faults = g.I.Source.faults c.args.input.now;
+        held = g.O.Sink.held c.list_classes-outcome.new.output;
+        write_faults = g.O.Sink.faults c.list_classes-outcome.new.output;
+      };
+      items = items;
+    } in
+    handed_on (λ items ending header. HasCause (call items) ending) _ _ _ _ _ _ c.named-in-Classes.ensures.items c.named-in-Classes.ensures.ending c.named-in-Classes.ensures.header
+    (c.list_classes-outcome.ensures.cause words _ _ (task_is words _ _ _ told c.in-Classes.is refl ∙ ap (λ names. Some (ListsClasses names)) (sym c.as_slice-in-Classes.ensures)))
+
+pub returns-in-Classes-clause-header : goal.returns-in-Classes-clause-header
+returns-in-Classes-clause-header g c = λ words told.
+    subst (HasHeaderIf _ _) (sym (c.named-in-Classes.ensures.header ∙ c.list_classes-outcome.ensures.header)) (without (inl (ap (λ t. unwrap_or (option_map keeps_journal t) false) (task_is words _ _ _ told c.in-Classes.is refl))))
+
+pub returns-in-Classes-clause-in_range : goal.returns-in-Classes-clause-in_range
+returns-in-Classes-clause-in_range g c = λ words told. subst (λ o. IfSome o (λ h. IsInRange h c.named-in-Classes.result.items)) (sym (c.named-in-Classes.ensures.header ∙ c.list_classes-outcome.ensures.header)) tt
+
+pub returns-in-Classes-clause-names : goal.returns-in-Classes-clause-names
+returns-in-Classes-clause-names g c = λ words told. named_as words c.named-in-Classes.result.names _ _ (task_is words _ _ _ told c.in-Classes.is refl) c.named-in-Classes.ensures.names
+
+pub returns-in-Ok-clause-cause : goal.returns-in-Ok-clause-cause
+returns-in-Ok-clause-cause g c = λ words told.
+    let call : List Item → Call =
+    λ items. record {
+      words = words;
+      files = g.F.Files.content c.args.files.now;
+      file_faults = g.F.Files.faults c.args.files.now;
+      file_faults_now = g.F.Files.faults c.args.files.now;
+      before = record {
+        left = g.I.Source.left c.args.input.now;
+        read_faults = g.I.Source.faults c.args.input.now;
+        held = g.O.Sink.held c.args.output.now;
+        write_faults = g.O.Sink.faults c.args.output.now;
+      };
+      now = record {
+        left = g.I.Source.left c.run_sample-outcome.new.input;
+        read_faults = g.I.Source.faults c.run_sample-outcome.new.input;
+        held = g.O.Sink.held c.run_sample-outcome.new.output;
+        write_faults = g.O.Sink.faults c.run_sample-outcome.new.output;
+      };
+      items = items;
+    } in
+    handed_on (λ items ending header. HasCause (call items) ending) _ _ _ _ _ _ c.named-in-Ok.ensures.items c.named-in-Ok.ensures.ending c.named-in-Ok.ensures.header
+    (c.run_sample-outcome.ensures.cause words _ _ (task_is words _ _ _ told c.in-Gen.is refl))
+
+pub returns-in-Ok-clause-header : goal.returns-in-Ok-clause-header
+returns-in-Ok-clause-header g c = λ words told.
+    subst (HasHeaderIf _ _) (sym (c.named-in-Ok.ensures.header ∙ c.run_sample-outcome.ensures.header)) (without (inl (ap (λ t. unwrap_or (option_map keeps_journal t) false) (task_is words _ _ _ told c.in-Gen.is refl))))
+
+pub returns-in-Ok-clause-in_range : goal.returns-in-Ok-clause-in_range
+returns-in-Ok-clause-in_range g c = λ words told. subst (λ o. IfSome o (λ h. IsInRange h c.named-in-Ok.result.items)) (sym (c.named-in-Ok.ensures.header ∙ c.run_sample-outcome.ensures.header)) tt
+
+pub returns-in-Ok-clause-names : goal.returns-in-Ok-clause-names
+returns-in-Ok-clause-names g c = λ words told. named_as words c.named-in-Ok.result.names _ _ (task_is words _ _ _ told c.in-Gen.is refl) (c.named-in-Ok.ensures.names ∙ c.in-Ok.ensures)
+
+pub returns-in-Err-clause-header : goal.returns-in-Err-clause-header
+returns-in-Err-clause-header g c = λ words told.
+    subst (HasHeaderIf _ _) (sym c.early.ensures.header)
+    (without (inr (record { no_items = c.early.ensures.items; untouched = refl }, subst EndsBeforeRun (sym c.early.ensures.ending) tt)))

@@ -7,10 +7,7 @@ use Rattle.sr_top.proofs.program.compiled.Goals as goal
 
 pub returns-in-Ok-clause-core : goal.returns-in-Ok-clause-core
 returns-in-Ok-clause-core c =
-    record {
-      classes = c.in-Ok.program.classes;
-      written_out = subst (λ program. IsCoreOf (contents_of c.args.texts.now) (program.core, c.in-Ok.program.classes)) (sym c.new.ensures) c.in-Ok.ensures.core;
-    }
+    subst (λ program. IsCoreOf (contents_of c.args.texts.now) (program.core, program.classes)) (sym c.new.ensures) c.in-Ok.ensures.core
 
 pub returns-in-Err-Refused-clause-ends : goal.returns-in-Err-Refused-clause-ends
 returns-in-Err-Refused-clause-ends c =

@@ -1,0 +1,30 @@
+-- The lines of the classes are put; or there is no program, and the call ends for that reason.
+use Rattle.std.proofs.Common.{ap, refl, subst, sym}
+use Rattle.std.specs.Option.{option_map}
+use Rattle.sr_top.proofs.Endings.{listed, stopped}
+use Rattle.sr_top.specs.Causes.{HasCause}
+use Rattle.sr_top.specs.Tasks.{Named, origin_of}
+use Rattle.sr_top.proofs.listing.list_classes.Goals as goal
+
+pub returns-in-Ok-clause-cause : goal.returns-in-Ok-clause-cause
+returns-in-Ok-clause-cause g c = λ words left read_faults asked.
+    subst (HasCause _) (sym c.without_items.ensures.ending)
+    (listed _ _ _
+    (record {
+      names = c.args.names.now;
+      asked = asked;
+      core = _;
+      classes = _;
+      compiled = c.in-Ok.ensures.compiled;
+      are = refl;
+      no_fault = c.in-Ok.ensures.no_fault;
+      no_items = c.without_items.ensures.items;
+      left = refl;
+      no_read_fault = refl;
+    })
+    c.put_classes.ensures)
+
+pub returns-in-Err-clause-cause : goal.returns-in-Err-clause-cause
+returns-in-Err-clause-cause g c = λ words left read_faults asked.
+    subst (HasCause _) (sym c.without_items-in-Err.ensures.ending)
+    (stopped _ (Named c.args.names.now) _ (ap (option_map origin_of) asked) (record { no_items = c.without_items-in-Err.ensures.items; untouched = refl }) c.in-Err.ensures.ends)

@@ -1,0 +1,23 @@
+-- The sample is run, and the call ends as its run; or it isn't accepted, and the call ends for that reason.
+use Rattle.std.proofs.Common.{ap, false, refl, subst, sym}
+use Rattle.std.specs.Option.{option_map}
+use Rattle.sr_top.proofs.Endings.{caused, stopped}
+use Rattle.sr_top.proofs.Readings.{ended_as, sampled_of}
+use Rattle.sr_top.specs.Causes.{HasCause}
+use Rattle.sr_top.specs.Reading.{sample_files}
+use Rattle.sr_top.specs.Tasks.{Sampled, origin_of}
+use Rattle.sr_top.proofs.obeying.run_sample.Goals as goal
+
+pub returns-in-Ok-clause-cause : goal.returns-in-Ok-clause-cause
+returns-in-Ok-clause-cause g c = λ words files faults asked.
+    let ends = c.run_program.ensures.ends in
+    subst (HasCause _) (sym ends.is)
+    (caused _ _ _ _ ends.end
+    (record { origin = Sampled c.args.seed; journal = false; asked = asked; classes = _; compiled = sampled_of _ _ _ _ c.in-Ok.ensures.core; no_fault = refl })
+    ends.within ends.cause)
+
+pub returns-in-Err-clause-cause : goal.returns-in-Err-clause-cause
+returns-in-Err-clause-cause g c = λ words files faults asked.
+    subst (HasCause _) (sym c.without_items.ensures.ending)
+    (stopped _ (Sampled c.args.seed) _ (ap (option_map origin_of) asked) (record { no_items = c.without_items.ensures.items; untouched = refl })
+    (ended_as files (Sampled c.args.seed) (sample_files c.args.seed) faults faults _ refl refl c.in-Err.ensures.ends))

@@ -1,0 +1,123 @@
+use sr_ask::Item;
+use sr_journal::read_journal;
+use sr_ports::{FreeGate, MemFiles, MemSink, MemSource};
+use sr_top::{Report, sr_top};
+use sr_value::{NoMemory, Row, Text};
+use std::alloc::Global;
+
+/// A call with ports in memory: its words and its files; the puts of the output and of the journal that fail, and the most
+/// bytes of one put of the journal. Then what is to come: the status, the number of items, the output, the diagnostic text
+/// and the bytes of the journal.
+#[derive(Clone, Copy)]
+pub struct Case<'a> {
+    pub words: &'a [&'a str],
+    pub files: &'a [(&'a str, &'a [u8])],
+    pub put_fails: &'a [u64],
+    pub journal_fails: &'a [u64],
+    pub most: usize,
+    pub status: u8,
+    pub items: usize,
+    pub output: &'a [u8],
+    pub diag: &'a [u8],
+    pub journal: &'a [u8],
+}
+
+/// A call that puts nothing and ends with status 0.
+pub fn silent<'a>(words: &'a [&'a str], files: &'a [(&'a str, &'a [u8])]) -> Case<'a> {
+    Case {
+        words,
+        files,
+        put_fails: &[],
+        journal_fails: &[],
+        most: 1000,
+        status: 0,
+        items: 0,
+        output: b"",
+        diag: b"",
+        journal: b"",
+    }
+}
+
+pub fn numbers(alloc: Global, of: &[u64]) -> Result<Row<u64>, NoMemory> {
+    Ok(Row::from_vec(Vec::from_slice(alloc, of)?))
+}
+
+pub fn words_of(alloc: Global, of: &[&str]) -> Result<Vec<String>, NoMemory> {
+    let mut words = Vec::new(alloc);
+    for word in of {
+        words.push(String::from_str(alloc, word)?)?;
+    }
+    Ok(words)
+}
+
+pub fn push_file(
+    alloc: Global,
+    files: &mut Row<(Text, Text)>,
+    name: &[u8],
+    content: &[u8],
+) -> Result<(), NoMemory> {
+    let name = Text::from_slice(alloc, name)?;
+    let content = Text::from_slice(alloc, content)?;
+    files.push((name, content))
+}
+
+fn files_of(alloc: Global, case: &Case<'_>) -> Result<MemFiles, NoMemory> {
+    let mut files = Row::new(alloc);
+    for (name, content) in case.files {
+        push_file(alloc, &mut files, name.as_bytes(), content)?;
+    }
+    Ok(MemFiles::new(files, Row::new(alloc)))
+}
+
+/// Makes a call with these words and files, without input.
+pub fn called_with(
+    alloc: Global,
+    words: &[String],
+    files: &mut MemFiles,
+    output: &mut MemSink,
+    diag: &mut MemSink,
+    journal: &mut MemSink,
+) -> Report {
+    let mut input = MemSource::new(Text::new(alloc), 1, Row::new(alloc));
+    sr_top(
+        alloc, words, files, &mut input, output, diag, journal, &FreeGate,
+    )
+}
+
+/// Makes the call of a case.
+pub fn called(
+    alloc: Global,
+    case: &Case<'_>,
+    output: &mut MemSink,
+    diag: &mut MemSink,
+    journal: &mut MemSink,
+) -> Result<Report, NoMemory> {
+    let words = words_of(alloc, case.words)?;
+    let mut files = files_of(alloc, case)?;
+    Ok(called_with(alloc, &words, &mut files, output, diag, journal))
+}
+
+/// Whether the call of a case does what is to come.
+pub fn goes_so(alloc: Global, case: &Case<'_>) -> Result<bool, NoMemory> {
+    let fails = numbers(alloc, case.put_fails)?;
+    let mut output = MemSink::new(alloc, 1000, fails);
+    let mut diag = MemSink::new(alloc, 1000, Row::new(alloc));
+    let journal_fails = numbers(alloc, case.journal_fails)?;
+    let mut journal = MemSink::new(alloc, case.most.max(1), journal_fails);
+    let report = called(alloc, case, &mut output, &mut diag, &mut journal)?;
+    Ok(
+        report.status == case.status
+            && report.items.len() == case.items
+            && output.held() == case.output
+            && diag.held() == case.diag
+            && journal.held() == case.journal,
+    )
+}
+
+/// Whether bytes are a journal of these items.
+pub fn tells(alloc: Global, bytes: &[u8], items: &[Item]) -> bool {
+    match read_journal(alloc, bytes) {
+        Ok((_header, read)) => read.as_slice() == items,
+        Err(_) => false,
+    }
+}
