@@ -1,3 +1,4 @@
+use crate::support::{numbers, push_file, words_of};
 use sr_ask::Item;
 use sr_ports::{FreeGate, MemFiles, MemSink, MemSource};
 use sr_text::{Kind, Refusal};
@@ -42,35 +43,12 @@ const NO_MAIN: Ending = Ending::Refused(Refusal {
     place: Place { file: 0, line: 1 },
 });
 
-fn numbers(alloc: Global, of: &[u64]) -> Result<Row<u64>, NoMemory> {
-    Ok(Row::from_vec(Vec::from_slice(alloc, of)?))
-}
-
-fn words_of(alloc: Global, of: &[&str]) -> Result<Vec<String>, NoMemory> {
-    let mut words = Vec::new(alloc);
-    for word in of {
-        words.push(String::from_str(alloc, word)?)?;
-    }
-    Ok(words)
-}
-
-fn push_file(
-    alloc: Global,
-    files: &mut Row<(Text, Text)>,
-    name: &str,
-    content: &[u8],
-) -> Result<(), NoMemory> {
-    let name = Text::from_slice(alloc, name.as_bytes())?;
-    let content = Text::from_slice(alloc, content)?;
-    files.push((name, content))
-}
-
 /// The files `a.sr` and `b.sr`.
 fn files_of(alloc: Global, case: &Case<'_>) -> Result<MemFiles, NoMemory> {
     let fails = numbers(alloc, case.read_fails)?;
     let mut files = Row::new(alloc);
-    push_file(alloc, &mut files, "a.sr", case.content)?;
-    push_file(alloc, &mut files, "b.sr", OTHER)?;
+    push_file(alloc, &mut files, b"a.sr", case.content)?;
+    push_file(alloc, &mut files, b"b.sr", OTHER)?;
     Ok(MemFiles::new(files, fails))
 }
 

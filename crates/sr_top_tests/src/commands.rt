@@ -50,6 +50,12 @@ const CLASSES: &[u8] =
 const USAGE: &[u8] =
     b"usage: sr run FILE... [--workers N] [--steps N] [--ticks N] [--journal]\n       sr check FILE...\n       sr classes FILE...\n       sr gen SEED [--workers N]\n";
 
+const FILES: [(&str, &[u8]); 3] = [
+    ("hello.sr", HELLO),
+    ("phil.sr", PHILOSOPHERS),
+    ("a.sr", b"resource main()\n  write(y)\nend\n"),
+];
+
 fn usage<'a>(words: &'a [&'a str]) -> Case<'a> {
     Case {
         status: 108,
@@ -61,31 +67,28 @@ fn usage<'a>(words: &'a [&'a str]) -> Case<'a> {
 /// `check` and `classes`: a line for each class, in the order of the first operations.
 #[test]
 fn checks_and_classes(rt: HostRuntime) -> Result<(), Fail> {
-    let hello: [(&str, &[u8]); 1] = [("hello.sr", HELLO)];
-    let phil: [(&str, &[u8]); 1] = [("phil.sr", PHILOSOPHERS)];
-    let refused: [(&str, &[u8]); 1] = [("a.sr", b"resource main()\n  write(y)\nend\n")];
     let cases = [
-        silent(&["check", "hello.sr"], &hello),
-        silent(&["classes", "hello.sr"], &hello),
+        silent(&["check", "hello.sr"], &FILES),
+        silent(&["classes", "hello.sr"], &FILES),
         Case {
             output: CLASSES,
-            ..silent(&["classes", "phil.sr"], &phil)
+            ..silent(&["classes", "phil.sr"], &FILES)
         },
         Case {
             put_fails: &[1],
             status: 106,
             diag: b"sr: output failed\n",
-            ..silent(&["classes", "phil.sr"], &phil)
+            ..silent(&["classes", "phil.sr"], &FILES)
         },
         Case {
             status: 103,
             diag: b"sr: a.sr:2: S4 Name\n",
-            ..silent(&["classes", "a.sr"], &refused)
+            ..silent(&["classes", "a.sr"], &FILES)
         },
         Case {
             status: 104,
             diag: b"sr: cannot read b.sr\n",
-            ..silent(&["classes", "b.sr"], &hello)
+            ..silent(&["classes", "b.sr"], &FILES)
         },
     ];
     for (index, case) in cases.iter().enumerate() {
