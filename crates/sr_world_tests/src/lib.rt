@@ -1,4 +1,5 @@
-//! Tests of the machine: requests, one after another, and what each comes to.
+//! Tests of the machine: requests, one after another, and what each comes to; and of rest: whether no process can step,
+//! and how a run ends or goes on then.
 #![tactic(auto)]
 
 #[cfg(test)]
@@ -15,6 +16,12 @@ mod program;
 mod reads;
 #[cfg(test)]
 mod requests;
+#[cfg(test)]
+mod rest;
+#[cfg(test)]
+mod rest_program;
+#[cfg(test)]
+mod rest_script;
 #[cfg(test)]
 mod script;
 #[cfg(test)]

@@ -1,4 +1,4 @@
-use crate::program::core;
+use crate::rest_program::core;
 use sr_ask::{Ask, Asks, ReadKind, Request, Role};
 use sr_core::Core;
 use sr_value::{Cap, NoMemory, Owner, Place, Row, Shape, Value};

@@ -1,4 +1,4 @@
-use crate::script::{Do, Line, Told, first_wrong};
+use crate::rest_script::{Do, Line, Told, first_wrong};
 use sr_ask::Role;
 use std::test::Fail;
 
