@@ -4,8 +4,9 @@ pub mod Creating
 pub mod Entries
 pub mod Exprs
 pub mod Infos
-pub mod Typings
 pub mod LiteralTypes
+pub mod Meanings
 pub mod Naming
 pub mod PredefinedCalls
+pub mod Typings
 pub mod Uses

@@ -14,6 +14,7 @@ mod info;
 mod infos;
 mod literals;
 mod marks;
+mod meanings;
 mod naming;
 mod operators;
 mod typed_expr;
@@ -31,6 +32,10 @@ pub use info::{FieldInfo, Info};
 pub use infos::{Infos, name_spot, type_spot};
 pub use literals::{basic, known};
 pub use marks::{name_at, note_unless, note_value, refuse, settle, value_at};
+pub use meanings::{
+    constant_at, function_called, infer, is_constant, literals_of, meant_by, operation_meant,
+    returns_something, type_at, type_of,
+};
 pub use naming::{deciding, decl_info, decl_of, name};
 pub use typed_expr::{Named, TypedExpr};
 pub use uses::{may_be_input, may_be_machine};

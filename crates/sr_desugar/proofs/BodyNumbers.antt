@@ -22,20 +22,20 @@ use Rattle.sr_tree.specs.declared.types.Signature.{out-Signature}
 use Rattle.sr_outline.specs.Numbers.{formal_names, inner_names, item_names, own_spots, quantifier_names, returned_names, signature_returned}
 use Rattle.sr_tables.specs.Lists.{lists}
 use Rattle.sr_tables.specs.Parts.{line_of, spot_named}
-use Rattle.sr_desugar.specs.declared.scene.Scene.{Scene}
+use Rattle.sr_lower_expr.specs.declared.scene.Scene.{Scene}
 use Rattle.sr_desugar.specs.Bodies.{all_code, all_finals, all_procs, body_made, first_final, in_body, inner_made, item_output, item_outputs, process_send, process_sends, quantifier_argument, spec_item_core}
 use Rattle.sr_desugar.specs.Core.{spec_code}
-use Rattle.sr_desugar.specs.Places.{own_place}
+use Rattle.sr_lower_expr.specs.Places.{own_place}
 use Rattle.sr_desugar.specs.Statements.{act, all_made, quantifiers_core}
 use Rattle.sr_desugar.proofs.DeclNumbers.{own_const_ok, own_vars_ok, shared_const_ok, shared_vars_ok}
-use Rattle.sr_desugar.proofs.Each.{both_pass, first_passes, lists_pass, made_passes}
-use Rattle.sr_desugar.proofs.ExprRules.{load_rule, val_rule}
+use Rattle.sr_lower_expr.proofs.Each.{both_pass, first_passes, lists_pass, made_passes}
+use Rattle.sr_lower_expr.proofs.ExprRules.{load_rule, val_rule}
 use Rattle.sr_desugar.proofs.PartNumbers.{act_ok, quantifiers_ok, semaphores_ok}
-use Rattle.sr_desugar.proofs.PlaceNumbers.{Fits, operation_expr_ok, own_place_ok}
+use Rattle.sr_lower_expr.proofs.PlaceNumbers.{Fits, operation_expr_ok, own_place_ok}
 use Rattle.sr_desugar.proofs.Room.{Room, room_first, room_second}
 use Rattle.sr_desugar.proofs.StatementNumbers.{statement_numbers}
 use Rattle.sr_desugar.proofs.StatementRules.{block_rule, fa_rule, one_ok}
-use Rattle.sr_desugar.proofs.Within.{once_some}
+use Rattle.sr_lower_expr.proofs.Within.{once_some}
 
 -- code of its own that stands there
 abbrev pub body_ok : Where → Body → Bool

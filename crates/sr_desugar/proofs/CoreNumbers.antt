@@ -15,13 +15,13 @@ use Rattle.sr_outline.specs.Outline.{imports_at, imports_of, tables_of}
 use Rattle.sr_tables.specs.declared.tables.Tables.{Tables}
 use Rattle.sr_tables.specs.Parts.{component_spot, components_in}
 use Rattle.sr_tables.specs.Tables.{each_once, things_in}
-use Rattle.sr_desugar.specs.declared.scene.Scene.{Scene}
+use Rattle.sr_lower_expr.specs.declared.scene.Scene.{Scene}
 use Rattle.sr_desugar.specs.Core.{LoweredComponent, core_of, core_with, scene_of, whole_of, wholes_from, wholes_of}
 use Rattle.sr_desugar.specs.Numbered.{codes_numbered, procs_numbered}
 use Rattle.sr_desugar.proofs.BodyNumbers.{final_numbers, initial_numbers, procs_numbers}
-use Rattle.sr_desugar.proofs.Each.{made_passes, turned_passes}
-use Rattle.sr_desugar.proofs.PlaceNumbers.{Fits}
-use Rattle.sr_desugar.proofs.Within.{once_most, once_some}
+use Rattle.sr_lower_expr.proofs.Each.{made_passes, turned_passes}
+use Rattle.sr_lower_expr.proofs.PlaceNumbers.{Fits}
+use Rattle.sr_lower_expr.proofs.Within.{once_most, once_some}
 
 -- ---- a component in a core with these tables
 

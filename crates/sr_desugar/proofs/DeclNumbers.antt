@@ -23,19 +23,19 @@ use Rattle.sr_tree.specs.declared.types.TypeTree.{TypeTree, out-TypeTree}
 use Rattle.sr_tree.specs.declared.types.TypeTree.TheOpen.{TypeTree-F}
 use Rattle.sr_value.specs.declared.place.Place.{Place}
 use Rattle.sr_value.specs.declared.value.Value.TheVariants as value
-use Rattle.sr_outline.specs.Meanings.{is_constant}
+use Rattle.sr_check_expr.specs.Meanings.{is_constant}
 use Rattle.sr_outline.specs.Numbers.{const_names, var_names}
 use Rattle.sr_tables.specs.Parts.{line_of, spot_named}
-use Rattle.sr_desugar.specs.declared.scene.Scene.{Scene}
+use Rattle.sr_lower_expr.specs.declared.scene.Scene.{Scene}
 use Rattle.sr_desugar.specs.Declarations.{after_first, const_core, declare, dims_core, first_of, int_expr, item_core, layer_item, layer_place, maybe_dims, range_core, shape_expr, typed, typed_vars, untyped, untyped_vars, var_core, var_number}
-use Rattle.sr_desugar.specs.Expressions.{core_value}
-use Rattle.sr_desugar.specs.Places.{own_number}
-use Rattle.sr_desugar.proofs.ExprNumbers.{core_value_ok}
-use Rattle.sr_desugar.proofs.ExprRules.{leaf_rule}
-use Rattle.sr_desugar.proofs.PlaceNumbers.{Fits, nothing_ok}
+use Rattle.sr_lower_expr.specs.Expressions.{core_value}
+use Rattle.sr_lower_expr.specs.Places.{own_number}
+use Rattle.sr_lower_expr.proofs.ExprNumbers.{core_value_ok}
+use Rattle.sr_lower_expr.proofs.ExprRules.{leaf_rule}
+use Rattle.sr_lower_expr.proofs.PlaceNumbers.{Fits, nothing_ok}
 use Rattle.sr_desugar.proofs.Room.{Room}
 use Rattle.sr_desugar.proofs.StatementRules.{declare_rule, one_ok}
-use Rattle.sr_desugar.proofs.Within.{number_within}
+use Rattle.sr_lower_expr.proofs.Within.{number_within}
 
 pub int_ok : (at : Where) (number : ℤ) → IsTrue (expr_ok (int_expr number) at)
 int_ok at number = leaf_rule at (Constant (value.Int number)) refl

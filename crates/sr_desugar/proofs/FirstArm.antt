@@ -1,7 +1,7 @@
 -- The scope of an `in` is that of the operation of its first arm.
 use Rattle.std.proofs.Common.{◌≡◌, ◌≤◌, List, [], ◌∷◌, length, map, get_or, ap, arith}
 use Rattle.sr_tree.specs.declared.statement.Arm.{Arm}
-use Rattle.sr_desugar.specs.declared.scene.Scene.{Scene}
+use Rattle.sr_lower_expr.specs.declared.scene.Scene.{Scene}
 use Rattle.sr_desugar.specs.Statements.{core_arm, scope_of_arms}
 
 pub first_scope : (scene : Scene) (trees : List Arm) (tree : Arm) → 1 ≤ length trees → tree ≡ get_or trees 0 tree

@@ -32,17 +32,6 @@ mapped_next part make there made xs i x within at is =
     ∙ ap (λ first. there ++ first ∷ map part (map make (drop (i + 1) xs))) is
     ∙ ap (λ rest. there ++ map part (map make rest)) (first_of_rest xs i x within at)
 
--- the same of what is made as it is
-pub map_next : {X Z : Type 0} (make : X → Z) (there : List Z) (made : Z) (xs : List X) (i : ℕ) (otherwise : X)
-    → i < length xs → made ≡ make (get_or xs i otherwise)
-    → (there ++ made ∷ []) ++ map make (drop (i + 1) xs) ≡ there ++ map make (drop i xs)
-map_next make there made xs i otherwise within is =
-    let next : i + 1 ≡ suc i = omega arith in
-    append_assoc there (made ∷ []) (map make (drop (i + 1) xs))
-    ∙ ap (λ first. there ++ first ∷ map make (drop (i + 1) xs)) is
-    ∙ ap (λ (n : ℕ). there ++ make (get_or xs i otherwise) ∷ map make (drop n xs)) next
-    ∙ ap (λ rest. there ++ map make rest) (sym (drop-cons xs i otherwise within))
-
 after_more : {A B : Type 0} (part : A → List B) (there : List B) (xs ys : List A) → (there ++ flat_map part xs) ++ flat_map part ys ≡ there ++ flat_map part (xs ++ ys)
 after_more part there xs ys = append_assoc there (flat_map part xs) (flat_map part ys) ∙ ap (λ rest. there ++ rest) (sym (flat_map-append part xs ys))
 

@@ -21,15 +21,15 @@ use Rattle.sr_value.specs.declared.place.Span.{Span}
 use Rattle.sr_outline.specs.Numbers.{is_p, quantifier_names, wait_operation}
 use Rattle.sr_tables.specs.Lists.{maybe}
 use Rattle.sr_tables.specs.Parts.{line_of, spot_named}
-use Rattle.sr_desugar.specs.declared.scene.Scene.{Scene}
-use Rattle.sr_desugar.specs.Expressions.{core_place, core_sending, core_value}
-use Rattle.sr_desugar.specs.Places.{operation_expr, own_number, own_place, site_number}
+use Rattle.sr_lower_expr.specs.declared.scene.Scene.{Scene}
+use Rattle.sr_lower_expr.specs.Expressions.{core_place, core_sending, core_value}
+use Rattle.sr_lower_expr.specs.Places.{operation_expr, own_number, own_place, site_number}
 use Rattle.sr_desugar.specs.Statements.{act, all_told, alone, call_action, call_made, co_call, evaluation, first_expr, forward_of, named_action, quantifier_core, quantifiers_core, receive_assign, receive_made, semaphore_sends, semaphores_core, send_of, step_core, value_sends}
 use Rattle.sr_desugar.proofs.DeclNumbers.{int_ok, maybe_value_ok, own_number_ok}
-use Rattle.sr_desugar.proofs.Each.{first_passes, lists_pass, made_passes}
-use Rattle.sr_desugar.proofs.ExprNumbers.{all_told_ok, call_ok, core_place_ok, core_value_ok, sending_ok, sent_ok}
-use Rattle.sr_desugar.proofs.ExprRules.{load_rule}
-use Rattle.sr_desugar.proofs.PlaceNumbers.{Fits, nothing_ok, operation_expr_ok, own_place_ok, value_of_ok}
+use Rattle.sr_lower_expr.proofs.Each.{first_passes, lists_pass, made_passes}
+use Rattle.sr_lower_expr.proofs.ExprNumbers.{all_told_ok, call_ok, core_place_ok, core_value_ok, sending_ok, sent_ok}
+use Rattle.sr_lower_expr.proofs.ExprRules.{load_rule}
+use Rattle.sr_lower_expr.proofs.PlaceNumbers.{Fits, nothing_ok, operation_expr_ok, own_place_ok, value_of_ok}
 use Rattle.sr_desugar.proofs.Room.{Room, room_here, room_second}
 use Rattle.sr_desugar.proofs.StatementRules.{act_rule, block_rule, in_rule, one_ok, sends_rule}
 

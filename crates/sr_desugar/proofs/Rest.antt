@@ -3,7 +3,7 @@ use Rattle.std.proofs.Common.{◌≡◌, refl, List, [], ◌∷◌}
 use Rattle.sr_core.specs.declared.statement.Scope.{Scope}
 use Rattle.sr_tree.specs.declared.types.Decl.{Decl}
 use Rattle.sr_value.specs.declared.place.Place.{Place}
-use Rattle.sr_desugar.specs.declared.scene.Scene.{Scene}
+use Rattle.sr_lower_expr.specs.declared.scene.Scene.{Scene}
 use Rattle.sr_desugar.specs.Declarations.{untyped_vars}
 
 pub no_values : (scene : Scene) (scope : Scope) (place : Place) (decls : List Decl) → untyped_vars scene scope place decls [] ≡ []

@@ -1,7 +1,7 @@
 -- Where code declares names there are own variables.
 use Rattle.std.proofs.Common.{◌+◌, ◌<◌, List, ◌∷◌, ◌++◌, length, arith, length-append}
 use Rattle.sr_names.specs.declared.spot.Spot.{Spot}
-use Rattle.sr_desugar.specs.declared.scene.Scene.{Scene}
+use Rattle.sr_lower_expr.specs.declared.scene.Scene.{Scene}
 
 -- where one of these names is declared, the scene has own variables
 abbrev pub Room : Scene → List Spot → Type 0

@@ -10,8 +10,8 @@ use Rattle.sr_tree.specs.declared.statement.BlockItem.TheFolds.{fold-roll-Statem
 use Rattle.sr_tree.specs.declared.statement.BlockItem.TheOpen.{Statement-F}
 use Rattle.sr_tree.specs.declared.statement.Statement.TheVariants as variant
 use Rattle.sr_value.specs.declared.place.Span.{Span}
-use Rattle.sr_outline.specs.Meanings.{function_called, meant_by}
-use Rattle.sr_desugar.specs.declared.scene.Scene.{Scene}
+use Rattle.sr_check_expr.specs.Meanings.{function_called, meant_by}
+use Rattle.sr_lower_expr.specs.declared.scene.Scene.{Scene}
 use Rattle.sr_desugar.specs.Statements.{LoweredArm, Block, WithSites, arm_made, branch_made, call_made, co_arm_made, core_statement, item_made, receive_made, statement_made}
 
 pub call_is : (scene : Scene) (span : Span) (with_call : Bool) (invocation : Invocation)

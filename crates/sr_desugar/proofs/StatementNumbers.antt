@@ -21,19 +21,19 @@ use Rattle.sr_tree.specs.declared.statement.CoArm.{CoArm as CoArmTree, roll-CoAr
 use Rattle.sr_tree.specs.declared.statement.Quantifier.{Quantifier as QuantifierTree}
 use Rattle.sr_tree.specs.declared.statement.Statement.{Statement as StatementTree, roll-Statement}
 use Rattle.sr_value.specs.declared.place.Span.{Span}
-use Rattle.sr_outline.specs.Meanings.{function_called, meant_by}
+use Rattle.sr_check_expr.specs.Meanings.{function_called, meant_by}
 use Rattle.sr_outline.specs.Numbers.{arm_in, arm_names, block_item_names, branch_in, co_arm_in, co_arm_names, item_in, names_in, quantifier_names, returned_names, statement_names}
 use Rattle.sr_tables.specs.Lists.{lists}
 use Rattle.sr_tables.specs.Parts.{line_of, spot_named}
-use Rattle.sr_desugar.specs.declared.scene.Scene.{Scene}
-use Rattle.sr_desugar.specs.Expressions.{core_create, core_place, core_sending, core_value}
-use Rattle.sr_desugar.specs.Places.{site_number}
+use Rattle.sr_lower_expr.specs.declared.scene.Scene.{Scene}
+use Rattle.sr_lower_expr.specs.Expressions.{core_create, core_place, core_sending, core_value}
+use Rattle.sr_lower_expr.specs.Places.{site_number}
 use Rattle.sr_desugar.specs.Statements.{LoweredArm, Block, WithSites, all_made, arm_made, block_made, blocks_of, branch_made, co_arm_made, co_call, core_arm, core_block_item, core_branch, core_co_arm, core_statement, forward_of, item_made, quantifiers_core, send_of, statement_made}
 use Rattle.sr_desugar.proofs.DeclNumbers.{own_const_ok, own_vars_ok}
-use Rattle.sr_desugar.proofs.Each.{both_pass}
-use Rattle.sr_desugar.proofs.ExprNumbers.{core_place_ok, core_value_ok, create_ok}
+use Rattle.sr_lower_expr.proofs.Each.{both_pass}
+use Rattle.sr_lower_expr.proofs.ExprNumbers.{core_place_ok, core_value_ok, create_ok}
 use Rattle.sr_desugar.proofs.PartNumbers.{act_ok, call_made_ok, co_call_ok, forward_ok, quantifiers_ok, receive_ok, send_ok}
-use Rattle.sr_desugar.proofs.PlaceNumbers.{Fits}
+use Rattle.sr_lower_expr.proofs.PlaceNumbers.{Fits}
 use Rattle.sr_desugar.proofs.Room.{Room, room_first, room_second}
 use Rattle.sr_desugar.proofs.StatementRules.{arm_ok, arm_rule, block_rule, branch_ok, branch_rule, co_rule, do_else_rule, do_rule, fa_rule, if_rule, in_rule, one_ok}
 

@@ -22,7 +22,7 @@ use Rattle.sr_names.specs.declared.predefined.Predefined.{Predefined}
 use Rattle.sr_names.specs.declared.spot.Spot.{Spot}
 use Rattle.sr_names.specs.Spots.{spot_of}
 use Rattle.sr_check_expr.specs.declared.facts.Facts.{Facts}
-use Rattle.sr_outline.specs.Meanings.{function_called, is_constant, meant_by}
+use Rattle.sr_check_expr.specs.Meanings.{function_called, is_constant, meant_by}
 use Rattle.sr_outline.specs.Numbers.{arm_sites, block_item_in_sites, block_item_sites, branch_sites, co_arm_sites, is_p, is_wait, sites_in, statement_sites, wait_operation}
 use Rattle.sr_tables.specs.Lists.{lists, maybe_lists}
 use Rattle.sr_tables.specs.Parts.{line_of, spot_named}
@@ -44,9 +44,9 @@ use Rattle.sr_tree.specs.declared.types.Decl.{Decl}
 use Rattle.sr_tree.specs.declared.types.TypeTree.{TypeTree}
 use Rattle.sr_value.specs.declared.place.Place.{Place}
 use Rattle.sr_value.specs.declared.place.Span.{Span}
-use Rattle.sr_desugar.specs.declared.scene.Scene.{Scene}
+use Rattle.sr_lower_expr.specs.declared.scene.Scene.{Scene}
 use Rattle.sr_desugar.specs.Declarations.{after_first, const_core, declare, first_of, typed, typed_vars, untyped, untyped_vars, var_core}
-use Rattle.sr_desugar.specs.Places.{scope_of_operation, site_number}
+use Rattle.sr_lower_expr.specs.Places.{scope_of_operation, site_number}
 use Rattle.sr_desugar.specs.Statements.{LoweredArm, Block, WithSites, all_made, all_sites, alone, arm_made, arms_of, block_made, blocks_of, branch_made, call_action, call_made, co_arm_made, core_arm, core_block_item, core_branch, core_co_arm, core_statement, item_made, quantifiers_core, receive_arm, receive_assign, receive_made, scope_of_arms, statement_made}
 use Rattle.sr_desugar.proofs.Numbered.{At, Waits, none_waits, waits_both, waits_by}
 

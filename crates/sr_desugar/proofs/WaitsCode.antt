@@ -33,7 +33,7 @@ use Rattle.sr_tables.specs.Parts.{component_decl, components_in, line_of, spot_n
 use Rattle.sr_tree.specs.declared.types.Signature.{out-Signature}
 use Rattle.sr_outline.specs.Numbers.{component_sites, formal_names, inner_sites, is_p, is_wait, item_sites, own_spots, quantifier_names, returned_names, signature_returned}
 use Rattle.sr_outline.specs.Outline.{imports_of, tables_of}
-use Rattle.sr_desugar.specs.declared.scene.Scene.{Scene}
+use Rattle.sr_lower_expr.specs.declared.scene.Scene.{Scene}
 use Rattle.sr_desugar.specs.Bodies.{Output, all_code, all_finals, all_procs, body_made, first_final, in_body, inner_made, item_output, item_outputs, output_sites, process_sends, spec_item_core}
 use Rattle.sr_desugar.specs.Core.{LoweredComponent, all_components, core_of, procs_in, scene_of, sites_in, spec_code, whole_in, whole_of, wholes_from}
 use Rattle.sr_desugar.specs.Laws.{WaitApart}

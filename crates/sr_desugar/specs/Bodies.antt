@@ -27,12 +27,12 @@ use Rattle.sr_tree.specs.declared.types.Signature.{out-Signature}
 use Rattle.sr_value.specs.declared.place.Span.{Span}
 use Rattle.sr_desugar.specs.declared.bodies.Codes.{Codes}
 use Rattle.sr_desugar.specs.declared.bodies.Gathered.{Gathered}
-use Rattle.sr_desugar.specs.declared.scene.Scene.{Scene}
+use Rattle.sr_lower_expr.specs.declared.scene.Scene.{Scene}
 use Rattle.sr_desugar.specs.Declarations.{var_core, const_core}
-use Rattle.sr_outline.specs.Meanings.{meant_by}
+use Rattle.sr_check_expr.specs.Meanings.{meant_by}
 use Rattle.sr_outline.specs.Numbers.{formal_names, returned_names, signature_returned, quantifier_names, own_spots}
 use Rattle.sr_tables.specs.Parts.{line_of, spot_named}
-use Rattle.sr_desugar.specs.Places.{own_place, own_formals, own_returned, operation_expr, operation_number}
+use Rattle.sr_lower_expr.specs.Places.{own_place, own_formals, own_returned, operation_expr, operation_number}
 use Rattle.sr_desugar.specs.Statements.{WithSites, Block, alone, block_made, act, quantifiers_core, semaphores_core, core_statement}
 
 -- ---- blocks of procs and final code

@@ -13,7 +13,7 @@ use Rattle.sr_tree.specs.declared.component.File.{File}
 use Rattle.sr_tree.specs.declared.component.SpecItem.{SpecItem}
 use Rattle.sr_desugar.specs.declared.bodies.Codes.{Codes}
 use Rattle.sr_desugar.specs.declared.bodies.Gathered.{Gathered}
-use Rattle.sr_desugar.specs.declared.scene.Scene.{Scene}
+use Rattle.sr_lower_expr.specs.declared.scene.Scene.{Scene}
 use Rattle.sr_tables.specs.declared.tables.Tables.{Tables}
 use Rattle.sr_desugar.specs.Bodies.{item_outputs, all_procs, output_sites, spec_item_core, with_codes}
 use Rattle.sr_desugar.specs.Declarations.{var_number}
@@ -21,7 +21,7 @@ use Rattle.sr_outline.specs.Heads.{parameters_of}
 use Rattle.sr_outline.specs.Numbers.{initial_spots, formal_names}
 use Rattle.sr_tables.specs.Parts.{components_in, component_decl, kind_of, line_of}
 use Rattle.sr_tree.specs.Parts.{name_of, span_of, spec_of, formals_of, body_of}
-use Rattle.sr_desugar.specs.Places.{formals_of as formals_in}
+use Rattle.sr_lower_expr.specs.Places.{formals_of as formals_in}
 use Rattle.sr_desugar.specs.Statements.{Block}
 use Rattle.sr_tables.specs.Tables.{things_in}
 use Rattle.sr_outline.specs.Outline.{tables_of, imports_of, imports_at, needs_of, enumerations_of}

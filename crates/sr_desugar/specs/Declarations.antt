@@ -28,13 +28,14 @@ use Rattle.sr_tree.specs.declared.types.TypeTree.{TypeTree, out-TypeTree}
 use Rattle.sr_tree.specs.declared.types.TypeTree.TheOpen.{TypeTree-F}
 use Rattle.sr_value.specs.declared.place.Place.{Place}
 use Rattle.sr_value.specs.declared.value.Value.TheVariants as value
-use Rattle.sr_desugar.specs.declared.scene.Scene.{Scene}
+use Rattle.sr_lower_expr.specs.declared.scene.Scene.{Scene}
 use Rattle.sr_tables.specs.declared.tables.SharedVariable.{SharedVariable}
-use Rattle.sr_desugar.specs.Expressions.{core_value}
-use Rattle.sr_outline.specs.Meanings.{is_constant, type_at}
+use Rattle.sr_lower_expr.specs.Expressions.{core_value}
+use Rattle.sr_check_expr.specs.Meanings.{is_constant, type_at}
 use Rattle.sr_tables.specs.Parts.{line_of, spot_named}
-use Rattle.sr_desugar.specs.Places.{own_number, nothing}
-use Rattle.sr_outline.specs.Shapes.{type_shape, shape_of_type}
+use Rattle.sr_lower_expr.specs.Places.{own_number, nothing}
+use Rattle.sr_lower_expr.specs.Shapes.{shape_of_type}
+use Rattle.sr_outline.specs.Shapes.{type_shape}
 use Rattle.sr_tables.specs.Tables.{found_at}
 
 -- an int that is written by nobody

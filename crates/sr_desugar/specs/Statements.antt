@@ -39,14 +39,14 @@ use Rattle.sr_tree.specs.declared.statement.Statement.{Statement as StatementTre
 use Rattle.sr_tree.specs.Expressions.{expr_span}
 use Rattle.sr_value.specs.declared.place.Place.{Place}
 use Rattle.sr_value.specs.declared.place.Span.{Span}
-use Rattle.sr_desugar.specs.declared.scene.Scene.{Scene}
+use Rattle.sr_lower_expr.specs.declared.scene.Scene.{Scene}
 use Rattle.sr_desugar.specs.Declarations.{int_constant, var_core, const_core}
-use Rattle.sr_desugar.specs.Expressions.{LoweredInvocation, values, lowered_of, core_value, core_place, core_create, core_sending, sent_arguments, call_returns, call_of}
-use Rattle.sr_outline.specs.Meanings.{function_called, meant_by}
+use Rattle.sr_lower_expr.specs.Expressions.{LoweredInvocation, values, lowered_of, core_value, core_place, core_create, core_sending, sent_arguments, call_returns, call_of}
+use Rattle.sr_check_expr.specs.Meanings.{function_called, meant_by}
 use Rattle.sr_tables.specs.Lists.{lists, maybe}
 use Rattle.sr_outline.specs.Numbers.{is_p, receive_returned, returned_names, wait_operation}
 use Rattle.sr_tables.specs.Parts.{line_of, spot_named}
-use Rattle.sr_desugar.specs.Places.{own_number, own_place, own_formals, own_returned, operation_expr, operation_number, scope_of_operation, site_number, value_of, nothing}
+use Rattle.sr_lower_expr.specs.Places.{own_number, own_place, own_formals, own_returned, operation_expr, operation_number, scope_of_operation, site_number, value_of, nothing}
 use Rattle.sr_tables.specs.Sites.{site_of}
 
 -- What a construct is in the core, with the sites of the statements in it that wait.

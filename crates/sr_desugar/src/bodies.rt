@@ -5,15 +5,14 @@ ghost use Rattle.std.specs.Prelude.{◌≡◌, [], ◌∷◌, ◌++◌, IfOk, On
 ghost use Rattle.sr_desugar.specs.Bodies as bodies;
 
 use crate::declarations::{push_const, push_vars};
-use crate::places::{operation_number, own_formals, own_returned};
 use crate::quantifiers::{process_sends, push_semaphores};
-use crate::scene::Scene;
 use crate::statements::statement;
+use sr_check_expr::meant_by;
 use sr_core::{Body, Proc, Scope, Site, Statement};
+use sr_lower_expr::{Scene, operation_number, own_formals, own_returned};
 use sr_names::Spot;
 use sr_outline::{
-    formal_spots, meant_by, name_spots, own_spots, quantifier_spots, returned_spot,
-    signature_returned,
+    formal_spots, name_spots, own_spots, quantifier_spots, returned_spot, signature_returned,
 };
 use sr_tables::{line_of, spot_named};
 use sr_tree::{FinalCode, Item, ProcItem, Procedure, Process, SpecItem};
@@ -137,10 +136,11 @@ fn push_proc(
     ensures gathered { OnOk result (gathered.new ≡ bodies.with_proc gathered.old (bodies.proc_made scene.old proc.now)) }
     ensures scene { OnOk result (scene.new ≡ scene.old) }
 {
+    let formals = name_spots(alloc, proc.formals.as_slice())?;
     let service = Service {
         span: proc.span,
         operation: meant_by(&scene.facts, &proc.name),
-        formals: name_spots(alloc, proc.formals.as_slice())?,
+        formals,
         returned: returned_spot(&proc.returned),
     };
     push_service(alloc, &service, proc.block.as_slice(), scene, gathered)
@@ -156,10 +156,11 @@ fn push_procedure(
     ensures gathered { OnOk result (gathered.new ≡ bodies.with_proc gathered.old (bodies.procedure_made scene.old procedure.now)) }
     ensures scene { OnOk result (scene.new ≡ scene.old) }
 {
+    let formals = formal_spots(alloc, procedure.signature.formals.as_slice())?;
     let service = Service {
         span: procedure.span,
         operation: spot_named(&procedure.name),
-        formals: formal_spots(alloc, procedure.signature.formals.as_slice())?,
+        formals,
         returned: signature_returned(&procedure.signature),
     };
     push_service(alloc, &service, procedure.block.as_slice(), scene, gathered)
@@ -175,10 +176,11 @@ fn push_process(
     ensures gathered { OnOk result (gathered.new ≡ bodies.with_proc gathered.old (bodies.process_made scene.old process.now)) }
     ensures scene { OnOk result (scene.new ≡ scene.old) }
 {
+    let formals = quantifier_spots(alloc, process.quantifiers.as_slice())?;
     let service = Service {
         span: process.span,
         operation: spot_named(&process.name),
-        formals: quantifier_spots(alloc, process.quantifiers.as_slice())?,
+        formals,
         returned: None,
     };
     push_service(alloc, &service, process.block.as_slice(), scene, gathered)

@@ -2,18 +2,17 @@
 ghost use Rattle.std.specs.Prelude.{◌≡◌, ◌++◌, IfOk, OnOk, None, option_copied};
 ghost use Rattle.std.specs.Option.{option_map};
 ghost use Rattle.sr_desugar.specs.Declarations as declarations;
-ghost use Rattle.sr_desugar.specs.Expressions as exprs;
-ghost use Rattle.sr_outline.specs.Meanings.{type_at};
-ghost use Rattle.sr_outline.specs.Shapes.{shape_of_type};
+ghost use Rattle.sr_lower_expr.specs.Expressions as exprs;
+ghost use Rattle.sr_check_expr.specs.Meanings.{type_at};
+ghost use Rattle.sr_lower_expr.specs.Shapes.{shape_of_type};
 ghost use Rattle.sr_tables.specs.Parts.{line_of};
 ghost use Rattle.sr_core.specs.declared.statement.Statement.TheVariants as statements;
 
-use crate::exprs::core_value;
-use crate::places::{nothing, own_number};
-use crate::scene::Scene;
+use sr_check_expr::{is_constant, type_at};
 use sr_core::{Declaration, DimsExpr, ItemShape, Leaf, Range, Scope, Setup, ShapeExpr, Statement};
+use sr_lower_expr::{Scene, boxed_value, core_value, nothing, own_number, shape_of_type};
 use sr_names::Spot;
-use sr_outline::{is_constant, shape_of_type, type_at, type_shape};
+use sr_outline::type_shape;
 use sr_tables::{line_of, spot_named};
 use sr_tree::{ConstDecl, Decl, DimsTree, Expr, RangeTree, TypeTree, VarDecl};
 use sr_value::{Boxed, NoMemory, Place, Row, Shape, Value};
@@ -39,7 +38,7 @@ fn range(alloc: Global, tree: &RangeTree, scene: &Scene) -> Result<Range, NoMemo
             })
         }
         RangeTree::Bounds { low, high, .. } => {
-            let lo = Boxed::new(alloc, core_value(alloc, low, scene)?)?;
+            let lo = boxed_value(alloc, low, scene)?;
             let hi = core_value(alloc, high, scene)?;
             Ok(Range {
                 lo: lo.into_inner(),

@@ -5,18 +5,12 @@
 
 mod bodies;
 mod declarations;
-mod exprs;
-mod functions;
-mod invoked;
 mod laws;
-mod places;
 mod program;
 mod quantifiers;
 mod receives;
-mod scene;
 mod simple;
 mod statements;
 
 pub use laws::{each_wait_has_its_site, numbers_exist};
 pub use program::to_core;
-pub use scene::{Lowered, Scene};

@@ -7,24 +7,27 @@ ghost use Rattle.sr_desugar.specs.Bodies as bodies;
 ghost use Rattle.sr_desugar.specs.Declarations.{var_number};
 ghost use Rattle.sr_core.specs.declared.statement.Scope.TheVariants.{Shared};
 ghost use Rattle.sr_outline.specs.Outline as outline;
+ghost use Rattle.sr_outline.specs.Heads.{parameters_of};
 ghost use Rattle.sr_outline.specs.Numbers as numbers;
+ghost use Rattle.sr_outline.specs.Numbers.{formal_names};
+ghost use Rattle.sr_lower_expr.specs.Places.{formals_of};
 ghost use Rattle.sr_tables.specs.Parts.{components_in};
+ghost use Rattle.sr_tables.specs.Tables.{things_in};
 ghost use Rattle.sr_tree.specs.Parts.{body_of};
 
 use crate::bodies::{Codes, Gathered, push_item, push_spec_item};
 use crate::declarations::var_number;
-use crate::places::formals_of;
-use crate::scene::Scene;
 use sr_check_expr::{Facts, Here};
-use sr_core::{Body, Component, Core, Formal, Parameter, Scope, Statement};
+use sr_core::{Body, Component, Core, Formal, Operation, Parameter, Scope, Statement};
+use sr_lower_expr::{Scene, formals_of};
 use sr_names::Spot;
 use sr_outline::{
     all_imports, enumerations_of, formal_spots, imports_at, initial_spots, needs_of, parameters_of,
     tables_of,
 };
-use sr_tables::{Spots, component_decl, kind_of, line_of, number_of};
+use sr_tables::{SpotMap, Spots, Tables, component_decl, kind_of, line_of, number_of};
 use sr_tree::{File, Item, SpecItem};
-use sr_value::{Duplicate, NoMemory, Row};
+use sr_value::{Boxed, Duplicate, EnumNames, NoMemory, Row};
 use std::alloc::Global;
 use std::mem;
 
@@ -43,11 +46,10 @@ fn shared_numbers(alloc: Global, scene: &Scene, spots: &[Spot]) -> Result<Row<u3
 fn component_formals(
     alloc: Global,
     scene: &Scene,
-    component: &sr_tree::Component,
+    formals: &[sr_tree::Formal],
 ) -> Result<Row<Formal>, NoMemory>
-    ensures { IfOk result (λ formals. formals ≡ whole.component_formals scene.now component.now) }
+    ensures { IfOk result (λ all. all ≡ formals_of (map (var_number scene.now Shared) (formal_names formals.now)) (parameters_of scene.now.facts scene.now.tables.shapes formals.now)) }
 {
-    let formals = component.formals();
     let parameters = parameters_of(alloc, formals, &scene.facts, &scene.tables.shapes)?;
     let spots = formal_spots(alloc, formals)?;
     let vars = shared_numbers(alloc, scene, spots.as_slice())?;
@@ -89,17 +91,18 @@ fn codes_of(
     component: &sr_tree::Component,
     scene: &mut Scene,
     gathered: &mut Gathered,
-) -> Result<Codes, NoMemory>
+) -> Result<Boxed<Codes>, NoMemory>
     ensures codes { IfOk result (λ codes. codes ≡ whole.component_codes scene.old component.now) }
     ensures gathered { OnOk result (gathered.new ≡ bodies.with_outputs gathered.old (bodies.item_outputs scene.old (body_of component.now))) }
     ensures scene { OnOk result (scene.new ≡ scene.old) }
 {
+    let initial = spec_code(alloc, component.spec(), scene)?;
     let mut codes = Codes {
-        initial: spec_code(alloc, component.spec(), scene)?,
+        initial,
         last: None,
     };
     push_items(alloc, component.body(), scene, &mut codes, gathered)?;
-    Ok(codes)
+    Boxed::new(alloc, codes)
 }
 
 fn copied(alloc: Global, numbers: &[u32]) -> Result<Row<u32>, NoMemory>
@@ -136,16 +139,16 @@ fn component_with(
     component: &sr_tree::Component,
     imports: &[Row<u32>],
     scene: &Scene,
-    codes: Codes,
+    codes: Boxed<Codes>,
 ) -> Result<Component, NoMemory>
     ensures { IfOk result (λ made. made ≡ whole.component_with scene.now imports.now component.now codes) }
 {
-    let formals = component_formals(alloc, scene, component)?;
     let name = component.name().text.copy(alloc)?;
     let globals = copied(alloc, scene.imports.as_slice())?;
     let needs = needs_of(alloc, imports, scene.component)?;
     let owns = scene.own.count()?;
-    let Codes { initial, last } = codes;
+    let formals = component_formals(alloc, scene, component.formals())?;
+    let Codes { initial, last } = codes.into_inner();
     Ok(Component {
         name,
         place: line_of(component.span()),
@@ -256,28 +259,70 @@ fn components_of(
     Ok(components)
 }
 
-/// The core of a program whose tables the scene has.
-fn core_in(alloc: Global, files: &[File], scene: Scene) -> Result<Core, NoMemory>
-    ensures { IfOk result (λ program. program ≡ whole.core_by scene.facts (components_in files.now) scene.tables) }
+/// What a program is in the core besides its operations.
+#[derive(Drop)]
+struct Parts {
+    components: Row<Component>,
+    gathered: Gathered,
+    names: EnumNames,
+}
+
+/// The components of all files, their procs and sites, and the names of enumerations.
+fn parts_in(alloc: Global, files: &[File], scene: &mut Scene) -> Result<Parts, NoMemory>
+    ensures components { IfOk result (λ parts. parts.components ≡ whole.all_components (whole.wholes_of scene.old.facts (components_in files.now) scene.old.tables)) }
+    ensures gathered { IfOk result (λ parts. parts.gathered ≡ whole.with_wholes (record { procs = []; sites = [] }) (whole.wholes_of scene.old.facts (components_in files.now) scene.old.tables)) }
+    ensures names { IfOk result (λ parts. parts.names ≡ outline.enumerations_of (components_in files.now)) }
+    ensures tables { OnOk result (scene.new.tables ≡ scene.old.tables) }
 {
-    let mut scene = scene;
     let mut gathered = Gathered {
         procs: Row::new(alloc),
         sites: Row::new(alloc),
     };
     let imports = all_imports(alloc, files, &scene.facts, &scene.tables.components)?;
-    let components = components_of(alloc, files, imports.as_slice(), &mut scene, &mut gathered)?;
     let names = enumerations_of(alloc, files)?;
-    let Scene { tables, .. } = scene;
-    let operations = tables.operations.into_things(alloc)?;
+    let components = components_of(alloc, files, imports.as_slice(), scene, &mut gathered)?;
+    Ok(Parts {
+        components,
+        gathered,
+        names,
+    })
+}
+
+/// Takes the operations out of the tables.
+fn take_operations(alloc: Global, tables: &mut Tables) -> Result<Row<Operation>, NoMemory>
+    ensures { IfOk result (λ operations. operations ≡ things_in tables.old.operations) }
+{
+    let operations = mem::replace(&mut tables.operations, SpotMap::new(alloc));
+    operations.into_things(alloc)
+}
+
+/// A program of these parts and operations.
+fn core_with(parts: Parts, operations: Row<Operation>) -> Core
+    ensures { result ≡ record { components = parts.components; operations = operations; procs = parts.gathered.procs; sites = parts.gathered.sites; names = parts.names } }
+{
+    let Parts {
+        components,
+        gathered,
+        names,
+    } = parts;
     let Gathered { procs, sites } = gathered;
-    Ok(Core {
+    Core {
         components,
         operations,
         procs,
         sites,
         names,
-    })
+    }
+}
+
+/// The core of a program whose tables the scene has. The operations go from the tables to the core.
+fn core_in(alloc: Global, files: &[File], scene: &mut Scene) -> Result<Core, NoMemory>
+    ensures { IfOk result (λ program. program ≡ whole.core_by scene.old.facts (components_in files.now) scene.old.tables) }
+{
+    let parts = parts_in(alloc, files, scene)?;
+    let parts = Boxed::new(alloc, parts)?;
+    let operations = take_operations(alloc, &mut scene.tables)?;
+    Ok(core_with(parts.into_inner(), operations))
 }
 
 /// The core of the components of all files, by what is known of the program.
@@ -285,12 +330,12 @@ pub fn to_core(alloc: Global, files: &[File], facts: Facts) -> Result<Core, NoMe
     ensures { IfOk result (λ program. program ≡ whole.core_of files.now facts) }
 {
     let tables = tables_of(alloc, files, &facts)?;
-    let scene = Scene {
+    let mut scene = Scene {
         facts,
         component: 0,
         imports: Row::new(alloc),
         own: Spots::new(alloc),
         tables,
     };
-    core_in(alloc, files, scene)
+    core_in(alloc, files, &mut scene)
 }

@@ -4,11 +4,9 @@ ghost use Rattle.sr_desugar.specs.Bodies as bodies;
 ghost use Rattle.sr_desugar.specs.Statements as statements;
 
 use crate::declarations::int_constant;
-use crate::exprs::{core_value, optional_value};
-use crate::places::{operation_expr, own_number, own_place};
-use crate::scene::Scene;
 use crate::simple::act;
 use sr_core::{Action, Argument, Direction, Expr, Quantifier, Statement};
+use sr_lower_expr::{Scene, boxed_value, operation_expr, optional_value, own_number, own_place};
 use sr_names::Spot;
 use sr_tables::{line_of, spot_named};
 use sr_tree::{Process, Semaphore};
@@ -25,12 +23,16 @@ fn direction(written: sr_tree::Direction) -> Direction
 }
 
 /// The step of a quantifier; 1 where none is written.
-fn step_of(alloc: Global, step: &Option<sr_tree::Expr>, scene: &Scene) -> Result<Expr, NoMemory>
+fn step_of(
+    alloc: Global,
+    step: &Option<sr_tree::Expr>,
+    scene: &Scene,
+) -> Result<Boxed<Expr>, NoMemory>
     ensures { IfOk result (λ expr. expr ≡ statements.step_core scene.now step.now) }
 {
     match step {
-        None => Ok(int_constant(1)),
-        Some(step) => core_value(alloc, step, scene),
+        None => Boxed::new(alloc, int_constant(1)),
+        Some(step) => boxed_value(alloc, step, scene),
     }
 }
 
@@ -42,9 +44,9 @@ fn quantifier(
     ensures { IfOk result (λ quantifier. quantifier ≡ statements.quantifier_core scene.now tree.now) }
 {
     let var = own_number(scene, spot_named(&tree.name))?;
-    let from = Boxed::new(alloc, core_value(alloc, &tree.first, scene)?)?;
-    let to = Boxed::new(alloc, core_value(alloc, &tree.last, scene)?)?;
-    let by = Boxed::new(alloc, step_of(alloc, &tree.step, scene)?)?;
+    let from = boxed_value(alloc, &tree.first, scene)?;
+    let to = boxed_value(alloc, &tree.last, scene)?;
+    let by = step_of(alloc, &tree.step, scene)?;
     let condition = optional_value(alloc, &tree.such_that, scene)?;
     Ok(Quantifier {
         var,
@@ -81,7 +83,7 @@ fn value_sends(
 ) -> Result<Statement, NoMemory>
     ensures { IfOk result (λ sends. sends ∷ [] ≡ statements.value_sends scene.now place operation value.now) }
 {
-    let count = Boxed::new(alloc, core_value(alloc, value, scene)?)?;
+    let count = boxed_value(alloc, value, scene)?;
     let target = operation_expr(scene, operation)?;
     Ok(Statement::Sends {
         place,

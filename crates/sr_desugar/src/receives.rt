@@ -2,11 +2,11 @@
 ghost use Rattle.std.specs.Prelude.{◌≡◌, ◌++◌, IfOk, OnOk, map};
 ghost use Rattle.sr_desugar.specs.Statements as statements;
 
-use crate::exprs::core_place;
-use crate::places::{operation_number, own_formals, own_place, own_returned, scope_of_operation};
-use crate::scene::Scene;
 use crate::simple::act;
 use sr_core::{Action, Arm, Expr, Site, Statement};
+use sr_lower_expr::{
+    Scene, core_place, operation_number, own_formals, own_place, own_returned, scope_of_operation,
+};
 use sr_names::Spot;
 use sr_outline::{receive_returned, receive_spots};
 use sr_tables::{line_of, site_of};
@@ -42,12 +42,15 @@ fn receive_arm(
     ensures { IfOk result (λ arm. arm ≡ statements.receive_arm scene.now span operation places.now) }
 {
     let spots = receive_spots(alloc, places)?;
+    let op = operation_number(scene, operation)?;
+    let formals = own_formals(alloc, scene, spots.as_slice(), operation)?;
     let returned = receive_returned(span, operation, &scene.facts);
+    let returned = own_returned(alloc, scene, returned, operation)?;
     Ok(Arm {
         place: line_of(span),
-        op: operation_number(scene, operation)?,
-        formals: own_formals(alloc, scene, spots.as_slice(), operation)?,
-        returned: own_returned(alloc, scene, returned, operation)?,
+        op,
+        formals,
+        returned,
         guard: None,
         by: None,
     })

@@ -1,14 +1,12 @@
 //! Invocations as statements.
 ghost use Rattle.std.specs.Prelude.{◌≡◌, IfOk};
-ghost use Rattle.sr_desugar.specs.Expressions as exprs;
+ghost use Rattle.sr_lower_expr.specs.Expressions as exprs;
 ghost use Rattle.sr_desugar.specs.Statements as statements;
 ghost use Rattle.sr_core.specs.declared.statement.Action.TheVariants as actions;
 ghost use Rattle.sr_tree.specs.declared.statement.Statement.{out-Statement};
 
-use crate::exprs::{Sent, core_call, core_sent, core_values};
-use crate::places::nothing;
-use crate::scene::Scene;
 use sr_core::{Action, Expr, Statement};
+use sr_lower_expr::{Scene, Sent, core_call, core_sent, core_values, nothing};
 use sr_names::Predefined;
 use sr_tables::line_of;
 use sr_tree::Invocation;
@@ -60,7 +58,7 @@ fn first_of(exprs: Row<Expr>) -> Expr
 }
 
 /// `V(e)` is `send e()`.
-#[tactic(auto, using(crate::proofs::Values::values_of_pairs))]
+#[tactic(auto, using(sr_lower_expr::proofs::Values::values_of_pairs))]
 fn v_action(alloc: Global, tree: &Invocation, scene: &Scene) -> Result<Action, NoMemory>
     ensures { IfOk result (λ action. action ≡ statements.v_action (exprs.core_sending scene.now tree.now)) }
 {
@@ -72,7 +70,7 @@ fn v_action(alloc: Global, tree: &Invocation, scene: &Scene) -> Result<Action, N
 }
 
 /// `write` and `writes`.
-#[tactic(auto, using(crate::proofs::Values::values_of_pairs))]
+#[tactic(auto, using(sr_lower_expr::proofs::Values::values_of_pairs))]
 fn write(alloc: Global, tree: &Invocation, line: bool, scene: &Scene) -> Result<Action, NoMemory>
     ensures { IfOk result (λ action. action ≡ actions.Write (statements.all_told (exprs.core_sending scene.now tree.now)) line) }
 {

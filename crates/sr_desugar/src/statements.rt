@@ -1,28 +1,31 @@
 //! What statements are in the core.
 ghost use Rattle.std.specs.Prelude.{◌≡◌, ◌∷◌, ◌++◌, IfOk, OnOk, map};
+ghost use Rattle.sr_core.specs.declared.statement.Action.TheVariants as actions;
 ghost use Rattle.sr_core.specs.declared.statement.CoArm.{roll-CoArm};
 ghost use Rattle.sr_core.specs.declared.statement.Statement.TheVariants as variants;
-ghost use Rattle.sr_desugar.specs.Places.{site_number};
+ghost use Rattle.sr_lower_expr.specs.Places.{site_number};
 ghost use Rattle.sr_desugar.specs.Statements as statements;
 ghost use Rattle.sr_names.specs.Spots.{spot_of};
 ghost use Rattle.sr_tables.specs.Parts.{line_of};
 ghost use Rattle.sr_tables.specs.Sites.{site_of};
 ghost use Rattle.std.specs.Option.{option_map};
-ghost use Rattle.sr_desugar.specs.Expressions.{core_place, core_sending};
-ghost use Rattle.sr_outline.specs.Meanings.{function_called, meant_by};
+ghost use Rattle.sr_lower_expr.specs.Expressions.{core_place, core_sending, core_value};
+ghost use Rattle.sr_check_expr.specs.Meanings.{function_called, meant_by};
 ghost use Rattle.sr_outline.specs.Numbers as numbers;
 ghost use Rattle.sr_tree.specs.declared.statement.Statement.{out-Statement};
 
 use crate::declarations::{push_const, push_vars};
-use crate::exprs::{Sent, core_create, core_place, core_sent, core_value, optional_value};
-use crate::places::{operation_number, own_formals, own_returned, scope_of_operation};
 use crate::quantifiers::quantifiers_of;
 use crate::receives::receive;
-use crate::scene::Scene;
 use crate::simple::{act, call, first_token, forward, send};
+use sr_check_expr::{function_called, meant_by};
 use sr_core::{Action, Bump, CoCall, Guarded, Quantifier, Scope, Site, Statement};
+use sr_lower_expr::{
+    Scene, Sent, boxed_value, core_create, core_place, core_sent, core_value, operation_number,
+    optional_value, own_formals, own_returned, scope_of_operation,
+};
 use sr_names::{Predefined, Spot};
-use sr_outline::{function_called, meant_by, name_spots, returned_spot, wait_operation};
+use sr_outline::{name_spots, returned_spot, wait_operation};
 use sr_tables::{line_of, site_of};
 use sr_tree::{Arm, ArmCondition, BlockItem, Branch, CoArm, Expr, Invocation, Name};
 use sr_value::{Boxed, NoMemory, Row, Span};
@@ -125,7 +128,7 @@ fn co_call(
         place,
         target: target.into_inner(),
         args,
-        returns,
+        returns: returns.into_inner(),
     })
 }
 
@@ -177,6 +180,30 @@ fn receive_named(
     receive(alloc, span, operation, places, scene, sites)
 }
 
+/// `place := value`.
+fn assign(alloc: Global, place: &Expr, value: &Expr, scene: &Scene) -> Result<Action, NoMemory>
+    ensures { IfOk result (λ action. action ≡ actions.Assign (core_place scene.now place.now) (core_value scene.now value.now)) }
+{
+    let place = Boxed::new(alloc, core_place(alloc, place, scene)?)?;
+    let value = core_value(alloc, value, scene)?;
+    Ok(Action::Assign {
+        place: place.into_inner(),
+        value,
+    })
+}
+
+/// `left :=: right`.
+fn exchange(alloc: Global, left: &Expr, right: &Expr, scene: &Scene) -> Result<Action, NoMemory>
+    ensures { IfOk result (λ action. action ≡ actions.Swap (core_place scene.now left.now) (core_place scene.now right.now)) }
+{
+    let left = Boxed::new(alloc, core_place(alloc, left, scene)?)?;
+    let right = core_place(alloc, right, scene)?;
+    Ok(Action::Swap {
+        left: left.into_inner(),
+        right,
+    })
+}
+
 /// A statement without blocks that isn't a call or a `receive`.
 fn action(alloc: Global, tree: &sr_tree::Statement, scene: &Scene) -> Result<Action, NoMemory>
     ensures { IfOk result (λ action. action ≡ statements.plain_action scene.now (out-Statement tree.now)) }
@@ -191,14 +218,8 @@ fn action(alloc: Global, tree: &sr_tree::Statement, scene: &Scene) -> Result<Act
         }),
         sr_tree::Statement::Send { invocation, .. } => send(alloc, invocation, scene),
         sr_tree::Statement::Forward { invocation, .. } => forward(alloc, invocation, scene),
-        sr_tree::Statement::Assign { place, value, .. } => Ok(Action::Assign {
-            place: core_place(alloc, place, scene)?,
-            value: core_value(alloc, value, scene)?,
-        }),
-        sr_tree::Statement::Exchange { left, right, .. } => Ok(Action::Swap {
-            left: core_place(alloc, left, scene)?,
-            right: core_place(alloc, right, scene)?,
-        }),
+        sr_tree::Statement::Assign { place, value, .. } => assign(alloc, place, value, scene),
+        sr_tree::Statement::Exchange { left, right, .. } => exchange(alloc, left, right, scene),
         sr_tree::Statement::Increment { place, .. } => Ok(Action::Bump {
             place: core_place(alloc, place, scene)?,
             bump: Bump::Increase,
@@ -327,7 +348,7 @@ fn guarded(
     ensures value { IfOk result (λ guarded. guarded ≡ (statements.core_branch scene.now branch.now).made) }
     ensures sites { OnOk result (sites.new ≡ sites.old ++ (statements.core_branch scene.now branch.now).sites) }
 {
-    let condition = Boxed::new(alloc, core_value(alloc, &branch.guard, scene)?)?;
+    let condition = boxed_value(alloc, &branch.guard, scene)?;
     let body = block(alloc, branch.block.as_slice(), scene, sites)?;
     Ok(Guarded {
         condition: condition.into_inner(),

@@ -33,7 +33,7 @@ use Rattle.sr_check_expr.specs.Exprs.{infer_invocation}
 use Rattle.sr_core.specs.declared.statement.Scope.{Scope}
 use Rattle.sr_core.specs.declared.statement.Scope.TheVariants.{Own}
 use Rattle.sr_core.specs.declared.statement.Setup.{Setup}
-use Rattle.sr_outline.specs.Meanings.{function_called, is_constant, meant_by}
+use Rattle.sr_check_expr.specs.Meanings.{function_called, is_constant, meant_by}
 use Rattle.sr_outline.specs.Numbers.{is_p, wait_operation}
 use Rattle.sr_tables.specs.Parts.{line_of, spot_named}
 use Rattle.sr_tree.specs.declared.declaration.ConstDecl.{ConstDecl}
@@ -41,7 +41,7 @@ use Rattle.sr_tree.specs.declared.declaration.VarDecl.{VarDecl}
 use Rattle.sr_tree.specs.declared.types.Decl.{Decl}
 use Rattle.sr_tree.specs.declared.types.TypeTree.{TypeTree}
 use Rattle.sr_desugar.specs.Declarations.{after_first, const_core, declare, first_of, typed, typed_vars, untyped, untyped_vars, var_core}
-use Rattle.sr_desugar.specs.Places.{site_number}
+use Rattle.sr_lower_expr.specs.Places.{site_number}
 use Rattle.sr_tree.specs.declared.expr.Expr.{Expr}
 use Rattle.sr_tree.specs.declared.expr.Invocation.{Invocation}
 use Rattle.sr_tree.specs.declared.statement.Arm.{Arm, roll-Arm}
@@ -54,7 +54,7 @@ use Rattle.sr_tree.specs.declared.statement.Quantifier.{Quantifier}
 use Rattle.sr_tree.specs.declared.statement.Statement.{Statement, roll-Statement}
 use Rattle.sr_value.specs.declared.place.Place.{Place}
 use Rattle.sr_value.specs.declared.place.Span.{Span}
-use Rattle.sr_desugar.specs.declared.scene.Scene.{Scene}
+use Rattle.sr_lower_expr.specs.declared.scene.Scene.{Scene}
 use Rattle.sr_desugar.specs.Statements.{LoweredArm, Block, WithSites, all_made, arm_made, block_made, blocks_of, branch_made, call_action, call_made, co_arm_made, core_arm, core_block_item, core_branch, core_co_arm, core_statement, item_made, maybe_made, named_action, quantifiers_core, receive_assign, receive_made, statement_made}
 use Rattle.sr_desugar.proofs.Waits.{all_appended, both}
 use Rattle.sr_check.specs.ErrorFree.{ErrorFree}

@@ -45,7 +45,7 @@ use Rattle.sr_tables.specs.Parts.{components_in, line_of, spot_named}
 use Rattle.sr_tree.specs.declared.types.Signature.{out-Signature}
 use Rattle.sr_outline.specs.Numbers.{formal_names, own_spots, quantifier_names, returned_names, signature_returned}
 use Rattle.sr_outline.specs.Outline.{imports_of, tables_of}
-use Rattle.sr_desugar.specs.declared.scene.Scene.{Scene}
+use Rattle.sr_lower_expr.specs.declared.scene.Scene.{Scene}
 use Rattle.sr_desugar.specs.Bodies.{Output, all_code, all_finals, all_procs, first_final, in_body, inner_made, item_output, item_outputs, process_sends, spec_item_core}
 use Rattle.sr_desugar.specs.Core.{LoweredComponent, all_components, core_of, procs_in, scene_of, spec_code, whole_in, whole_of, wholes_from}
 use Rattle.sr_desugar.specs.Statements.{block_made, semaphore_sends, semaphores_core, value_sends}

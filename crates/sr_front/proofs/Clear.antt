@@ -14,7 +14,7 @@ use Rattle.sr_names.specs.declared.predefined.Predefined.TheVariants as predefin
 use Rattle.sr_names.specs.declared.spot.Spot.{Spot}
 use Rattle.sr_names.specs.Spots.{spot_of}
 use Rattle.sr_names.specs.Uses.{meaning_at}
-use Rattle.sr_outline.specs.Meanings.{layer_function, layer_operation, operation_meant, predefined_in}
+use Rattle.sr_check_expr.specs.Meanings.{layer_function, layer_operation, operation_meant, predefined_in}
 use Rattle.sr_outline.specs.Numbers.{is_p, is_wait, wait_operation, waited_by}
 use Rattle.sr_tree.specs.declared.expr.Create.{Create}
 use Rattle.sr_tree.specs.declared.expr.Create.TheOpen.{Expr-F}

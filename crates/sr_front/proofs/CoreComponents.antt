@@ -28,7 +28,7 @@ use Rattle.sr_tree.specs.Components.{final_count}
 use Rattle.sr_tree.specs.Parts.{body_of}
 use Rattle.sr_core.specs.declared.component.Kind.TheVariants as kind
 use Rattle.sr_names.specs.declared.meaning.Sort.TheVariants as sort
-use Rattle.sr_desugar.specs.declared.scene.Scene.{Scene}
+use Rattle.sr_lower_expr.specs.declared.scene.Scene.{Scene}
 use Rattle.sr_desugar.specs.Bodies.{all_finals, item_outputs, first_final}
 use Rattle.sr_names.proofs.LinkLemmas.{same_from_iff}
 use Rattle.sr_outline.specs.Needs.{in_order, among, NoCycle, CanBeMade}

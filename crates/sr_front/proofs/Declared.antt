@@ -13,7 +13,7 @@ use Rattle.sr_names.specs.Spots.{same_spot, spot_of}
 use Rattle.sr_order.specs.Spans.{block_operations, component_operations, component_span, component_spans, inner_operations, item_operations, op_item_span, operation_spans, spec_operations}
 use Rattle.sr_outline.specs.Heads.{Heads, DeclaredOperation, block_opened, component_opened, inner_opened, item_opened, operation_entry, operation_of, ops_opened, sems_opened, spec_item_opened}
 use Rattle.sr_outline.specs.Outline.{component_entries, operations_of}
-use Rattle.sr_outline.specs.Shapes.{Shapes}
+use Rattle.sr_tables.specs.Shapes.{Shapes}
 use Rattle.sr_tables.specs.Parts.{components_in, spot_named}
 use Rattle.sr_tables.specs.Tables.{found_at, keys_of, number_in, things_in}
 use Rattle.sr_tree.specs.declared.component.Component.{Component}

@@ -45,7 +45,7 @@ use Rattle.sr_types.specs.declared.signature.Mode.{Mode}
 use Rattle.sr_types.specs.declared.ty.Ty.{Ty}
 use Rattle.sr_tree.specs.Parts.{body_of}
 use Rattle.sr_value.specs.declared.place.Span.{Span}
-use Rattle.sr_desugar.specs.declared.scene.Scene.{Scene}
+use Rattle.sr_lower_expr.specs.declared.scene.Scene.{Scene}
 use Rattle.sr_desugar.specs.Bodies.{in_body, inner_made, item_output, item_outputs, output_sites}
 use Rattle.sr_desugar.specs.Core.{core_of, scene_of, sites_in, whole_in, whole_of, wholes_from}
 use Rattle.sr_desugar.specs.Statements.{block_made}

@@ -51,15 +51,15 @@ use Rattle.sr_value.specs.declared.fault.Fault.{Fault}
 use Rattle.sr_value.specs.declared.place.Span.{Span}
 use Rattle.sr_value.specs.declared.value.Value.{Value}
 use Rattle.sr_value.specs.declared.value.Value.TheVariants as value
-use Rattle.sr_outline.specs.Meanings.{typed_expr, known as known_value, constant_at, type_of, meant_by}
-use Rattle.sr_outline.specs.Operators.{binary_core, conversion_function}
-use Rattle.sr_outline.specs.Shapes.{shape_of_type}
-use Rattle.sr_desugar.specs.declared.scene.Lowered.{Lowered}
-use Rattle.sr_desugar.specs.declared.scene.Scene.{Scene}
-use Rattle.sr_desugar.specs.Expressions.{LoweredTree, LoweredInvocation, call_core, call_of, constant_or_nothing, core_expr, core_value, lowered_of, create_core, create_lowered, end_or_nothing, end_value, ends_core, expr_core, expr_lowered, field_core, field_number, function_core, invocation_lowered, is_second, layer_member, literals_in, meaning_core, name_core, named_core, named_types, part_lowered, spec_operation, told, trees_of, values, without_number}
-use Rattle.sr_desugar.specs.Places.{operation_at, root_of, value_of, whose_by}
-use Rattle.sr_desugar.proofs.Each.{one_taken, turned_passes}
-use Rattle.sr_desugar.proofs.Trees.{of_create, of_invocation, of_part, told_is}
+use Rattle.sr_check_expr.specs.Meanings.{typed_expr, known as known_value, constant_at, type_of, meant_by}
+use Rattle.sr_lower_expr.specs.Operators.{binary_core, conversion_function}
+use Rattle.sr_lower_expr.specs.Shapes.{shape_of_type}
+use Rattle.sr_lower_expr.specs.declared.scene.Lowered.{Lowered}
+use Rattle.sr_lower_expr.specs.declared.scene.Scene.{Scene}
+use Rattle.sr_lower_expr.specs.Expressions.{LoweredTree, LoweredInvocation, call_core, call_of, constant_or_nothing, core_expr, core_value, lowered_of, create_core, create_lowered, end_or_nothing, end_value, ends_core, expr_core, expr_lowered, field_core, field_number, function_core, invocation_lowered, is_second, layer_member, literals_in, meaning_core, name_core, named_core, named_types, part_lowered, spec_operation, told, trees_of, values, without_number}
+use Rattle.sr_lower_expr.specs.Places.{operation_at, root_of, value_of, whose_by}
+use Rattle.sr_lower_expr.proofs.Each.{one_taken, turned_passes}
+use Rattle.sr_lower_expr.proofs.Trees.{of_create, of_invocation, of_part, told_is}
 use Rattle.sr_front.proofs.EffectFreeRules.{and_rule, apply_rule, array_rule, at2_rule, at_rule, binary_rule, lowered_is_effect_free, field_rule, leaf_rule, member_rule, naming_effect_free, nothing_effect_free, one_rule, or_rule, part_is_effect_free, part_of_effect_free, place_at_effect_free, repeated_rule, unary_rule, value_of_effect_free}
 use Rattle.sr_check.specs.ErrorFree.{ErrorFree}
 use Rattle.sr_check.proofs.ErrorFree.{rule_met, error_free_first, error_free_second}

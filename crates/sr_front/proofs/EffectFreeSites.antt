@@ -23,7 +23,7 @@ use Rattle.sr_names.specs.declared.predefined.Predefined.{Predefined}
 use Rattle.sr_names.specs.Spots.{spot_of}
 use Rattle.sr_order.specs.Names.{arm_names, arm_names_step, block_item_names, block_item_names_step, branch_names, branch_names_step, co_arm_names, co_arm_names_step, condition_names, expr_names, invocation_names, name_names, names_spans, quantifier_names, statement_names, statement_names_step, where_some}
 use Rattle.sr_order.specs.Spans.{joined}
-use Rattle.sr_outline.specs.Meanings.{function_called}
+use Rattle.sr_check_expr.specs.Meanings.{function_called}
 use Rattle.sr_outline.specs.Numbers.{is_p}
 use Rattle.sr_tree.specs.declared.expr.Expr.{Expr}
 use Rattle.sr_tree.specs.declared.expr.Invocation.{Invocation}
@@ -36,8 +36,8 @@ use Rattle.sr_tree.specs.declared.statement.Branch.{Branch, roll-Branch}
 use Rattle.sr_tree.specs.declared.statement.CoArm.{CoArm, roll-CoArm}
 use Rattle.sr_tree.specs.declared.statement.Statement.{Statement, roll-Statement}
 use Rattle.sr_value.specs.declared.place.Span.{Span}
-use Rattle.sr_desugar.specs.declared.scene.Scene.{Scene}
-use Rattle.sr_desugar.specs.Expressions.{core_value}
+use Rattle.sr_lower_expr.specs.declared.scene.Scene.{Scene}
+use Rattle.sr_lower_expr.specs.Expressions.{core_value}
 use Rattle.sr_desugar.specs.Statements.{LoweredArm, Block, WithSites, all_sites, arm_made, arms_of, block_made, branch_made, call_made, co_arm_made, condition_of, core_arm, core_block_item, core_branch, core_co_arm, core_statement, item_made, statement_made}
 use Rattle.sr_front.proofs.Serviced.{arm_effect_free}
 use Rattle.sr_check.proofs.Each.{each-left, each-right}

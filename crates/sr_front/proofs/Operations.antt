@@ -18,12 +18,12 @@ use Rattle.sr_names.proofs.Places.{at-within}
 use Rattle.sr_outline.specs.Heads.{Heads, component_opened, operation_entry}
 use Rattle.sr_outline.specs.Numbers.{component_served, served_spots}
 use Rattle.sr_outline.specs.Outline.{component_entries, imports_of, tables_of}
-use Rattle.sr_outline.specs.Shapes.{Shapes}
+use Rattle.sr_tables.specs.Shapes.{Shapes}
 use Rattle.sr_tables.specs.declared.tables.Tables.{Tables}
 use Rattle.sr_tables.specs.Parts.{components_in, spot_named}
 use Rattle.sr_tree.specs.declared.component.Component.{Component}
 use Rattle.sr_tree.specs.declared.component.File.{File}
-use Rattle.sr_desugar.proofs.Within.{once_most}
+use Rattle.sr_lower_expr.proofs.Within.{once_most}
 use Rattle.sr_front.proofs.Declared.{Apart, table_is}
 use Rattle.sr_front.proofs.Members.{at_made, numbered_at, part_of, passed, zip_length}
 use Rattle.sr_front.proofs.Procs.{ServesAt, components_serve}

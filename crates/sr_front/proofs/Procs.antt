@@ -23,15 +23,15 @@ use Rattle.sr_tree.specs.declared.component.Item.TheVariants as item
 use Rattle.sr_tree.specs.Parts.{body_of}
 use Rattle.sr_value.specs.declared.shape.Shape.{Shape}
 use Rattle.sr_tables.specs.Parts.{spot_named}
-use Rattle.sr_outline.specs.Meanings.{meant_by}
+use Rattle.sr_check_expr.specs.Meanings.{meant_by}
 use Rattle.sr_outline.specs.Numbers.{component_served, formal_names, item_served, own_spots, quantifier_names, returned_names, signature_returned}
 use Rattle.sr_tree.specs.declared.component.ProcItem.{ProcItem}
 use Rattle.sr_tree.specs.declared.types.Signature.{out-Signature}
 use Rattle.sr_value.specs.declared.place.Span.{Span}
-use Rattle.sr_desugar.specs.declared.scene.Scene.{Scene}
+use Rattle.sr_lower_expr.specs.declared.scene.Scene.{Scene}
 use Rattle.sr_desugar.specs.Bodies.{all_procs, in_body, item_output, item_outputs, service}
 use Rattle.sr_desugar.specs.Core.{procs_in, scene_of, whole_of, wholes_from}
-use Rattle.sr_desugar.specs.Places.{first_var, formals_of, operation_number, own_formals, own_numbers, own_returned, returned_to, vars_after}
+use Rattle.sr_lower_expr.specs.Places.{first_var, formals_of, operation_number, own_formals, own_numbers, own_returned, returned_to, vars_after}
 use Rattle.sr_front.proofs.Members.{zip_append}
 
 -- ---- formals

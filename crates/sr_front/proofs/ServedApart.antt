@@ -18,7 +18,7 @@ use Rattle.sr_names.specs.Spots.{same_spot, spot_of}
 use Rattle.sr_names.specs.Uses.{meaning_at}
 use Rattle.sr_order.specs.Names.{file_names}
 use Rattle.sr_order.specs.Spans.{block_operations, component_operations, inner_operations, item_operations, op_item_span, operation_spans, spec_operations}
-use Rattle.sr_outline.specs.Meanings.{meant_by}
+use Rattle.sr_check_expr.specs.Meanings.{meant_by}
 use Rattle.sr_outline.specs.Numbers.{component_served, item_served}
 use Rattle.sr_scope.specs.declared.program.Names.{Names}
 use Rattle.sr_scope.specs.Resolved.{resolved}

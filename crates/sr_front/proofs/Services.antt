@@ -15,7 +15,7 @@ use Rattle.sr_names.specs.Searches.{At}
 use Rattle.sr_names.specs.Spots.{same_spot, spot_of}
 use Rattle.sr_names.specs.Uses.{meaning_at}
 use Rattle.sr_names.proofs.Places.{at-right}
-use Rattle.sr_outline.specs.Meanings.{meant_by}
+use Rattle.sr_check_expr.specs.Meanings.{meant_by}
 use Rattle.sr_outline.specs.Numbers.{component_served, item_served, served_spots}
 use Rattle.sr_tables.specs.Parts.{components_in, spot_named}
 use Rattle.sr_tree.specs.declared.component.Component.{Component}

@@ -11,7 +11,7 @@ use Rattle.sr_core.specs.declared.statement.Statement.{Statement as CoreStatemen
 use Rattle.sr_names.specs.declared.meaning.Decl.{Decl}
 use Rattle.sr_names.specs.declared.spot.Spot.{Spot}
 use Rattle.sr_names.specs.Spots.{spot_of}
-use Rattle.sr_outline.specs.Meanings.{function_called, meant_by}
+use Rattle.sr_check_expr.specs.Meanings.{function_called, meant_by}
 use Rattle.sr_outline.specs.Numbers.{is_p, receive_returned, returned_names, wait_operation}
 use Rattle.sr_tables.specs.Lists.{lists}
 use Rattle.sr_tables.specs.Parts.{spot_named}
@@ -26,7 +26,7 @@ use Rattle.sr_tree.specs.declared.statement.CoArm.{CoArm, roll-CoArm}
 use Rattle.sr_tree.specs.declared.statement.Statement.{Statement, roll-Statement}
 use Rattle.sr_tree.specs.Expressions.{expr_span}
 use Rattle.sr_value.specs.declared.place.Span.{Span}
-use Rattle.sr_desugar.specs.declared.scene.Scene.{Scene}
+use Rattle.sr_lower_expr.specs.declared.scene.Scene.{Scene}
 use Rattle.sr_desugar.specs.Statements.{LoweredArm, Block, WithSites, all_sites, arm_made, arms_of, branch_made, call_made, co_arm_made, core_arm, core_block_item, core_branch, core_co_arm, core_statement, item_made, receive_made, statement_made}
 use Rattle.sr_front.proofs.Serviced.{Called, IsClear, WaitsFor, arm_calls, block_item_calls, branch_calls, co_arm_calls, statement_calls, item_step as item_called, statement_step as statement_called, arm_step as arm_called, branch_step as branch_called, co_arm_step as co_arm_called}
 use Rattle.sr_front.proofs.Procs.{Serves, serves}

@@ -13,7 +13,7 @@ use Rattle.sr_tree.specs.declared.component.ProcItem.{ProcItem}
 use Rattle.sr_tree.specs.declared.component.ProcItem.TheVariants as inner
 use Rattle.sr_tree.specs.declared.types.Signature.{out-Signature}
 use Rattle.sr_tree.specs.Parts.{body_of}
-use Rattle.sr_desugar.specs.declared.scene.Scene.{Scene}
+use Rattle.sr_lower_expr.specs.declared.scene.Scene.{Scene}
 use Rattle.sr_desugar.specs.Bodies.{in_body, inner_made, item_output, item_outputs, output_sites}
 use Rattle.sr_desugar.specs.Core.{scene_of, standing, whole_of}
 use Rattle.sr_desugar.specs.Statements.{all_sites}

@@ -14,7 +14,8 @@ use Rattle.sr_tables.proofs.Appends.{entries_append}
 use Rattle.sr_outline.specs.declared.operations.OperationTable.{OperationTable}
 use Rattle.sr_outline.specs.Heads.{Heads, DeclaredOperation, head_entry, operation_entry, with_heads, with_opened}
 use Rattle.sr_outline.specs.Outline.{with_number}
-use Rattle.sr_outline.specs.Shapes.{Shapes, with_type, with_types}
+use Rattle.sr_outline.specs.Shapes.{with_type, with_types}
+use Rattle.sr_tables.specs.Shapes.{Shapes}
 
 pub numbers_append : (there xs ys : List ℕ) → fold with_number (fold with_number there xs) ys ≡ fold with_number there (xs ++ ys)
 numbers_append there xs ys = sym (fold-append with_number there xs ys)

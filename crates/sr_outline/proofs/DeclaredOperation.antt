@@ -10,7 +10,7 @@ use Rattle.sr_tables.specs.Tables.{with_entries}
 use Rattle.sr_outline.specs.declared.operations.OperationTable.{OperationTable}
 use Rattle.sr_outline.specs.Heads.{Heads}
 use Rattle.sr_outline.specs.Outline.{component_entries}
-use Rattle.sr_outline.specs.Shapes.{Shapes}
+use Rattle.sr_tables.specs.Shapes.{Shapes}
 use Rattle.sr_outline.proofs.Together.{with_operations}
 
 abbrev pub start_of : Tables → OperationTable

@@ -12,7 +12,8 @@ use Rattle.sr_tables.proofs.Appends.{entries_append, spots_append}
 use Rattle.sr_outline.specs.Numbers.{component_served, component_shared, component_sites}
 use Rattle.sr_outline.specs.Heads.{Heads, with_heads}
 use Rattle.sr_outline.specs.Outline.{all_optypes, component_entries, no_tables, tables_of, with_component}
-use Rattle.sr_outline.specs.Shapes.{Shapes, spec_item_types, with_types}
+use Rattle.sr_outline.specs.Shapes.{spec_item_types, with_types}
+use Rattle.sr_tables.specs.Shapes.{Shapes}
 use Rattle.sr_outline.proofs.Appends.{types_append}
 
 abbrev pub numbered_shared : Facts → ℕ × Component → List (Spot × SharedVariable)

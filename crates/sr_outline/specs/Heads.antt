@@ -39,10 +39,11 @@ use Rattle.sr_value.specs.declared.shape.Shape.{Shape}
 use Rattle.sr_value.specs.declared.shape.Shape.TheVariants as shape
 use Rattle.sr_outline.specs.declared.operations.OperationTable.{OperationTable}
 use Rattle.sr_tables.specs.declared.tables.Head.{Head}
-use Rattle.sr_outline.specs.Meanings.{meant_by}
+use Rattle.sr_check_expr.specs.Meanings.{meant_by}
 use Rattle.sr_tables.specs.Parts.{deciding, spot_named, in_component, op_item_name}
 use Rattle.sr_tree.specs.Parts.{spec_of, body_of}
-use Rattle.sr_outline.specs.Shapes.{Shapes, type_shape, formal_shape, decl_shape}
+use Rattle.sr_outline.specs.Shapes.{type_shape, formal_shape, decl_shape}
+use Rattle.sr_tables.specs.Shapes.{Shapes}
 use Rattle.sr_tables.specs.Tables.{found_at, with_entries}
 
 -- ---- signatures

@@ -32,7 +32,7 @@ use Rattle.sr_tree.specs.declared.types.Signature.{Signature, out-Signature}
 use Rattle.sr_tree.specs.Expressions.{expr_span}
 use Rattle.sr_value.specs.declared.place.Span.{Span}
 use Rattle.sr_tables.specs.declared.tables.SharedVariable.{SharedVariable}
-use Rattle.sr_outline.specs.Meanings.{is_constant, type_at, returned_by, meant_by, function_called, operation_meant}
+use Rattle.sr_check_expr.specs.Meanings.{is_constant, type_at, returned_by, meant_by, function_called, operation_meant}
 use Rattle.sr_tables.specs.Parts.{spot_named, component_spot, decls_of}
 use Rattle.sr_tree.specs.Parts.{formals_of, spec_of, body_of}
 use Rattle.sr_tables.specs.Lists.{maybe, lists, maybe_lists}

@@ -22,7 +22,8 @@ use Rattle.sr_tables.specs.declared.tables.Tables.{Tables}
 use Rattle.sr_outline.specs.Heads.{Heads, heads_of, component_opened, operation_entry, spec_item_optypes}
 use Rattle.sr_outline.specs.Numbers.{component_spots, served_spots, site_spots, shared_of, component_served, component_sites, component_shared}
 use Rattle.sr_tables.specs.Parts.{in_component, component_spot}
-use Rattle.sr_outline.specs.Shapes.{Shapes, shapes_of, spec_item_types, with_types}
+use Rattle.sr_outline.specs.Shapes.{shapes_of, spec_item_types, with_types}
+use Rattle.sr_tables.specs.Shapes.{Shapes}
 use Rattle.sr_tables.specs.Tables.{table_of, number_in, with_spots, with_entries}
 
 -- ---- tables

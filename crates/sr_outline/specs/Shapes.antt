@@ -4,10 +4,9 @@ use Rattle.std.specs.Option.{option_map, option_and_then}
 use Rattle.sr_check_expr.specs.declared.facts.Facts.{Facts}
 use Rattle.sr_check_expr.specs.declared.info.Info.{Info}
 use Rattle.sr_check_expr.specs.declared.info.Info.TheVariants as info
-use Rattle.sr_check_expr.specs.Infos.{info_at, name_spot}
+use Rattle.sr_check_expr.specs.Infos.{info_at}
 use Rattle.sr_core.specs.declared.formal.FormalShape.{FormalShape}
 use Rattle.sr_core.specs.declared.formal.FormalShape.TheVariants.{Fixed, Open, Open2}
-use Rattle.sr_names.specs.declared.spot.Spot.{Spot}
 use Rattle.sr_tree.specs.declared.component.Component.{Component}
 use Rattle.sr_tree.specs.declared.component.SpecItem.{SpecItem}
 use Rattle.sr_tree.specs.declared.component.SpecItem.TheVariants as spec
@@ -20,17 +19,16 @@ use Rattle.sr_tree.specs.declared.types.RangeTree.{RangeTree}
 use Rattle.sr_tree.specs.declared.types.RangeTree.TheVariants.{Length, Bounds, From, Any}
 use Rattle.sr_tree.specs.declared.types.TypeTree.{TypeTree, out-TypeTree, fold-TypeTree}
 use Rattle.sr_tree.specs.declared.types.TypeTree.TheOpen.{TypeTree-F, Formal-F}
-use Rattle.sr_types.specs.declared.ty.Ty.{Ty, fold-Ty}
-use Rattle.sr_types.specs.declared.ty.Ty.TheOpen.{Ty-F}
 use Rattle.sr_value.specs.declared.shape.Dims.{Dims}
 use Rattle.sr_value.specs.declared.shape.Dims.TheVariants.{One, Two}
 use Rattle.sr_value.specs.declared.shape.Shape.{Shape}
 use Rattle.sr_value.specs.declared.shape.Shape.TheVariants as shape
 use Rattle.sr_value.specs.Operands.{int_in}
 use Rattle.sr_outline.specs.declared.shapes.Ends.{Ends}
-use Rattle.sr_outline.specs.Meanings.{typed_expr, known, meant_by}
+use Rattle.sr_check_expr.specs.Meanings.{typed_expr, known, meant_by}
 use Rattle.sr_tables.specs.Parts.{deciding, spot_named, in_component}
-use Rattle.sr_tables.specs.Tables.{found_at, with_entry}
+use Rattle.sr_tables.specs.Shapes.{Shapes, most_bytes, shape_at}
+use Rattle.sr_tables.specs.Tables.{with_entry}
 
 -- ---- static bounds and lengths
 
@@ -41,10 +39,6 @@ fixed_number facts expr = unwrap_or (option_and_then int_in (known (typed_expr f
 abbrev pub natural : ℤ → ℕ
 natural (pos n) = n
 natural (negsuc n) = 0
-
--- a string place without a length holds up to 65,535 bytes
-abbrev pub most_bytes : ℕ
-most_bytes = 65535
 
 abbrev pub string_shape : Facts → Option Expr → Shape
 string_shape facts None = shape.Str most_bytes
@@ -98,13 +92,6 @@ decl_shape facts None item = item
 decl_shape facts (Some dims) item = shape.Arr (fixed_dims facts dims) item
 
 -- ---- types as written, by the shapes of the types that are declared before
-
-abbrev pub Shapes : Type 0
-Shapes = List (Spot × Shape)
-
--- the shape of a declared type
-abbrev pub shape_at : Shapes → Spot → Shape
-shape_at shapes spot = unwrap_or (found_at shapes spot) shape.Int
 
 -- the shape of the type that a name means
 unfoldable pub named_shape : Facts → Shapes → QualifiedName → Shape
@@ -174,20 +161,3 @@ with_types facts shapes declared = fold (with_type facts) shapes declared
 
 abbrev pub shapes_of : Facts → List Component → Shapes
 shapes_of facts components = with_types facts [] (types_in components)
-
--- ---- types that aren't written
-
--- A type has no bounds: its strings have 65,535 bytes, and its arrays no items. Records have their declared shape.
-abbrev pub layer_of_type : Shapes → Ty-F Shape → Shape
-layer_of_type shapes Ty-F.Int = shape.Int
-layer_of_type shapes Ty-F.Bool = shape.Bool
-layer_of_type shapes Ty-F.Char = shape.Char
-layer_of_type shapes Ty-F.Str = shape.Str most_bytes
-layer_of_type shapes (Ty-F.Enum spot) = shape_at shapes (name_spot spot)
-layer_of_type shapes (Ty-F.Rec spot) = shape_at shapes (name_spot spot)
-layer_of_type shapes (Ty-F.Vector item) = shape.Arr (One (pos 1) (pos 0)) item
-layer_of_type shapes (Ty-F.Matrix item) = shape.Arr (Two (pos 1) (pos 0) (pos 1) (pos 0)) item
-layer_of_type shapes _ = shape.Capa
-
-abbrev pub shape_of_type : Shapes → Ty → Shape
-shape_of_type shapes = fold-Ty Shape (layer_of_type shapes)

@@ -7,12 +7,11 @@ ghost use Rattle.std.specs.Option.{option_map};
 ghost use Rattle.sr_outline.specs.Heads as heads;
 ghost use Rattle.sr_tables.specs.Parts.{in_item, in_component};
 
-use crate::meanings::meant_by;
 use crate::shapes::{decl_shape, formal_shape, type_shape};
-use sr_check_expr::Facts;
+use sr_check_expr::{Facts, meant_by};
 use sr_core::{FormalShape, Mode, Parameter};
 use sr_names::Spot;
-use sr_tables::{Head, SpotMap, deciding, spot_named};
+use sr_tables::{Head, SpotMap, copy_shape, deciding, spot_named};
 use sr_tree::{
     Component, Formal, InvocationKind, Item, OpItem, OpTypeDecl, PassMode, QualifiedName,
     Quantifier, Returned, Signature, SpecItem,
@@ -156,16 +155,6 @@ pub fn int_parameters(alloc: Global, quantifiers: &[Quantifier]) -> Result<Row<P
         })?;
     }
     Ok(all)
-}
-
-/// A copy of a shape, where there is one.
-pub fn copy_shape(alloc: Global, shape: &Option<Shape>) -> Result<Option<Shape>, NoMemory>
-    ensures { IfOk result (λ copy. copy ≡ shape.now) }
-{
-    match shape {
-        None => Ok(None),
-        Some(shape) => Ok(Some(shape.copy(alloc)?)),
-    }
 }
 
 fn copy_parameters(alloc: Global, parameters: &[Parameter]) -> Result<Row<Parameter>, NoMemory>

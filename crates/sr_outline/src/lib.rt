@@ -8,23 +8,17 @@ mod globals;
 mod heads;
 mod imports;
 mod laws;
-mod meanings;
 mod operations;
-mod operators;
 mod outline;
 mod shapes;
 mod variables;
 mod waits;
 
-pub use heads::{copy_shape, parameters_of};
+pub use heads::parameters_of;
 pub use imports::{all_imports, imports_at, needs_of};
-pub use meanings::{
-    constant_at, function_called, infer, is_constant, literals_of, meant_by, type_at, type_of,
-};
 pub use operations::OperationTable;
-pub use operators::{binary, conversion_function, prefix_of};
 pub use outline::{enumerations_of, tables_of};
-pub use shapes::{shape_of_type, type_shape};
+pub use shapes::type_shape;
 pub use variables::{
     formal_spots, initial_spots, name_spots, own_spots, quantifier_spots, receive_returned,
     receive_spots, returned_spot, signature_returned,

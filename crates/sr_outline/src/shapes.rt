@@ -4,27 +4,23 @@
 ghost use Rattle.std.specs.Prelude.{◌≡◌, ◌++◌, IfOk, OnOk, None, flat_map, map, pos, unwrap_or};
 ghost use Rattle.std.specs.Option.{option_and_then, option_map};
 ghost use Rattle.sr_check_expr.specs.Infos.{info_at};
-ghost use Rattle.sr_outline.specs.Meanings.{known};
+ghost use Rattle.sr_check_expr.specs.Meanings.{known};
 ghost use Rattle.sr_outline.specs.Shapes as shapes;
 ghost use Rattle.sr_tables.specs.Lists.{lists};
 ghost use Rattle.sr_tables.specs.Parts.{in_item, in_component};
 ghost use Rattle.sr_value.specs.Operands.{int_in};
 
-use crate::meanings::{infer, meant_by};
-use sr_check_expr::{Facts, Info, name_spot};
+use sr_check_expr::{Facts, Info, infer, meant_by};
 use sr_core::FormalShape;
 use sr_names::Spot;
-use sr_tables::{SpotMap, deciding, spot_named};
+use sr_tables::{MOST_BYTES, SpotMap, deciding, shape_at, spot_named};
 use sr_tree::{
     Component, Decl, DimsTree, Expr, Formal, Item, QualifiedName, RangeTree, SpecItem, TypeDecl,
     TypeTree,
 };
-use sr_types::{Static, Ty};
+use sr_types::Static;
 use sr_value::{Boxed, Dims, Duplicate, NoMemory, Row, Shape};
 use std::alloc::Global;
-
-/// So many bytes a string place holds without a length.
-const MOST_BYTES: u32 = 65_535;
 
 /// The number that a value is; 0 where it isn't known.
 fn known_number(value: &Static) -> i32
@@ -224,16 +220,6 @@ pub fn decl_shape(
             let dims = fixed_dims(alloc, dims, facts)?;
             Ok(Shape::Arr { dims, item })
         }
-    }
-}
-
-/// The shape of a declared type.
-fn shape_at(alloc: Global, table: &SpotMap<Shape>, spot: Spot) -> Result<Shape, NoMemory>
-    ensures { IfOk result (λ shape. shape ≡ shapes.shape_at table.now spot) }
-{
-    match table.get(spot) {
-        Some(shape) => shape.copy(alloc),
-        None => Ok(Shape::Int),
     }
 }
 
@@ -446,31 +432,4 @@ pub fn declare_types(
 {
     declare_spec(alloc, component.spec(), facts, table)?;
     declare_body(alloc, component.body(), facts, table)
-}
-
-/// The shape of a type. It has no bounds: its strings have 65,535 bytes, and its arrays no items.
-pub fn shape_of_type(alloc: Global, ty: &Ty, table: &SpotMap<Shape>) -> Result<Shape, NoMemory>
-    ensures { IfOk result (λ shape. shape ≡ shapes.shape_of_type table.now ty.now) }
-{
-    match ty {
-        Ty::Int => Ok(Shape::Int),
-        Ty::Bool => Ok(Shape::Bool),
-        Ty::Char => Ok(Shape::Char),
-        Ty::Str => Ok(Shape::Str { most: MOST_BYTES }),
-        Ty::Enum(spot) | Ty::Rec(spot) => shape_at(alloc, table, name_spot(*spot)),
-        Ty::Vector(item) => Ok(Shape::Arr {
-            dims: Dims::One { lo: 1, hi: 0 },
-            item: Boxed::new(alloc, shape_of_type(alloc, item.get(), table)?)?,
-        }),
-        Ty::Matrix(item) => Ok(Shape::Arr {
-            dims: Dims::Two {
-                lo: 1,
-                hi: 0,
-                lo2: 1,
-                hi2: 0,
-            },
-            item: Boxed::new(alloc, shape_of_type(alloc, item.get(), table)?)?,
-        }),
-        Ty::Resource(_) | Ty::Op(_) | Ty::Vm | Ty::NullCap | Ty::Untyped => Ok(Shape::Capa),
-    }
 }

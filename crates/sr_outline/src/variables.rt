@@ -8,9 +8,8 @@ ghost use Rattle.sr_tables.specs.Tables.{with_spots, each_once, with_entries};
 ghost use Rattle.sr_tables.specs.Lists.{lists};
 ghost use Rattle.sr_tables.specs.Parts.{spot_named};
 
-use crate::meanings::{is_constant, meant_by, returns_something};
 use crate::waits::{is_wait, wait_operation};
-use sr_check_expr::Facts;
+use sr_check_expr::{Facts, is_constant, meant_by, returns_something};
 use sr_names::Spot;
 use sr_tables::{SharedVariable, SpotMap, Spots, number_of, spot_named};
 use sr_tree::{

@@ -6,8 +6,7 @@ ghost use Rattle.sr_outline.specs.Numbers as numbers;
 ghost use Rattle.sr_tables.specs.Tables.{with_spots};
 ghost use Rattle.sr_tables.specs.Lists.{lists};
 
-use crate::meanings::{function_called, meant_by, operation_meant};
-use sr_check_expr::Facts;
+use sr_check_expr::{Facts, function_called, meant_by, operation_meant};
 use sr_names::{Predefined, Spot};
 use sr_tables::{Spots, spot_named};
 use sr_tree::{Arm, BlockItem, Branch, CoArm, Component, Invocation, Item, ProcItem, Statement};

@@ -1,4 +1,5 @@
 pub mod Lists
 pub mod Parts
+pub mod Shapes
 pub mod Sites
 pub mod Tables

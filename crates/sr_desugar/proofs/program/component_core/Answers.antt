@@ -1,7 +1,7 @@
 -- The scene and the code are those that there are.
 use Rattle.std.proofs.Common.{◌≡◌, IfOk, subst}
 use Rattle.sr_desugar.specs.declared.bodies.Codes.{Codes}
-use Rattle.sr_desugar.specs.declared.scene.Scene.{Scene}
+use Rattle.sr_lower_expr.specs.declared.scene.Scene.{Scene}
 use Rattle.sr_desugar.specs.Core.{component_with}
 use Rattle.sr_desugar.proofs.program.component_core.Goals as goal
 

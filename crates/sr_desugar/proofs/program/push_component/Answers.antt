@@ -8,7 +8,7 @@ use Rattle.sr_outline.specs.Numbers.{initial_spots}
 use Rattle.sr_outline.specs.Outline.{imports_at}
 use Rattle.sr_tables.specs.declared.tables.Tables.{Tables}
 use Rattle.sr_tree.specs.declared.component.Component.{Component as Tree}
-use Rattle.sr_desugar.specs.declared.scene.Scene.{Scene}
+use Rattle.sr_lower_expr.specs.declared.scene.Scene.{Scene}
 use Rattle.sr_desugar.specs.Core.{scene_of, whole_in, whole_of, with_wholes}
 use Rattle.sr_desugar.proofs.program.push_component.Goals as goal
 

@@ -2,7 +2,7 @@
 use Rattle.std.proofs.Common.{◌+◌, ℕ, List, ◌++◌, map, drop, ap, ◌∙◌}
 use Rattle.sr_core.specs.declared.statement.Scope.TheVariants.{Shared}
 use Rattle.sr_desugar.specs.Declarations.{var_number}
-use Rattle.sr_desugar.proofs.Outputs.{map_next}
+use Rattle.sr_lower_expr.proofs.Turns.{map_next}
 use Rattle.sr_desugar.proofs.program.shared_numbers.Goals as goal
 
 pub loop-spot-preserved : goal.loop-spot-preserved

@@ -3,7 +3,7 @@ use Rattle.std.proofs.Common.{◌≡◌, ◌∙◌, IfOk, ap, subst}
 use Rattle.sr_names.specs.declared.spot.Spot.{Spot}
 use Rattle.sr_tree.specs.declared.name.Name.{Name}
 use Rattle.sr_outline.specs.Heads.{head_at}
-use Rattle.sr_outline.specs.Meanings.{meant_by}
+use Rattle.sr_check_expr.specs.Meanings.{meant_by}
 use Rattle.sr_outline.proofs.heads.named_head.Goals as goal
 
 pub returns : goal.returns

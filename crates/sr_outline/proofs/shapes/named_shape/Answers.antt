@@ -2,8 +2,9 @@
 use Rattle.std.proofs.Common.{◌≡◌, ◌∙◌, IfOk, ap, subst}
 use Rattle.sr_names.specs.declared.spot.Spot.{Spot}
 use Rattle.sr_tree.specs.declared.name.Name.{Name}
-use Rattle.sr_outline.specs.Meanings.{meant_by}
-use Rattle.sr_outline.specs.Shapes.{named_shape, shape_at}
+use Rattle.sr_check_expr.specs.Meanings.{meant_by}
+use Rattle.sr_outline.specs.Shapes.{named_shape}
+use Rattle.sr_tables.specs.Shapes.{shape_at}
 use Rattle.sr_outline.proofs.shapes.named_shape.Goals as goal
 
 pub returns : goal.returns

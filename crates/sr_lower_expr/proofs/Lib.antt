@@ -1,0 +1,9 @@
+pub mod Each
+pub mod ExprNumbers
+pub mod ExprRules
+pub mod Formals
+pub mod PlaceNumbers
+pub mod Trees
+pub mod Turns
+pub mod Values
+pub mod Within

@@ -1,0 +1,4 @@
+pub mod Expressions
+pub mod Operators
+pub mod Places
+pub mod Shapes
