@@ -157,11 +157,15 @@ pub fn imports_at(imports: &[Row<u32>], number: u32) -> &[u32]
     }
 }
 
+/// So many globals import one another in a row at most: the search for them fits into 8 MiB of stack.
+const MOST_LEVELS: u32 = 4_096;
+
 /// Puts a global that is wanted after those that there are, unless it is there, and after those that it imports.
 #[cycle(needed)]
 #[tactic(auto, using(crate::proofs::Needed::needed_zero, crate::proofs::Needed::needed_left, crate::proofs::Needed::needed_put))]
 fn push_global(
     depth: usize,
+    levels: u32,
     imports: &[Row<u32>],
     global: u32,
     there: &mut Globals,
@@ -174,16 +178,26 @@ fn push_global(
     if there.contains(global) {
         return Ok(());
     }
-    push_needed(depth - 1, imports, imports_at(imports, global), there)?;
+    if levels == 0 {
+        return Err(NoMemory);
+    }
+    push_needed(
+        depth - 1,
+        levels - 1,
+        imports,
+        imports_at(imports, global),
+        there,
+    )?;
     there.insert(global)
 }
 
 /// Puts the globals that are wanted after those that there are, each after those that it imports. No chain of imports
-/// is longer than there are components.
+/// is longer than there are components. Answers out of memory where one is longer than `levels`.
 #[cycle(needed)]
 #[tactic(auto, using(crate::proofs::Needed::needed_append))]
 fn push_needed(
     depth: usize,
+    levels: u32,
     imports: &[Row<u32>],
     wanted: &[u32],
     there: &mut Globals,
@@ -191,18 +205,20 @@ fn push_needed(
     ensures { OnOk result (there.new ≡ outline.with_needed depth imports.now there.old wanted.now) }
 {
     for global in wanted {
-        push_global(depth, imports, *global, there)?;
+        push_global(depth, levels, imports, *global, there)?;
     }
     Ok(())
 }
 
-/// The globals that a component needs, directly or through globals.
+/// The globals that a component needs, directly or through globals. Out of memory where more than 4,096 globals import
+/// one another in a row.
 pub fn needs_of(alloc: Global, imports: &[Row<u32>], number: u32) -> Result<Row<u32>, NoMemory>
     ensures { IfOk result (λ needs. needs ≡ outline.needs_of imports.now number) }
 {
     let mut there = Globals::new(alloc);
     push_needed(
         imports.len(),
+        MOST_LEVELS,
         imports,
         imports_at(imports, number),
         &mut there,

@@ -13,6 +13,7 @@ mod outline;
 mod shapes;
 mod variables;
 mod waits;
+mod weights;
 
 pub use heads::parameters_of;
 pub use imports::{all_imports, imports_at, needs_of};

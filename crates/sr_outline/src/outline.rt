@@ -11,6 +11,7 @@ use crate::operations::{OperationTable, open_component};
 use crate::shapes::declare_types;
 use crate::variables::note_shared;
 use crate::waits::{note_procs, note_sites};
+use crate::weights::weigh_types;
 use sr_check_expr::Facts;
 use sr_tables::{Head, SpotMap, Spots, Tables, number_of, spot_named};
 use sr_tree::{File, Name, SpecItem, TypeTree};
@@ -224,6 +225,7 @@ fn note_all(
 pub fn tables_of(alloc: Global, files: &[File], facts: &Facts) -> Result<Tables, NoMemory>
     ensures { IfOk result (λ tables. tables ≡ outline.tables_of facts.now (components_in files.now)) }
 {
+    weigh_types(alloc, files, facts)?;
     let mut tables = empty_tables(alloc);
     note_all(alloc, files, facts, &mut tables).and(Ok(tables))
 }
