@@ -13,11 +13,11 @@ use std::alloc::Global;
 pub fn undeclared(alloc: Global, count: u32) -> Result<Row<Option<Own>>, NoMemory>
     ensures { IfOk result (λ own. own ≡ replicate count none) }
 {
-    let mut own = Row::new(alloc);
+    let mut own = Vec::with_capacity(alloc, count as usize)?;
     for _ in 0..count {
         own.push(None)?;
     }
-    Ok(own)
+    Ok(Row::from_vec(own))
 }
 
 /// What a part of an own variable holds. E11 where it hasn't been declared.
