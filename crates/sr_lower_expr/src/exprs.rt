@@ -187,8 +187,8 @@ fn literal(alloc: Global, tree: &Expr, scene: &Scene) -> Result<sr_core::Expr, N
     Ok(static_expr(typed_expr.typed.value))
 }
 
-/// An invocation of an operation of this type.
-fn sent(
+/// What is sent to an operation of this type.
+fn sent_to(
     alloc: Global,
     scene: &Scene,
     ty: &Ty,
@@ -447,7 +447,7 @@ pub fn core_sent(alloc: Global, tree: &Invocation, scene: &Scene) -> Result<Sent
     let target = boxed_value(alloc, tree.callee.get(), scene)?;
     let lowered = all_lowered(alloc, tree.arguments.as_slice(), scene)?;
     let ty = type_of(alloc, tree.callee.get(), &scene.facts)?;
-    sent(alloc, scene, &ty, target, lowered)
+    sent_to(alloc, scene, &ty, target, lowered)
 }
 
 /// A call of an operation.
