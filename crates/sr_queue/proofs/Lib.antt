@@ -1,0 +1,5 @@
+pub mod ClassLemmas
+pub mod IndexLemmas
+pub mod LineLemmas
+pub mod QueueLemmas
+pub mod SearchLemmas

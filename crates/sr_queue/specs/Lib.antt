@@ -1,1 +1,5 @@
+pub mod Classes
+pub mod Indexed
+pub mod Indexes
+pub mod Lines
 pub mod Queues

@@ -1,6 +1,8 @@
 //! The pending invocations of a world, in the order in which they arrived.
 #![tactic(auto)]
 
+mod class;
+mod index;
 mod laws;
 mod pending;
 mod queue;

@@ -1,7 +1,13 @@
-ghost use Rattle.std.specs.Prelude.{◌≡◌, ◌<◌, ◌≤◌, [], ◌∷◌, ◌++◌, length, remove, slice_get, IfErr, IfOk, IsOk, OnErr, OnOk};
+ghost use Rattle.std.specs.Prelude.{◌≡◌, ◌^◌, ◌<◌, ◌≤◌, [], ◌∷◌, ◌++◌, length, remove, slice_get, IfErr, IfOk, IfSome, IsOk, List, OnErr, OnOk};
+ghost use Rattle.std.specs.Option.{option_map};
 ghost use Rattle.std.specs.VecDeque.{deque_capacity};
 ghost use Rattle.sr_queue.specs.Queues.{waiting};
+ghost use Rattle.sr_queue.specs.Classes.{class_in, next_waiting};
+ghost use Rattle.sr_queue.specs.Indexed.{IsIndexed};
+ghost use Rattle.sr_queue.specs.declared.pending.Pending.{Pending};
 
+use crate::class::{Class, class_of};
+use crate::index::Index;
 use crate::pending::Pending;
 use sr_value::{Duplicate, NoMemory, Owner};
 use std::alloc::Global;
@@ -17,7 +23,10 @@ const LEAST_ROOM: usize = 4;
 /// Pending invocations in the order in which they arrived.
 #[derive(Drop)]
 pub struct Queue {
+    alloc: Global,
     pending: VecDeque<Pending>,
+    /// Where those of each operation stand. There is none from when memory for it ran out until the queue is empty.
+    index: Option<Index>,
 }
 
 impl Model for Queue {
@@ -27,6 +36,7 @@ impl Model for Queue {
     ghost use Rattle.sr_value.specs.contracts.value.Value as value;
     ghost use Rattle.sr_queue.specs.declared.queue.TheConstants.{MOST_PENDING};
     ghost use Rattle.sr_queue.specs.Queues.{Queued};
+    ghost use Rattle.sr_queue.specs.Indexed.{IsIndexed};
 
     ghost Value = { Queued };
 
@@ -34,7 +44,7 @@ impl Model for Queue {
 
     ghost view = { λ queue. record { items = queue.pending.items; room = deque_capacity queue.pending - length queue.pending.items } };
 
-    ghost invariant = { λ queue. length queue.pending.items ≤ MOST_PENDING };
+    ghost invariant = { λ queue. (length queue.pending.items ≤ MOST_PENDING) × IsIndexed queue.pending.items queue.index };
 }
 
 impl Queue {
@@ -43,7 +53,9 @@ impl Queue {
         ensures { result.items ≡ [] }
     {
         Queue {
+            alloc,
             pending: VecDeque::new(alloc),
+            index: Some(Index::new(alloc)),
         }
     }
 
@@ -58,10 +70,29 @@ impl Queue {
     pub fn count(&self, owner: Owner, op: u32) -> u32
         ensures { result ≡ waiting owner op self.now.items }
     {
-        self.pending
-            .iter()
-            .filter(|pending| pending.is_of(owner, op))
-            .count() as u32
+        match &self.index {
+            Some(index) => index.count(class_of(owner, op)) as u32,
+            None => counted(&self.pending, owner, op) as u32,
+        }
+    }
+
+    /// The place of the first invocation of an operation at or after a place.
+    pub fn next_of(&self, owner: Owner, op: u32, from: u32) -> Option<u32>
+        ensures { result ≡ next_waiting owner op from self.now.items }
+    {
+        let place = self.next_place(owner, op, from as usize)?;
+        Some(place as u32)
+    }
+
+    /// The same, among places as lists count them.
+    fn next_place(&self, owner: Owner, op: u32, from: usize) -> Option<usize>
+        ensures next { result ≡ next_waiting owner op from self.now.items }
+        ensures small { IfSome result (λ place. place < 2 ^ 32) }
+    {
+        match &self.index {
+            Some(index) => index.next_of(class_of(owner, op), from),
+            None => found(&self.pending, owner, op, from),
+        }
     }
 
     /// The invocation at a place, counted from the oldest.
@@ -108,7 +139,9 @@ impl Queue {
     {
         match self.make_room() {
             Ok(()) => {
+                let class = class_of(pending.owner, pending.op);
                 self.pending.push_back_reserved(pending);
+                note(&mut self.index, class);
                 Ok(())
             }
             Err(no_memory) => Err((no_memory, pending)),
@@ -122,7 +155,10 @@ impl Queue {
         ensures others { self.new.items ≡ remove self.old.items i }
         ensures room { self.old.room ≤ self.new.room }
     {
-        take_out(&mut self.pending, i)
+        let taken = take_out(&mut self.pending, i);
+        forget(&mut self.index, i as usize);
+        renew(self.alloc, &mut self.index, self.pending.len());
+        taken
     }
 
     /// A queue of equal invocations in the same order.
@@ -133,7 +169,76 @@ impl Queue {
         for place in 0..self.pending.len() {
             pending.push_back(self.pending[place].copy(alloc)?)?;
         }
-        Ok(Queue { pending })
+        let index = index_of(alloc, &pending);
+        Ok(Queue {
+            alloc,
+            pending,
+            index,
+        })
+    }
+}
+
+/// How many invocations of an operation there are.
+fn counted(pending: &VecDeque<Pending>, owner: Owner, op: u32) -> usize
+    ensures { result ≡ waiting owner op pending.now.items }
+{
+    pending
+        .iter()
+        .filter(|pending| pending.is_of(owner, op))
+        .count()
+}
+
+/// The place of the first invocation of an operation at or after a place.
+fn found(pending: &VecDeque<Pending>, owner: Owner, op: u32, from: usize) -> Option<usize>
+    ensures { result ≡ next_waiting owner op from pending.now.items }
+{
+    for place in from..pending.len() {
+        if pending[place].is_of(owner, op) {
+            return Some(place);
+        }
+    }
+    None
+}
+
+/// Adds one to an index, or gives the index up.
+fn note(index: &mut Option<Index>, class: Class)
+    ensures { (items : List Pending) (p : Pending) → class_in p ≡ class → IsIndexed items index.old → IsIndexed (items ++ p ∷ []) index.new }
+{
+    if let Some(whole) = index
+        && whole.push(class).is_err()
+    {
+        *index = None;
+    }
+}
+
+/// The index of all that is pending, unless memory for it runs out.
+fn index_of(alloc: Global, pending: &VecDeque<Pending>) -> Option<Index>
+    ensures { IsIndexed pending.now.items result }
+{
+    let mut index = Some(Index::new(alloc));
+    for place in 0..pending.len() {
+        let invocation = &pending[place];
+        note(&mut index, class_of(invocation.owner, invocation.op));
+    }
+    index
+}
+
+/// Takes the one at a place out of an index.
+fn forget(index: &mut Option<Index>, place: usize)
+    requires { IfSome index.old (λ classes. place < length classes) }
+    ensures { index.new ≡ option_map (λ classes. remove classes place) index.old }
+{
+    if let Some(index) = index {
+        index.remove_at(place);
+    }
+}
+
+/// Begins a new index where there is none and nothing is left to be in it.
+fn renew(alloc: Global, index: &mut Option<Index>, left: usize)
+    ensures { (items : List Pending) → length items ≡ left → IsIndexed items index.old → IsIndexed items index.new }
+{
+    if left == 0 && index.is_none() {
+        *index = Some(Index::new(alloc));
     }
 }
 
