@@ -24,10 +24,10 @@ returns c =
     let operations : c.in_ok-operations.operations ≡ things_in tables.operations =
     c.in_ok-operations.ensures ∙ ap (λ (there : Tables). things_in there.operations) c.in_ok-parts.ensures.tables in
     c.core_with.ensures
-    ∙ λ i. record {
+    ∙ (λ i. record {
       components = components i;
       operations = operations i;
       procs = (gathered i).procs;
       sites = (gathered i).sites;
       names = names i;
-    }
+    })
