@@ -6,7 +6,9 @@ ghost use Rattle.sr_desugar.specs.Statements as statements;
 use crate::declarations::int_constant;
 use crate::simple::act;
 use sr_core::{Action, Argument, Direction, Expr, Quantifier, Statement};
-use sr_lower_expr::{Scene, boxed_value, operation_expr, optional_value, own_number, own_place};
+use sr_lower_expr::{
+    Scene, boxed_value, core_value, operation_expr, optional_value, own_number, own_place,
+};
 use sr_names::Spot;
 use sr_tables::{line_of, spot_named};
 use sr_tree::{Process, Semaphore};
@@ -23,16 +25,12 @@ fn direction(written: sr_tree::Direction) -> Direction
 }
 
 /// The step of a quantifier; 1 where none is written.
-fn step_of(
-    alloc: Global,
-    step: &Option<sr_tree::Expr>,
-    scene: &Scene,
-) -> Result<Boxed<Expr>, NoMemory>
+fn step_of(alloc: Global, step: &Option<sr_tree::Expr>, scene: &Scene) -> Result<Expr, NoMemory>
     ensures { IfOk result (λ expr. expr ≡ statements.step_core scene.now step.now) }
 {
     match step {
-        None => Boxed::new(alloc, int_constant(1)),
-        Some(step) => boxed_value(alloc, step, scene),
+        None => Ok(int_constant(1)),
+        Some(step) => core_value(alloc, step, scene),
     }
 }
 
@@ -46,7 +44,7 @@ fn quantifier(
     let var = own_number(scene, spot_named(&tree.name))?;
     let from = boxed_value(alloc, &tree.first, scene)?;
     let to = boxed_value(alloc, &tree.last, scene)?;
-    let by = step_of(alloc, &tree.step, scene)?;
+    let by = Boxed::new(alloc, step_of(alloc, &tree.step, scene)?)?;
     let condition = optional_value(alloc, &tree.such_that, scene)?;
     Ok(Quantifier {
         var,
