@@ -237,7 +237,8 @@ pub fn lowered(alloc: Global, tree: &Expr, scene: &Scene) -> Result<Lowered, NoM
             ..
         } => {
             let whole = boxed(alloc, array.get(), scene)?;
-            let step = core_step(alloc, first.get(), second, scene)?;
+            let first = boxed(alloc, first.get(), scene)?;
+            let step = core_step(alloc, first, second, scene)?;
             part_of(alloc, whole.into_inner(), step)
         }
         Expr::Call(invocation) => Ok(Lowered::Value(core_call(alloc, invocation, scene)?)),
@@ -375,18 +376,17 @@ fn all_lowered(alloc: Global, trees: &[Expr], scene: &Scene) -> Result<Row<Lower
 #[cycle(exprs)]
 fn core_step(
     alloc: Global,
-    first: &Expr,
+    first: Boxed<Lowered>,
     second: &Option<Boxed<Expr>>,
     scene: &Scene,
 ) -> Result<Boxed<Step>, NoMemory>
-    ensures { IfOk result (λ step. step ≡ exprs.index_step (exprs.core_expr scene.now first.now) (option_map (exprs.told scene.now) second.now)) }
+    ensures { IfOk result (λ step. step ≡ exprs.index_step first (option_map (exprs.told scene.now) second.now)) }
 {
-    let first = boxed_value(alloc, first, scene)?;
     match second {
-        None => Boxed::new(alloc, Step::At(first.into_inner())),
+        None => Boxed::new(alloc, Step::At(value_of(first.into_inner()))),
         Some(second) => {
             let second = core_value(alloc, second.get(), scene)?;
-            Boxed::new(alloc, Step::At2(first.into_inner(), second))
+            Boxed::new(alloc, Step::At2(value_of(first.into_inner()), second))
         }
     }
 }
