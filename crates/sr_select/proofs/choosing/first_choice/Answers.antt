@@ -1,5 +1,5 @@
 -- Each invocation that fixes no arm is passed over, and those between that no arm names with it.
-use Rattle.std.proofs.Common.{◌≡◌, ◌<◌, ◌≤◌, Some, length, sym, ◌∙◌, arith}
+use Rattle.std.proofs.Common.{◌≡◌, Some, length, sym, ◌∙◌, arith}
 use Rattle.std.specs.List.{enumerate_from}
 use Rattle.sr_select.specs.Named.{next_named}
 use Rattle.sr_select.specs.Sights.{seeing}

@@ -1,7 +1,6 @@
 -- Each step keeps what was found so far, and those between that are of other operations change nothing.
 use Rattle.std.proofs.Common.{◌≡◌, ◌<◌, ◌≤◌, Some, length, sym, ◌∙◌, arith}
 use Rattle.std.proofs.lemmas.Result.{err_from_is_err_and}
-use Rattle.std.specs.Prelude.{Err}
 use Rattle.sr_queue.specs.Classes.{next_waiting}
 use Rattle.sr_queue.proofs.QueueLemmas.{next-within}
 use Rattle.sr_select.specs.Sights.{seeing}

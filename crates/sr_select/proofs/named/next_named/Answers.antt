@@ -1,6 +1,5 @@
 use Rattle.std.proofs.Common.{◌≤◌, length, take, ap, sym, ◌∙◌, arith}
 use Rattle.std.proofs.lemmas.List.{take_all}
-use Rattle.sr_queue.specs.Classes.{next_waiting}
 use Rattle.sr_select.specs.Named.{earlier, next_named}
 use Rattle.sr_select.proofs.NamedLemmas.{named-more, named-none}
 use Rattle.sr_select.proofs.named.next_named.Goals as goal
