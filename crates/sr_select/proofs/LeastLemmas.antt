@@ -85,7 +85,7 @@ module _ (sees : Seeing) (owner : Owner) (arm : Arm) (by : Expr) (from : ℕ) (i
   pub at-start : (old : List Seen) → LeastSoFar sees owner arm by from items from None old old
   at-start old = record { fault = refl; least = refl; seen = refl }
 
-  step-skip : (place : ℕ) (p : Pending) (best : Option Keyed) (old new : List Seen) → LeastSoFar sees owner arm by from items place best old new
+  pub step-skip : (place : ℕ) (p : Pending) (best : Option Keyed) (old new : List Seen) → LeastSoFar sees owner arm by from items place best old new
       → slice_get items place ≡ Some p → is_of owner arm.op p ≡ false → LeastSoFar sees owner arm by from items (place + 1) best old new
   step-skip place p best old new so_far found other =
       let left : Left place ≡ Left (place + 1) = left-skip owner arm items place p found other in

@@ -3,6 +3,7 @@ pub mod CountedLemmas
 pub mod LawProofs
 pub mod LeastLemmas
 pub mod NameLemmas
+pub mod NamedLemmas
 pub mod PlaceLemmas
 pub mod TwinLemmas
 pub mod WatchedLemmas

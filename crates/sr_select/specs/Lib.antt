@@ -3,6 +3,7 @@ pub mod Guards
 pub mod Laws
 pub mod Leasts
 pub mod Looks
+pub mod Named
 pub mod Readings
 pub mod Selections
 pub mod Sights

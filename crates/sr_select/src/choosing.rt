@@ -5,6 +5,7 @@ ghost use Rattle.sr_select.specs.Selections.{choice_from, pairs_at, pairs_in, se
 use crate::arm::passes_one;
 use crate::choice::Choice;
 use crate::least::least_from;
+use crate::named::next_named;
 use crate::reads::Reads;
 use crate::selection::Selection;
 use crate::sight::Scene;
@@ -104,11 +105,17 @@ fn first_choice<'a, R: Reads>(
     ensures choice { IfOk result (λ chosen. chosen ≡ choice_from (R.reading reads.now) selection.now (pairs_in selection.now)) }
     ensures seen { OnOk result (seen.new ≡ seen.old ++ seen_from (R.reading reads.now) selection.now (pairs_in selection.now)) }
 {
-    for place in 0..selection.queue.len() {
+    let mut from = 0;
+    while from < selection.queue.len() {
+        let named = next_named(selection.queue, selection.owner, selection.arms, from);
+        let Some(place) = named else {
+            return Ok(None);
+        };
         let pending = selection.queue.at(place);
         if let Some(choice) = choice_at(selection, reads, seen, place, pending)? {
             return Ok(Some(choice));
         }
+        from = place + 1;
     }
     Ok(None)
 }

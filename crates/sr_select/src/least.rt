@@ -58,10 +58,15 @@ pub fn least_from<'a, R: Reads>(
     ensures { FindsLeast (seeing (R.reading reads.now) scene.now) owner arm.now by.now from queue.now.items result seen.old seen.new }
 {
     let mut best = None;
-    for place in from..queue.len() {
+    let mut next = from;
+    while next < queue.len() {
+        let Some(place) = queue.next_of(owner, arm.op, next) else {
+            return Ok(best);
+        };
         let pending = queue.at(place);
         let key = key_one(scene, reads, seen, owner, arm, by, pending)?;
         best = with_next(place, best, key);
+        next = place + 1;
     }
     Ok(best)
 }

@@ -11,6 +11,7 @@ mod laws;
 mod leaf;
 mod least;
 mod letting_go;
+mod named;
 mod names;
 mod reads;
 mod selection;
