@@ -1,7 +1,7 @@
 -- Who is aside stays so, where it isn't woken.
-use Rattle.std.proofs.Common.{◌≡◌, ◌≢◌, ◌⊎◌, inl, inr, ℕ, ◌==◌, ◌||◌, Bool, true, false, cond, List, [], ◌∷◌, ◌++◌, Option, None, Some, refl, ap, sym, ◌∙◌, subst, eq-eqb, eqb-true, true≢false}
-use Rattle.std.specs.BTreeMap as map
+use Rattle.std.proofs.Common.{◌≡◌, ◌≢◌, ◌<◌, ◌⊎◌, inl, inr, ℕ, ◌==◌, ◌||◌, Bool, true, false, cond, List, [], ◌∷◌, ◌++◌, Option, None, Some, refl, ap, sym, ◌∙◌, subst, eq-eqb, eqb-true, true≢false, arith}
 use Rattle.std.specs.BTreeSet.{BTreeSet, contains}
+use Rattle.std.specs.HashMap.{get}
 use Rattle.std.specs.Ordering.{nat_cmp}
 use Rattle.std.specs.Prelude.{Ok, find, option_map, unwrap_or}
 use Rattle.sr_ask.specs.declared.answer.Answer.{Answer}
@@ -28,9 +28,12 @@ use Rattle.sr_world.specs.Callers.{caller_in}
 use Rattle.sr_plain.specs.Changes.{change_of}
 use Rattle.sr_plain.specs.Noting.{IsSetAside, NotesBy}
 use Rattle.sr_plain.specs.Ready.{AreAside, IsAside, IsNoted, me_at}
-use Rattle.sr_plain.specs.Waiting.{IsTakenOut, WaitsFor, is_among, is_ready, waits, wakes}
+use Rattle.sr_plain.specs.Order.{Ascend}
+use Rattle.sr_plain.specs.Waiting.{IsTakenOut, WaitsFor, is_among, is_ready, same_class, waits, wakes}
 use Rattle.sr_plain.specs.Waking.{WakesUp}
 use Rattle.sr_plain.specs.declared.change.Woken.{Woken}
+use Rattle.sr_plain.specs.declared.waiters.Place.{Place}
+use Rattle.sr_plain.specs.declared.waiters.Place.TheVariants.{Watched, Served}
 use Rattle.sr_plain.specs.declared.waiters.Waiters.{Waiters}
 use Rattle.sr_plain.proofs.ChangeLemmas.{Keeps, KeepsIf, keeps}
 use Rattle.sr_plain.proofs.WakeLemmas.{as-before, still_waits}
@@ -44,6 +47,15 @@ find-number (x ∷ xs) q s is = by (q == x.process) refl is (find-number xs q s)
     by : (b : Bool) → (q == x.process) ≡ b → cond b (Some x) (find (is_process q) xs) ≡ Some s → (find (is_process q) xs ≡ Some s → q ≡ s.process) → q ≡ s.process
     by true same h more = let here : x ≡ s = cc in eqb-true q x.process same ∙ ap (λ (y : Start). y.process) here
     by false off h more = more h
+
+-- who lives has a number above all that those before have
+live-above : (low : ℕ) (live : List Start) (high q : ℕ) (s : Start) → Ascend low live high → find (is_process q) live ≡ Some s → low < s.process
+live-above low [] high q s ascend is = absurd (cc)
+live-above low (x ∷ xs) high q s ascend is = by (q == x.process) is (live-above x.process xs high q s ascend.1)
+  where
+    by : (b : Bool) → cond b (Some x) (find (is_process q) xs) ≡ Some s → (find (is_process q) xs ≡ Some s → x.process < s.process) → low < s.process
+    by true h more = let here : x ≡ s = cc in subst (λ (y : Start). low < y.process) here ascend.0
+    by false h more = let above = more h in let first = ascend.0 in omega arith
 
 apart-number : (p q : ℕ) → p ≢ q → (p == q) ≡ false
 apart-number p q off = by (p == q) refl
@@ -62,30 +74,30 @@ three-off false false true h = absurd (true≢false h)
 three-off false false false h = (refl, refl, refl)
 
 -- who waits at more places waits as before
-waits-more : (core : Core) (me : Me) (at at' : ℕ → Bool) → ((k : ℕ) → at k ≡ true → at' k ≡ true) → (r : Request) → WaitsFor core me at r → WaitsFor core me at' r
-waits-more core me at at' more (request.Declare block var shape) w = more 0 w
-waits-more core me at at' more (request.Load block var path) w = more 0 w
-waits-more core me at at' more (request.Store block var path value) w = more 0 w
-waits-more core me at at' more (request.Invoke target args wants) w = more 0 w
+waits-more : (core : Core) (me : Me) (at at' : Place → Bool) → ((k : Place) → at k ≡ true → at' k ≡ true) → (r : Request) → WaitsFor core me at r → WaitsFor core me at' r
+waits-more core me at at' more (request.Declare block var shape) w = more Watched w
+waits-more core me at at' more (request.Load block var path) w = more Watched w
+waits-more core me at at' more (request.Store block var path value) w = more Watched w
+waits-more core me at at' more (request.Invoke target args wants) w = more Watched w
 waits-more core me at at' more (request.Select site env) w = λ s found number arm is. more _ (w s found number arm is)
 waits-more core me at at' more (request.Take ids) w = tt
-waits-more core me at at' more (request.Reply held back results) w = more 0 w
-waits-more core me at at' more (request.Forward held back target args) w = more 0 w
-waits-more core me at at' more (request.Count op) w = more 0 w
-waits-more core me at at' more (request.Write bytes) w = more 0 w
-waits-more core me at at' more (request.Read kind) w = more 0 w
-waits-more core me at at' more (request.EnsureGlobal global vm) w = more 0 w
-waits-more core me at at' more (request.Create resource args vm) w = more 0 w
-waits-more core me at at' more request.MakeVm w = more 0 w
-waits-more core me at at' more (request.Destroy target) w = more 0 w
-waits-more core me at at' more (request.Finish answered back results) w = more 0 w
-waits-more core me at at' more (request.Stop status) w = more 0 w
-waits-more core me at at' more (request.Fail fault) w = more 0 w
-waits-more core me at at' more request.Age w = more 0 w
+waits-more core me at at' more (request.Reply held back results) w = more Watched w
+waits-more core me at at' more (request.Forward held back target args) w = more Watched w
+waits-more core me at at' more (request.Count op) w = more Watched w
+waits-more core me at at' more (request.Write bytes) w = more Watched w
+waits-more core me at at' more (request.Read kind) w = more Watched w
+waits-more core me at at' more (request.EnsureGlobal global vm) w = more Watched w
+waits-more core me at at' more (request.Create resource args vm) w = more Watched w
+waits-more core me at at' more request.MakeVm w = more Watched w
+waits-more core me at at' more (request.Destroy target) w = more Watched w
+waits-more core me at at' more (request.Finish answered back results) w = more Watched w
+waits-more core me at at' more (request.Stop status) w = more Watched w
+waits-more core me at at' more (request.Fail fault) w = more Watched w
+waits-more core me at at' more request.Age w = more Watched w
 waits-more core me at at' more (request.Wake until) w = tt
 
 module _ (core : Core) (limit : ℕ) (state : State) where
-  waits-on : (old new : Waiters) (s : Start) → ((k : ℕ) → waits old k s.process ≡ true → waits new k s.process ≡ true) → IsAside core limit state old s → IsAside core limit state new s
+  waits-on : (old new : Waiters) (s : Start) → ((k : Place) → waits old k s.process ≡ true → waits new k s.process ≡ true) → IsAside core limit state old s → IsAside core limit state new s
   waits-on old new s more was = record {
     asks = was.asks;
     asked = was.asked;
@@ -95,22 +107,23 @@ module _ (core : Core) (limit : ℕ) (state : State) where
 
   -- ---- what is done to the waiters
 
-  pub aside_woken : (old new : Waiters) (woken : Woken) → AreAside core limit state old (Some woken) → WakesUp state.world woken old new → AreAside core limit state new None
-  aside_woken old new woken are wakes_up = record {
+  pub aside_woken : (next : ℕ) → Ascend 0 state.world.live next → (old new : Waiters) (woken : Woken) → AreAside core limit state old (Some woken) → WakesUp state.world woken old new → AreAside core limit state new None
+  aside_woken next ascend old new woken are wakes_up = record {
     aside = λ q s lives unready unwoken.
         waits-on old new s
         (λ k here. wakes_up.go_on.waiting k s.process (subst (λ n. is_ready new n ≡ false) (find-number state.world.live q s lives) unready) here)
-        (are.aside q s lives (wakes_up.go_on.ready q unready) (wakes_up.unwoken q s lives unready));
+        (are.aside q s lives (wakes_up.go_on.ready q unready) (wakes_up.unwoken q s (subst (λ n. 0 < n) (sym (find-number state.world.live q s lives)) (live-above 0 state.world.live next q s ascend lives)) lives unready));
   }
 
-  same-places : (old new : Waiters) → new.aside ≡ old.aside → (k p : ℕ) → waits old k p ≡ true → waits new k p ≡ true
-  same-places old new same k p here = ap (λ (places : map.BTreeMap ℕ (BTreeSet ℕ)). is_among (map.get nat_cmp places k) p) same ∙ here
+  same-places : (p q : ℕ) (old new : Waiters) → IsTakenOut p old new → (k : Place) → waits old k q ≡ true → waits new k q ≡ true
+  same-places p q old new out Watched here = ap (λ (s : BTreeSet ℕ). contains nat_cmp s q) out.watched ∙ here
+  same-places p q old new out (Served class) here = ap (λ places. is_among (get same_class places class) q) out.classes ∙ here
 
   -- one that has ended is taken out
   pub aside_out : (p : ℕ) (old new : Waiters) → started state.world p ≡ None → IsTakenOut p old new → AreAside core limit state old None → AreAside core limit state new None
   aside_out p old new ended out are = record {
     aside = λ q s lives unready unwoken.
-        waits-on old new s (λ k here. same-places old new out.waiting k s.process here)
+        waits-on old new s (λ k here. same-places p s.process old new out k here)
         (are.aside q s lives (sym (out.others q (apart-number p q (λ same. never q s lives same))) ∙ unready) refl);
   }
     where
@@ -127,7 +140,7 @@ module _ (core : Core) (limit : ℕ) (state : State) where
         asks = asks;
         asked = asked;
         cannot = cannot;
-        waiting = waits-more core (me_at start) (λ k. waits set.between k start.process) (λ k. waits new k start.process) (λ k here. same-places set.between new set.out.waiting k start.process here) asks.request set.waiting.itself;
+        waiting = waits-more core (me_at start) (λ k. waits set.between k start.process) (λ k. waits new k start.process) (λ k here. same-places start.process start.process set.between new set.out k here) asks.request set.waiting.itself;
       }
 
       by : (q : ℕ) (s : Start) → started state.world q ≡ Some s → is_ready new q ≡ false → (b : Bool) → (start.process == q) ≡ b → IsAside core limit state new s
@@ -138,7 +151,7 @@ module _ (core : Core) (limit : ℕ) (state : State) where
           subst (λ x. IsAside core limit state new x) one itself
       by q s is unready false off =
           let was : is_ready old q ≡ false = sym (ap (λ (r : BTreeSet ℕ). contains nat_cmp r q) set.waiting.ready) ∙ sym (set.out.others q off) ∙ unready in
-          waits-on old new s (λ k here. same-places set.between new set.out.waiting k s.process (set.waiting.others k s.process here)) (are.aside q s is was refl)
+          waits-on old new s (λ k here. same-places start.process s.process set.between new set.out k (set.waiting.others k s.process here)) (are.aside q s is was refl)
 
   -- ---- input
 

@@ -1,6 +1,6 @@
 -- A look at a process that may have to begin.
 use Rattle.std.proofs.Common.{◌≡◌, inl, inr, ℕ, List, Option, Some, None, is_some, false, refl, sym, ◌∙◌, subst, true≢false}
-use Rattle.std.specs.BTreeMap.{BTreeMap}
+use Rattle.std.specs.HashMap.{HashMap}
 use Rattle.std.specs.Prelude.{Result, Ok, Err, OnOk}
 use Rattle.sr_ask.specs.declared.answer.Answer.{Answer}
 use Rattle.sr_ask.specs.declared.ask.Asks.{Asks}
@@ -21,14 +21,14 @@ module _ {A : Type 0} (after : A → List Answer → Asks) (can_feed : A → Typ
   at-then (Some m) (Some m') (Some m'') first second =
       record { actor = λ more. second.actor more ∙ first.actor more; kept = λ kept. second.kept (first.kept kept) }
 
-  pub looks-then : (p : ℕ) (a b c : BTreeMap ℕ (Member A)) → Looks after can_feed meant p a b → Looks after can_feed meant p b c → Looks after can_feed meant p a c
+  pub looks-then : {S : Type 0} (p : ℕ) (a b c : HashMap ℕ (Member A) S) → Looks after can_feed meant p a b → Looks after can_feed meant p b c → Looks after can_feed meant p a c
   looks-then p a b c first second = record {
     itself = at-then (member_of a p) (member_of b p) (member_of c p) first.itself second.itself;
     others = λ q off. second.others q off ∙ first.others q off;
   }
 
 module _ {A P : Type 0} (after : P → A → List Answer → Asks) (can_feed : A → Type 0) (core_of : P → Core) (start : Start) (limit : ℕ) (program : P) where
-  pub begins-looks : (old new : BTreeMap ℕ (Member A)) → Begins after core_of start limit old new → Looks (after program) can_feed (ask (core_of program) start limit) start.process old new
+  pub begins-looks : {S : Type 0} (old new : HashMap ℕ (Member A) S) → Begins after core_of start limit old new → Looks (after program) can_feed (ask (core_of program) start limit) start.process old new
   begins-looks old new (inl same) = subst (λ xs. Looks (after program) can_feed (ask (core_of program) start limit) start.process old xs) (sym same) (looks-same start.process (after program) can_feed (ask (core_of program) start limit) old)
   begins-looks old new (inr (none, begun)) =
       let kept : IsKept (after program) can_feed begun.member.actor begun.member.asks = subst (IsKept (after program) can_feed begun.member.actor) (sym begun.asks) tt in

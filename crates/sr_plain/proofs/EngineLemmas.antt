@@ -1,8 +1,8 @@
 -- What leaves an engine standing for its state, and input.
 use Rattle.std.proofs.Common.{◌≡◌, ◌==◌, ◌||◌, ℕ, true, false, not, Option, true≢false, List, [], ◌∷◌, ◌++◌, None, Some, refl, ap, sym, ◌∙◌, subst, arith}
-use Rattle.std.specs.BTreeMap.{BTreeMap, is_at}
+use Rattle.std.specs.HashMap.{HashMap}
 use Rattle.std.specs.Map.{lookup}
-use Rattle.std.specs.Ordering.{nat_cmp}
+use Rattle.std.specs.Prelude.{nat_eq}
 use Rattle.sr_ask.specs.declared.answer.Answer.{Answer}
 use Rattle.sr_ask.specs.declared.ask.Asks.{Asks}
 use Rattle.sr_ask.specs.declared.start.Start.{Start}
@@ -32,25 +32,25 @@ everyone core limit state waiters woken w is everything = record { aside = λ q 
     woken-all q = ap (λ o. is_woken waiters o q) is ∙ ap (λ c. wakes c (λ k. waits waiters k q) || (w.caller == q || w.made == q)) everything
 
 module _ {A : Type 0} (after : A → List Answer → Asks) (can_feed : A → Type 0) (core : Core) (limit : ℕ) where
-  pub looked_engine : (state : State) (events : List Event) (start : Start) (plain : Plain A) (crew : BTreeMap ℕ (Member A)) → IsEngine after can_feed core limit state events plain
-      → started state.world start.process ≡ Some start → Looks after can_feed (ask core start limit) start.process plain.crew crew
-      → IsEngine after can_feed core limit state events (record plain { crew = crew })
-  looked_engine state events start plain crew engine lives looks = record {
+  pub looked_engine : (state : State) (events : List Event) (start : Start) (plain looked : Plain A) → IsEngine after can_feed core limit state events plain
+      → started state.world start.process ≡ Some start → Looks after can_feed (ask core start limit) start.process plain.crew looked.crew
+      → IsEngine after can_feed core limit state events (record plain { crew = looked.crew })
+  looked_engine state events start plain looked engine lives looks = record {
     world = engine.world;
     ticks = engine.ticks;
     last = engine.last;
-    stands = looked-stands after can_feed core limit state events start plain.crew crew engine.stands lives looks;
+    stands = looked-stands after can_feed core limit state events start plain.crew looked.crew engine.stands lives looks;
     aside = engine.aside;
   }
 
   -- after some that have ended left it stands as before
-  pub kept_engine : (state : State) (events : List Event) (plain : Plain A) (crew : BTreeMap ℕ (Member A)) → IsEngine after can_feed core limit state events plain
-      → KeepsLiving plain.world plain.crew crew → IsEngine after can_feed core limit state events (record plain { crew = crew })
-  kept_engine state events plain crew engine keeps = record {
+  pub kept_engine : (state : State) (events : List Event) (plain kept : Plain A) → IsEngine after can_feed core limit state events plain
+      → KeepsLiving plain.world plain.crew kept.crew → IsEngine after can_feed core limit state events (record plain { crew = kept.crew })
+  kept_engine state events plain kept engine keeps = record {
     world = engine.world;
     ticks = engine.ticks;
     last = engine.last;
-    stands = kept-stands after can_feed core limit state events plain.crew crew engine.stands (subst (λ w. KeepsLiving w plain.crew crew) engine.world keeps);
+    stands = kept-stands after can_feed core limit state events plain.crew kept.crew engine.stands (subst (λ w. KeepsLiving w plain.crew kept.crew) engine.world keeps);
     aside = engine.aside;
   }
 
@@ -62,20 +62,11 @@ module _ {A : Type 0} (after : A → List Answer → Asks) (can_feed : A → Typ
     ticks = engine.ticks;
     last = engine.last;
     stands = engine.stands;
-    aside = aside_woken core limit state plain.waiters waiters woken (subst (λ w. AreAside core limit state plain.waiters w) is engine.aside) (subst (λ v. WakesUp v woken plain.waiters waiters) engine.world wakes_up);
+    aside = aside_woken core limit state engine.stands.next engine.stands.order.ascend plain.waiters waiters woken (subst (λ w. AreAside core limit state plain.waiters w) is engine.aside) (subst (λ v. WakesUp v woken plain.waiters waiters) engine.world wakes_up);
   }
 
-  pub awake_engine : (state : State) (events : List Event) (plain : Plain A) → IsEngine after can_feed core limit state events plain → plain.woken ≡ None → IsEngine after can_feed core limit state events (record plain { woken = None })
-  awake_engine state events plain engine is = record {
-    world = engine.world;
-    ticks = engine.ticks;
-    last = engine.last;
-    stands = engine.stands;
-    aside = subst (λ w. AreAside core limit state plain.waiters w) is engine.aside;
-  }
-
-  nobody : (crew : BTreeMap ℕ (Member A)) → crew.entries ≡ [] → (q : ℕ) → member_of crew q ≡ None
-  nobody crew empty q = ap (lookup (is_at (nat_cmp q))) empty
+  nobody : {S : Type 0} (crew : HashMap ℕ (Member A) S) → crew.entries ≡ [] → (q : ℕ) → member_of crew q ≡ None
+  nobody crew empty q = ap (lookup (nat_eq q)) empty
 
   -- an engine that has just begun stands for the first state
   pub first_engine : (plain : Plain A) → plain.world ≡ beginning → plain.ticks ≡ limit → plain.last ≡ 0 → plain.crew.entries ≡ [] → (woken : Woken) → plain.woken ≡ Some woken → woken.change ≡ Everything

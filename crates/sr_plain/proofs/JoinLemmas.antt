@@ -1,5 +1,5 @@
 -- Steps that make processes ready, and have them wait.
-use Rattle.std.proofs.Common.{◌≡◌, ◌⊎◌, inl, inr, get_or, ◌+◌, ◌≤◌, ◌<◌, ◌==◌, ℕ, zero, suc, Bool, true, false, cond, List, [], ◌∷◌, length, Some, None, ap, sym, ◌∙◌, subst, arith, eq-eqb, true≢false}
+use Rattle.std.proofs.Common.{◌≡◌, ◌⊎◌, inl, inr, get_or, ◌+◌, ◌≤◌, ◌<◌, ◌==◌, ℕ, zero, suc, Bool, true, false, cond, List, [], ◌∷◌, length, Some, ap, sym, ◌∙◌, subst, arith}
 use Rattle.std.proofs.lemmas.Bool.{cases_eq}
 use Rattle.std.proofs.lemmas.Option.{slice_get-get_or}
 use Rattle.std.specs.Prelude.{find, slice_get}
@@ -7,18 +7,10 @@ use Rattle.sr_ask.specs.declared.start.Start.{Start}
 use Rattle.sr_core.specs.declared.site.Arm.{Arm}
 use Rattle.sr_processes.specs.Living.{is_process}
 use Rattle.sr_value.specs.declared.capability.Owner.{Owner}
-use Rattle.sr_plain.specs.Waiting.{GoOn, IsMadeReady, WaitsThere, is_ready, place_of, waits}
+use Rattle.sr_plain.specs.Waiting.{WaitsThere, is_ready, place_of, waits}
+use Rattle.sr_plain.specs.declared.waiters.Place.{Place}
 use Rattle.sr_plain.specs.declared.waiters.Waiters.{Waiters}
 use Rattle.sr_plain.proofs.AsideLemmas.{find-number}
-
-pub go-same : (a : Waiters) → GoOn a a
-go-same a = record { ready = λ p off. off; waiting = λ k p off here. here }
-
-pub go-then : (a b c : Waiters) → GoOn a b → GoOn b c → GoOn a c
-go-then a b c first second = record {
-  ready = λ p off. first.ready p (second.ready p off);
-  waiting = λ k p off here. second.waiting k p off (first.waiting k p (second.ready p off) here);
-}
 
 -- who is found stands somewhere
 pub find-place : (live : List Start) (q : ℕ) (s : Start) → find (is_process q) live ≡ Some s → (k : ℕ) × (slice_get live k ≡ Some s) × (k < length live)
@@ -31,7 +23,7 @@ find-place (x ∷ xs) q s is = by (q == x.process) is (find-place xs q s)
 
 -- ---- one more that waits, and one more that is ready
 
-pub at-more : (process : ℕ) (owner : Owner) (arms : List Arm) (i key : ℕ) (arm : Arm) (mid new : Waiters) → slice_get arms i ≡ Some arm → key ≡ place_of owner arm → WaitsThere key process mid new
+pub at-more : (process : ℕ) (owner : Owner) (arms : List Arm) (i : ℕ) (key : Place) (arm : Arm) (mid new : Waiters) → slice_get arms i ≡ Some arm → key ≡ place_of owner arm → WaitsThere key process mid new
     → ((number : ℕ) (a : Arm) → slice_get arms number ≡ Some a → number < i → waits mid (place_of owner a) process ≡ true)
     → (number : ℕ) (a : Arm) → slice_get arms number ≡ Some a → number < i + 1 → waits new (place_of owner a) process ≡ true
 at-more process owner arms i key arm mid new here key_is there before number a is below = by (cases_eq number i)
@@ -42,27 +34,6 @@ at-more process owner arms i key arm mid new here key_is there before number a i
         let one : arm ≡ a = cc in
         subst (λ k. waits new k process ≡ true) (key_is ∙ ap (place_of owner) one) there.itself
     by (inr apart) = there.others (place_of owner a) process (before number a is (omega arith))
-
-pub ready-more : (live : List Start) (i : ℕ) (start : Start) (mid new : Waiters) → slice_get live i ≡ Some start → IsMadeReady start.process mid new
-    → ((k : ℕ) (s : Start) → slice_get live k ≡ Some s → k < i → is_ready mid s.process ≡ false → ⊥)
-    → (k : ℕ) (s : Start) → slice_get live k ≡ Some s → k < i + 1 → is_ready new s.process ≡ false → ⊥
-ready-more live i start mid new here made before k s is below off = by (cases_eq k i)
-  where
-    by : (k ≡ i) ⊎ (k ≡ i → ⊥) → ⊥
-    by (inl same) =
-        let found : slice_get live i ≡ Some s = subst (λ n. slice_get live n ≡ Some s) same is in
-        let one : start ≡ s = cc in
-        true≢false (sym (eq-eqb start.process s.process (ap (λ (x : Start). x.process) one)) ∙ made.apart s.process off)
-    by (inr apart) = before k s is (omega arith) (made.go_on.ready s.process off)
-
-pub ready-none : (live : List Start) (i : ℕ) (mid : Waiters) → slice_get live i ≡ None
-    → ((k : ℕ) (s : Start) → slice_get live k ≡ Some s → k < i → is_ready mid s.process ≡ false → ⊥)
-    → (k : ℕ) (s : Start) → slice_get live k ≡ Some s → k < i + 1 → is_ready mid s.process ≡ false → ⊥
-ready-none live i mid none before k s is below off = by (cases_eq k i)
-  where
-    by : (k ≡ i) ⊎ (k ≡ i → ⊥) → ⊥
-    by (inl same) = let found : slice_get live i ≡ Some s = subst (λ n. slice_get live n ≡ Some s) same is in absurd (cc)
-    by (inr apart) = before k s is (omega arith) off
 
 -- where each place was passed, all who live are ready
 pub ready-all : (live : List Start) (i : ℕ) (new : Waiters) → length live ≤ i → ((k : ℕ) (s : Start) → slice_get live k ≡ Some s → k < i → is_ready new s.process ≡ false → ⊥)

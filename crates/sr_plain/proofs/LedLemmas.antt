@@ -1,5 +1,5 @@
 -- What holds of every state that events lead to.
-use Rattle.std.proofs.Common.{◌≡◌, ◌+◌, ◌≤◌, ◌==◌, ◌&&◌, ◌||◌, ℕ, zero, suc, Bool, true, false, not, cond, List, [], ◌∷◌, ◌++◌, Some, is_some, refl, ap, sym, ◌∙◌, arith, eq-eqb, eqb-true, true≢false, append_assoc}
+use Rattle.std.proofs.Common.{◌≡◌, ◌≤◌, ◌==◌, ◌&&◌, ◌||◌, ℕ, zero, suc, Bool, true, false, not, cond, List, [], ◌∷◌, ◌++◌, Some, is_some, refl, ap, sym, ◌∙◌, arith, eq-eqb, eqb-true, true≢false, append_assoc}
 use Rattle.std.proofs.lemmas.List.Concat.{flat_map-append}
 use Rattle.std.specs.Prelude.{count_by, find, fold, slice_get}
 use Rattle.std.specs.List.{Contains, list_any}

@@ -1,26 +1,27 @@
 -- The member of a crew whose request the machine carries out, and whose turn it is.
 use Rattle.std.proofs.Common.{◌≡◌, ℕ, Bool, true, false, cond, List, [], ◌∷◌, Option, Some, None, IsSome, refl, ap, sym, ◌∙◌, subst, true≢false}
-use Rattle.std.specs.BTreeMap.{BTreeMap}
-use Rattle.std.specs.Prelude.{IfNone, Result, Ok, Err, find}
+use Rattle.std.specs.HashMap.{WritesThrough}
+use Rattle.std.specs.Prelude.{IfNone, Result, Ok, Err, find, nat_eq}
 use Rattle.sr_ask.specs.declared.answer.Answer.{Answer}
 use Rattle.sr_ask.specs.declared.ask.Ask.{Ask}
 use Rattle.sr_ask.specs.declared.ask.Asks.{Asks}
 use Rattle.sr_ask.specs.declared.ask.Asks.TheVariants.{Asked, OverTicks}
+use Rattle.sr_ask.specs.declared.item.Item.TheVariants.{Step}
 use Rattle.sr_ask.specs.declared.start.Start.{Start}
 use Rattle.sr_core.specs.declared.component.Core.{Core}
 use Rattle.sr_core.specs.declared.owner.Me.{Me}
 use Rattle.sr_meaning.specs.Processes.{ask}
 use Rattle.sr_value.specs.declared.memory.NoMemory.{NoMemory}
 use Rattle.sr_world.specs.Acting.{Acts}
-use Rattle.sr_world.specs.Does.{Does, Did, Makes, Cannot, Ends, Undecided}
 use Rattle.sr_world.specs.Runs.{Event, State, asks_next, no_step}
 use Rattle.sr_world.specs.Steps.{does}
 use Rattle.sr_world.specs.Worlds.{World, started}
 use Rattle.sr_world.specs.declared.acted.Acted.{Acted}
 use Rattle.sr_world.specs.declared.acted.Acted.TheVariants as acted
 use Rattle.sr_world.specs.Callers.{caller_in}
-use Rattle.sr_plain.specs.Carrying.{Names}
-use Rattle.sr_plain.specs.Crew.{Looks, member_of}
+use Rattle.sr_plain.specs.Answering.{AnsweredBy}
+use Rattle.sr_plain.specs.Carrying.{Names, written_of}
+use Rattle.sr_plain.specs.Crew.{Answers, IsFed, IsSame, Looks, member_of}
 use Rattle.sr_plain.specs.Engine.{Comes, IsCarried, IsEngine, Steps, Tries, last_in}
 use Rattle.sr_plain.specs.Noting.{NotesBy}
 use Rattle.sr_plain.specs.Ready.{AreAside, me_at}
@@ -32,8 +33,9 @@ use Rattle.sr_plain.specs.declared.plain.Plain.{Plain}
 use Rattle.sr_plain.specs.declared.plainly.Plainly.{Plainly}
 use Rattle.sr_plain.specs.declared.plainly.Plainly.TheVariants as plainly
 use Rattle.sr_plain.specs.declared.waiters.Waiters.{Waiters}
-use Rattle.sr_plain.proofs.AnswerLemmas.{is_over}
+use Rattle.sr_plain.proofs.AnswerLemmas.{answered_done, answered_ends, answered_not, answered_wants, is_over}
 use Rattle.sr_plain.proofs.AsideLemmas.{aside_out, noted_aside, noted_is}
+use Rattle.sr_plain.proofs.CrewLemmas.{answers-written, looks-written}
 use Rattle.sr_plain.proofs.EngineLemmas.{looked_engine}
 use Rattle.sr_plain.proofs.NextLemmas.{found-turn, no-turn-of, nobody-steps}
 use Rattle.sr_plain.proofs.TurnLemmas.{kept-is}
@@ -102,6 +104,41 @@ module _ {A : Type 0} (after : A → List Answer → Asks) (can_feed : A → Typ
         subst (λ q. Tries after can_feed core limit state events (find (takes_turn core limit state) (start ∷ [])) (Ok (Some (plainly.Over q))) plain) (sym process-is)
         (is_over after can_feed core limit state events start plain m engine lives (here-is m here) known)
 
+  -- ---- what a process hears
+
+  -- an engine that differs in one member and in the last actor alone
+  pub record DiffersAt (plain_of : Member A → ℕ → Plain A) (plain : Plain A) : Type 0 where
+    pub world : (m : Member A) (l : ℕ) → (plain_of m l).world ≡ plain.world
+    pub ticks : (m : Member A) (l : ℕ) → (plain_of m l).ticks ≡ plain.ticks
+    pub last : (m : Member A) (l : ℕ) → (plain_of m l).last ≡ l
+    pub waiters : (m : Member A) (l : ℕ) → (plain_of m l).waiters ≡ plain.waiters
+    pub woken : (m : Member A) (l : ℕ) → (plain_of m l).woken ≡ plain.woken
+
+  module _ (start : Start) (actor name : ℕ) (is : actor ≡ start.process) (plain_of : Member A → ℕ → Plain A) (m m' : Member A) (before last : ℕ) (came : Option Plainly) (differs : DiffersAt plain_of (plain_of m before))
+      (answers : (a : Answer) → IsFed after can_feed a m m' → (member : Member A) → member_of (plain_of m before).crew start.process ≡ Some member
+      → Answers after can_feed start.process a member m.asks (plain_of m before).crew (plain_of m' last).crew) where
+    goal-at : Option Plainly → Plain A → Type 0
+    goal-at o plain = Tries after can_feed core limit state events (find (takes_turn core limit state) (start ∷ [])) (Ok o) plain
+
+    unheard : (o : Option Plainly) → goal-at o (plain_of m before) → m' ≡ m → last ≡ before → came ≡ o → goal-at came (plain_of m' last)
+    unfolding goal-at
+    unheard o tried same same-last came_is =
+        subst (λ x. goal-at x (plain_of m' last)) (sym came_is) (subst (λ x. goal-at o (plain_of x last)) (sym same) (subst (λ l. goal-at o (plain_of m l)) (sym same-last) tried))
+
+    pub hears : (a : Acted) → IsCarried after can_feed core limit state events start name a (plain_of m before) → AnsweredBy after can_feed actor name a m m' before last came
+        → Tries after can_feed core limit state events (find (takes_turn core limit state) (start ∷ [])) (Ok came) (plain_of m' last)
+    unfolding goal-at
+    hears (acted.Done a) carried by =
+        subst (λ x. goal-at x (plain_of m' last)) (sym by.2)
+        (subst (λ n. goal-at (Some (plainly.Stepped (Step n name) (written_of m.asks))) (plain_of m' last)) (sym is)
+        (answered_done after can_feed core limit state events start name (plain_of m before) a (plain_of m' last) m.asks (written_of m.asks) carried (answers a by.0) refl
+        (differs.world m' last) (differs.ticks m' last) (differs.last m' last ∙ by.1 ∙ is) (differs.waiters m' last) (differs.woken m' last)))
+    hears acted.Cannot carried by = unheard None (answered_not after can_feed core limit state events start name (plain_of m before) carried) by.0 by.1 by.2
+    hears (acted.Ends ending) carried by =
+        unheard (Some (plainly.Ended (Step actor name) ending))
+        (subst (λ n. goal-at (Some (plainly.Ended (Step n name) ending)) (plain_of m before)) (sym is) (answered_ends after can_feed core limit state events start name (plain_of m before) ending carried)) by.0 by.1 by.2
+    hears acted.Undecided carried by = unheard (Some plainly.Wants) (answered_wants after can_feed core limit state events start name (plain_of m before) carried) by.0 by.1 by.2
+
   -- ---- who is ready
 
   pub live_is : (plain : Plain A) → IsEngine after can_feed core limit state events plain → (p : ℕ) (o : Option Start) → o ≡ started plain.world p → started state.world p ≡ o
@@ -162,19 +199,28 @@ module _ {A : Type 0} (after : A → List Answer → Asks) (can_feed : A → Typ
 -- ---- a look at one that is ready
 
 module _ {A : Type 0} (after : A → List Answer → Asks) (can_feed : A → Type 0) (core : Core) (limit : ℕ) (state : State) (events : List Event) where
-  pub looked_now : (plain : Plain A) → IsEngine after can_feed core limit state events plain → (s : Start) → started state.world s.process ≡ Some s → (crew : BTreeMap ℕ (Member A))
-      → Looks after can_feed (ask core s plain.ticks) s.process plain.crew crew → IsEngine after can_feed core limit state events (record plain { crew = crew })
-  looked_now plain engine s lives crew looks =
-      looked_engine after can_feed core limit state events s plain crew engine lives (subst (λ t. Looks after can_feed (ask core s t) s.process plain.crew crew) engine.ticks looks)
+  pub looked_now : (plain : Plain A) → IsEngine after can_feed core limit state events plain → (s : Start) → started state.world s.process ≡ Some s → (looked : Plain A)
+      → Looks after can_feed (ask core s plain.ticks) s.process plain.crew looked.crew → IsEngine after can_feed core limit state events (record plain { crew = looked.crew })
+  looked_now plain engine s lives looked looks =
+      looked_engine after can_feed core limit state events s plain looked engine lives (subst (λ t. Looks after can_feed (ask core s t) s.process plain.crew looked.crew) engine.ticks looks)
+
+  -- ---- one that has begun
+
+  module _ (plain looked : Plain A) (engine : IsEngine after can_feed core limit state events plain) (start : Start) (lives : started state.world start.process ≡ Some start) (me : Me) (me_is : me ≡ me_at start)
+      (m m' : Member A) (here : Some m ≡ member_of plain.crew me.process) (looks : WritesThrough nat_eq (nat_eq me.process) plain.crew m' looked.crew) where
+    pub looked_member : IsSame after can_feed m m' → IsEngine after can_feed core limit state events (record plain { crew = looked.crew })
+    looked_member same =
+        looked_now plain engine start lives looked
+        (subst (λ q. Looks after can_feed (ask core start plain.ticks) q plain.crew looked.crew) (ap (λ (x : Me). x.process) me_is)
+        (looks-written me.process after can_feed (ask core start plain.ticks) plain.crew looked.crew m m' here looks same))
+
+    pub answers_member : (heard : Plain A) (m'' : Member A) → WritesThrough nat_eq (nat_eq me.process) plain.crew m'' heard.crew → (a : Answer) → IsFed after can_feed a m' m''
+        → (member : Member A) → member_of looked.crew start.process ≡ Some member → Answers after can_feed start.process a member m'.asks looked.crew heard.crew
+    answers_member heard m'' written a fed member there =
+        let number : me.process ≡ start.process = ap (λ (x : Me). x.process) me_is in
+        subst (λ q. Answers after can_feed q a member m'.asks looked.crew heard.crew) number
+        (answers-written me.process after can_feed a plain.crew looked.crew heard.crew m m' m'' here looks written fed member (subst (λ q. member_of looked.crew q ≡ Some member) (sym number) there))
 
 pub if_none : {X : Type 0} {P : Type 0} (o : Option X) → o ≡ None → IfNone o P → P
 if_none None is h = h
 if_none (Some x) is h = absurd (cc)
-
--- one that can't be done leaves the world as it was
-pub cannot_same : (d : Does) (old new : World) → Acts d old new (Ok acted.Cannot) → new ≡ old
-cannot_same (Did w a) old new acts = absurd acts
-cannot_same (Makes w a) old new acts = absurd acts
-cannot_same Cannot old new acts = acts
-cannot_same (Ends ending) old new acts = absurd acts
-cannot_same Undecided old new acts = absurd acts

@@ -128,41 +128,6 @@ below-next low (x ∷ xs) high (suc k) s is there =
     let b = more.1 in
     (omega arith, omega arith)
 
--- who stands later has a greater number
-later-greater : (low : ℕ) (live : List Start) (high j k : ℕ) (a b : Start) → Ascend low live high → slice_get live j ≡ Some a → slice_get live k ≡ Some b → j ≤ k → a.process ≤ b.process
-later-greater low [] high j k a b is here there less = absurd (cc)
-later-greater low (x ∷ xs) high zero zero a b is here there less = let same : a ≡ b = cc in let number : a.process ≡ b.process = ap (λ (y : Start). y.process) same in omega arith
-later-greater low (x ∷ xs) high zero (suc k) a b is here there less =
-    let same : x ≡ a = cc in
-    let number : x.process ≡ a.process = ap (λ (y : Start). y.process) same in
-    let more = (below-next x.process xs high k b is.1 there).0 in omega arith
-later-greater low (x ∷ xs) high (suc j) zero a b is here there less = absurd (omega arith)
-later-greater low (x ∷ xs) high (suc j) (suc k) a b is here there less = later-greater x.process xs high j k a b is.1 here there (omega arith)
-
-module _ (last next : ℕ) (live : List Start) (ascend : Ascend 0 live next) where
-  pub split-all : (high : ℕ) → high ≡ length live → IsSplit last live 0 high
-  split-all high is = record {
-    before = λ place start there under. absurd (omega arith);
-    after = λ place start there over. absurd (let inside = get-within live place start there in omega arith);
-  }
-    where
-      get-within : (xs : List Start) (k : ℕ) (s : Start) → slice_get xs k ≡ Some s → k < length xs
-      get-within [] k s there = absurd (cc)
-      get-within (x ∷ xs) zero s there = omega arith
-      get-within (x ∷ xs) (suc k) s there = let more = get-within xs k s there in omega arith
-
-  pub split-left : (low high middle : ℕ) (start : Start) → slice_get live middle ≡ Some start → last < start.process → IsSplit last live low high → IsSplit last live low middle
-  split-left low high middle start here later split = record {
-    before = split.before;
-    after = λ place s there over. let greater = later-greater 0 live next middle place start s ascend here there over in omega arith;
-  }
-
-  pub split-right : (low high middle : ℕ) (start : Start) → slice_get live middle ≡ Some start → start.process ≤ last → IsSplit last live low high → IsSplit last live (middle + 1) high
-  split-right low high middle start here earlier split = record {
-    before = λ place s there under. let greater = later-greater 0 live next place middle s start ascend there here (omega arith) in omega arith;
-    after = split.after;
-  }
-
 -- where both places are one, it is that of the first that was made after the last actor
 pub split-place : (world : World) (last next at : ℕ) → IsOrdered world next → 0 < last → at ≤ length world.live → IsSplit last world.live at at → at ≡ made_after world last
 split-place world zero next at ordered positive fits split = absurd (omega arith)

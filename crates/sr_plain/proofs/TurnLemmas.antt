@@ -1,6 +1,6 @@
 -- What a turn does to an engine.
-use Rattle.std.proofs.Common.{◌≡◌, ◌⊎◌, inl, inr, ◌+◌, ◌≤◌, ◌==◌, ℕ, Bool, true, false, cond, List, [], ◌∷◌, ◌++◌, Option, Some, None, is_some, refl, ap, sym, ◌∙◌, subst, arith, eq-eqb, eqb-true, true≢false, append-nil, append_assoc}
-use Rattle.std.specs.BTreeMap.{BTreeMap}
+use Rattle.std.proofs.Common.{◌≡◌, ◌⊎◌, inl, inr, ◌≤◌, ◌==◌, ℕ, Bool, true, false, cond, List, [], ◌∷◌, ◌++◌, Option, Some, None, is_some, refl, ap, sym, ◌∙◌, subst, arith, eq-eqb, eqb-true, true≢false, append-nil, append_assoc}
+use Rattle.std.specs.HashMap.{HashMap}
 use Rattle.sr_ask.specs.declared.answer.Answer.{Answer}
 use Rattle.sr_ask.specs.declared.ask.Asks.{Asks}
 use Rattle.sr_ask.specs.declared.item.Item.{Item}
@@ -28,7 +28,7 @@ module _ {A : Type 0} (after : A → List Answer → Asks) (can_feed : A → Typ
   looked-for s answers (Some m) (Some m') looks stands = record { actor = λ more. looks.actor more ∙ stands.actor more; kept = looks.kept stands.kept }
 
   -- after a look an engine stands as before
-  pub looked-stands : (start : Start) (crew crew' : BTreeMap ℕ (Member A)) → Stands after can_feed core limit state events crew → started state.world start.process ≡ Some start
+  pub looked-stands : {S : Type 0} (start : Start) (crew crew' : HashMap ℕ (Member A) S) → Stands after can_feed core limit state events crew → started state.world start.process ≡ Some start
       → Looks after can_feed (ask core start limit) start.process crew crew' → Stands after can_feed core limit state events crew'
   looked-stands start crew crew' stands lives looks = record { leads = stands.leads; living = living; unborn = unborn; next = stands.next; order = stands.order }
     where
@@ -57,7 +57,7 @@ module _ {A : Type 0} (after : A → List Answer → Asks) (can_feed : A → Typ
       unborn q none = unborn-by q (start.process == q) refl none
 
   -- after some that have ended left, an engine stands as before
-  pub kept-stands : (crew crew' : BTreeMap ℕ (Member A)) → Stands after can_feed core limit state events crew → KeepsLiving state.world crew crew' → Stands after can_feed core limit state events crew'
+  pub kept-stands : {S : Type 0} (crew crew' : HashMap ℕ (Member A) S) → Stands after can_feed core limit state events crew → KeepsLiving state.world crew crew' → Stands after can_feed core limit state events crew'
   kept-stands crew crew' stands keeps = record {
     leads = stands.leads;
     living = λ q s is. subst (StandsFor after can_feed (ask core s limit) (state.given q)) (sym (keeps.living q (ap is_some is))) (stands.living q s is);
@@ -68,7 +68,7 @@ module _ {A : Type 0} (after : A → List Answer → Asks) (can_feed : A → Typ
 
   -- ---- a step of a process
 
-  module _ (start : Start) (crew : BTreeMap ℕ (Member A)) (m : Member A) (stands : Stands after can_feed core limit state events crew) (lives : started state.world start.process ≡ Some start)
+  module _ {S : Type 0} (start : Start) (crew : HashMap ℕ (Member A) S) (m : Member A) (stands : Stands after can_feed core limit state events crew) (lives : started state.world start.process ≡ Some start)
       (here : member_of crew start.process ≡ Some m) where
     plays : Plays after can_feed (λ more. ask core start limit (state.given start.process ++ more)) m
     plays = subst (StandsFor after can_feed (ask core start limit) (state.given start.process)) here (stands.living start.process start lives)
@@ -79,7 +79,7 @@ module _ {A : Type 0} (after : A → List Answer → Asks) (can_feed : A → Typ
         let kept : IsKept after can_feed m.actor (Some asks) = subst (IsKept after can_feed m.actor) is plays.kept in
         (kept.0 ∙ plays.actor [] ∙ ap (ask core start limit) (append-nil (state.given start.process)), kept.1)
 
-    module _ (asks : Asks) (known : m.asks ≡ Some asks) (a : Answer) (crew' : BTreeMap ℕ (Member A)) (asked : Option Asks) (answers : Answers after can_feed start.process a m asked crew crew') (later : State) (name : ℕ) (text : List ℕ) (item : Item)
+    module _ (asks : Asks) (known : m.asks ≡ Some asks) (a : Answer) (crew' : HashMap ℕ (Member A) S) (asked : Option Asks) (answers : Answers after can_feed start.process a m asked crew crew') (later : State) (name : ℕ) (text : List ℕ) (item : Item)
         (given : later.given ≡ with_answer start.process a state.given) (left : Leaves name text state.world later.world) (new : times_used state.world name ≡ 0)
         (goes : next core limit state item ≡ Goes later) (number : ℕ) (ordered : IsOrdered later.world number) where
       later-leads : led core limit (events ++ Makes_item item ∷ []) ≡ Goes later
@@ -149,7 +149,7 @@ module _ {A : Type 0} (after : A → List Answer → Asks) (can_feed : A → Typ
 
   -- ---- a run that comes to rest
 
-  module _ (crew : BTreeMap ℕ (Member A)) (stands : Stands after can_feed core limit state events crew) (later : State) (name : ℕ) (text : List ℕ) (item : Item)
+  module _ {S : Type 0} (crew : HashMap ℕ (Member A) S) (stands : Stands after can_feed core limit state events crew) (later : State) (name : ℕ) (text : List ℕ) (item : Item)
       (given : later.given ≡ state.given) (left : Leaves name text state.world later.world) (new : times_used state.world name ≡ 0) (goes : next core limit state item ≡ Goes later)
       (number : ℕ) (ordered : IsOrdered later.world number) where
     rested-leads : led core limit (events ++ Makes_item item ∷ []) ≡ Goes later

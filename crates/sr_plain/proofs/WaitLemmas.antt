@@ -1,65 +1,100 @@
--- Sets of processes that wait.
-use Rattle.std.proofs.Common.{◌≡◌, ◌==◌, ◌<◌, ℕ, Bool, true, false, cond, List, [], ◌∷◌, length, Some, None, refl, ap, sym, ◌∙◌, subst, true≢false, arith, eqb-true}
-use Rattle.std.specs.BTreeMap as map
-use Rattle.std.specs.BTreeMap.{BTreeMap}
-use Rattle.std.specs.BTreeSet.{BTreeSet, Updates, btree_set_len, contains}
-use Rattle.std.specs.Ordering.{nat_cmp, is_eq}
-use Rattle.sr_calls.proofs.ProcessCallsLemmas.{itself, same_number}
-use Rattle.sr_plain.specs.Waiting.{is_among}
+-- Those that wait for invocations.
+use Rattle.std.proofs.Common.{◌≡◌, ◌==◌, ◌&&◌, ◌||◌, ℕ, Bool, true, false, cond, Option, Some, None, refl, ap, sym, ◌∙◌, subst, true≢false, eqb-true}
+use Rattle.std.specs.BTreeSet.{BTreeSet, contains}
+use Rattle.std.specs.Bool.{beq}
+use Rattle.std.specs.HashMap.{HashMap, UpdatesBy, get}
+use Rattle.std.specs.Ordering.{nat_cmp}
+use Rattle.sr_value.specs.declared.capability.Owner.{Owner}
+use Rattle.sr_world.specs.Worlds.{World}
+use Rattle.sr_plain.specs.Waiting.{IsWokenAt, WaitsThere, class_of, is_among, is_ready, same_class, waits}
+use Rattle.sr_plain.specs.Waking.{WakesByChange}
+use Rattle.sr_plain.specs.declared.change.Change.TheVariants as change
+use Rattle.sr_plain.specs.declared.waiters.Class.{Class}
+use Rattle.sr_plain.specs.declared.waiters.Place.{Place}
+use Rattle.sr_plain.specs.declared.waiters.Place.TheVariants.{Watched, Served}
+use Rattle.sr_plain.specs.declared.waiters.Waiters.{Waiters}
+use Rattle.sr_plain.specs.declared.waiters.Waiting.{Waiting}
 
-pub key-equal : (p q : ℕ) → is_eq (nat_cmp p q) ≡ false → (p == q) ≡ false
-key-equal p q off = by (p == q) refl
+-- ---- when two operations are the same
+
+same_kind : (a b : Bool) → beq a b ≡ true → a ≡ b
+same_kind true true is = refl
+same_kind true false is = absurd (true≢false (sym is))
+same_kind false true is = absurd (true≢false (sym is))
+same_kind false false is = refl
+
+same_parts : (a b : Class) → same_class a b ≡ true → a ≡ b
+same_parts a b same = by (beq a.of_process b.of_process) (a.owner == b.owner) (a.op == b.op) refl refl refl same
   where
-    by : (b : Bool) → (p == q) ≡ b → (p == q) ≡ false
-    by false is = is
-    by true is = absurd (true≢false (sym (itself p) ∙ ap (λ n. is_eq (nat_cmp p n)) (eqb-true p q is) ∙ off))
+    by : (kind owner op : Bool) → beq a.of_process b.of_process ≡ kind → (a.owner == b.owner) ≡ owner → (a.op == b.op) ≡ op → (kind && (owner && op)) ≡ true → a ≡ b
+    by true true true kind owner op _ =
+        ap (λ x. record a { of_process = x }) (same_kind a.of_process b.of_process kind)
+        ∙ ap (λ x. record a { of_process = b.of_process; owner = x }) (eqb-true a.owner b.owner owner)
+        ∙ ap (λ x. record b { op = x }) (eqb-true a.op b.op op)
+    by true true false kind owner op is = absurd (true≢false (sym is))
+    by true false more kind owner op is = absurd (true≢false (sym is))
+    by false owner more kind _ _ is = absurd (true≢false (sym is))
 
--- ---- sets
+-- ---- one more that waits
 
--- who isn't there after one more wasn't, and isn't that one
-pub set-added : (old new : BTreeSet ℕ) (p : ℕ) → Updates nat_cmp old new p true → (q : ℕ) → contains nat_cmp new q ≡ false → (is_eq (nat_cmp p q) ≡ false) × (contains nat_cmp old q ≡ false)
-set-added old new p updates q off = by (is_eq (nat_cmp p q)) refl
+class-written : {S : Type 0} (m n : HashMap Class Waiting S) (class : Class) (w : Waiting) → UpdatesBy same_class (same_class class) m n (Some w)
+    → ((p : ℕ) → is_among (get same_class m class) p ≡ true → is_among (Some w) p ≡ true) → (k : Class) (p : ℕ) → is_among (get same_class m k) p ≡ true → is_among (get same_class n k) p ≡ true
+class-written m n class w updates keeps k p here = by (same_class class k) refl
   where
-    by : (b : Bool) → is_eq (nat_cmp p q) ≡ b → (is_eq (nat_cmp p q) ≡ false) × (contains nat_cmp old q ≡ false)
-    by true is = absurd (true≢false (sym (updates.0 q ∙ ap (λ b. cond b true (contains nat_cmp old q)) is) ∙ off))
-    by false is = (is, sym (updates.2 q is) ∙ off)
-
-pub set-grows : (old new : BTreeSet ℕ) (p : ℕ) → Updates nat_cmp old new p true → (q : ℕ) → contains nat_cmp old q ≡ true → contains nat_cmp new q ≡ true
-set-grows old new p updates q here = by (is_eq (nat_cmp p q)) refl
-  where
-    by : (b : Bool) → is_eq (nat_cmp p q) ≡ b → contains nat_cmp new q ≡ true
-    by true is = updates.0 q ∙ ap (λ b. cond b true (contains nat_cmp old q)) is
-    by false is = updates.2 q is ∙ here
-
-pub set-empty : (s : BTreeSet ℕ) → (0 < btree_set_len s → ⊥) → (q : ℕ) → contains nat_cmp s q ≡ false
-set-empty s none q = by s.keys refl
-  where
-    by : (ks : List ℕ) → s.keys ≡ ks → contains nat_cmp s q ≡ false
-    by [] is = rw is refl
-    by (k ∷ ks) is = absurd (none (omega (arith, ap (λ xs. length xs) is)))
-
--- ---- where they wait
-
--- one place of a map is written, and keeps who was there
-pub place-written : (old new : BTreeMap ℕ (BTreeSet ℕ)) (key : ℕ) (s : BTreeSet ℕ) → map.UpdatesBy nat_cmp (nat_cmp key) old new (Some s)
-    → ((p : ℕ) → is_among (map.get nat_cmp old key) p ≡ true → contains nat_cmp s p ≡ true)
-    → (k p : ℕ) → is_among (map.get nat_cmp old k) p ≡ true → is_among (map.get nat_cmp new k) p ≡ true
-place-written old new key s updates keeps k p here = by (is_eq (nat_cmp key k)) refl
-  where
-    by : (b : Bool) → is_eq (nat_cmp key k) ≡ b → is_among (map.get nat_cmp new k) p ≡ true
+    by : (b : Bool) → same_class class k ≡ b → is_among (get same_class n k) p ≡ true
     by true is =
-        let there : map.get nat_cmp new k ≡ Some s = updates.0 k ∙ ap (λ b. cond b (Some s) (map.get nat_cmp old k)) is in
-        ap (λ o. is_among o p) there ∙ keeps p (subst (λ n. is_among (map.get nat_cmp old n) p ≡ true) (sym (same_number key k is)) here)
+        ap (λ o. is_among o p) (updates.0 k ∙ ap (λ b. cond b (Some w) (get same_class m k)) is)
+        ∙ keeps p (subst (λ c. is_among (get same_class m c) p ≡ true) (sym (same_parts class k is)) here)
     by false is = ap (λ o. is_among o p) (updates.2 k is) ∙ here
 
-pub place-itself : (old new : BTreeMap ℕ (BTreeSet ℕ)) (key p : ℕ) (s : BTreeSet ℕ) → map.UpdatesBy nat_cmp (nat_cmp key) old new (Some s) → contains nat_cmp s p ≡ true → is_among (map.get nat_cmp new key) p ≡ true
-place-itself old new key p s updates here = ap (λ o. is_among o p) updates.1 ∙ here
-
--- one place is emptied, and all others stay
-pub place-emptied : (old new : BTreeMap ℕ (BTreeSet ℕ)) (key : ℕ) → map.UpdatesBy nat_cmp (nat_cmp key) old new None → (k p : ℕ) → is_among (map.get nat_cmp old key) p ≡ false
-    → is_among (map.get nat_cmp old k) p ≡ true → is_among (map.get nat_cmp new k) p ≡ true
-place-emptied old new key updates k p off here = by (is_eq (nat_cmp key k)) refl
+pub waits-written : (class : Class) (process : ℕ) (w : Waiting) (old new : Waiters) → new.ready ≡ old.ready → new.watched ≡ old.watched
+    → UpdatesBy same_class (same_class class) old.classes new.classes (Some w) → ((p : ℕ) → is_among (get same_class old.classes class) p ≡ true → is_among (Some w) p ≡ true)
+    → is_among (Some w) process ≡ true → WaitsThere (Served class) process old new
+waits-written class process w old new ready watched updates keeps itself = record {
+  ready = ready;
+  itself = ap (λ o. is_among o process) updates.1 ∙ itself;
+  others = more;
+}
   where
-    by : (b : Bool) → is_eq (nat_cmp key k) ≡ b → is_among (map.get nat_cmp new k) p ≡ true
-    by true is = absurd (true≢false (sym here ∙ sym (ap (λ n. is_among (map.get nat_cmp old n) p) (same_number key k is)) ∙ off))
-    by false is = ap (λ o. is_among o p) (updates.2 k is) ∙ here
+    more : (k : Place) (other : ℕ) → waits old k other ≡ true → waits new k other ≡ true
+    more Watched other here = ap (λ (s : BTreeSet ℕ). contains nat_cmp s other) watched ∙ here
+    more (Served c) other here = class-written old.classes new.classes class w updates keeps c other here
+
+-- ---- those that are woken
+
+pub woken-class : (class : Class) (old new : Waiters) (o : Option Waiting) → o ≡ get same_class old.classes class → UpdatesBy same_class (same_class class) old.classes new.classes None → new.watched ≡ old.watched
+    → ((p : ℕ) → is_ready new p ≡ false → (is_ready old p ≡ false) × (is_among o p ≡ false)) → IsWokenAt (Served class) old new
+woken-class class old new o is updates watched each = record {
+  go_on = record { ready = λ p off. (each p off).0; waiting = stay };
+  woken = λ p off. ap (λ x. is_among x p) (sym is) ∙ (each p off).1;
+}
+  where
+    stay : (k : Place) (p : ℕ) → is_ready new p ≡ false → waits old k p ≡ true → waits new k p ≡ true
+    stay Watched p off here = ap (λ (s : BTreeSet ℕ). contains nat_cmp s p) watched ∙ here
+    stay (Served c) p off here = by (same_class class c) refl
+      where
+        by : (b : Bool) → same_class class c ≡ b → is_among (get same_class new.classes c) p ≡ true
+        by true same =
+            absurd (true≢false (sym (subst (λ x. is_among (get same_class old.classes x) p ≡ true) (sym (same_parts class c same)) here) ∙ ap (λ x. is_among x p) (sym is) ∙ (each p off).1))
+        by false apart = ap (λ x. is_among x p) (updates.2 c apart) ∙ here
+
+off-both : (a b : Bool) → a ≡ false → b ≡ false → (a || b) ≡ false
+off-both true b h k = absurd (true≢false h)
+off-both false true h k = absurd (true≢false k)
+off-both false false h k = refl
+
+-- an invocation that comes or goes wakes those that wait for more, and then those that wait for it
+pub woken-by-class : (world : World) (owner : Owner) (op : ℕ) (class : Class) (old mid new : Waiters) → class ≡ class_of owner op → IsWokenAt Watched old mid → IsWokenAt (Served class) mid new
+    → WakesByChange world (change.Class owner op) old new
+woken-by-class world owner op class old mid new is first second = record {
+  go_on = record {
+    ready = λ p off. first.go_on.ready p (second.go_on.ready p off);
+    waiting = λ k p off here. second.go_on.waiting k p off (first.go_on.waiting k p (second.go_on.ready p off) here);
+  };
+  woken = λ p s lives off.
+      off-both (waits old Watched p) (waits old (Served (class_of owner op)) p) (first.woken p (second.go_on.ready p off)) (subst (λ c. waits old (Served c) p ≡ false) is (by p off (waits old (Served class) p) refl));
+}
+  where
+    by : (p : ℕ) → is_ready new p ≡ false → (b : Bool) → waits old (Served class) p ≡ b → waits old (Served class) p ≡ false
+    by p off false here = here
+    by p off true here = absurd (true≢false (sym (first.go_on.waiting (Served class) p (second.go_on.ready p off) here) ∙ second.woken p off))

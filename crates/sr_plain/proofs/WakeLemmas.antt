@@ -41,6 +41,8 @@ use Rattle.sr_plain.specs.Ready.{me_at}
 use Rattle.sr_plain.specs.Waiting.{WaitsAtSite, WaitsFor, key_of, place_of, wakes}
 use Rattle.sr_plain.specs.declared.change.Change.{Change}
 use Rattle.sr_plain.specs.declared.change.Change.TheVariants.{Nothing, Watched, Class, Everything}
+use Rattle.sr_plain.specs.declared.waiters.Place.{Place as Spot}
+use Rattle.sr_plain.specs.declared.waiters.Place.TheVariants as places
 use Rattle.sr_plain.proofs.ChangeLemmas.{Heard, Keeps, Still, same-owner}
 
 -- ---- what is possible
@@ -69,11 +71,11 @@ all-from test (x ∷ xs) each = ap (λ b. b && list_all test xs) (each 0 x refl)
 unwatched : Watching
 unwatched = record { variable = λ home var. false; operation = λ op. false }
 
-module _ (at : ℕ → Bool) (none : at 0 ≡ false) (owner : Owner) (site : Site) (waits : WaitsAtSite at owner site) where
+module _ (at : Spot → Bool) (none : at places.Watched ≡ false) (owner : Owner) (site : Site) (waits : WaitsAtSite at owner site) where
   plain-arm : (arm : Arm) → at (place_of owner arm) ≡ true → (is_plain arm ≡ true) × (at (key_of owner arm.op) ≡ true)
   plain-arm arm here = by (is_plain arm) refl here
     where
-      by : (b : Bool) → is_plain arm ≡ b → at (cond b (key_of owner arm.op) 0) ≡ true → (is_plain arm ≡ true) × (at (key_of owner arm.op) ≡ true)
+      by : (b : Bool) → is_plain arm ≡ b → at (cond b (key_of owner arm.op) places.Watched) ≡ true → (is_plain arm ≡ true) × (at (key_of owner arm.op) ≡ true)
       by true is h = (is, h)
       by false is h = absurd (true≢false (sym h ∙ none))
 
@@ -180,8 +182,8 @@ module _ (core : Core) (old new : World) (q : Start) (was : started old q.proces
     still-can still request.Age = refl
     still-can still (request.Wake until) = ap (λ moment. not (nat_lt moment until)) still.heard.moment
 
-    module _ (at : ℕ → Bool) (none : at 0 ≡ false) (heard : Heard a c old new) (sites : (env : List Value) (site : Site) → WaitsAtSite at (owner_in site.scope (me_at q)) site → SameForSite core q.process env site old new) where
-      never : {P : Type 0} → at 0 ≡ true → P
+    module _ (at : Spot → Bool) (none : at places.Watched ≡ false) (heard : Heard a c old new) (sites : (env : List Value) (site : Site) → WaitsAtSite at (owner_in site.scope (me_at q)) site → SameForSite core q.process env site old new) where
+      never : {P : Type 0} → at places.Watched ≡ true → P
       never here = absurd (true≢false (sym here ∙ none))
 
       same-for : (r : Request) → WaitsFor core (me_at q) at r → SameFor core q.process r old new
@@ -206,7 +208,7 @@ module _ (core : Core) (old new : World) (q : Start) (was : started old q.proces
       same-for request.Age waits = tt
       same-for (request.Wake until) waits = heard.moment
 
-    module _ (at : ℕ → Bool) (none : at 0 ≡ false) where
+    module _ (at : Spot → Bool) (none : at places.Watched ≡ false) where
       owner-is : (site : Site) → owner_in site.scope (me_of old q.process) ≡ owner_in site.scope (me_at q)
       owner-is site = ap (owner_in site.scope) me-old
 
@@ -242,13 +244,13 @@ module _ (core : Core) (old new : World) (q : Start) (was : started old q.proces
           (same owner (without at none owner site waits whose op) (apart-class at none owner site waits whose op))
 
     -- who isn't woken still cannot
-    pub still_waits : (change : Change) (at : ℕ → Bool) → wakes change at ≡ false → Keeps a c change old new → (ask : Ask) → WaitsFor core (me_at q) at ask.request
+    pub still_waits : (change : Change) (at : Spot → Bool) → wakes change at ≡ false → Keeps a c change old new → (ask : Ask) → WaitsFor core (me_at q) at ask.request
         → comes_to (done_by core old q.process 0 ask.place ask.role ask.request) ≡ IsNot → comes_to (done_by core new q.process 0 ask.place ask.role ask.request) ≡ IsNot
     still_waits Nothing at off keeps ask waits cannot = as-before core old new q.process ask.place ask.role ask.request (still-can keeps ask.request) cannot
     still_waits Watched at off keeps ask waits cannot = still_not core old new q.process ask 0 0 (same-for at off keeps.heard (site-kept at off keeps.pending) ask.request waits) cannot
-    still_waits (Class owner op) at off keeps ask waits cannot = by (at 0) refl (at (key_of owner op)) refl off
+    still_waits (Class owner op) at off keeps ask waits cannot = by (at places.Watched) refl (at (key_of owner op)) refl off
       where
-        by : (x : Bool) → at 0 ≡ x → (y : Bool) → at (key_of owner op) ≡ y → (x || y) ≡ false → comes_to (done_by core new q.process 0 ask.place ask.role ask.request) ≡ IsNot
+        by : (x : Bool) → at places.Watched ≡ x → (y : Bool) → at (key_of owner op) ≡ y → (x || y) ≡ false → comes_to (done_by core new q.process 0 ask.place ask.role ask.request) ≡ IsNot
         by true is-x y is-y h = absurd (true≢false h)
         by false none true is-y h = absurd (true≢false h)
         by false none false apart h = still_not core old new q.process ask 0 0 (same-for at none keeps.heard (site-apart at none owner op apart keeps.pending) ask.request waits) cannot

@@ -1,7 +1,6 @@
 -- The processes that have begun.
-use Rattle.std.specs.Prelude.{◌≡◌, ◌⊎◌, ◌==◌, ℕ, false, List, [], ◌∷◌, Option, Some, None, IsSome}
-use Rattle.std.specs.BTreeMap.{BTreeMap, get}
-use Rattle.std.specs.Ordering.{nat_cmp}
+use Rattle.std.specs.Prelude.{◌≡◌, ◌⊎◌, ◌==◌, ℕ, false, List, [], ◌∷◌, Option, Some, None, IsSome, nat_eq}
+use Rattle.std.specs.HashMap.{HashMap, get}
 use Rattle.sr_ask.specs.declared.answer.Answer.{Answer}
 use Rattle.sr_ask.specs.declared.ask.Asks.{Asks}
 use Rattle.sr_ask.specs.declared.start.Start.{Start}
@@ -11,8 +10,8 @@ use Rattle.sr_world.specs.Worlds.{World, started}
 use Rattle.sr_plain.specs.declared.member.Member.{Member}
 
 -- a process, where it has begun
-abbrev pub member_of : {A : Type 0} → BTreeMap ℕ (Member A) → ℕ → Option (Member A)
-member_of members process = get nat_cmp members process
+abbrev pub member_of : {A S : Type 0} → HashMap ℕ (Member A) S → ℕ → Option (Member A)
+member_of members process = get nat_eq members process
 
 -- ---- what a process asks
 
@@ -39,11 +38,11 @@ pub record IsFed {A : Type 0} (after : A → List Answer → Asks) (can_feed : A
 -- ---- one process of many
 
 -- all others are as before
-abbrev pub KeepsOthers : {A : Type 0} → ℕ → BTreeMap ℕ (Member A) → BTreeMap ℕ (Member A) → Type 0
+abbrev pub KeepsOthers : {A S : Type 0} → ℕ → HashMap ℕ (Member A) S → HashMap ℕ (Member A) S → Type 0
 KeepsOthers process old new = (other : ℕ) → (process == other) ≡ false → member_of new other ≡ member_of old other
 
 -- one more has begun, which does what a process with this start does
-pub record HasBegun {A P : Type 0} (after : P → A → List Answer → Asks) (core_of : P → Core) (start : Start) (limit : ℕ) (old new : BTreeMap ℕ (Member A)) : Type 0 where
+pub record HasBegun {A P S : Type 0} (after : P → A → List Answer → Asks) (core_of : P → Core) (start : Start) (limit : ℕ) (old new : HashMap ℕ (Member A) S) : Type 0 where
   pub member : Member A
   pub itself : member_of new start.process ≡ Some member
   pub others : KeepsOthers start.process old new
@@ -51,7 +50,7 @@ pub record HasBegun {A P : Type 0} (after : P → A → List Answer → Asks) (c
   pub actor : (program : P) (more : List Answer) → after program member.actor more ≡ ask (core_of program) start limit more
 
 -- it has begun already, or it begins
-abbrev pub Begins : {A P : Type 0} → (P → A → List Answer → Asks) → (P → Core) → Start → ℕ → BTreeMap ℕ (Member A) → BTreeMap ℕ (Member A) → Type 0
+abbrev pub Begins : {A P S : Type 0} → (P → A → List Answer → Asks) → (P → Core) → Start → ℕ → HashMap ℕ (Member A) S → HashMap ℕ (Member A) S → Type 0
 Begins after core_of start limit old new = (new ≡ old) ⊎ ((member_of old start.process ≡ None) × HasBegun after core_of start limit old new)
 
 -- ---- a look at a process
@@ -63,21 +62,15 @@ LooksAt after can_feed meant None (Some new) = Plays after can_feed meant new
 LooksAt after can_feed meant (Some old) (Some new) = IsSame after can_feed old new
 LooksAt after can_feed meant (Some old) None = ⊥
 
-pub record Looks {A : Type 0} (after : A → List Answer → Asks) (can_feed : A → Type 0) (meant : List Answer → Asks) (process : ℕ) (old new : BTreeMap ℕ (Member A)) : Type 0 where
+pub record Looks {A S : Type 0} (after : A → List Answer → Asks) (can_feed : A → Type 0) (meant : List Answer → Asks) (process : ℕ) (old new : HashMap ℕ (Member A) S) : Type 0 where
   pub itself : LooksAt after can_feed meant (member_of old process) (member_of new process)
   pub others : KeepsOthers process old new
-
--- a process has begun, and what it asks is known
-pub record IsAsking {A : Type 0} (process : ℕ) (members : BTreeMap ℕ (Member A)) : Type 0 where
-  pub member : Member A
-  pub here : member_of members process ≡ Some member
-  pub known : IsSome member.asks
 
 -- ---- an answer, and an end
 
 -- a process has got an answer, and this is what it had asked
-pub record Answers {A : Type 0} (after : A → List Answer → Asks) (can_feed : A → Type 0) (process : ℕ) (answer : Answer) (member : Member A) (said : Option Asks)
-    (old new : BTreeMap ℕ (Member A)) : Type 0 where
+pub record Answers {A S : Type 0} (after : A → List Answer → Asks) (can_feed : A → Type 0) (process : ℕ) (answer : Answer) (member : Member A) (said : Option Asks)
+    (old new : HashMap ℕ (Member A) S) : Type 0 where
   pub fed : Member A
   pub itself : member_of new process ≡ Some fed
   pub is_fed : IsFed after can_feed answer member fed
@@ -85,6 +78,6 @@ pub record Answers {A : Type 0} (after : A → List Answer → Asks) (can_feed :
   pub others : KeepsOthers process old new
 
 -- who lives stays as it is, and nobody begins
-pub record KeepsLiving {A : Type 0} (world : World) (old new : BTreeMap ℕ (Member A)) : Type 0 where
+pub record KeepsLiving {A S : Type 0} (world : World) (old new : HashMap ℕ (Member A) S) : Type 0 where
   pub living : (process : ℕ) → IsSome (started world process) → member_of new process ≡ member_of old process
   pub unborn : (process : ℕ) → member_of old process ≡ None → member_of new process ≡ None

@@ -1,6 +1,6 @@
 -- What an engine stands for, and what a step of it does.
 use Rattle.std.specs.Prelude.{◌≡◌, ◌++◌, ℕ, List, [], ◌∷◌, Option, Some, None, Result, Ok, Err, IsSome, fold}
-use Rattle.std.specs.BTreeMap.{BTreeMap}
+use Rattle.std.specs.HashMap.{HashMap}
 use Rattle.sr_ask.specs.declared.answer.Answer.{Answer}
 use Rattle.sr_ask.specs.declared.ask.Ask.{Ask}
 use Rattle.sr_ask.specs.declared.ask.Asks.{Asks}
@@ -43,8 +43,8 @@ StandsFor after can_feed meant answers (Some member) = Plays after can_feed (λ 
 
 -- The events lead to the state, and each living process stands for its answers. Nobody has begun under a number that
 -- wasn't given out. The numbers were given out in their order.
-pub record Stands {A : Type 0} (after : A → List Answer → Asks) (can_feed : A → Type 0) (core : Core) (limit : ℕ) (state : State) (events : List Event)
-    (members : BTreeMap ℕ (Member A)) : Type 0 where
+pub record Stands {A S : Type 0} (after : A → List Answer → Asks) (can_feed : A → Type 0) (core : Core) (limit : ℕ) (state : State) (events : List Event)
+    (members : HashMap ℕ (Member A) S) : Type 0 where
   pub leads : led core limit events ≡ Goes state
   pub living : (process : ℕ) (start : Start) → started state.world process ≡ Some start
       → StandsFor after can_feed (ask core start limit) (state.given process) (member_of members process)

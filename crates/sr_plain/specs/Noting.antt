@@ -11,13 +11,14 @@ use Rattle.sr_plain.specs.Changes.{change_of, owner_at}
 use Rattle.sr_plain.specs.Waiting.{IsTakenOut, IsWaiting, WaitsAtSite, is_ready, waits}
 use Rattle.sr_plain.specs.declared.carrying.Carried.{Carried}
 use Rattle.sr_plain.specs.declared.change.Woken.{Woken}
+use Rattle.sr_plain.specs.declared.waiters.Place.{Place}
 use Rattle.sr_plain.specs.declared.waiters.Waiters.{Waiters}
 
 -- a process waits at each arm of a statement
 pub record WaitsAt (me : Me) (site : Site) (old new : Waiters) : Type 0 where
   pub ready : new.ready ≡ old.ready
   pub itself : WaitsAtSite (λ key. waits new key me.process) (owner_at site.scope me) site
-  pub others : (k other : ℕ) → waits old k other ≡ true → waits new k other ≡ true
+  pub others : (k : Place) (other : ℕ) → waits old k other ≡ true → waits new k other ≡ true
 
 -- a process waits, and isn't asked any more
 pub record IsSetAside (core : Core) (me : Me) (ask : Ask) (old new : Waiters) : Type 0 where

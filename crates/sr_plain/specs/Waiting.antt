@@ -1,7 +1,8 @@
 -- Who is asked in turn, and where the others wait.
-use Rattle.std.specs.Prelude.{◌≡◌, ◌+◌, ◌*◌, ◌<◌, ◌≤◌, ◌==◌, ◌||◌, ℕ, Bool, true, false, Option, Some, None, slice_get, if◌then◌else◌}
-use Rattle.std.specs.BTreeMap.{get}
+use Rattle.std.specs.Prelude.{◌≡◌, ◌&&◌, ◌<◌, ◌≤◌, ◌==◌, ◌||◌, ℕ, Bool, true, false, Option, Some, None, slice_get, if◌then◌else◌}
 use Rattle.std.specs.BTreeSet.{BTreeSet, contains}
+use Rattle.std.specs.Bool.{beq}
+use Rattle.std.specs.HashMap.{get}
 use Rattle.std.specs.Ordering.{nat_cmp}
 use Rattle.sr_ask.specs.declared.request.Request.{Request}
 use Rattle.sr_ask.specs.declared.request.Request.TheVariants as request
@@ -16,50 +17,61 @@ use Rattle.sr_plain.specs.Changes.{owner_at}
 use Rattle.sr_plain.specs.declared.change.Change.{Change}
 use Rattle.sr_plain.specs.declared.change.Change.TheVariants.{Nothing, Watched, Class, Everything}
 use Rattle.sr_plain.specs.declared.change.Woken.{Woken}
+use Rattle.sr_plain.specs.declared.waiters.Class.{Class as a_class}
+use Rattle.sr_plain.specs.declared.waiters.Place.{Place}
+use Rattle.sr_plain.specs.declared.waiters.Place.TheVariants as places
 use Rattle.sr_plain.specs.declared.waiters.Waiters.{Waiters}
+use Rattle.sr_plain.specs.declared.waiters.Waiting.{Waiting}
+use Rattle.sr_plain.specs.declared.waiters.Waiting.TheVariants.{One, Many}
 
 -- ---- places
 
--- where a process waits for invocations of an operation of an owner; who waits for more waits at 0
-abbrev pub number_of : Owner → ℕ
-number_of (Inst instance) = instance
-number_of (Proc process) = process
+-- an operation of an owner
+abbrev pub class_of : Owner → ℕ → a_class
+class_of (Inst owner) op = record { of_process = false; owner = owner; op = op }
+class_of (Proc owner) op = record { of_process = true; owner = owner; op = op }
 
-abbrev pub key_of : Owner → ℕ → ℕ
-key_of owner op = number_of owner * 4294967296 + op
+-- where a process waits for invocations of an operation
+abbrev pub key_of : Owner → ℕ → Place
+key_of owner op = places.Served (class_of owner op)
 
 -- a guard may read more than the invocations of its operation
-abbrev pub place_of : Owner → Arm → ℕ
-place_of owner arm = if is_plain arm then key_of owner arm.op else 0
+abbrev pub place_of : Owner → Arm → Place
+place_of owner arm = if is_plain arm then key_of owner arm.op else places.Watched
 
 abbrev pub is_ready : Waiters → ℕ → Bool
 is_ready waiters process = contains nat_cmp waiters.ready process
 
-abbrev pub is_among : Option (BTreeSet ℕ) → ℕ → Bool
+abbrev pub is_among : Option Waiting → ℕ → Bool
 is_among None process = false
-is_among (Some processes) process = contains nat_cmp processes process
+is_among (Some (One first)) process = first == process
+is_among (Some (Many processes)) process = contains nat_cmp processes process
 
-abbrev pub waits : Waiters → ℕ → ℕ → Bool
-waits waiters key process = is_among (get nat_cmp waiters.aside key) process
+abbrev pub same_class : a_class → a_class → Bool
+same_class a b = beq a.of_process b.of_process && ((a.owner == b.owner) && (a.op == b.op))
+
+abbrev pub waits : Waiters → Place → ℕ → Bool
+waits waiters places.Watched process = contains nat_cmp waiters.watched process
+waits waiters (places.Served class) process = is_among (get same_class waiters.classes class) process
 
 -- ---- where a process waits, by what it asks
 
-abbrev pub WaitsAtSite : (ℕ → Bool) → Owner → Site → Type 0
+abbrev pub WaitsAtSite : (Place → Bool) → Owner → Site → Type 0
 WaitsAtSite at owner site = (number : ℕ) (arm : Arm) → slice_get site.arms number ≡ Some arm → at (place_of owner arm) ≡ true
 
 -- A `Take` is woken by the reply, and a `Wake` by the moment. A `Select` waits at each of its arms.
-abbrev pub WaitsFor : Core → Me → (ℕ → Bool) → Request → Type 0
+abbrev pub WaitsFor : Core → Me → (Place → Bool) → Request → Type 0
 WaitsFor core me at (request.Take ids) = Unit {0}
 WaitsFor core me at (request.Wake until) = Unit {0}
 WaitsFor core me at (request.Select site env) = (s : Site) → slice_get core.sites site ≡ Some s → WaitsAtSite at (owner_at s.scope me) s
-WaitsFor core me at _ = at 0 ≡ true
+WaitsFor core me at _ = at places.Watched ≡ true
 
 -- ---- who is woken
 
-abbrev pub wakes : Change → (ℕ → Bool) → Bool
+abbrev pub wakes : Change → (Place → Bool) → Bool
 wakes Nothing at = false
-wakes Watched at = at 0
-wakes (Class owner op) at = at 0 || at (key_of owner op)
+wakes Watched at = at places.Watched
+wakes (Class owner op) at = at places.Watched || at (key_of owner op)
 wakes Everything at = true
 
 abbrev pub wakes_by : Waiters → Woken → ℕ → Bool
@@ -74,15 +86,25 @@ is_woken waiters (Some woken) process = wakes_by waiters woken process
 -- who isn't ready wasn't, and waits where it waited
 pub record GoOn (old new : Waiters) : Type 0 where
   pub ready : (process : ℕ) → is_ready new process ≡ false → is_ready old process ≡ false
-  pub waiting : (key process : ℕ) → is_ready new process ≡ false → waits old key process ≡ true → waits new key process ≡ true
+  pub waiting : (key : Place) (process : ℕ) → is_ready new process ≡ false → waits old key process ≡ true → waits new key process ≡ true
 
 -- some more are ready
 pub record IsJoined (processes old new : BTreeSet ℕ) : Type 0 where
   pub ready : (process : ℕ) → contains nat_cmp new process ≡ false → contains nat_cmp old process ≡ false
   pub joined : (process : ℕ) → contains nat_cmp new process ≡ false → contains nat_cmp processes process ≡ false
 
+-- who waited is ready
+pub record HaveJoined (waiting : Waiting) (old new : BTreeSet ℕ) : Type 0 where
+  pub ready : (process : ℕ) → contains nat_cmp new process ≡ false → contains nat_cmp old process ≡ false
+  pub joined : (process : ℕ) → contains nat_cmp new process ≡ false → is_among (Some waiting) process ≡ false
+
+-- one more waits there
+pub record WaitsAlso (process : ℕ) (old new : Waiting) : Type 0 where
+  pub itself : is_among (Some new) process ≡ true
+  pub others : (other : ℕ) → is_among (Some old) other ≡ true → is_among (Some new) other ≡ true
+
 -- who waited there is ready
-pub record IsWokenAt (key : ℕ) (old new : Waiters) : Type 0 where
+pub record IsWokenAt (key : Place) (old new : Waiters) : Type 0 where
   pub go_on : GoOn old new
   pub woken : (process : ℕ) → is_ready new process ≡ false → waits old key process ≡ false
 
@@ -91,20 +113,21 @@ pub record IsMadeReady (process : ℕ) (old new : Waiters) : Type 0 where
   pub apart : (other : ℕ) → is_ready new other ≡ false → (process == other) ≡ false
 
 -- a process waits there too
-pub record WaitsThere (key process : ℕ) (old new : Waiters) : Type 0 where
+pub record WaitsThere (key : Place) (process : ℕ) (old new : Waiters) : Type 0 where
   pub ready : new.ready ≡ old.ready
   pub itself : waits new key process ≡ true
-  pub others : (k other : ℕ) → waits old k other ≡ true → waits new k other ≡ true
+  pub others : (k : Place) (other : ℕ) → waits old k other ≡ true → waits new k other ≡ true
 
 -- a process waits for what lets its request go on
 pub record IsWaiting (core : Core) (me : Me) (asked : Request) (old new : Waiters) : Type 0 where
   pub ready : new.ready ≡ old.ready
   pub itself : WaitsFor core me (λ key. waits new key me.process) asked
-  pub others : (k other : ℕ) → waits old k other ≡ true → waits new k other ≡ true
+  pub others : (k : Place) (other : ℕ) → waits old k other ≡ true → waits new k other ≡ true
 
 pub record IsTakenOut (process : ℕ) (old new : Waiters) : Type 0 where
   pub others : (other : ℕ) → (process == other) ≡ false → is_ready new other ≡ is_ready old other
-  pub waiting : new.aside ≡ old.aside
+  pub watched : new.watched ≡ old.watched
+  pub classes : new.classes ≡ old.classes
 
 -- ---- who is next
 

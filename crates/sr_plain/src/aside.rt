@@ -5,20 +5,20 @@ ghost use Rattle.sr_world.specs.declared.acted.Acted.TheVariants.{Cannot};
 
 use crate::carrying::Carried;
 use crate::change::{Woken, change_of, owner_of};
-use crate::waiters::{WATCHED, Waiters, key};
+use crate::waiters::{Place, Waiters, class_of};
 use sr_ask::{Ask, Request};
 use sr_core::{Arm, Core, Me, Site};
 use sr_value::{NoMemory, Owner};
 use sr_world::Acted;
 
 /// Where a process waits for what an arm services.
-fn place_at(owner: Owner, arm: &Arm) -> u64
+fn place_at(owner: Owner, arm: &Arm) -> Place
     ensures { result ≡ place_of owner arm.now }
 {
     if arm.guard.is_none() && arm.by.is_none() {
-        key(owner, arm.op)
+        Place::Served(class_of(owner, arm.op))
     } else {
-        WATCHED
+        Place::Watched
     }
 }
 
@@ -42,7 +42,7 @@ fn wait_for(waiters: &mut Waiters, core: &Core, me: Me, request: &Request) -> Re
             Some(site) => wait_at(waiters, me, site),
             None => Ok(()),
         },
-        _ => waiters.wait(WATCHED, me.process),
+        _ => waiters.wait(Place::Watched, me.process),
     }
 }
 

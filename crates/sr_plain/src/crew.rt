@@ -1,20 +1,16 @@
-ghost use Rattle.std.specs.Prelude.{◌≡◌, List, Some, IsSome, OnOk};
-ghost use Rattle.sr_ask.specs.declared.answer.Answer as answers;
-ghost use Rattle.sr_ask.specs.declared.ask.Asks as asking;
-ghost use Rattle.sr_meaning.specs.Processes.{ask};
-ghost use Rattle.sr_plain.specs.Crew.{Answers, Begins, HasBegun, IsAsking, KeepsLiving, Looks, member_of};
-ghost use Rattle.sr_plain.specs.declared.member.Member as members;
+ghost use Rattle.std.specs.Prelude.{IsSome, OnOk};
+ghost use Rattle.sr_plain.specs.Crew.{Begins, HasBegun, KeepsLiving, member_of};
 
 use crate::member::Member;
 use sr_actor::Actor;
-use sr_ask::{Answer, Asks, Start};
+use sr_ask::Start;
 use sr_value::{NoMemory, Row};
 use sr_world::World;
 use std::alloc::Global;
-use std::collections::BTreeMap;
+use std::collections::HashMap;
 
 fn begin<A: Actor>(
-    crew: &mut BTreeMap<u32, Member<A>>,
+    crew: &mut HashMap<u32, Member<A>>,
     alloc: Global,
     start: &Start,
     ticks: u32,
@@ -27,8 +23,8 @@ fn begin<A: Actor>(
 }
 
 /// Has a process begin, where it hasn't.
-fn begin_once<A: Actor>(
-    crew: &mut BTreeMap<u32, Member<A>>,
+pub(crate) fn begin_once<A: Actor>(
+    crew: &mut HashMap<u32, Member<A>>,
     alloc: Global,
     start: &Start,
     ticks: u32,
@@ -42,50 +38,8 @@ fn begin_once<A: Actor>(
     begin(crew, alloc, start, ticks)
 }
 
-fn look_at<A: Actor>(
-    crew: &mut BTreeMap<u32, Member<A>>,
-    program: &A::Program,
-    process: u32,
-) -> Result<(), NoMemory>
-    requires { IsSome (member_of crew.old process) }
-    ensures looks { OnOk result ((meant : List answers.Answer → asking.Asks) → Looks (A.asks_after program.now) A.can_feed meant process crew.old crew.new) }
-    ensures asking { OnOk result (IsAsking process crew.new) }
-{
-    match crew.get_mut(&process) {
-        Some(member) => member.look(program),
-        None => unreachable!(),
-    }
-}
-
-/// Has a process ask, unless what it asks is known. It begins where it hasn't.
-pub(crate) fn look<A: Actor>(
-    crew: &mut BTreeMap<u32, Member<A>>,
-    program: &A::Program,
-    alloc: Global,
-    start: &Start,
-    ticks: u32,
-) -> Result<(), NoMemory>
-    ensures looks { OnOk result (Looks (A.asks_after program.now) A.can_feed (ask (A.core_of program.now) start.now ticks) start.now.process crew.old crew.new) }
-    ensures asking { OnOk result (IsAsking start.now.process crew.new) }
-{
-    begin_once(crew, alloc, start, ticks)?;
-    look_at(crew, program, start.process)
-}
-
-/// Answers a process, and hands out what it asked. It takes no memory.
-pub(crate) fn answer<A: Actor>(
-    crew: &mut BTreeMap<u32, Member<A>>,
-    process: u32,
-    given: Answer,
-) -> Option<Asks>
-    ensures { (program : A.Program) (member : members.Member A) → member_of crew.old process ≡ Some member → Answers (A.asks_after program) A.can_feed process given member result crew.old crew.new }
-{
-    let member = crew.get_mut(&process)?;
-    member.answer(given)
-}
-
 /// The numbers of those that have begun.
-fn numbers<A: Actor>(crew: &BTreeMap<u32, Member<A>>, alloc: Global) -> Result<Row<u32>, NoMemory> {
+fn numbers<A: Actor>(crew: &HashMap<u32, Member<A>>, alloc: Global) -> Result<Row<u32>, NoMemory> {
     let mut numbers = Row::new(alloc);
     for process in crew.keys() {
         numbers.push(*process)?;
@@ -93,7 +47,7 @@ fn numbers<A: Actor>(crew: &BTreeMap<u32, Member<A>>, alloc: Global) -> Result<R
     Ok(numbers)
 }
 
-fn drop_if_ended<A: Actor>(crew: &mut BTreeMap<u32, Member<A>>, world: &World, process: u32)
+fn drop_if_ended<A: Actor>(crew: &mut HashMap<u32, Member<A>>, world: &World, process: u32)
     ensures { KeepsLiving world.now crew.old crew.new }
 {
     match world.started(process) {
@@ -104,7 +58,7 @@ fn drop_if_ended<A: Actor>(crew: &mut BTreeMap<u32, Member<A>>, world: &World, p
     }
 }
 
-fn drop_ended<A: Actor>(crew: &mut BTreeMap<u32, Member<A>>, world: &World, numbers: &[u32])
+fn drop_ended<A: Actor>(crew: &mut HashMap<u32, Member<A>>, world: &World, numbers: &[u32])
     ensures { KeepsLiving world.now crew.old crew.new }
 {
     for process in numbers {
@@ -114,7 +68,7 @@ fn drop_ended<A: Actor>(crew: &mut BTreeMap<u32, Member<A>>, world: &World, numb
 
 /// Drops those whose processes have ended.
 pub(crate) fn let_go<A: Actor>(
-    crew: &mut BTreeMap<u32, Member<A>>,
+    crew: &mut HashMap<u32, Member<A>>,
     alloc: Global,
     world: &World,
 ) -> Result<(), NoMemory>

@@ -1,9 +1,16 @@
-ghost use Rattle.std.specs.Prelude.{◌≡◌, OnOk, IsSome};
+ghost use Rattle.std.specs.Prelude.{◌≡◌, IfNone, OnOk, IsSome};
+ghost use Rattle.sr_plain.specs.Answering.{AnsweredBy};
+ghost use Rattle.sr_plain.specs.Carrying.{written_of};
 ghost use Rattle.sr_plain.specs.Crew.{IsFed, IsSame};
+ghost use Rattle.sr_world.specs.declared.acted.Acted.TheVariants.{Cannot};
 
+use crate::carrying::{Carried, written};
+use crate::plainly::Plainly;
 use sr_actor::Actor;
-use sr_ask::{Answer, Asks};
-use sr_value::NoMemory;
+use sr_ask::{Answer, Asks, Item};
+use sr_value::{NoMemory, Text};
+use sr_world::Acted;
+use std::alloc::Global;
 
 /// A process that has begun, and what it asks, where that is known.
 #[derive(Drop)]
@@ -24,12 +31,37 @@ impl<A: Actor> Member<A> {
         Ok(())
     }
 
-    /// Answers the process, and hands out what it asked. It takes no memory.
-    pub(crate) fn answer(&mut self, answer: Answer) -> Option<Asks>
-        ensures asked { result ≡ self.old.asks }
+    /// Answers the process, and says what it wrote. It takes no memory.
+    fn answer(&mut self, alloc: Global, answer: Answer) -> Text
+        ensures wrote { result ≡ written_of self.old.asks }
         ensures fed { (program : A.Program) → IsFed (A.asks_after program) A.can_feed answer self.old self.new }
     {
         self.actor.feed(answer);
-        self.asks.take()
+        written(alloc, self.asks.take())
+    }
+
+    /// Hands the process its answer, if it got one, and notes that it made the last step.
+    pub(crate) fn hear(
+        &mut self,
+        alloc: Global,
+        actor: u32,
+        carried: Carried,
+        last: &mut u32,
+    ) -> Option<Plainly>
+        ensures answered { (program : A.Program) → AnsweredBy (A.asks_after program) A.can_feed actor carried.name carried.acted self.old self.new last.old last.new result }
+        ensures cannot { IfNone result (carried.acted ≡ Cannot) }
+    {
+        let Carried { name, acted, .. } = carried;
+        let item = Item::Step { actor, name };
+        match acted {
+            Acted::Done(given) => {
+                let output = self.answer(alloc, given);
+                *last = actor;
+                Some(Plainly::Stepped { item, output })
+            }
+            Acted::Cannot => None,
+            Acted::Ends(end) => Some(Plainly::Ended { item, end }),
+            Acted::Undecided => Some(Plainly::Wants),
+        }
     }
 }

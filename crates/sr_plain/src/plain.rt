@@ -1,18 +1,17 @@
-ghost use Rattle.std.specs.Prelude.{◌≡◌, ◌<◌, ◌∷◌, ◌++◌, ℕ, [], List, IfNone, IfOk, None, Ok, OnErr, OnOk, Some, false, find, true};
+ghost use Rattle.std.specs.Prelude.{◌≡◌, ◌<◌, ◌∷◌, ◌++◌, ℕ, [], List, IfNone, IfOk, IsSome, None, OnErr, OnOk, Some, false, find, true};
 ghost use Rattle.std.specs.BTreeSet.{btree_set_len};
 ghost use Rattle.sr_ask.specs.declared.start.Start as starts;
-ghost use Rattle.sr_plain.specs.Crew.{IsAsking};
+ghost use Rattle.sr_plain.specs.Crew.{member_of};
 ghost use Rattle.sr_plain.specs.Ready.{me_at};
 ghost use Rattle.sr_plain.specs.Turns.{takes_turn, turn, turn_of};
 ghost use Rattle.sr_plain.specs.Waiting.{is_ready};
 ghost use Rattle.sr_world.specs.Runs.{State, Event, Closes, Gives, first, no_step, with_input, without_more};
 ghost use Rattle.sr_world.specs.Worlds.{started};
-ghost use Rattle.sr_world.specs.declared.acted.Acted.TheVariants.{Cannot};
 
 use crate::aside::note;
-use crate::carrying::{Carried, carry_out, new_name, written};
+use crate::carrying::{carry_out, new_name};
 use crate::change::Woken;
-use crate::crew::{answer, let_go, look};
+use crate::crew::{begin_once, let_go};
 use crate::member::Member;
 use crate::plainly::Plainly;
 use crate::waiters::Waiters;
@@ -23,7 +22,7 @@ use sr_core::Me;
 use sr_value::{NoMemory, Text};
 use sr_world::{Acted, World};
 use std::alloc::Global;
-use std::collections::BTreeMap;
+use std::collections::HashMap;
 
 /// A run as far as it has come.
 #[derive(Drop)]
@@ -33,7 +32,7 @@ pub struct Plain<A> {
     /// How many statements a process may begin between two answers.
     pub(crate) ticks: u32,
     /// The processes that have begun, by number.
-    pub(crate) crew: BTreeMap<u32, Member<A>>,
+    pub(crate) crew: HashMap<u32, Member<A>>,
     /// Who made the last step, or 0.
     pub(crate) last: u32,
     /// Who is asked in turn, and where the others wait.
@@ -43,7 +42,7 @@ pub struct Plain<A> {
 }
 
 impl<A: Actor> Plain<A> {
-    ghost use Rattle.sr_plain.specs.Engine.{IsCarried, IsEngine, Steps, Tries, last_in};
+    ghost use Rattle.sr_plain.specs.Engine.{IsEngine, Steps, Tries, last_in};
 
     /// The beginning of a run, in which a process may begin `ticks` statements between two answers.
     pub fn begin(alloc: Global, ticks: u32) -> Result<Self, NoMemory>
@@ -54,7 +53,7 @@ impl<A: Actor> Plain<A> {
             alloc,
             world,
             ticks,
-            crew: BTreeMap::new(alloc),
+            crew: HashMap::new(alloc),
             last: 0,
             waiters: Waiters::new(alloc),
             woken: Some(Woken::everyone()),
@@ -146,7 +145,7 @@ impl<A: Actor> Plain<A> {
                     process: start.process,
                     instance: start.instance,
                 };
-                look(&mut self.crew, program, self.alloc, start, self.ticks)?;
+                begin_once(&mut self.crew, self.alloc, start, self.ticks)?;
                 self.try_member(program, me)
             }
             None => {
@@ -158,45 +157,26 @@ impl<A: Actor> Plain<A> {
 
     /// Has the machine carry out what a process asks that has begun.
     fn try_member(&mut self, program: &A::Program, me: Me) -> Result<Option<Plainly>, NoMemory>
-        requires asking { IsAsking me.process self.old.crew }
+        requires begun { IsSome (member_of self.old.crew me.process) }
         ensures tries { (limit : ℕ) (state : State) (events : List Event) (start : starts.Start) → IsEngine (A.asks_after program.now) A.can_feed (A.core_of program.now) limit state events self.old → started state.world start.process ≡ Some start → me ≡ me_at start → is_ready self.old.waiters me.process ≡ true → self.old.woken ≡ None → Tries (A.asks_after program.now) A.can_feed (A.core_of program.now) limit state events (find (takes_turn (A.core_of program.now) limit state) (start ∷ [])) result self.new }
         ensures less { is_ready self.old.waiters me.process ≡ true → IfOk result (λ tried. IfNone tried (btree_set_len self.new.waiters.ready < btree_set_len self.old.waiters.ready)) }
         ensures awake { IfOk result (λ tried. IfNone tried (self.new.woken ≡ None)) }
     {
-        match self.crew.get(&me.process) {
-            Some(member) => match &member.asks {
-                Some(Asks::Asked(ask)) => {
-                    let core = A::core(program);
-                    let carried = carry_out(&mut self.world, core, me.process, ask)?;
-                    self.woken = note(&mut self.waiters, core, me, ask, &carried)?;
-                    Ok(self.answered(me.process, carried))
+        match self.crew.get_mut(&me.process) {
+            Some(member) => {
+                member.look(program)?;
+                match &member.asks {
+                    Some(Asks::Asked(ask)) => {
+                        let core = A::core(program);
+                        let carried = carry_out(&mut self.world, core, me.process, ask)?;
+                        self.woken = note(&mut self.waiters, core, me, ask, &carried)?;
+                        Ok(member.hear(self.alloc, me.process, carried, &mut self.last))
+                    }
+                    Some(Asks::OverTicks) => Ok(Some(Plainly::Over(me.process))),
+                    None => unreachable!(),
                 }
-                Some(Asks::OverTicks) => Ok(Some(Plainly::Over(me.process))),
-                None => unreachable!(),
-            },
-            None => unreachable!(),
-        }
-    }
-
-    /// Hands the process its answer, if it got one.
-    fn answered(&mut self, actor: u32, carried: Carried) -> Option<Plainly>
-        ensures tries { (program : A.Program) (limit : ℕ) (state : State) (events : List Event) (start : starts.Start) → actor ≡ start.process → IsCarried (A.asks_after program) A.can_feed (A.core_of program) limit state events start carried.name carried.acted self.old → Tries (A.asks_after program) A.can_feed (A.core_of program) limit state events (find (takes_turn (A.core_of program) limit state) (start ∷ [])) (Ok result) self.new }
-        ensures cannot { IfNone result (carried.acted ≡ Cannot) }
-        ensures waiters { self.new.waiters ≡ self.old.waiters }
-        ensures woken { self.new.woken ≡ self.old.woken }
-    {
-        let Carried { name, acted, .. } = carried;
-        let item = Item::Step { actor, name };
-        match acted {
-            Acted::Done(given) => {
-                let asks = answer(&mut self.crew, actor, given);
-                self.last = actor;
-                let output = written(self.alloc, asks);
-                Some(Plainly::Stepped { item, output })
             }
-            Acted::Cannot => None,
-            Acted::Ends(end) => Some(Plainly::Ended { item, end }),
-            Acted::Undecided => Some(Plainly::Wants),
+            None => unreachable!(),
         }
     }
 

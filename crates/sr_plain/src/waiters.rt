@@ -1,15 +1,38 @@
 ghost use Rattle.std.specs.Prelude.{◌≡◌, ◌<◌, ℕ, IfNone, IfOk, IfSome, OnOk, false, true};
 ghost use Rattle.std.specs.BTreeSet.{btree_set_len, contains};
 ghost use Rattle.std.specs.Ordering.{nat_cmp};
-ghost use Rattle.sr_plain.specs.Waiting.{IsJoined, IsMadeReady, IsNext, IsTakenOut, IsWokenAt, WaitsThere, is_ready, key_of, waits};
+ghost use Rattle.sr_plain.specs.Waiting.{HaveJoined, IsJoined, IsMadeReady, IsNext, IsTakenOut, IsWokenAt, WaitsAlso, WaitsThere, class_of as class_in, is_ready};
+ghost use Rattle.sr_plain.specs.declared.waiters.Place.TheVariants.{Served};
 
 use sr_value::{NoMemory, Owner};
 use std::alloc::Global;
-use std::collections::{BTreeMap, BTreeSet};
+use std::collections::{BTreeSet, HashMap};
 use std::ops::Bound;
 
-/// Where a process waits that waits for more than a reply or an invocation.
-pub(crate) const WATCHED: u64 = 0;
+/// An operation of an owner.
+#[derive(Clone, Copy, PartialEq, Eq, Hash)]
+pub struct Class {
+    /// Whether the owner is a process, and no instance.
+    pub of_process: bool,
+    pub owner: u32,
+    pub op: u32,
+}
+
+/// Where a process waits.
+#[derive(Clone, Copy)]
+pub enum Place {
+    /// For more than a reply or an invocation.
+    Watched,
+    /// For invocations of an operation.
+    Served(Class),
+}
+
+/// Those that wait at one place.
+#[derive(Drop)]
+pub(crate) enum Waiting {
+    One(u32),
+    Many(BTreeSet<u32>),
+}
 
 /// The processes that are asked in turn, and where those wait that aren't.
 #[derive(Drop)]
@@ -17,19 +40,28 @@ pub struct Waiters {
     pub(crate) alloc: Global,
     /// The processes that may be able to make a step.
     pub(crate) ready: BTreeSet<u32>,
-    /// The others, by what they wait for.
-    pub(crate) aside: BTreeMap<u64, BTreeSet<u32>>,
+    /// Those that wait for more than a reply or an invocation.
+    pub(crate) watched: BTreeSet<u32>,
+    /// Those that wait for invocations.
+    pub(crate) classes: HashMap<Class, Waiting>,
 }
 
-/// Where a process waits for invocations of an operation.
-pub(crate) fn key(owner: Owner, op: u32) -> u64
-    ensures { result ≡ key_of owner op }
+/// An operation of an owner.
+pub(crate) fn class_of(owner: Owner, op: u32) -> Class
+    ensures { result ≡ class_in owner op }
 {
-    let number = match owner {
-        Owner::Inst(instance) => instance,
-        Owner::Proc(process) => process,
-    };
-    (number as u64) * 4294967296 + (op as u64)
+    match owner {
+        Owner::Inst(owner) => Class {
+            of_process: false,
+            owner,
+            op,
+        },
+        Owner::Proc(owner) => Class {
+            of_process: true,
+            owner,
+            op,
+        },
+    }
 }
 
 fn join(ready: &mut BTreeSet<u32>, processes: &mut BTreeSet<u32>) -> Result<(), NoMemory>
@@ -41,6 +73,22 @@ fn join(ready: &mut BTreeSet<u32>, processes: &mut BTreeSet<u32>) -> Result<(), 
     Ok(())
 }
 
+/// Makes ready who waited.
+fn join_waiting(ready: &mut BTreeSet<u32>, waiting: Waiting) -> Result<(), NoMemory>
+    ensures { OnOk result (HaveJoined waiting ready.old ready.new) }
+{
+    match waiting {
+        Waiting::One(process) => {
+            ready.insert(process)?;
+            Ok(())
+        }
+        Waiting::Many(processes) => {
+            let mut processes = processes;
+            join(ready, &mut processes)
+        }
+    }
+}
+
 fn alone(alloc: Global, process: u32) -> Result<BTreeSet<u32>, NoMemory>
     ensures { IfOk result (λ processes. contains nat_cmp processes process ≡ true) }
 {
@@ -49,12 +97,42 @@ fn alone(alloc: Global, process: u32) -> Result<BTreeSet<u32>, NoMemory>
     Ok(processes)
 }
 
+fn both(alloc: Global, process: u32, other: u32) -> Result<BTreeSet<u32>, NoMemory>
+    ensures itself { IfOk result (λ processes. contains nat_cmp processes process ≡ true) }
+    ensures other { IfOk result (λ processes. contains nat_cmp processes other ≡ true) }
+{
+    let mut processes = alone(alloc, process)?;
+    processes.insert(other)?;
+    Ok(processes)
+}
+
+impl Waiting {
+    /// Has one more wait there.
+    fn add(&mut self, alloc: Global, process: u32) -> Result<(), NoMemory>
+        ensures { OnOk result (WaitsAlso process self.old self.new) }
+    {
+        match self {
+            Waiting::One(first) => {
+                if *first != process {
+                    *self = Waiting::Many(both(alloc, *first, process)?);
+                }
+                Ok(())
+            }
+            Waiting::Many(processes) => {
+                processes.insert(process)?;
+                Ok(())
+            }
+        }
+    }
+}
+
 impl Waiters {
     pub(crate) fn new(alloc: Global) -> Self {
         Waiters {
             alloc,
             ready: BTreeSet::new(alloc),
-            aside: BTreeMap::new(alloc),
+            watched: BTreeSet::new(alloc),
+            classes: HashMap::new(alloc),
         }
     }
 
@@ -75,37 +153,41 @@ impl Waiters {
     }
 
     /// Has a process wait there.
-    pub(crate) fn wait(&mut self, key: u64, process: u32) -> Result<(), NoMemory>
-        ensures { OnOk result (WaitsThere key process self.old self.new) }
+    pub(crate) fn wait(&mut self, place: Place, process: u32) -> Result<(), NoMemory>
+        ensures { OnOk result (WaitsThere place process self.old self.new) }
     {
-        match self.aside.get_mut(&key) {
-            Some(processes) => {
-                processes.insert(process)?;
+        match place {
+            Place::Watched => {
+                self.watched.insert(process)?;
                 Ok(())
             }
-            None => self.wait_first(key, process),
+            Place::Served(class) => self.wait_for(class, process),
         }
     }
 
-    fn wait_first(&mut self, key: u64, process: u32) -> Result<(), NoMemory>
-        requires { (other : ℕ) → waits self.old key other ≡ false }
-        ensures { OnOk result (WaitsThere key process self.old self.new) }
+    /// Has a process wait for invocations.
+    fn wait_for(&mut self, class: Class, process: u32) -> Result<(), NoMemory>
+        ensures { OnOk result (WaitsThere (Served class) process self.old self.new) }
     {
-        let processes = alone(self.alloc, process)?;
-        self.aside.insert(key, processes)?;
-        Ok(())
+        match self.classes.get_mut(&class) {
+            Some(waiting) => waiting.add(self.alloc, process),
+            None => {
+                self.classes.insert(class, Waiting::One(process))?;
+                Ok(())
+            }
+        }
     }
 
     /// Makes ready who waits there.
-    pub(crate) fn wake(&mut self, key: u64) -> Result<(), NoMemory>
-        ensures { OnOk result (IsWokenAt key self.old self.new) }
+    pub(crate) fn wake(&mut self, place: Place) -> Result<(), NoMemory>
+        ensures { OnOk result (IsWokenAt place self.old self.new) }
     {
-        match self.aside.remove(&key) {
-            Some(processes) => {
-                let mut processes = processes;
-                join(&mut self.ready, &mut processes)
-            }
-            None => Ok(()),
+        match place {
+            Place::Watched => join(&mut self.ready, &mut self.watched),
+            Place::Served(class) => match self.classes.remove(&class) {
+                Some(waiting) => join_waiting(&mut self.ready, waiting),
+                None => Ok(()),
+            },
         }
     }
 

@@ -2,7 +2,7 @@ ghost use Rattle.std.specs.Prelude.{OnOk};
 ghost use Rattle.sr_plain.specs.Waking.{ReadiesAll, ReadiesIfLives, WakesUp, WakesByChange};
 
 use crate::change::{Change, Woken};
-use crate::waiters::{WATCHED, Waiters, key};
+use crate::waiters::{Place, Waiters, class_of};
 use sr_value::NoMemory;
 use sr_world::World;
 
@@ -20,6 +20,9 @@ fn wake_all(waiters: &mut Waiters, world: &World) -> Result<(), NoMemory>
 fn wake_if_lives(waiters: &mut Waiters, world: &World, process: u32) -> Result<(), NoMemory>
     ensures { OnOk result (ReadiesIfLives world.now process waiters.old waiters.new) }
 {
+    if process == 0 {
+        return Ok(());
+    }
     match world.started(process) {
         Some(_) => waiters.make_ready(process),
         None => Ok(()),
@@ -31,10 +34,10 @@ fn wake_by(waiters: &mut Waiters, world: &World, change: Change) -> Result<(), N
 {
     match change {
         Change::Nothing => Ok(()),
-        Change::Watched => waiters.wake(WATCHED),
+        Change::Watched => waiters.wake(Place::Watched),
         Change::Class { owner, op } => {
-            waiters.wake(WATCHED)?;
-            waiters.wake(key(owner, op))
+            waiters.wake(Place::Watched)?;
+            waiters.wake(Place::Served(class_of(owner, op)))
         }
         Change::Everything => wake_all(waiters, world),
     }
