@@ -3,7 +3,7 @@ ghost use Rattle.sr_code.specs.Runs.{ends_at, entry_of, first_line, gives_withou
 ghost use Rattle.sr_process.specs.Processes.{frame_at, frame_with, line_without};
 
 use sr_ask::{Gives, Own, Role, Service, Start};
-use sr_code::{Code, Entry, Operands};
+use sr_code::{Code, Entry, Operands, Stack};
 use sr_execute::Frame;
 use sr_frame::{copied_gives, service_with, undeclared};
 use sr_value::{NoMemory, Place, Row};
@@ -69,8 +69,17 @@ fn gives_without(alloc: Global, role: Role) -> Gives
     }
 }
 
-/// What a process holds at first.
+/// What a process holds at first, with room for the list of its arguments: most processes need no other list.
 pub fn first_frame(alloc: Global, code: &Code, start: &Start, limit: u32) -> Result<Frame, NoMemory>
+    ensures { IfOk result (λ frame. frame ≡ frame_at (entry_of code.now start.now.role start.now.code) start.now limit) }
+{
+    let lists = Row::from_vec(Vec::with_capacity(alloc, 1)?);
+    let mut frame = bare_frame(alloc, code, start, limit)?;
+    frame.operands.lists = Stack::from_row(lists);
+    Ok(frame)
+}
+
+fn bare_frame(alloc: Global, code: &Code, start: &Start, limit: u32) -> Result<Frame, NoMemory>
     ensures { IfOk result (λ frame. frame ≡ frame_at (entry_of code.now start.now.role start.now.code) start.now limit) }
 {
     match entry_found(code, start.role, start.code) {
