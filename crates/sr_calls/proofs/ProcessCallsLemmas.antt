@@ -1,6 +1,6 @@
 -- What one record of calls that changes means for the lists and the room of all.
-use Rattle.std.proofs.Common.{◌≡◌, ◌≢◌, ℕ, ◌<◌, ◌≤◌, Bool, true, false, cond, List, [], ◌∷◌, Option, None, Some, unwrap_or, refl, ap, sym, ◌∙◌, subst, arith}
-use Rattle.std.specs.Prelude.{map as each}
+use Rattle.std.proofs.Common.{◌≡◌, ◌≢◌, ℕ, ◌<◌, ◌≤◌, Bool, true, false, cond, List, [], ◌∷◌, Option, None, Some, unwrap_or, refl, ap, sym, ◌∙◌, subst, arith, eq-eqb, eqb-true, true≢false}
+use Rattle.std.specs.Prelude.{map as each, nat_eq}
 use Rattle.std.specs.Cmp.{nat_cmp_total, eq_by_cmp_equiv, ranked}
 use Rattle.std.specs.FinMap as map
 use Rattle.std.specs.Map.{lookup}
@@ -27,6 +27,18 @@ itself p = (eq_by_cmp_equiv nat_cmp_total).refl p
 
 pub turned : (p q : ℕ) → is_eq (nat_cmp p q) ≡ is_eq (nat_cmp q p)
 turned p q = (eq_by_cmp_equiv nat_cmp_total).symm p q
+
+-- numbers are told apart alike, whether they are compared or tested
+pub same_test : (p q : ℕ) → nat_eq p q ≡ is_eq (nat_cmp p q)
+same_test p q = by (nat_eq p q) refl
+  where
+    by : (b : Bool) → nat_eq p q ≡ b → b ≡ is_eq (nat_cmp p q)
+    by true is = sym (ap (λ n. is_eq (nat_cmp p n)) (sym (eqb-true p q is)) ∙ itself p)
+    by false is = other (is_eq (nat_cmp p q)) refl
+      where
+        other : (b : Bool) → is_eq (nat_cmp p q) ≡ b → false ≡ b
+        other false at = refl
+        other true at = absurd (true≢false (sym (eq-eqb p q (same_number p q at)) ∙ is))
 
 -- a fact by whether two numbers are told apart
 pub by_number : (p q : ℕ) (P : Bool → Type 0) → (p ≡ q → P true) → (is_eq (nat_cmp p q) ≡ false → P false) → P (is_eq (nat_cmp p q))
@@ -73,16 +85,21 @@ no_process_calls = record { held = []; replies = []; room = no_room }
 abbrev pub process_calls_of : List (ℕ × ProcessCalled) → ℕ → ProcessCalled
 process_calls_of by_process p = unwrap_or (lookup (is_at (nat_cmp p)) by_process) no_process_calls
 
+-- records of calls are found alike by either
+pub same_look : {X : Type 0} (by_process : List (ℕ × X)) (p : ℕ) → lookup (nat_eq p) by_process ≡ lookup (is_at (nat_cmp p)) by_process
+same_look [] p = refl
+same_look (e ∷ es) p = ap (λ b. cond b (Some e.1) (lookup (nat_eq p) es)) (same_test p e.0) ∙ ap (cond (is_eq (nat_cmp p e.0)) (Some e.1)) (same_look es p)
+
 -- the record of calls of a process is this one, and all others are as before
 pub record Changes (old new : List (ℕ × ProcessCalled)) (p : ℕ) (process_calls : ProcessCalled) : Type 0 where
   pub here : process_calls_of new p ≡ process_calls
   pub others : (q : ℕ) → is_eq (nat_cmp p q) ≡ false → process_calls_of new q ≡ process_calls_of old q
 
 pub changes : (old new : List (ℕ × ProcessCalled)) (p : ℕ) (w : Option ProcessCalled)
-    → ((q : ℕ) → lookup (is_at (nat_cmp q)) new ≡ cond (is_at (nat_cmp p) q) w (lookup (is_at (nat_cmp q)) old)) → Changes old new p (unwrap_or w no_process_calls)
+    → ((q : ℕ) → lookup (nat_eq q) new ≡ cond (nat_eq p q) w (lookup (nat_eq q) old)) → Changes old new p (unwrap_or w no_process_calls)
 changes old new p w updates = record {
-  here = ap (λ o. unwrap_or o no_process_calls) (updates p ∙ ap (λ b. cond b w (lookup (is_at (nat_cmp p)) old)) (itself p));
-  others = λ q there. ap (λ o. unwrap_or o no_process_calls) (updates q ∙ ap (λ b. cond b w (lookup (is_at (nat_cmp q)) old)) there);
+  here = ap (λ o. unwrap_or o no_process_calls) (sym (same_look new p) ∙ updates p ∙ ap (λ b. cond b w (lookup (nat_eq p) old)) (same_test p p ∙ itself p));
+  others = λ q there. ap (λ o. unwrap_or o no_process_calls) (sym (same_look new q) ∙ updates q ∙ ap (λ b. cond b w (lookup (nat_eq q) old)) (same_test p q ∙ there) ∙ same_look old q);
 }
 
 module _ {A : Type 0} (list : ProcessCalled → List A) (empty : list no_process_calls ≡ []) where

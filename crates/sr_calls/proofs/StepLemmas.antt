@@ -1,15 +1,14 @@
 -- A call changes one record of calls, and what that says of the calls.
 use Rattle.std.proofs.Common.{◌≡◌, ℕ, ◌<◌, ◌≤◌, List, [], ◌∷◌, ◌++◌, Option, None, Some, is_some, IfNone, OnErr, OnOk, Result, Ok, Err, ap, subst, sym, ◌∙◌, unwrap_or}
 use Rattle.std.proofs.lemmas.Map.Steps.{set_value_same}
-use Rattle.std.specs.BTreeMap.{BTreeMap, Updates, WritesThrough, get_by, is_at}
+use Rattle.std.specs.HashMap.{HashMap, Updates, WritesThrough, get_by}
 use Rattle.std.specs.Map.{set_value}
-use Rattle.std.specs.Ordering.{nat_cmp}
-use Rattle.std.specs.Prelude.{find}
+use Rattle.std.specs.Prelude.{find, nat_eq}
 use Rattle.sr_calls.specs.Calls.{Called, CanAnswer, CanHold, KeepsAnswers, KeepsHolds, KeepsOtherAnswers, KeepsOtherHolds, answers_one, earliest_reply, held_as, is_held_as, items_of, with_item, with_items, without_first, without_held, without_reply}
 use Rattle.sr_calls.specs.PerProcess.{ProcessCalled, called_on}
 use Rattle.sr_calls.specs.declared.held.Held.{Held}
 use Rattle.sr_calls.specs.declared.held.Reply.{Reply}
-use Rattle.sr_calls.proofs.ProcessCallsLemmas.{Changes, answers-kept, answers-others, can-answer, can-hold, changes, process_calls_of, held-changed, held-here, held-kept, holds-kept, holds-others, no_process_calls, replies-changed, replies-here, replies-kept, room-there}
+use Rattle.sr_calls.proofs.ProcessCallsLemmas.{Changes, answers-kept, answers-others, can-answer, can-hold, changes, process_calls_of, held-changed, held-here, held-kept, holds-kept, holds-others, no_process_calls, replies-changed, replies-here, replies-kept, room-there, same_look}
 
 pub on_ok : {T E : Type 0} {P Q : Type 0} (r : Result T E) → OnOk r P → (P → Q) → OnOk r Q
 on_ok (Ok x) h f = f h
@@ -29,34 +28,34 @@ pub record Step (old new : List (ℕ × ProcessCalled)) (calls : Called) (p : �
   pub before : process_calls_of old p ≡ was
   pub change : Changes old new p process_calls
 
-pub lent : (m n : BTreeMap ℕ ProcessCalled) (calls : Called) (p : ℕ) (was process_calls : ProcessCalled) → called_on m.entries ≡ calls → Some was ≡ get_by (nat_cmp p) m
-    → WritesThrough nat_cmp (nat_cmp p) m process_calls n → Step m.entries n.entries calls p was process_calls
+pub lent : {S : Type 0} (m n : HashMap ℕ ProcessCalled S) (calls : Called) (p : ℕ) (was process_calls : ProcessCalled) → called_on m.entries ≡ calls → Some was ≡ get_by (nat_eq p) m
+    → WritesThrough nat_eq (nat_eq p) m process_calls n → Step m.entries n.entries calls p was process_calls
 lent m n calls p was process_calls seen value written = record {
   seen = seen;
-  before = ap (λ o. unwrap_or o no_process_calls) (sym value);
+  before = ap (λ o. unwrap_or o no_process_calls) (sym (same_look m.entries p) ∙ sym value);
   change = changes m.entries n.entries p (Some process_calls) (written.3 (sym (ap is_some value))).0;
 }
 
 -- a record of calls that is written back as it was
-pub lent-same : (m n : BTreeMap ℕ ProcessCalled) (calls : Called) (p : ℕ) (was process_calls : ProcessCalled) → called_on m.entries ≡ calls → Some was ≡ get_by (nat_cmp p) m
-    → WritesThrough nat_cmp (nat_cmp p) m process_calls n → process_calls ≡ was → called_on n.entries ≡ calls
+pub lent-same : {S : Type 0} (m n : HashMap ℕ ProcessCalled S) (calls : Called) (p : ℕ) (was process_calls : ProcessCalled) → called_on m.entries ≡ calls → Some was ≡ get_by (nat_eq p) m
+    → WritesThrough nat_eq (nat_eq p) m process_calls n → process_calls ≡ was → called_on n.entries ≡ calls
 lent-same m n calls p was process_calls seen value written same =
-    ap called_on (written.0 ∙ ap (set_value (is_at (nat_cmp p)) m.entries) same ∙ set_value_same (is_at (nat_cmp p)) m.entries was (sym value)) ∙ seen
+    ap called_on (written.0 ∙ ap (set_value (nat_eq p) m.entries) same ∙ set_value_same (nat_eq p) m.entries was (sym value)) ∙ seen
 
-pub made : (m k n : BTreeMap ℕ ProcessCalled) (calls : Called) (p : ℕ) (process_calls : ProcessCalled) → called_on m.entries ≡ calls → None ≡ get_by (nat_cmp p) m → k ≡ m
-    → Updates nat_cmp k n p (Some process_calls) → Step m.entries n.entries calls p no_process_calls process_calls
+pub made : {S : Type 0} (m k n : HashMap ℕ ProcessCalled S) (calls : Called) (p : ℕ) (process_calls : ProcessCalled) → called_on m.entries ≡ calls → None ≡ get_by (nat_eq p) m → k ≡ m
+    → Updates nat_eq k n p (Some process_calls) → Step m.entries n.entries calls p no_process_calls process_calls
 made m k n calls p process_calls seen value same updates = record {
   seen = seen;
-  before = ap (λ o. unwrap_or o no_process_calls) (sym value);
+  before = ap (λ o. unwrap_or o no_process_calls) (sym (same_look m.entries p) ∙ sym value);
   change = subst (λ x. Changes x.entries n.entries p process_calls) same (changes k.entries n.entries p (Some process_calls) updates.0);
 }
 
-pub absent : (m k : BTreeMap ℕ ProcessCalled) (calls : Called) (p : ℕ) → called_on m.entries ≡ calls → None ≡ get_by (nat_cmp p) m → k ≡ m → Step m.entries k.entries calls p no_process_calls no_process_calls
+pub absent : {S : Type 0} (m k : HashMap ℕ ProcessCalled S) (calls : Called) (p : ℕ) → called_on m.entries ≡ calls → None ≡ get_by (nat_eq p) m → k ≡ m → Step m.entries k.entries calls p no_process_calls no_process_calls
 absent m k calls p seen value same = record {
   seen = seen;
-  before = ap (λ o. unwrap_or o no_process_calls) (sym value);
+  before = ap (λ o. unwrap_or o no_process_calls) (sym (same_look m.entries p) ∙ sym value);
   change = record {
-    here = ap (λ x. process_calls_of x.entries p) same ∙ ap (λ o. unwrap_or o no_process_calls) (sym value);
+    here = ap (λ x. process_calls_of x.entries p) same ∙ ap (λ o. unwrap_or o no_process_calls) (sym (same_look m.entries p) ∙ sym value);
     others = λ q there. ap (λ x. process_calls_of x.entries q) same;
   };
 }

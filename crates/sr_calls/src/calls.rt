@@ -7,7 +7,7 @@ use crate::held::{Held, Reply};
 use crate::process_calls::ProcessCalls;
 use sr_value::{NoMemory, Row, Value};
 use std::alloc::Global;
-use std::collections::BTreeMap;
+use std::collections::HashMap;
 use std::marker::Model;
 
 /// The invocations that processes hold, and the replies that wait for processes.
@@ -15,7 +15,7 @@ use std::marker::Model;
 pub struct Calls {
     alloc: Global,
     /// By process. An empty one keeps its room.
-    by_process: BTreeMap<u32, ProcessCalls>,
+    by_process: HashMap<u32, ProcessCalls>,
 }
 
 impl Model for Calls {
@@ -47,7 +47,7 @@ impl Calls {
     {
         Calls {
             alloc,
-            by_process: BTreeMap::new(alloc),
+            by_process: HashMap::new(alloc),
         }
     }
 
