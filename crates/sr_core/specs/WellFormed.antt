@@ -1,6 +1,6 @@
 -- What a well-formed core is: each number names something, each operation is serviced where its owner is, and
 -- nothing stands where the language forbids it. The types of expressions aren't looked at.
-use Rattle.std.specs.Prelude.{◌≡◌, ℕ, zero, suc, ◌+◌, ◌-◌, ◌<◌, Bool, true, false, not, ◌&&◌, ◌||◌, List, [], ◌∷◌, length, map, filter, take, Option, Some, None, option_to_list, ◌==◌, nat_lt, nat_le, if◌then◌else◌, slice_get, IsTrue, All, EachIndex, Contains}
+use Rattle.std.specs.Prelude.{ℕ, suc, ◌-◌, Bool, true, false, not, ◌&&◌, ◌||◌, List, [], ◌∷◌, length, map, Option, Some, None, option_to_list, ◌==◌, nat_lt, slice_get, IsTrue}
 use Rattle.std.specs.List.{list_all, list_any}
 use Rattle.sr_core.specs.declared.component.Body.{Body}
 use Rattle.sr_core.specs.declared.component.Component.{Component}
@@ -20,8 +20,6 @@ use Rattle.sr_core.specs.declared.expression.Leaf.TheVariants.{Operation as oper
 use Rattle.sr_core.specs.declared.formal.Formal.{Formal}
 use Rattle.sr_core.specs.declared.formal.Mode.{Mode}
 use Rattle.sr_core.specs.declared.formal.Mode.TheVariants.{Val, Var, Res}
-use Rattle.sr_core.specs.declared.formal.Returned.{Returned}
-use Rattle.sr_core.specs.declared.owner.Home.{Home}
 use Rattle.sr_core.specs.declared.owner.Home.TheVariants.{Mine, Imported}
 use Rattle.sr_core.specs.declared.owner.Root.{Root}
 use Rattle.sr_core.specs.declared.owner.Root.TheVariants.{Own as own_root, Shared as shared_root}
@@ -30,7 +28,6 @@ use Rattle.sr_core.specs.declared.site.Site.{Site}
 use Rattle.sr_core.specs.declared.statement.Action.{Action}
 use Rattle.sr_core.specs.declared.statement.Action.TheVariants.{Evaluate, Send, Forward, Assign, Swap, Bump, Write, Stop, Destroy, Until, Exit, Next, Reply}
 use Rattle.sr_core.specs.declared.statement.CoCall.{CoCall}
-use Rattle.sr_core.specs.declared.statement.Declaration.{Declaration}
 use Rattle.sr_core.specs.declared.statement.DimsExpr.{DimsExpr}
 use Rattle.sr_core.specs.declared.statement.DimsExpr.TheVariants.{None as no_dims, One, Two}
 use Rattle.sr_core.specs.declared.statement.ItemShape.{ItemShape}
@@ -40,7 +37,6 @@ use Rattle.sr_core.specs.declared.statement.Scope.{Scope}
 use Rattle.sr_core.specs.declared.statement.Scope.TheVariants.{Own as own_scope, Shared as shared_scope}
 use Rattle.sr_core.specs.declared.statement.Setup.{Setup}
 use Rattle.sr_core.specs.declared.statement.Setup.TheVariants.{Typed, Untyped}
-use Rattle.sr_core.specs.declared.statement.ShapeExpr.{ShapeExpr}
 use Rattle.sr_core.specs.declared.statement.Statement.{Statement}
 use Rattle.sr_core.specs.declared.statement.Statement.TheFolds.{fold-Statement}
 use Rattle.sr_core.specs.declared.statement.Statement.TheOpen.{CoArm-F, Guarded-F, Statement-F}

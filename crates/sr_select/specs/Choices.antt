@@ -4,7 +4,7 @@
 -- order of the text, and the first pair whose `and` isn't false fixes the arm. Without `by` that invocation is
 -- serviced. With `by` it is the one of the least key among those of the arm's operation, from that invocation on,
 -- whose `and` isn't false; the oldest of equals. The first fault met in this order is the run's.
-use Rattle.std.specs.Prelude.{ℕ, ◌+◌, ℤ, pos, Bool, true, false, not, List, [], ◌∷◌, ◌++◌, drop, map, filter, find, flat_map, filter_map, Option, Some, None, is_some, Result, Ok, Err, if◌then◌else◌, int_lt}
+use Rattle.std.specs.Prelude.{ℕ, ◌+◌, ℤ, pos, Bool, true, false, List, [], ◌∷◌, ◌++◌, drop, filter, find, flat_map, filter_map, Option, Some, None, is_some, Result, Ok, Err, if◌then◌else◌, int_lt}
 use Rattle.std.specs.List.{enumerate_from}
 use Rattle.sr_value.specs.declared.capability.Owner.{Owner}
 use Rattle.sr_value.specs.declared.capability.Owner.TheVariants.{Inst, Proc as of_process}
@@ -26,7 +26,7 @@ use Rattle.sr_select.specs.declared.choice.Choice.{Choice}
 use Rattle.sr_select.specs.declared.choice.Choice.TheVariants.{Service, Else, Nothing, Bad}
 use Rattle.sr_select.specs.declared.least.Keyed.{Keyed}
 use Rattle.sr_select.specs.Guards.{Guard, Guarding, guarding, guard_value, truth_of_guard}
-use Rattle.sr_select.specs.Looks.{Looked, Found, Faulted, Looking, give, settle, ◌>>>◌, result_of, seen_of}
+use Rattle.sr_select.specs.Looks.{Looked, give, settle, ◌>>>◌, result_of, seen_of}
 use Rattle.sr_select.specs.Readings.{Reading}
 
 -- whose invocations a statement services

@@ -1,6 +1,6 @@
 -- What the guards of an `in` statement mean. A guard is evaluated by the machine and not by the process, on the
 -- values that went with the `Select`, the arguments of an invocation and the shared variables.
-use Rattle.std.specs.Prelude.{ℕ, zero, suc, ◌+◌, ℤ, pos, ◌+ℤ◌, ◌-ℤ◌, Bool, true, false, List, [], ◌∷◌, ◌++◌, map, Option, Some, None, Result, Ok, Err, ◌==◌}
+use Rattle.std.specs.Prelude.{ℕ, ◌+◌, pos, ◌+ℤ◌, ◌-ℤ◌, Bool, true, false, List, [], ◌∷◌, ◌++◌, Option, Some, None, Result, Ok, Err, ◌==◌}
 use Rattle.sr_value.specs.declared.capability.Cap.{Cap}
 use Rattle.sr_value.specs.declared.capability.Cap.TheVariants.{Op, Res as a_resource, Vm}
 use Rattle.sr_value.specs.declared.capability.Owner.{Owner}
@@ -23,7 +23,6 @@ use Rattle.sr_value.specs.Operands.{cap_in}
 use Rattle.sr_value.specs.Operators.{int_result, value_of, value_of_one}
 use Rattle.sr_value.specs.Shapes.{extent, shape_fault, unless_fault, default_value}
 use Rattle.sr_value.specs.Parts.{or_fault, with_ok, loaded_at, part_of, all_fit, each_fits}
-use Rattle.sr_ask.specs.declared.entry.Seen.{Seen}
 use Rattle.sr_ask.specs.declared.entry.Seen.TheVariants.{Cell, Pending as pending_count}
 use Rattle.sr_core.specs.declared.expression.Argument.TheFolds.{fold-Expr, fold-Part, fold-PlaceExpr, fold-Step}
 use Rattle.sr_core.specs.declared.expression.Argument.TheOpen.{Argument-F, Expr-F, Part-F, Step-F, PlaceExpr-F, Reading-F}
@@ -49,7 +48,7 @@ use Rattle.sr_core.specs.declared.site.Named.TheVariants.{Own as named_own, Home
 use Rattle.sr_core.specs.Applied.{applied}
 use Rattle.sr_core.specs.Formals.{sent_to, sent_after}
 use Rattle.sr_core.specs.Values.{truth_of, number_of, cap_of, member_of, count_of, array_of, formal_shape, int_bound}
-use Rattle.sr_select.specs.Looks.{Looked, Found, Faulted, Looking, give, fault, settle, then_look, ◌>>>◌}
+use Rattle.sr_select.specs.Looks.{Found, Faulted, Looking, give, fault, settle, ◌>>>◌}
 use Rattle.sr_select.specs.Readings.{Reading}
 
 -- What a guard sees: the world, the process, and the values of the names that it may use.
