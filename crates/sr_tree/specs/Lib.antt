@@ -1,6 +1,7 @@
 pub mod Components
 pub mod Declarations
 pub mod Expressions
+pub mod Nested
 pub mod Parts
 pub mod Statements
 pub mod Tables

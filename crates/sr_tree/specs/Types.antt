@@ -19,6 +19,8 @@ use Rattle.sr_tree.specs.declared.types.RangeTree.{RangeTree}
 use Rattle.sr_tree.specs.declared.types.RangeTree.TheVariants as range
 use Rattle.sr_tree.specs.declared.types.Returned.{Returned, out-Returned, roll-Returned}
 use Rattle.sr_tree.specs.declared.types.Signature.{Signature, out-Signature, roll-Signature}
+use Rattle.sr_tree.specs.declared.types.TypePlace.{TypePlace}
+use Rattle.sr_tree.specs.declared.types.TypePlace.TheVariants.{Declaration, Elsewhere}
 use Rattle.sr_tree.specs.declared.types.TypeTree.{TypeTree}
 use Rattle.sr_tree.specs.declared.types.TypeTree.TheVariants as ty
 use Rattle.sr_tree.specs.Tables.{IsSign, IsWord, IsName, IsSeparator, name_of}
@@ -118,79 +120,107 @@ abbrev pub formal_span : List Token → Span
 formal_span [] = record { file = 0; from = 0; to = 0; line = 0 }
 formal_span (t ∷ ts) = t.span
 
+-- enumerations and records are declared within the declaration of a type alone
+abbrev pub MayDeclare : TypePlace → Type 0
+MayDeclare Declaration = Unit {0}
+MayDeclare Elsewhere = ⊥
+
 mutual
   -- a type that is no `enum` and no `rec`:
   -- "int" | "bool" | "char" | "string" "[" (expr | "*") "]" | "cap" (qname | "vm" | signature) | dims type | qname
-  pub data SpellsPlainType : TypeTree → List Token → Type 0 where
-    int : (t : Token) → IsWord word.Int t → SpellsPlainType (ty.Int t.span) (t ∷ [])
-    bool : (t : Token) → IsWord word.Bool t → SpellsPlainType (ty.Bool t.span) (t ∷ [])
-    char : (t : Token) → IsWord word.Char t → SpellsPlainType (ty.Char t.span) (t ∷ [])
+  pub data SpellsPlainTypeIn (place : TypePlace) : TypeTree → List Token → Type 0 where
+    int : (t : Token) → IsWord word.Int t → SpellsPlainTypeIn place (ty.Int t.span) (t ∷ [])
+    bool : (t : Token) → IsWord word.Bool t → SpellsPlainTypeIn place (ty.Bool t.span) (t ∷ [])
+    char : (t : Token) → IsWord word.Char t → SpellsPlainTypeIn place (ty.Char t.span) (t ∷ [])
     string : {e : Expr} {u : List Token} (t opening closing : Token) → IsWord word.String t → IsSign sign.OpenBracket opening
         → SpellsExpr 5 e u → IsSign sign.CloseBracket closing
-        → SpellsPlainType (ty.Str t.span (Some e)) (t ∷ opening ∷ (u ++ closing ∷ []))
+        → SpellsPlainTypeIn place (ty.Str t.span (Some e)) (t ∷ opening ∷ (u ++ closing ∷ []))
     string_of_any_length : (t opening star closing : Token) → IsWord word.String t → IsSign sign.OpenBracket opening
         → IsSign sign.Star star → IsSign sign.CloseBracket closing
-        → SpellsPlainType (ty.Str t.span None) (t ∷ opening ∷ star ∷ closing ∷ [])
+        → SpellsPlainTypeIn place (ty.Str t.span None) (t ∷ opening ∷ star ∷ closing ∷ [])
     cap_of : {q : QualifiedName} {u : List Token} (t : Token) → IsWord word.Cap t → SpellsQualifiedName q u
-        → SpellsPlainType (ty.CapOf t.span q) (t ∷ u)
-    cap_machine : (t vm : Token) → IsWord word.Cap t → IsWord word.Vm vm → SpellsPlainType (ty.CapMachine t.span) (t ∷ vm ∷ [])
-    cap_operation : {s : Signature} {u : List Token} (t : Token) → IsWord word.Cap t → SpellsSignature s u
-        → SpellsPlainType (ty.CapOperation t.span s) (t ∷ u)
-    array : {d : DimsTree} {item : TypeTree} {u v : List Token} → SpellsDims d u → SpellsPlainType item v
-        → SpellsPlainType (ty.Array d.span d item) (u ++ v)
-    named : {q : QualifiedName} {u : List Token} → SpellsQualifiedName q u → SpellsPlainType (ty.Named q.span q) u
+        → SpellsPlainTypeIn place (ty.CapOf t.span q) (t ∷ u)
+    cap_machine : (t vm : Token) → IsWord word.Cap t → IsWord word.Vm vm → SpellsPlainTypeIn place (ty.CapMachine t.span) (t ∷ vm ∷ [])
+    cap_operation : {s : Signature} {u : List Token} (t : Token) → IsWord word.Cap t → SpellsSignatureIn place s u
+        → SpellsPlainTypeIn place (ty.CapOperation t.span s) (t ∷ u)
+    array : {d : DimsTree} {item : TypeTree} {u v : List Token} → SpellsDims d u → SpellsTypeIn place item v
+        → SpellsPlainTypeIn place (ty.Array d.span d item) (u ++ v)
+    named : {q : QualifiedName} {u : List Token} → SpellsQualifiedName q u → SpellsPlainTypeIn place (ty.Named q.span q) u
+
+  -- a type, also where an enumeration or a record may be declared:
+  -- "enum" "(" name {"," name} ")" | "rec" "(" field {";" field} ")"
+  pub data SpellsTypeIn (place : TypePlace) : TypeTree → List Token → Type 0 where
+    plain : {t : TypeTree} {u : List Token} → SpellsPlainTypeIn place t u → SpellsTypeIn place t u
+    enum : {ns : List Name} {u : List Token} (t opening closing : Token) → MayDeclare place → IsWord word.Enum t
+        → IsSign sign.OpenParen opening → SpellsNames ns u → IsSign sign.CloseParen closing
+        → SpellsTypeIn place (ty.Enum t.span ns) (t ∷ opening ∷ (u ++ closing ∷ []))
+    record_of : {f : Formal} {fs : List Formal} {u v : List Token} (t opening closing : Token) → MayDeclare place → IsWord word.Rec t
+        → IsSign sign.OpenParen opening → SpellsFieldIn place f u → SpellsMoreFieldsIn place fs v → IsSign sign.CloseParen closing
+        → SpellsTypeIn place (ty.Rec t.span (f ∷ fs)) (t ∷ opening ∷ (u ++ (v ++ closing ∷ [])))
+
+  -- a field of a record: a formal with no word before it
+  pub data SpellsFieldIn (place : TypePlace) : Formal → List Token → Type 0 where
+    field : {f : Formal} {u : List Token} → SpellsFormalIn place f u → (out-Formal f).mode ≡ None → SpellsFieldIn place f u
+
+  -- {";" field}
+  pub data SpellsMoreFieldsIn (place : TypePlace) : List Formal → List Token → Type 0 where
+    no_more_fields : SpellsMoreFieldsIn place [] []
+    one_more_field : {f : Formal} {fs : List Formal} {u v : List Token} (separator : Token) → IsSeparator separator → SpellsFieldIn place f u
+        → SpellsMoreFieldsIn place fs v → SpellsMoreFieldsIn place (f ∷ fs) (separator ∷ (u ++ v))
 
   -- formal = ["val" | "var" | "res"] decl {"," decl} ":" type
-  pub data SpellsFormal : Formal → List Token → Type 0 where
+  pub data SpellsFormalIn (place : TypePlace) : Formal → List Token → Type 0 where
     formal : {m : Option PassMode} {ds : List Decl} {t : TypeTree} {u v w : List Token} (colon : Token) → SpellsMode m u → SpellsDecls ds v
-        → IsSign sign.Colon colon → SpellsPlainType t w
-        → SpellsFormal (roll-Formal (record { span = formal_span (u ++ v); mode = m; decls = ds; ty = t })) (u ++ (v ++ colon ∷ w))
+        → IsSign sign.Colon colon → SpellsTypeIn place t w
+        → SpellsFormalIn place (roll-Formal (record { span = formal_span (u ++ v); mode = m; decls = ds; ty = t })) (u ++ (v ++ colon ∷ w))
 
   -- {";" formal}
-  pub data SpellsMoreFormals : List Formal → List Token → Type 0 where
-    no_more_formals : SpellsMoreFormals [] []
-    one_more_formal : {f : Formal} {fs : List Formal} {u v : List Token} (separator : Token) → IsSeparator separator → SpellsFormal f u
-        → SpellsMoreFormals fs v → SpellsMoreFormals (f ∷ fs) (separator ∷ (u ++ v))
+  pub data SpellsMoreFormalsIn (place : TypePlace) : List Formal → List Token → Type 0 where
+    no_more_formals : SpellsMoreFormalsIn place [] []
+    one_more_formal : {f : Formal} {fs : List Formal} {u v : List Token} (separator : Token) → IsSeparator separator → SpellsFormalIn place f u
+        → SpellsMoreFormalsIn place fs v → SpellsMoreFormalsIn place (f ∷ fs) (separator ∷ (u ++ v))
 
   -- formals = "(" [formal {";" formal}] ")"
-  pub data SpellsFormals : List Formal → List Token → Type 0 where
+  pub data SpellsFormalsIn (place : TypePlace) : List Formal → List Token → Type 0 where
     no_formals : (opening closing : Token) → IsSign sign.OpenParen opening → IsSign sign.CloseParen closing
-        → SpellsFormals [] (opening ∷ closing ∷ [])
-    formals : {f : Formal} {fs : List Formal} {u v : List Token} (opening closing : Token) → IsSign sign.OpenParen opening → SpellsFormal f u
-        → SpellsMoreFormals fs v → IsSign sign.CloseParen closing
-        → SpellsFormals (f ∷ fs) (opening ∷ (u ++ (v ++ closing ∷ [])))
+        → SpellsFormalsIn place [] (opening ∷ closing ∷ [])
+    formals : {f : Formal} {fs : List Formal} {u v : List Token} (opening closing : Token) → IsSign sign.OpenParen opening → SpellsFormalIn place f u
+        → SpellsMoreFormalsIn place fs v → IsSign sign.CloseParen closing
+        → SpellsFormalsIn place (f ∷ fs) (opening ∷ (u ++ (v ++ closing ∷ [])))
 
   -- ["returns" decl ":" type]
-  pub data SpellsReturned : Option Returned → List Token → Type 0 where
-    returns_nothing : SpellsReturned None []
+  pub data SpellsReturnedIn (place : TypePlace) : Option Returned → List Token → Type 0 where
+    returns_nothing : SpellsReturnedIn place None []
     returned : {d : Decl} {t : TypeTree} {u v : List Token} (w colon : Token) → IsWord word.Returns w → SpellsDecl d u
-        → IsSign sign.Colon colon → SpellsPlainType t v
-        → SpellsReturned (Some (roll-Returned (record { span = w.span; decl = d; ty = t }))) (w ∷ (u ++ colon ∷ v))
+        → IsSign sign.Colon colon → SpellsTypeIn place t v
+        → SpellsReturnedIn place (Some (roll-Returned (record { span = w.span; decl = d; ty = t }))) (w ∷ (u ++ colon ∷ v))
 
   -- signature = formals ["returns" decl ":" type] ["{" kind ["," kind] "}"]; the braces are those of the innermost
   -- signature that they can belong to
-  pub data SpellsSignature : Signature → List Token → Type 0 where
-    signature : {fs : List Formal} {r : Option Returned} {ks : List InvocationKind} {u v w : List Token} → SpellsFormals fs u → SpellsReturned r v
-        → SpellsKinds ks w → BracesBelong r ks
-        → SpellsSignature (roll-Signature (record { span = formal_span u; formals = fs; returned = r; kinds = ks })) (u ++ (v ++ w))
+  pub data SpellsSignatureIn (place : TypePlace) : Signature → List Token → Type 0 where
+    signature : {fs : List Formal} {r : Option Returned} {ks : List InvocationKind} {u v w : List Token} → SpellsFormalsIn place fs u
+        → SpellsReturnedIn place r v → SpellsKinds ks w → BracesBelong r ks
+        → SpellsSignatureIn place (roll-Signature (record { span = formal_span u; formals = fs; returned = r; kinds = ks })) (u ++ (v ++ w))
 
--- a field of a record: a formal with no word before it
-pub data SpellsField : Formal → List Token → Type 0 where
-  field : {f : Formal} {u : List Token} → SpellsFormal f u → (out-Formal f).mode ≡ None → SpellsField f u
+-- the type that a declaration of a type gives a name: enumerations and records stand anywhere in it
+abbrev pub SpellsType : TypeTree → List Token → Type 0
+SpellsType = SpellsTypeIn Declaration
 
--- {";" field}
-pub data SpellsMoreFields : List Formal → List Token → Type 0 where
-  no_more_fields : SpellsMoreFields [] []
-  one_more_field : {f : Formal} {fs : List Formal} {u v : List Token} (separator : Token) → IsSeparator separator → SpellsField f u
-      → SpellsMoreFields fs v → SpellsMoreFields (f ∷ fs) (separator ∷ (u ++ v))
+-- elsewhere they don't stand
+abbrev pub SpellsPlainType : TypeTree → List Token → Type 0
+SpellsPlainType = SpellsPlainTypeIn Elsewhere
 
--- type, where an enumeration or a record may be declared too:
--- "enum" "(" name {"," name} ")" | "rec" "(" field {";" field} ")"
-pub data SpellsType : TypeTree → List Token → Type 0 where
-  plain : {t : TypeTree} {u : List Token} → SpellsPlainType t u → SpellsType t u
-  enum : {ns : List Name} {u : List Token} (t opening closing : Token) → IsWord word.Enum t → IsSign sign.OpenParen opening
-      → SpellsNames ns u → IsSign sign.CloseParen closing
-      → SpellsType (ty.Enum t.span ns) (t ∷ opening ∷ (u ++ closing ∷ []))
-  record_of : {f : Formal} {fs : List Formal} {u v : List Token} (t opening closing : Token) → IsWord word.Rec t → IsSign sign.OpenParen opening
-      → SpellsField f u → SpellsMoreFields fs v → IsSign sign.CloseParen closing
-      → SpellsType (ty.Rec t.span (f ∷ fs)) (t ∷ opening ∷ (u ++ (v ++ closing ∷ [])))
+abbrev pub SpellsFormal : Formal → List Token → Type 0
+SpellsFormal = SpellsFormalIn Elsewhere
+
+abbrev pub SpellsMoreFormals : List Formal → List Token → Type 0
+SpellsMoreFormals = SpellsMoreFormalsIn Elsewhere
+
+abbrev pub SpellsFormals : List Formal → List Token → Type 0
+SpellsFormals = SpellsFormalsIn Elsewhere
+
+abbrev pub SpellsReturned : Option Returned → List Token → Type 0
+SpellsReturned = SpellsReturnedIn Elsewhere
+
+abbrev pub SpellsSignature : Signature → List Token → Type 0
+SpellsSignature = SpellsSignatureIn Elsewhere

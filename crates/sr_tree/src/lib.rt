@@ -28,5 +28,6 @@ pub use statement::{
 };
 pub use token::{Sign, Token, TokenKind, Tokens, Word};
 pub use types::{
-    Decl, DimsTree, Formal, InvocationKind, PassMode, RangeTree, Returned, Signature, TypeTree,
+    Decl, DimsTree, Formal, InvocationKind, PassMode, RangeTree, Returned, Signature, TypePlace,
+    TypeTree,
 };

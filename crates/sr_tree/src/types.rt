@@ -46,6 +46,13 @@ pub enum InvocationKind {
     Send,
 }
 
+/// Where a type stands: within the declaration of a type, which may declare enumerations and records, or elsewhere.
+#[derive(Clone, Copy)]
+pub enum TypePlace {
+    Declaration,
+    Elsewhere,
+}
+
 /// A type. Each `span` is the span of the first token.
 #[derive(Drop)]
 #[cycle(types)]
