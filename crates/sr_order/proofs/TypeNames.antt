@@ -9,12 +9,13 @@ use Rattle.sr_tree.specs.declared.types.Formal.{Formal, roll-Formal}
 use Rattle.sr_tree.specs.declared.types.RangeTree.{RangeTree}
 use Rattle.sr_tree.specs.declared.types.Returned.{Returned, roll-Returned}
 use Rattle.sr_tree.specs.declared.types.Signature.{Signature, roll-Signature}
+use Rattle.sr_tree.specs.declared.types.TypePlace.{TypePlace}
 use Rattle.sr_tree.specs.declared.types.TypeTree.{TypeTree, roll-TypeTree}
 use Rattle.sr_tree.specs.declared.types.TypeTree.TheFolds.{fold-roll-Formal, fold-roll-Returned, fold-roll-Signature, fold-roll-TypeTree, map-Formal, map-Returned, map-Signature, map-TypeTree}
 use Rattle.sr_tree.specs.declared.types.TypeTree.TheOpen.{TypeTree-F, Formal-F, Returned-F, Signature-F}
 use Rattle.sr_tree.specs.declared.types.TypeTree.TheVariants as ty
 use Rattle.sr_tree.specs.Types as g
-use Rattle.sr_tree.specs.Types.{SpellsNames, SpellsMoreNames, SpellsRange, SpellsSecondRange, SpellsDims, SpellsDecl, SpellsDecls, SpellsMoreDecls, SpellsPlainType, SpellsFormal, SpellsMoreFormals, SpellsFormals, SpellsReturned, SpellsSignature, SpellsField, SpellsMoreFields, SpellsType, formal_span}
+use Rattle.sr_tree.specs.Types.{SpellsNames, SpellsMoreNames, SpellsRange, SpellsSecondRange, SpellsDims, SpellsDecl, SpellsDecls, SpellsMoreDecls, SpellsPlainTypeIn, SpellsTypeIn, SpellsFieldIn, SpellsMoreFieldsIn, SpellsFormalIn, SpellsMoreFormalsIn, SpellsFormals, SpellsFormalsIn, SpellsSignatureIn, formal_span}
 use Rattle.sr_order.specs.Order.{Picks, nothing, left_out, picked}
 use Rattle.sr_order.specs.Spans.{joined}
 use Rattle.sr_order.specs.Names.{where_some, names_spans, range_names, dims_names, decl_names, type_names_step, formal_names_step, returned_names_step, signature_names_step, type_names, formal_names, returned_names, signature_names}
@@ -100,7 +101,7 @@ decls-picked (g.decls d m) = both (decl-picked d) (more-decls m)
 -- ---- types
 
 mutual
-  pub plain-type-picked : {t : TypeTree} {u : List Token} → SpellsPlainType t u → Picks (type_names t) u
+  pub plain-type-picked : {p : TypePlace} {t : TypeTree} {u : List Token} → SpellsPlainTypeIn p t u → Picks (type_names t) u
   plain-type-picked (g.int t h) = of_type (TypeTree-F.Int t.span) (ty.rolls-Int t.span) none
   plain-type-picked (g.bool t h) = of_type (TypeTree-F.Bool t.span) (ty.rolls-Bool t.span) none
   plain-type-picked (g.char t h) = of_type (TypeTree-F.Char t.span) (ty.rolls-Char t.span) none
@@ -112,43 +113,43 @@ mutual
   plain-type-picked (g.cap_operation {s = s} t h d) =
       of_type (TypeTree-F.CapOperation t.span s) (ty.rolls-CapOperation t.span s) (left_out t (signature-picked d))
   plain-type-picked (g.array {d = d} {item = item} x y) =
-      of_type (TypeTree-F.Array d.span d item) (ty.rolls-Array d.span d item) (both (dims-picked x) (plain-type-picked y))
+      of_type (TypeTree-F.Array d.span d item) (ty.rolls-Array d.span d item) (both (dims-picked x) (type-picked y))
   plain-type-picked (g.named {q = q} d) = of_type (TypeTree-F.Named q.span q) (ty.rolls-Named q.span q) (qualified-picked d)
 
-  formal-picked : {f : Formal} {u : List Token} → SpellsFormal f u → Picks (formal_names f) u
+  pub type-picked : {p : TypePlace} {t : TypeTree} {u : List Token} → SpellsTypeIn p t u → Picks (type_names t) u
+  type-picked (g.plain d) = plain-type-picked d
+  type-picked (g.enum {ns = ns} t o k may h i d j) = of_type (TypeTree-F.Enum t.span ns) (ty.rolls-Enum t.span ns) (picked t (left_out o (first _ (names-picked d))))
+  type-picked (g.record_of {f = f} {fs = fs} t o k may h i d m j) =
+      of_type (TypeTree-F.Rec t.span (f ∷ fs)) (ty.rolls-Rec t.span (f ∷ fs)) (picked t (left_out o (both (field-picked d) (first _ (more-fields m)))))
+
+  field-picked : {p : TypePlace} {f : Formal} {u : List Token} → SpellsFieldIn p f u → Picks (formal_names f) u
+  field-picked (g.field d h) = formal-picked d
+
+  more-fields : {p : TypePlace} {fs : List Formal} {u : List Token} → SpellsMoreFieldsIn p fs u → Picks (joined (map formal_names fs)) u
+  more-fields g.no_more_fields = nothing
+  more-fields (g.one_more_field t h d m) = left_out t (both (field-picked d) (more-fields m))
+
+  formal-picked : {p : TypePlace} {f : Formal} {u : List Token} → SpellsFormalIn p f u → Picks (formal_names f) u
   formal-picked (g.formal {m = m} {ds = ds} {t = t} {u = u} {v = v} c k d h e) =
       of_formal (record { span = formal_span (u ++ v); mode = m; decls = ds; ty = t })
-      (second u (both (decls-picked d) (left_out c (plain-type-picked e))))
+      (second u (both (decls-picked d) (left_out c (type-picked e))))
 
-  more-formals : {fs : List Formal} {u : List Token} → SpellsMoreFormals fs u → Picks (joined (map formal_names fs)) u
+  more-formals : {p : TypePlace} {fs : List Formal} {u : List Token} → SpellsMoreFormalsIn p fs u → Picks (joined (map formal_names fs)) u
   more-formals g.no_more_formals = nothing
   more-formals (g.one_more_formal t h d m) = left_out t (both (formal-picked d) (more-formals m))
 
-  some-formals : {fs : List Formal} {u : List Token} → SpellsFormals fs u → Picks (joined (map formal_names fs)) u
+  some-formals : {p : TypePlace} {fs : List Formal} {u : List Token} → SpellsFormalsIn p fs u → Picks (joined (map formal_names fs)) u
   some-formals (g.no_formals o k h i) = none
   some-formals (g.formals o k h d m i) = left_out o (both (formal-picked d) (first _ (more-formals m)))
 
-  pub signature-picked : {s : Signature} {u : List Token} → SpellsSignature s u → Picks (signature_names s) u
+  pub signature-picked : {p : TypePlace} {s : Signature} {u : List Token} → SpellsSignatureIn p s u → Picks (signature_names s) u
   signature-picked (g.signature {fs = fs} {ks = ks} {u = u} d g.returns_nothing k b) =
       of_signature (record { span = formal_span u; formals = fs; returned = None; kinds = ks }) (both (some-formals d) none)
   signature-picked (g.signature {fs = fs} {ks = ks} {u = u} d (g.returned {d = r} {t = t} w c h x i y) k b) =
       of_signature (record { span = formal_span u; formals = fs; returned = Some (roll-Returned (record { span = w.span; decl = r; ty = t })); kinds = ks })
       (both (some-formals d) (first _ (of_returned (record { span = w.span; decl = r; ty = t })
-      (left_out w (both (decl-picked x) (left_out c (plain-type-picked y)))))))
+      (left_out w (both (decl-picked x) (left_out c (type-picked y)))))))
 
 -- the formals of a component
 pub formals-picked : {fs : List Formal} {u : List Token} → SpellsFormals fs u → Picks (flat_map formal_names fs) u
 formals-picked {fs = fs} d = gathered formal_names fs (some-formals d)
-
-field-picked : {f : Formal} {u : List Token} → SpellsField f u → Picks (formal_names f) u
-field-picked (g.field d h) = formal-picked d
-
-more-fields : {fs : List Formal} {u : List Token} → SpellsMoreFields fs u → Picks (joined (map formal_names fs)) u
-more-fields g.no_more_fields = nothing
-more-fields (g.one_more_field t h d m) = left_out t (both (field-picked d) (more-fields m))
-
-pub type-picked : {t : TypeTree} {u : List Token} → SpellsType t u → Picks (type_names t) u
-type-picked (g.plain d) = plain-type-picked d
-type-picked (g.enum {ns = ns} t o k h i d j) = of_type (TypeTree-F.Enum t.span ns) (ty.rolls-Enum t.span ns) (left_out t (left_out o (first _ (names-picked d))))
-type-picked (g.record_of {f = f} {fs = fs} t o k h i d m j) =
-    of_type (TypeTree-F.Rec t.span (f ∷ fs)) (ty.rolls-Rec t.span (f ∷ fs)) (left_out t (left_out o (both (field-picked d) (first _ (more-fields m)))))

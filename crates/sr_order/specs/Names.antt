@@ -117,7 +117,7 @@ abbrev pub part_names : Part → List Span
 part_names = fold-Part (List Span) (List Span) (List Span) (List Span)
     create_names_step expr_names_step invocation_names_step part_names_step
 
--- ---- types
+-- ---- types: their names, and the words of enumerations and records, which stand for a name
 
 abbrev pub range_names : RangeTree → List Span
 range_names (range.Length span length) = expr_names length
@@ -136,8 +136,8 @@ type_names_step (TypeTree-F.Int span) = []
 type_names_step (TypeTree-F.Bool span) = []
 type_names_step (TypeTree-F.Char span) = []
 type_names_step (TypeTree-F.Str span length) = where_some expr_names length
-type_names_step (TypeTree-F.Enum span literals) = names_spans literals
-type_names_step (TypeTree-F.Rec span fields) = joined fields
+type_names_step (TypeTree-F.Enum span literals) = span ∷ names_spans literals
+type_names_step (TypeTree-F.Rec span fields) = span ∷ joined fields
 type_names_step (TypeTree-F.CapOf span name) = qualified_names name
 type_names_step (TypeTree-F.CapMachine span) = []
 type_names_step (TypeTree-F.CapOperation span signature) = signature

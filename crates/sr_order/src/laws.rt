@@ -25,7 +25,7 @@ pub fn picked_in_order()
 {}
 
 /// A law of the grammar: each name in the tree of a file, declared or used, has the span of one of the file's tokens,
-/// and the names have them in the order of the tokens.
+/// and the names have them in the order of the tokens. The words `enum` and `rec` are among the names.
 pub fn names_are_picked()
     ensures { (tokens : List Token) (file : File) → Spells tokens file → Picks (file_names file) tokens }
 {}
