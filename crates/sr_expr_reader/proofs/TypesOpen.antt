@@ -2,6 +2,7 @@
 use Rattle.std.proofs.Common.{◌≡◌, refl, sym, ◌∙◌, ap, Bool, true, false, List, [], ◌∷◌, Option, Some, None}
 use Rattle.sr_value.specs.declared.place.Span.{Span}
 use Rattle.sr_tree.specs.declared.expr.Expr.{Expr}
+use Rattle.sr_tree.specs.declared.name.Name.{Name}
 use Rattle.sr_tree.specs.declared.name.QualifiedName.{QualifiedName}
 use Rattle.sr_tree.specs.declared.token.Token.{Token}
 use Rattle.sr_tree.specs.declared.types.DimsTree.{DimsTree}
@@ -9,12 +10,13 @@ use Rattle.sr_tree.specs.declared.types.Formal.{Formal}
 use Rattle.sr_tree.specs.declared.types.InvocationKind.{InvocationKind}
 use Rattle.sr_tree.specs.declared.types.Returned.{Returned}
 use Rattle.sr_tree.specs.declared.types.Signature.{Signature, out-Signature, roll-Signature, fold_out-Signature}
+use Rattle.sr_tree.specs.declared.types.TypePlace.{TypePlace}
 use Rattle.sr_tree.specs.declared.types.TypeTree.{TypeTree, fold-roll-TypeTree}
 use Rattle.sr_tree.specs.declared.types.TypeTree.TheFolds.{fold-Signature}
 use Rattle.sr_tree.specs.declared.types.TypeTree.TheOpen.{TypeTree-F}
 use Rattle.sr_tree.specs.declared.types.TypeTree.TheVariants as ty
 use Rattle.sr_tree.specs.Types as g
-use Rattle.sr_tree.specs.Types.{EndsOpen, SpellsPlainType}
+use Rattle.sr_tree.specs.Types.{EndsOpen, SpellsPlainTypeIn, SpellsTypeIn}
 use Rattle.sr_expr_reader.specs.TypeReaders.{ends_open, has_no_kinds, type_ends_open}
 
 abbrev fold_signature : Signature → Bool
@@ -77,6 +79,14 @@ named-closed : (s : Span) (q : QualifiedName) → ends_open (ty.Named s q) ≡ f
 unfolding ends_open
 named-closed s q = ap ends_open (sym (ty.rolls-Named s q)) ∙ fold-roll-TypeTree Bool Bool Bool Bool type_ends_open (λ formal. false) (λ returned. false) (λ signature. has_no_kinds signature.kinds) (TypeTree-F.Named s q)
 
+enum-closed : (s : Span) (ns : List Name) → ends_open (ty.Enum s ns) ≡ false
+unfolding ends_open
+enum-closed s ns = ap ends_open (sym (ty.rolls-Enum s ns)) ∙ fold-roll-TypeTree Bool Bool Bool Bool type_ends_open (λ formal. false) (λ returned. false) (λ signature. has_no_kinds signature.kinds) (TypeTree-F.Enum s ns)
+
+record-closed : (s : Span) (fs : List Formal) → ends_open (ty.Rec s fs) ≡ false
+unfolding ends_open
+record-closed s fs = ap ends_open (sym (ty.rolls-Rec s fs)) ∙ fold-roll-TypeTree Bool Bool Bool Bool type_ends_open (λ formal. false) (λ returned. false) (λ signature. has_no_kinds signature.kinds) (TypeTree-F.Rec s fs)
+
 differ : true ≡ false → ⊥
 differ e = cc
 
@@ -85,14 +95,20 @@ empty [] e = refl
 empty (k ∷ ks) e = absurd (differ (sym e))
 
 -- a type that is spelled ends in one where the test says so
-pub spelled-open : {t : TypeTree} {u : List Token} → SpellsPlainType t u → ends_open t ≡ true → EndsOpen t
-spelled-open (g.int t h) e = absurd (differ (sym e ∙ int-closed t.span))
-spelled-open (g.bool t h) e = absurd (differ (sym e ∙ bool-closed t.span))
-spelled-open (g.char t h) e = absurd (differ (sym e ∙ char-closed t.span))
-spelled-open (g.string {e = l} t o k h i d j) e = absurd (differ (sym e ∙ string-closed t.span (Some l)))
-spelled-open (g.string_of_any_length t o s k h i j l) e = absurd (differ (sym e ∙ string-closed t.span None))
-spelled-open (g.cap_of {q = q} t h d) e = absurd (differ (sym e ∙ cap-closed t.span q))
-spelled-open (g.cap_machine t v h i) e = absurd (differ (sym e ∙ machine-closed t.span))
-spelled-open (g.cap_operation {s = x} t h d) e = g.operation x (empty (out-Signature x).kinds (sym (operation-open t.span x) ∙ e))
-spelled-open (g.array {d = d} {item = item} x i) e = g.array item (spelled-open i (sym (array-open d.span d item) ∙ e))
-spelled-open (g.named {q = q} d) e = absurd (differ (sym e ∙ named-closed q.span q))
+mutual
+  pub spelled-open : {p : TypePlace} {t : TypeTree} {u : List Token} → SpellsPlainTypeIn p t u → ends_open t ≡ true → EndsOpen t
+  spelled-open (g.int t h) e = absurd (differ (sym e ∙ int-closed t.span))
+  spelled-open (g.bool t h) e = absurd (differ (sym e ∙ bool-closed t.span))
+  spelled-open (g.char t h) e = absurd (differ (sym e ∙ char-closed t.span))
+  spelled-open (g.string {e = l} t o k h i d j) e = absurd (differ (sym e ∙ string-closed t.span (Some l)))
+  spelled-open (g.string_of_any_length t o s k h i j l) e = absurd (differ (sym e ∙ string-closed t.span None))
+  spelled-open (g.cap_of {q = q} t h d) e = absurd (differ (sym e ∙ cap-closed t.span q))
+  spelled-open (g.cap_machine t v h i) e = absurd (differ (sym e ∙ machine-closed t.span))
+  spelled-open (g.cap_operation {s = x} t h d) e = g.operation x (empty (out-Signature x).kinds (sym (operation-open t.span x) ∙ e))
+  spelled-open (g.array {d = d} {item = item} x i) e = g.array item (spelled-open-type i (sym (array-open d.span d item) ∙ e))
+  spelled-open (g.named {q = q} d) e = absurd (differ (sym e ∙ named-closed q.span q))
+
+  pub spelled-open-type : {p : TypePlace} {t : TypeTree} {u : List Token} → SpellsTypeIn p t u → ends_open t ≡ true → EndsOpen t
+  spelled-open-type (g.plain d) e = spelled-open d e
+  spelled-open-type (g.enum {ns = ns} t o k m h i d j) e = absurd (differ (sym e ∙ enum-closed t.span ns))
+  spelled-open-type (g.record_of {f = f} {fs = fs} t o k m h i d n j) e = absurd (differ (sym e ∙ record-closed t.span (f ∷ fs)))

@@ -24,15 +24,17 @@ use Rattle.sr_tree.specs.declared.types.RangeTree.{RangeTree}
 use Rattle.sr_tree.specs.declared.types.RangeTree.TheVariants as range
 use Rattle.sr_tree.specs.declared.types.Returned.{Returned, out-Returned, roll-Returned}
 use Rattle.sr_tree.specs.declared.types.Signature.{Signature, roll-Signature}
+use Rattle.sr_tree.specs.declared.types.TypePlace.{TypePlace}
+use Rattle.sr_tree.specs.declared.types.TypePlace.TheVariants.{Declaration, Elsewhere}
 use Rattle.sr_tree.specs.declared.types.TypeTree.{TypeTree}
 use Rattle.sr_tree.specs.declared.types.TypeTree.TheVariants as ty
 use Rattle.sr_tree.specs.Expressions.{SpellsExpr, SpellsQualifiedName, expr_span}
 use Rattle.sr_tree.specs.Tables.{IsSign, IsWord, basic_of, word_basic}
 use Rattle.sr_tree.specs.Types as g
-use Rattle.sr_tree.specs.Types.{SpellsNames, SpellsMoreNames, SpellsRange, SpellsSecondRange, SpellsDims, SpellsDecl, SpellsDecls, SpellsMoreDecls, SpellsKinds, SpellsMoreKinds, SpellsPlainType, SpellsFormal, SpellsFormals, SpellsMoreFormals, SpellsReturned, SpellsSignature, SpellsField, SpellsMoreFields, SpellsType, EndsOpen, BracesBelong, kind_of, pass_mode_of, formal_span}
+use Rattle.sr_tree.specs.Types.{SpellsNames, SpellsMoreNames, SpellsRange, SpellsSecondRange, SpellsDims, SpellsDecl, SpellsDecls, SpellsMoreDecls, SpellsKinds, SpellsMoreKinds, SpellsPlainTypeIn, SpellsTypeIn, SpellsFieldIn, SpellsMoreFieldsIn, SpellsFormalIn, SpellsFormalsIn, SpellsMoreFormalsIn, SpellsReturnedIn, SpellsSignatureIn, SpellsType, MayDeclare, EndsOpen, BracesBelong, kind_of, pass_mode_of, formal_span}
 use Rattle.sr_expr_reader.specs.Readers.{Readers, is_comma}
 use Rattle.sr_tree.specs.Tokens.{sign_at, name_at, separator_at}
-use Rattle.sr_expr_reader.specs.TypeReaders.{TypeReaders, basic_type, basic_type_at, mode_of, mode_word_at, invocation_kind_of, kind_at, next_name_at, more_names_at, names_at, upper_bound_at, range_at, second_range_at, dims_at, decl_at, next_decl_at, more_decls_at, decls_at, mode_at, formal_start, formal_after_at, formal_at, is_separated, next_formal_at, more_formals_at, formals_after_at, formals_at, returned_at, more_kinds_at, kinds_at, returns_open, own_kinds_at, signature_at, string_at, cap_at, array_type_at, plain_type_at, enum_at, next_field_at, more_fields_at, record_type_at, type_at, nested, type_readers}
+use Rattle.sr_expr_reader.specs.TypeReaders.{TypeReaders, basic_type, basic_type_at, mode_of, mode_word_at, invocation_kind_of, kind_at, next_name_at, more_names_at, names_at, upper_bound_at, range_at, second_range_at, dims_at, decl_at, next_decl_at, more_decls_at, decls_at, mode_at, formal_start, formal_after_at, formal_at, is_separated, next_formal_at, more_formals_at, formals_after_at, formals_at, returned_at, more_kinds_at, kinds_at, returns_open, own_kinds_at, signature_at, string_at, cap_at, array_type_at, plain_type_at, enum_at, next_field_at, more_fields_at, record_type_at, type_at, nested_in, within, nested, type_readers}
 use Rattle.sr_expr_reader.proofs.ExpressionsSound.{SoundReaders, readers-sound, operand-sound, qualified-sound}
 use Rattle.sr_expr_reader.proofs.ListsSound.{Grows, grows, list-sound}
 use Rattle.sr_expr_reader.proofs.TokensSound.{ASign, a_sign, AWord, a_word, AName, a_name, ASeparator, a_separator, Spanned, spanned, spanned_from, sign-sound, word-sound, name-sound, separator-sound, none_some, some_some, ended, into}
@@ -41,29 +43,30 @@ use Rattle.sr_expr_reader.proofs.TypesOpen.{closed-type}
 -- the fields of a record of readers read what they should
 pub record SoundTypeReaders (r : TypeReaders) : Type 0 where
   pub expressions : SoundReaders r.expressions
-  pub nested : Sound SpellsPlainType r.nested
+  pub nested : Sound (SpellsTypeIn Elsewhere) r.nested
+  pub declared : Sound (SpellsTypeIn Declaration) r.declared
 
 -- single tokens
 
-basic_found : (t : Token) (k : TokenKind) → t.kind ≡ k → (b : BasicType) → basic_of k ≡ Some b → SpellsPlainType (basic_type t.span b) (t ∷ [])
-basic_found t (kind.Word w) h b e = of_word w h b e
+basic_found : {p : TypePlace} (t : Token) (k : TokenKind) → t.kind ≡ k → (b : BasicType) → basic_of k ≡ Some b → SpellsPlainTypeIn p (basic_type t.span b) (t ∷ [])
+basic_found {p = p} t (kind.Word w) h b e = of_word w h b e
   where
-    of_word : (w : Word) → t.kind ≡ kind.Word w → (b : BasicType) → word_basic w ≡ Some b → SpellsPlainType (basic_type t.span b) (t ∷ [])
-    of_word word.Int h b e = subst (λ x. SpellsPlainType (basic_type t.span x) (t ∷ [])) (some_some basic.Int b e) (g.int t h)
-    of_word word.Bool h b e = subst (λ x. SpellsPlainType (basic_type t.span x) (t ∷ [])) (some_some basic.Bool b e) (g.bool t h)
-    of_word word.Char h b e = subst (λ x. SpellsPlainType (basic_type t.span x) (t ∷ [])) (some_some basic.Char b e) (g.char t h)
+    of_word : (w : Word) → t.kind ≡ kind.Word w → (b : BasicType) → word_basic w ≡ Some b → SpellsPlainTypeIn p (basic_type t.span b) (t ∷ [])
+    of_word word.Int h b e = subst (λ x. SpellsPlainTypeIn p (basic_type t.span x) (t ∷ [])) (some_some basic.Int b e) (g.int t h)
+    of_word word.Bool h b e = subst (λ x. SpellsPlainTypeIn p (basic_type t.span x) (t ∷ [])) (some_some basic.Bool b e) (g.bool t h)
+    of_word word.Char h b e = subst (λ x. SpellsPlainTypeIn p (basic_type t.span x) (t ∷ [])) (some_some basic.Char b e) (g.char t h)
     of_word _ h b e = absurd (none_some b e)
 basic_found t _ h b e = absurd (none_some b e)
 
-basic_type-sound : Sound SpellsPlainType basic_type_at
+basic_type-sound : {p : TypePlace} → Sound (SpellsPlainTypeIn p) basic_type_at
 unfolding basic_type_at
-basic_type-sound = weaker found (one-sound _)
+basic_type-sound {p = p} = weaker found (one-sound _)
   where
-    go : (t : Token) (a : TypeTree) (m : Option BasicType) → basic_of t.kind ≡ m → option_map (basic_type t.span) m ≡ Some a → SpellsPlainType a (t ∷ [])
-    go t a (Some b) h e = subst (λ x. SpellsPlainType x (t ∷ [])) (some_some (basic_type t.span b) a e) (basic_found t t.kind refl b h)
+    go : (t : Token) (a : TypeTree) (m : Option BasicType) → basic_of t.kind ≡ m → option_map (basic_type t.span) m ≡ Some a → SpellsPlainTypeIn p a (t ∷ [])
+    go t a (Some b) h e = subst (λ x. SpellsPlainTypeIn p x (t ∷ [])) (some_some (basic_type t.span b) a e) (basic_found t t.kind refl b h)
     go t a None h e = absurd (none_some a e)
 
-    found : (a : TypeTree) (u : List Token) → IsOne (λ t. option_map (basic_type t.span) (basic_of t.kind)) a u → SpellsPlainType a u
+    found : (a : TypeTree) (u : List Token) → IsOne (λ t. option_map (basic_type t.span) (basic_of t.kind)) a u → SpellsPlainTypeIn p a u
     found a u (is_one t e) = go t a (basic_of t.kind) refl e
 
 mode_word : (k : TokenKind) (m : PassMode) → mode_of k ≡ Some m → (w : Word) × (k ≡ kind.Word w) × (pass_mode_of w ≡ Some m)
@@ -267,220 +270,239 @@ mode-sound = branch-sound
 abbrev pub formal_of : Option (Span × PassMode) → List Decl → TypeTree → Formal
 formal_of m ds t = roll-Formal (record { span = formal_start m ds; mode = option_map (λ x. x.1) m; decls = ds; ty = t })
 
-data AfterMode (m : Option (Span × PassMode)) : Formal → List Token → Type 0 where
-  after_mode : {ds : List Decl} {t : TypeTree} {v w : List Token} (colon : Token) → SpellsDecls ds v → IsSign sign.Colon colon → SpellsPlainType t w
-      → AfterMode m (formal_of m ds t) (v ++ colon ∷ w)
-
-after_mode_found : (m : Option (Span × PassMode)) (f : Formal) (u : List Token)
-    → Then SpellsDecls (λ ds. Then (ASign sign.Colon) (λ c. Then SpellsPlainType (λ t. Returns (formal_of m ds t)))) f u → AfterMode m f u
-after_mode_found m f w (joined {a = ds} {u = u} d (joined (a_sign c h) (joined {a = t} {u = v} x end))) =
-    into (λ y z. AfterMode m y (u ++ c ∷ (v ++ z))) (formal_of m ds t) f _ end
-    (ended (λ z. AfterMode m (formal_of m ds t) (u ++ c ∷ z)) v (after_mode c d h x))
-
 pub decls_start : (ds : List Decl) (v : List Token) → SpellsDecls ds v → formal_span v ≡ formal_start None ds
 decls_start ds v (g.decls (g.bare n h) m) = refl
 decls_start ds v (g.decls (g.sized n h d) m) = refl
-
-without_mode : (f : Formal) (u : List Token) → AfterMode None f u → SpellsFormal f u
-without_mode f w (after_mode {ds = ds} {t = t} {v = v} {w = x} c d h y) =
-    subst (λ s. SpellsFormal (roll-Formal (record { span = s; mode = None; decls = ds; ty = t })) (v ++ c ∷ x)) (decls_start ds v d)
-    (g.formal c g.no_mode d h y)
-
-formal_found : (f : Formal) (u : List Token) → Then AMode AfterMode f u → SpellsFormal f u
-formal_found f u (joined no_mode d) = without_mode f _ d
-formal_found f u (joined (a_mode t m h) (after_mode c d i y)) = let w = mode_word t.kind m h in g.formal c (g.mode t w.0 m w.1 w.2) d i y
 
 pub mode-of-formal : (s : Span) (m : Option PassMode) (ds : List Decl) (t : TypeTree) → (out-Formal (roll-Formal (record { span = s; mode = m; decls = ds; ty = t }))).mode ≡ m
 unfolding denote.Hole.Carrier.out denote.Hole.Carrier.roll
 mode-of-formal s m ds t = refl
 
-field_found : (f : Formal) (u : List Token) → AfterMode None f u → SpellsField f u
-field_found f u (after_mode {ds = ds} {t = t} c d h y) = g.field (without_mode _ _ (after_mode c d h y)) (mode-of-formal (formal_start None ds) None ds t)
-
-one_more_formal : (f : Formal) (fs : List Formal) (u v : List Token) → Then ASeparator (λ s. SpellsFormal) f u → SpellsMoreFormals fs v → SpellsMoreFormals (f ∷ fs) (u ++ v)
-one_more_formal f fs u v (joined (a_separator t h) d) more = g.one_more_formal t h d more
-
-one_more_field : (f : Formal) (fs : List Formal) (u v : List Token) → Then ASeparator (λ s. SpellsField) f u → SpellsMoreFields fs v → SpellsMoreFields (f ∷ fs) (u ++ v)
-one_more_field f fs u v (joined (a_separator t h) d) more = g.one_more_field t h d more
-
-data AfterOpening : List Formal → List Token → Type 0 where
-  no_formals : (closing : Token) → IsSign sign.CloseParen closing → AfterOpening [] (closing ∷ [])
-  some_formals : {f : Formal} {fs : List Formal} {u v : List Token} (closing : Token) → SpellsFormal f u → SpellsMoreFormals fs v → IsSign sign.CloseParen closing
-      → AfterOpening (f ∷ fs) (u ++ (v ++ closing ∷ []))
-
-formals_closed : (fs : List Formal) (u : List Token) → Then (ASign sign.CloseParen) (λ c. Returns []) fs u → AfterOpening fs u
-formals_closed fs u (joined (a_sign t h) returns) = no_formals t h
-
-formals_after : (fs : List Formal) (u : List Token)
-    → Then SpellsFormal (λ f. Then (Grows SpellsMoreFormals (f ∷ [])) (λ gs. Then (ASign sign.CloseParen) (λ c. Returns gs))) fs u → AfterOpening fs u
-formals_after fs u (joined d (joined (grows m) (joined (a_sign t h) returns))) = some_formals t d m h
-
-opened : (o : Token) → IsSign sign.OpenParen o → (fs : List Formal) (u : List Token) → AfterOpening fs u → SpellsFormals fs (o ∷ u)
-opened o h fs u (no_formals c i) = g.no_formals o c h i
-opened o h fs u (some_formals c d m i) = g.formals o c h d m i
-
-formals_found : (fs : List Formal) (u : List Token) → Then (ASign sign.OpenParen) (λ o. AfterOpening) fs u → SpellsFormals fs u
-formals_found fs u (joined (a_sign t h) d) = opened t h fs _ d
-
--- what is returned, and signatures
-
 abbrev pub returned_of : Span → Decl → TypeTree → Returned
 returned_of s d t = roll-Returned (record { span = s; decl = d; ty = t })
-
-returns_found : (x : Option Returned) (u : List Token)
-    → Then (AWord word.Returns) (λ s. Then SpellsDecl (λ d. Then (ASign sign.Colon) (λ c. Then SpellsPlainType (λ t. Returns (Some (returned_of s d t)))))) x u → SpellsReturned x u
-returns_found x w (joined (a_word t h) (joined {a = d} {u = u} y (joined (a_sign c i) (joined {a = e} {u = v} z end)))) =
-    into (λ n m. SpellsReturned n (t ∷ (u ++ c ∷ (v ++ m)))) (Some (returned_of t.span d e)) x _ end
-    (ended (λ m. SpellsReturned (Some (returned_of t.span d e)) (t ∷ (u ++ c ∷ m))) v (g.returned t c h y i z))
-
-returns_nothing : (x : Option Returned) (u : List Token) → Returns None x u → SpellsReturned x u
-returns_nothing x u returns = g.returns_nothing
 
 abbrev pub signature_of : Span → List Formal → Option Returned → List InvocationKind → Signature
 signature_of s fs x ks = roll-Signature (record { span = s; formals = fs; returned = x; kinds = ks })
 
-signature_found : (s : Signature) (u : List Token)
-    → Then (ASign sign.OpenParen) (λ o. Then AfterOpening (λ fs. Then SpellsReturned (λ x. Then (OwnKinds x) (λ ks. Returns (signature_of o fs x ks))))) s u → SpellsSignature s u
-signature_found s w (joined (a_sign t h) (joined {a = fs} {u = u} d (joined {a = x} {u = v} y (joined {a = ks} (own_kinds {u = k} z b) end)))) =
-    into (λ n m. SpellsSignature n (t ∷ (u ++ (v ++ (k ++ m))))) (signature_of t.span fs x ks) s _ end
-    (ended (λ m. SpellsSignature (signature_of t.span fs x ks) (t ∷ (u ++ (v ++ m)))) k (g.signature (opened t h fs u d) y z b))
+-- what stands after the first tokens of formals and types
 
--- types
+data AfterMode (p : TypePlace) (m : Option (Span × PassMode)) : Formal → List Token → Type 0 where
+  after_mode : {ds : List Decl} {t : TypeTree} {v w : List Token} (colon : Token) → SpellsDecls ds v → IsSign sign.Colon colon → SpellsTypeIn p t w
+      → AfterMode p m (formal_of m ds t) (v ++ colon ∷ w)
 
-data AfterString (s : Span) : TypeTree → List Token → Type 0 where
-  after_string : {u : List Token} (l : Option Expr) → ((t o : Token) → t.span ≡ s → IsWord word.String t → IsSign sign.OpenBracket o → SpellsPlainType (ty.Str s l) (t ∷ o ∷ u))
-      → AfterString s (ty.Str s l) u
+data AfterOpening (p : TypePlace) : List Formal → List Token → Type 0 where
+  no_formals : (closing : Token) → IsSign sign.CloseParen closing → AfterOpening p [] (closing ∷ [])
+  some_formals : {f : Formal} {fs : List Formal} {u v : List Token} (closing : Token) → SpellsFormalIn p f u → SpellsMoreFormalsIn p fs v → IsSign sign.CloseParen closing
+      → AfterOpening p (f ∷ fs) (u ++ (v ++ closing ∷ []))
 
-any_string_found : (s : Span) (x : TypeTree) (u : List Token)
-    → Then (ASign sign.Star) (λ k. Then (ASign sign.CloseBracket) (λ c. Returns (ty.Str s None))) x u → AfterString s x u
-any_string_found s x w (joined (a_sign k h) (joined (a_sign c i) end)) =
-    into (λ y z. AfterString s y (k ∷ c ∷ z)) (ty.Str s None) x _ end
-    (after_string None (λ t o e j l. subst (λ y. SpellsPlainType (ty.Str y None) (t ∷ o ∷ k ∷ c ∷ [])) e (g.string_of_any_length t o k c j l h i)))
+data AfterString (p : TypePlace) (s : Span) : TypeTree → List Token → Type 0 where
+  after_string : {u : List Token} (l : Option Expr) → ((t o : Token) → t.span ≡ s → IsWord word.String t → IsSign sign.OpenBracket o → SpellsPlainTypeIn p (ty.Str s l) (t ∷ o ∷ u))
+      → AfterString p s (ty.Str s l) u
 
-string_found : (s : Span) (x : TypeTree) (u : List Token)
-    → Then (SpellsExpr 5) (λ e. Then (ASign sign.CloseBracket) (λ c. Returns (ty.Str s (Some e)))) x u → AfterString s x u
-string_found s x w (joined {a = f} {u = u} d (joined (a_sign c i) end)) =
-    into (λ y z. AfterString s y (u ++ c ∷ z)) (ty.Str s (Some f)) x _ end
-    (after_string (Some f) (λ t o e j l. subst (λ y. SpellsPlainType (ty.Str y (Some f)) (t ∷ o ∷ (u ++ c ∷ []))) e (g.string t o c j l d i)))
+data AfterCap (p : TypePlace) (s : Span) : TypeTree → List Token → Type 0 where
+  cap_machine : (vm : Token) → IsWord word.Vm vm → AfterCap p s (ty.CapMachine s) (vm ∷ [])
+  cap_operation : {x : Signature} {u : List Token} → SpellsSignatureIn p x u → AfterCap p s (ty.CapOperation s x) u
+  cap_of : {q : QualifiedName} {u : List Token} → SpellsQualifiedName q u → AfterCap p s (ty.CapOf s q) u
 
-strings_found : (x : TypeTree) (u : List Token) → Then (AWord word.String) (λ s. Then (ASign sign.OpenBracket) (λ o. AfterString s)) x u → SpellsPlainType x u
-strings_found x u (joined (a_word t h) (joined (a_sign o i) (after_string l f))) = f t o refl h i
+module _ {p : TypePlace} where
+  after_mode_found : (m : Option (Span × PassMode)) (f : Formal) (u : List Token)
+      → Then SpellsDecls (λ ds. Then (ASign sign.Colon) (λ c. Then (SpellsTypeIn p) (λ t. Returns (formal_of m ds t)))) f u → AfterMode p m f u
+  after_mode_found m f w (joined {a = ds} {u = u} d (joined (a_sign c h) (joined {a = t} {u = v} x end))) =
+      into (λ y z. AfterMode p m y (u ++ c ∷ (v ++ z))) (formal_of m ds t) f _ end
+      (ended (λ z. AfterMode p m (formal_of m ds t) (u ++ c ∷ z)) v (after_mode c d h x))
 
-data AfterCap (s : Span) : TypeTree → List Token → Type 0 where
-  cap_machine : (vm : Token) → IsWord word.Vm vm → AfterCap s (ty.CapMachine s) (vm ∷ [])
-  cap_operation : {x : Signature} {u : List Token} → SpellsSignature x u → AfterCap s (ty.CapOperation s x) u
-  cap_of : {q : QualifiedName} {u : List Token} → SpellsQualifiedName q u → AfterCap s (ty.CapOf s q) u
+  without_mode : (f : Formal) (u : List Token) → AfterMode p None f u → SpellsFormalIn p f u
+  without_mode f w (after_mode {ds = ds} {t = t} {v = v} {w = x} c d h y) =
+      subst (λ s. SpellsFormalIn p (roll-Formal (record { span = s; mode = None; decls = ds; ty = t })) (v ++ c ∷ x)) (decls_start ds v d)
+      (g.formal c g.no_mode d h y)
 
-machine_found : (s : Span) (x : TypeTree) (u : List Token) → Then (AWord word.Vm) (λ v. Returns (ty.CapMachine s)) x u → AfterCap s x u
-machine_found s x u (joined (a_word v h) end) = into (λ y z. AfterCap s y (v ∷ z)) (ty.CapMachine s) x _ end (cap_machine v h)
+  formal_found : (f : Formal) (u : List Token) → Then AMode (AfterMode p) f u → SpellsFormalIn p f u
+  formal_found f u (joined no_mode d) = without_mode f _ d
+  formal_found f u (joined (a_mode t m h) (after_mode c d i y)) = let w = mode_word t.kind m h in g.formal c (g.mode t w.0 m w.1 w.2) d i y
 
-operation_found : (s : Span) (x : TypeTree) (u : List Token) → Then SpellsSignature (λ y. Returns (ty.CapOperation s y)) x u → AfterCap s x u
-operation_found s x w (joined {a = n} {u = u} d end) =
-    into (λ y z. AfterCap s y (u ++ z)) (ty.CapOperation s n) x _ end (ended (AfterCap s (ty.CapOperation s n)) u (cap_operation d))
+  field_found : (f : Formal) (u : List Token) → AfterMode p None f u → SpellsFieldIn p f u
+  field_found f u (after_mode {ds = ds} {t = t} c d h y) = g.field (without_mode _ _ (after_mode c d h y)) (mode-of-formal (formal_start None ds) None ds t)
 
-cap_of_found : (s : Span) (x : TypeTree) (u : List Token) → Then SpellsQualifiedName (λ q. Returns (ty.CapOf s q)) x u → AfterCap s x u
-cap_of_found s x w (joined {a = q} {u = u} d end) = into (λ y z. AfterCap s y (u ++ z)) (ty.CapOf s q) x _ end (ended (AfterCap s (ty.CapOf s q)) u (cap_of d))
+  one_more_formal : (f : Formal) (fs : List Formal) (u v : List Token) → Then ASeparator (λ s. SpellsFormalIn p) f u → SpellsMoreFormalsIn p fs v → SpellsMoreFormalsIn p (f ∷ fs) (u ++ v)
+  one_more_formal f fs u v (joined (a_separator t h) d) more = g.one_more_formal t h d more
 
-cap_found : (x : TypeTree) (u : List Token) → Then (AWord word.Cap) AfterCap x u → SpellsPlainType x u
-cap_found x u (joined (a_word t h) (cap_machine v i)) = g.cap_machine t v h i
-cap_found x u (joined (a_word t h) (cap_operation d)) = g.cap_operation t h d
-cap_found x u (joined (a_word t h) (cap_of d)) = g.cap_of t h d
+  one_more_field : (f : Formal) (fs : List Formal) (u v : List Token) → Then ASeparator (λ s. SpellsFieldIn p) f u → SpellsMoreFieldsIn p fs v → SpellsMoreFieldsIn p (f ∷ fs) (u ++ v)
+  one_more_field f fs u v (joined (a_separator t h) d) more = g.one_more_field t h d more
 
-array_found : (x : TypeTree) (u : List Token) → Then SpellsDims (λ d. Then SpellsPlainType (λ t. Returns (ty.Array d.span d t))) x u → SpellsPlainType x u
-array_found x w (joined {a = d} {u = u} y (joined {a = t} {u = v} z end)) =
-    into (λ n m. SpellsPlainType n (u ++ (v ++ m))) (ty.Array d.span d t) x _ end (ended (λ m. SpellsPlainType (ty.Array d.span d t) (u ++ m)) v (g.array y z))
+  formals_closed : (fs : List Formal) (u : List Token) → Then (ASign sign.CloseParen) (λ c. Returns []) fs u → AfterOpening p fs u
+  formals_closed fs u (joined (a_sign t h) returns) = no_formals t h
 
-named_found : (x : TypeTree) (u : List Token) → Then SpellsQualifiedName (λ q. Returns (ty.Named q.span q)) x u → SpellsPlainType x u
-named_found x w (joined {a = q} {u = u} d end) =
-    into (λ y z. SpellsPlainType y (u ++ z)) (ty.Named q.span q) x _ end (ended (SpellsPlainType (ty.Named q.span q)) u (g.named d))
+  formals_after : (fs : List Formal) (u : List Token)
+      → Then (SpellsFormalIn p) (λ f. Then (Grows (SpellsMoreFormalsIn p) (f ∷ [])) (λ gs. Then (ASign sign.CloseParen) (λ c. Returns gs))) fs u → AfterOpening p fs u
+  formals_after fs u (joined d (joined (grows m) (joined (a_sign t h) returns))) = some_formals t d m h
 
-enum_found : (x : TypeTree) (u : List Token)
-    → Then (AWord word.Enum) (λ s. Then (ASign sign.OpenParen) (λ o. Then SpellsNames (λ ns. Then (ASign sign.CloseParen) (λ c. Returns (ty.Enum s ns))))) x u → SpellsType x u
-enum_found x w (joined (a_word t h) (joined (a_sign o i) (joined {a = ns} {u = u} d (joined (a_sign c j) end)))) =
-    into (λ y z. SpellsType y (t ∷ o ∷ (u ++ c ∷ z))) (ty.Enum t.span ns) x _ end (g.enum t o c h i d j)
+  opened : (o : Token) → IsSign sign.OpenParen o → (fs : List Formal) (u : List Token) → AfterOpening p fs u → SpellsFormalsIn p fs (o ∷ u)
+  opened o h fs u (no_formals c i) = g.no_formals o c h i
+  opened o h fs u (some_formals c d m i) = g.formals o c h d m i
 
-record_found : (x : TypeTree) (u : List Token)
-    → Then (AWord word.Rec) (λ s. Then (ASign sign.OpenParen) (λ o. Then SpellsField (λ f. Then (Grows SpellsMoreFields (f ∷ []))
-    (λ fs. Then (ASign sign.CloseParen) (λ c. Returns (ty.Rec s fs)))))) x u → SpellsType x u
-record_found x w (joined (a_word t h) (joined (a_sign o i) (joined {a = f} {u = u} d (joined {u = v} (grows {bs = fs} m) (joined (a_sign c j) end))))) =
-    into (λ y z. SpellsType y (t ∷ o ∷ (u ++ (v ++ c ∷ z)))) (ty.Rec t.span (f ∷ fs)) x _ end (g.record_of t o c h i d m j)
+  formals_found : (fs : List Formal) (u : List Token) → Then (ASign sign.OpenParen) (λ o. AfterOpening p) fs u → SpellsFormalsIn p fs u
+  formals_found fs u (joined (a_sign t h) d) = opened t h fs _ d
+
+  -- what is returned, and signatures
+
+  returns_found : (x : Option Returned) (u : List Token)
+      → Then (AWord word.Returns) (λ s. Then SpellsDecl (λ d. Then (ASign sign.Colon) (λ c. Then (SpellsTypeIn p) (λ t. Returns (Some (returned_of s d t)))))) x u → SpellsReturnedIn p x u
+  returns_found x w (joined (a_word t h) (joined {a = d} {u = u} y (joined (a_sign c i) (joined {a = e} {u = v} z end)))) =
+      into (λ n m. SpellsReturnedIn p n (t ∷ (u ++ c ∷ (v ++ m)))) (Some (returned_of t.span d e)) x _ end
+      (ended (λ m. SpellsReturnedIn p (Some (returned_of t.span d e)) (t ∷ (u ++ c ∷ m))) v (g.returned t c h y i z))
+
+  returns_nothing : (x : Option Returned) (u : List Token) → Returns None x u → SpellsReturnedIn p x u
+  returns_nothing x u returns = g.returns_nothing
+
+  signature_found : (s : Signature) (u : List Token)
+      → Then (ASign sign.OpenParen) (λ o. Then (AfterOpening p) (λ fs. Then (SpellsReturnedIn p) (λ x. Then (OwnKinds x) (λ ks. Returns (signature_of o fs x ks))))) s u → SpellsSignatureIn p s u
+  signature_found s w (joined (a_sign t h) (joined {a = fs} {u = u} d (joined {a = x} {u = v} y (joined {a = ks} (own_kinds {u = k} z b) end)))) =
+      into (λ n m. SpellsSignatureIn p n (t ∷ (u ++ (v ++ (k ++ m))))) (signature_of t.span fs x ks) s _ end
+      (ended (λ m. SpellsSignatureIn p (signature_of t.span fs x ks) (t ∷ (u ++ (v ++ m)))) k (g.signature (opened t h fs u d) y z b))
+
+  -- types
+
+  any_string_found : (s : Span) (x : TypeTree) (u : List Token)
+      → Then (ASign sign.Star) (λ k. Then (ASign sign.CloseBracket) (λ c. Returns (ty.Str s None))) x u → AfterString p s x u
+  any_string_found s x w (joined (a_sign k h) (joined (a_sign c i) end)) =
+      into (λ y z. AfterString p s y (k ∷ c ∷ z)) (ty.Str s None) x _ end
+      (after_string None (λ t o e j l. subst (λ y. SpellsPlainTypeIn p (ty.Str y None) (t ∷ o ∷ k ∷ c ∷ [])) e (g.string_of_any_length t o k c j l h i)))
+
+  string_found : (s : Span) (x : TypeTree) (u : List Token)
+      → Then (SpellsExpr 5) (λ e. Then (ASign sign.CloseBracket) (λ c. Returns (ty.Str s (Some e)))) x u → AfterString p s x u
+  string_found s x w (joined {a = f} {u = u} d (joined (a_sign c i) end)) =
+      into (λ y z. AfterString p s y (u ++ c ∷ z)) (ty.Str s (Some f)) x _ end
+      (after_string (Some f) (λ t o e j l. subst (λ y. SpellsPlainTypeIn p (ty.Str y (Some f)) (t ∷ o ∷ (u ++ c ∷ []))) e (g.string t o c j l d i)))
+
+  strings_found : (x : TypeTree) (u : List Token) → Then (AWord word.String) (λ s. Then (ASign sign.OpenBracket) (λ o. AfterString p s)) x u → SpellsPlainTypeIn p x u
+  strings_found x u (joined (a_word t h) (joined (a_sign o i) (after_string l f))) = f t o refl h i
+
+  machine_found : (s : Span) (x : TypeTree) (u : List Token) → Then (AWord word.Vm) (λ v. Returns (ty.CapMachine s)) x u → AfterCap p s x u
+  machine_found s x u (joined (a_word v h) end) = into (λ y z. AfterCap p s y (v ∷ z)) (ty.CapMachine s) x _ end (cap_machine v h)
+
+  operation_found : (s : Span) (x : TypeTree) (u : List Token) → Then (SpellsSignatureIn p) (λ y. Returns (ty.CapOperation s y)) x u → AfterCap p s x u
+  operation_found s x w (joined {a = n} {u = u} d end) =
+      into (λ y z. AfterCap p s y (u ++ z)) (ty.CapOperation s n) x _ end (ended (AfterCap p s (ty.CapOperation s n)) u (cap_operation d))
+
+  cap_of_found : (s : Span) (x : TypeTree) (u : List Token) → Then SpellsQualifiedName (λ q. Returns (ty.CapOf s q)) x u → AfterCap p s x u
+  cap_of_found s x w (joined {a = q} {u = u} d end) = into (λ y z. AfterCap p s y (u ++ z)) (ty.CapOf s q) x _ end (ended (AfterCap p s (ty.CapOf s q)) u (cap_of d))
+
+  cap_found : (x : TypeTree) (u : List Token) → Then (AWord word.Cap) (AfterCap p) x u → SpellsPlainTypeIn p x u
+  cap_found x u (joined (a_word t h) (cap_machine v i)) = g.cap_machine t v h i
+  cap_found x u (joined (a_word t h) (cap_operation d)) = g.cap_operation t h d
+  cap_found x u (joined (a_word t h) (cap_of d)) = g.cap_of t h d
+
+  array_found : (x : TypeTree) (u : List Token) → Then SpellsDims (λ d. Then (SpellsTypeIn p) (λ t. Returns (ty.Array d.span d t))) x u → SpellsPlainTypeIn p x u
+  array_found x w (joined {a = d} {u = u} y (joined {a = t} {u = v} z end)) =
+      into (λ n m. SpellsPlainTypeIn p n (u ++ (v ++ m))) (ty.Array d.span d t) x _ end (ended (λ m. SpellsPlainTypeIn p (ty.Array d.span d t) (u ++ m)) v (g.array y z))
+
+  named_found : (x : TypeTree) (u : List Token) → Then SpellsQualifiedName (λ q. Returns (ty.Named q.span q)) x u → SpellsPlainTypeIn p x u
+  named_found x w (joined {a = q} {u = u} d end) =
+      into (λ y z. SpellsPlainTypeIn p y (u ++ z)) (ty.Named q.span q) x _ end (ended (SpellsPlainTypeIn p (ty.Named q.span q)) u (g.named d))
+
+  enum_found : MayDeclare p → (x : TypeTree) (u : List Token)
+      → Then (AWord word.Enum) (λ s. Then (ASign sign.OpenParen) (λ o. Then SpellsNames (λ ns. Then (ASign sign.CloseParen) (λ c. Returns (ty.Enum s ns))))) x u → SpellsTypeIn p x u
+  enum_found may x w (joined (a_word t h) (joined (a_sign o i) (joined {a = ns} {u = u} d (joined (a_sign c j) end)))) =
+      into (λ y z. SpellsTypeIn p y (t ∷ o ∷ (u ++ c ∷ z))) (ty.Enum t.span ns) x _ end (g.enum t o c may h i d j)
+
+  record_found : MayDeclare p → (x : TypeTree) (u : List Token)
+      → Then (AWord word.Rec) (λ s. Then (ASign sign.OpenParen) (λ o. Then (SpellsFieldIn p) (λ f. Then (Grows (SpellsMoreFieldsIn p) (f ∷ []))
+      (λ fs. Then (ASign sign.CloseParen) (λ c. Returns (ty.Rec s fs)))))) x u → SpellsTypeIn p x u
+  record_found may x w (joined (a_word t h) (joined (a_sign o i) (joined {a = f} {u = u} d (joined {u = v} (grows {bs = fs} m) (joined (a_sign c j) end))))) =
+      into (λ y z. SpellsTypeIn p y (t ∷ o ∷ (u ++ (v ++ c ∷ z)))) (ty.Rec t.span (f ∷ fs)) x _ end (g.record_of t o c may h i d m j)
+
+  module _ (r : TypeReaders) (l : SoundTypeReaders r) where
+    nested-sound-in : Sound (SpellsTypeIn p) (nested_in p r)
+    nested-sound-in = of_place p
+      where
+        of_place : (q : TypePlace) → Sound (SpellsTypeIn q) (nested_in q r)
+        of_place Declaration = l.declared
+        of_place Elsewhere = l.nested
+
+    formal_after-sound : (m : Option (Span × PassMode)) → Sound (AfterMode p m) (formal_after_at (within p r) m)
+    unfolding formal_after_at
+    formal_after-sound m = weaker (after_mode_found m) (then-sound (decls-sound r.expressions l.expressions) (λ ds. then-sound (sign-sound sign.Colon)
+        (λ c. then-sound nested-sound-in (λ t. returned-sound (formal_of m ds t)))))
+
+    pub formal-sound : Sound (SpellsFormalIn p) (formal_at (within p r))
+    unfolding formal_at
+    formal-sound = weaker formal_found (then-sound mode-sound formal_after-sound)
+
+    formals_after-sound : Sound (AfterOpening p) (formals_after_at (within p r))
+    unfolding formals_after_at more_formals_at next_formal_at
+    formals_after-sound = branch-sound
+        (weaker formals_closed (then-sound (sign-sound sign.CloseParen) (λ c. returned-sound [])))
+        (weaker formals_after (then-sound formal-sound (λ f. then-sound
+        (list-sound ASeparator (SpellsFormalIn p) (SpellsMoreFormalsIn p) separator_at (formal_at (within p r)) is_separated g.no_more_formals one_more_formal separator-sound formal-sound r.expressions.steps (f ∷ []))
+        (λ fs. then-sound (sign-sound sign.CloseParen) (λ c. returned-sound fs)))))
+
+    pub formals-sound : Sound (SpellsFormalsIn p) (formals_at (within p r))
+    unfolding formals_at
+    formals-sound = weaker formals_found (then-sound (sign-sound sign.OpenParen) (λ o. formals_after-sound))
+
+    pub returns-sound : Sound (SpellsReturnedIn p) (returned_at (within p r))
+    unfolding returned_at
+    returns-sound = branch-sound
+        (weaker returns_found (then-sound (word-sound word.Returns) (λ s. then-sound (decl-sound r.expressions l.expressions) (λ d. then-sound (sign-sound sign.Colon)
+        (λ c. then-sound nested-sound-in (λ t. returned-sound (Some (returned_of s d t))))))))
+        (weaker returns_nothing (returned-sound None))
+
+    pub signature-sound : Sound (SpellsSignatureIn p) (signature_at (within p r))
+    unfolding signature_at
+    signature-sound = weaker signature_found (then-sound (sign-sound sign.OpenParen) (λ o. then-sound formals_after-sound (λ fs. then-sound returns-sound (λ x.
+        then-sound (own_kinds-sound x) (λ ks. returned-sound (signature_of o fs x ks))))))
+
+    string-sound : Sound (SpellsPlainTypeIn p) (string_at r.expressions)
+    unfolding string_at
+    string-sound = weaker strings_found (then-sound (word-sound word.String) (λ s. then-sound (sign-sound sign.OpenBracket) (λ o. branch-sound
+        (weaker (any_string_found s) (then-sound (sign-sound sign.Star) (λ k. then-sound (sign-sound sign.CloseBracket) (λ c. returned-sound (ty.Str s None)))))
+        (weaker (string_found s) (then-sound (l.expressions.operand 5) (λ e. then-sound (sign-sound sign.CloseBracket) (λ c. returned-sound (ty.Str s (Some e)))))))))
+
+    cap-sound : Sound (SpellsPlainTypeIn p) (cap_at (within p r))
+    unfolding cap_at
+    cap-sound = weaker cap_found (then-sound (word-sound word.Cap) (λ s. branch-sound
+        (weaker (machine_found s) (then-sound (word-sound word.Vm) (λ v. returned-sound (ty.CapMachine s))))
+        (branch-sound (weaker (operation_found s) (then-sound signature-sound (λ y. returned-sound (ty.CapOperation s y))))
+        (weaker (cap_of_found s) (then-sound qualified-sound (λ q. returned-sound (ty.CapOf s q)))))))
+
+    array_type-sound : Sound (SpellsPlainTypeIn p) (array_type_at (within p r))
+    unfolding array_type_at
+    array_type-sound = weaker array_found (then-sound (dims-sound r.expressions l.expressions) (λ d. then-sound nested-sound-in (λ t. returned-sound (ty.Array d.span d t))))
+
+    pub plain-type-sound : Sound (SpellsPlainTypeIn p) (plain_type_at (within p r))
+    unfolding plain_type_at
+    plain-type-sound = branch-sound basic_type-sound (branch-sound string-sound (branch-sound cap-sound (branch-sound array_type-sound
+        (weaker named_found (then-sound qualified-sound (λ q. returned-sound (ty.Named q.span q)))))))
+
+    enum-sound : MayDeclare p → Sound (SpellsTypeIn p) (enum_at r.expressions)
+    unfolding enum_at
+    enum-sound may = weaker (enum_found may) (then-sound (word-sound word.Enum) (λ s. then-sound (sign-sound sign.OpenParen) (λ o. then-sound (names-sound r.expressions) (λ ns.
+        then-sound (sign-sound sign.CloseParen) (λ c. returned-sound (ty.Enum s ns))))))
+
+    record_type-sound : MayDeclare p → Sound (SpellsTypeIn p) (record_type_at (within p r))
+    unfolding record_type_at more_fields_at next_field_at
+    record_type-sound may = weaker (record_found may) (then-sound (word-sound word.Rec) (λ s. then-sound (sign-sound sign.OpenParen) (λ o. then-sound (weaker field_found (formal_after-sound None))
+        (λ f. then-sound
+        (list-sound ASeparator (SpellsFieldIn p) (SpellsMoreFieldsIn p) separator_at (formal_after_at (within p r) None) is_separated g.no_more_fields one_more_field separator-sound
+        (weaker field_found (formal_after-sound None)) r.expressions.steps (f ∷ []))
+        (λ fs. then-sound (sign-sound sign.CloseParen) (λ c. returned-sound (ty.Rec s fs)))))))
 
 module _ (r : TypeReaders) (l : SoundTypeReaders r) where
-  formal_after-sound : (m : Option (Span × PassMode)) → Sound (AfterMode m) (formal_after_at r m)
-  unfolding formal_after_at
-  formal_after-sound m = weaker (after_mode_found m) (then-sound (decls-sound r.expressions l.expressions) (λ ds. then-sound (sign-sound sign.Colon)
-      (λ c. then-sound l.nested (λ t. returned-sound (formal_of m ds t)))))
-
-  pub formal-sound : Sound SpellsFormal (formal_at r)
-  unfolding formal_at
-  formal-sound = weaker formal_found (then-sound mode-sound formal_after-sound)
-
-  formals_after-sound : Sound AfterOpening (formals_after_at r)
-  unfolding formals_after_at more_formals_at next_formal_at
-  formals_after-sound = branch-sound
-      (weaker formals_closed (then-sound (sign-sound sign.CloseParen) (λ c. returned-sound [])))
-      (weaker formals_after (then-sound formal-sound (λ f. then-sound
-      (list-sound ASeparator SpellsFormal SpellsMoreFormals separator_at (formal_at r) is_separated g.no_more_formals one_more_formal separator-sound formal-sound r.expressions.steps (f ∷ []))
-      (λ fs. then-sound (sign-sound sign.CloseParen) (λ c. returned-sound fs)))))
-
-  pub formals-sound : Sound SpellsFormals (formals_at r)
-  unfolding formals_at
-  formals-sound = weaker formals_found (then-sound (sign-sound sign.OpenParen) (λ o. formals_after-sound))
-
-  pub returns-sound : Sound SpellsReturned (returned_at r)
-  unfolding returned_at
-  returns-sound = branch-sound
-      (weaker returns_found (then-sound (word-sound word.Returns) (λ s. then-sound (decl-sound r.expressions l.expressions) (λ d. then-sound (sign-sound sign.Colon)
-      (λ c. then-sound l.nested (λ t. returned-sound (Some (returned_of s d t))))))))
-      (weaker returns_nothing (returned-sound None))
-
-  pub signature-sound : Sound SpellsSignature (signature_at r)
-  unfolding signature_at
-  signature-sound = weaker signature_found (then-sound (sign-sound sign.OpenParen) (λ o. then-sound formals_after-sound (λ fs. then-sound returns-sound (λ x.
-      then-sound (own_kinds-sound x) (λ ks. returned-sound (signature_of o fs x ks))))))
-
-  string-sound : Sound SpellsPlainType (string_at r.expressions)
-  unfolding string_at
-  string-sound = weaker strings_found (then-sound (word-sound word.String) (λ s. then-sound (sign-sound sign.OpenBracket) (λ o. branch-sound
-      (weaker (any_string_found s) (then-sound (sign-sound sign.Star) (λ k. then-sound (sign-sound sign.CloseBracket) (λ c. returned-sound (ty.Str s None)))))
-      (weaker (string_found s) (then-sound (l.expressions.operand 5) (λ e. then-sound (sign-sound sign.CloseBracket) (λ c. returned-sound (ty.Str s (Some e)))))))))
-
-  cap-sound : Sound SpellsPlainType (cap_at r)
-  unfolding cap_at
-  cap-sound = weaker cap_found (then-sound (word-sound word.Cap) (λ s. branch-sound
-      (weaker (machine_found s) (then-sound (word-sound word.Vm) (λ v. returned-sound (ty.CapMachine s))))
-      (branch-sound (weaker (operation_found s) (then-sound signature-sound (λ y. returned-sound (ty.CapOperation s y))))
-      (weaker (cap_of_found s) (then-sound qualified-sound (λ q. returned-sound (ty.CapOf s q)))))))
-
-  array_type-sound : Sound SpellsPlainType (array_type_at r)
-  unfolding array_type_at
-  array_type-sound = weaker array_found (then-sound (dims-sound r.expressions l.expressions) (λ d. then-sound l.nested (λ t. returned-sound (ty.Array d.span d t))))
-
-  pub plain-type-sound : Sound SpellsPlainType (plain_type_at r)
-  unfolding plain_type_at
-  plain-type-sound = branch-sound basic_type-sound (branch-sound string-sound (branch-sound cap-sound (branch-sound array_type-sound
-      (weaker named_found (then-sound qualified-sound (λ q. returned-sound (ty.Named q.span q)))))))
-
-  enum-sound : Sound SpellsType (enum_at r.expressions)
-  unfolding enum_at
-  enum-sound = weaker enum_found (then-sound (word-sound word.Enum) (λ s. then-sound (sign-sound sign.OpenParen) (λ o. then-sound (names-sound r.expressions) (λ ns.
-      then-sound (sign-sound sign.CloseParen) (λ c. returned-sound (ty.Enum s ns))))))
-
-  record_type-sound : Sound SpellsType (record_type_at r)
-  unfolding record_type_at more_fields_at next_field_at
-  record_type-sound = weaker record_found (then-sound (word-sound word.Rec) (λ s. then-sound (sign-sound sign.OpenParen) (λ o. then-sound (weaker field_found (formal_after-sound None))
-      (λ f. then-sound
-      (list-sound ASeparator SpellsField SpellsMoreFields separator_at (formal_after_at r None) is_separated g.no_more_fields one_more_field separator-sound
-      (weaker field_found (formal_after-sound None)) r.expressions.steps (f ∷ []))
-      (λ fs. then-sound (sign-sound sign.CloseParen) (λ c. returned-sound (ty.Rec s fs)))))))
-
   pub type-sound : Sound SpellsType (type_at r)
   unfolding type_at
-  type-sound = branch-sound enum-sound (branch-sound record_type-sound (weaker (λ t u d. g.plain d) plain-type-sound))
+  type-sound = branch-sound (enum-sound {p = Declaration} r l tt) (branch-sound (record_type-sound {p = Declaration} r l tt)
+      (weaker (λ t u d. g.plain d) (plain-type-sound {p = Declaration} r l)))
 
 -- so are the readers of every bound
 pub type_readers-sound : (k : ℕ) → SoundTypeReaders (type_readers k)
 unfolding nested
-type_readers-sound zero = record { expressions = readers-sound zero; nested = unfit-sound SpellsPlainType }
-type_readers-sound (suc k) =
-    record { expressions = readers-sound (suc k); nested = plain-type-sound (type_readers k) (type_readers-sound k) }
+type_readers-sound zero = record {
+  expressions = readers-sound zero;
+  nested = unfit-sound (SpellsTypeIn Elsewhere);
+  declared = unfit-sound (SpellsTypeIn Declaration);
+}
+type_readers-sound (suc k) = record {
+  expressions = readers-sound (suc k);
+  nested = weaker (λ t u d. g.plain d) (plain-type-sound {p = Elsewhere} (type_readers k) (type_readers-sound k));
+  declared = type-sound (type_readers k) (type_readers-sound k);
+}

@@ -21,6 +21,8 @@ use Rattle.sr_tree.specs.declared.types.RangeTree.{RangeTree}
 use Rattle.sr_tree.specs.declared.types.RangeTree.TheVariants as range
 use Rattle.sr_tree.specs.declared.types.Returned.{Returned, out-Returned, roll-Returned}
 use Rattle.sr_tree.specs.declared.types.Signature.{Signature, roll-Signature}
+use Rattle.sr_tree.specs.declared.types.TypePlace.{TypePlace}
+use Rattle.sr_tree.specs.declared.types.TypePlace.TheVariants.{Declaration, Elsewhere}
 use Rattle.sr_tree.specs.declared.types.TypeTree.{TypeTree}
 use Rattle.sr_tree.specs.declared.types.TypeTree.TheFolds.{fold-TypeTree}
 use Rattle.sr_tree.specs.declared.types.TypeTree.TheOpen.{TypeTree-F}
@@ -32,9 +34,19 @@ use Rattle.sr_tree.specs.Types.{kind_of, pass_mode_of}
 use Rattle.sr_expr_reader.specs.Readers.{Readers, readers, qualified_at, is_comma, operand_at}
 use Rattle.sr_tree.specs.Tokens.{sign_at, word_at, name_at, separator_at, is_separator}
 
+-- `declared` reads a type from after a token within the declaration of a type, and `nested` one elsewhere
 pub record TypeReaders : Type 0 where
   pub expressions : Readers
   pub nested : Reader Token TypeTree
+  pub declared : Reader Token TypeTree
+
+abbrev pub nested_in : TypePlace → TypeReaders → Reader Token TypeTree
+nested_in Declaration r = r.declared
+nested_in Elsewhere r = r.nested
+
+-- readers of what stands at a place
+abbrev pub within : TypePlace → TypeReaders → TypeReaders
+within place r = record r { nested = nested_in place r }
 
 -- single tokens
 abbrev pub basic_type : Span → BasicType → TypeTree
@@ -331,14 +343,23 @@ record_type_at r = do
   closing ← sign_at sign.CloseParen
   returned (ty.Rec span fs)
 
--- a type where an enumeration or a record may be declared too
+-- a type of which each part may be an enumeration or a record that is declared there
 unfoldable pub type_at : TypeReaders → Reader Token TypeTree
 type_at r = branch (λ t. is_word word.Enum t.kind) (enum_at r.expressions)
-    (branch (λ t. is_word word.Rec t.kind) (record_type_at r) (plain_type_at r))
+    (branch (λ t. is_word word.Rec t.kind) (record_type_at (within Declaration r)) (plain_type_at (within Declaration r)))
 
-unfoldable pub nested : ℕ → Reader Token TypeTree
-nested zero = unfit
-nested (suc k) = plain_type_at (record { expressions = readers k; nested = nested k })
+abbrev pub type_in_at : TypePlace → TypeReaders → Reader Token TypeTree
+type_in_at Declaration r = type_at r
+type_in_at Elsewhere r = plain_type_at (within Elsewhere r)
+
+unfoldable mutual
+  pub nested : ℕ → Reader Token TypeTree
+  nested zero = unfit
+  nested (suc k) = plain_type_at (record { expressions = readers k; nested = nested k; declared = declared k })
+
+  pub declared : ℕ → Reader Token TypeTree
+  declared zero = unfit
+  declared (suc k) = type_at (record { expressions = readers k; nested = nested k; declared = declared k })
 
 abbrev pub type_readers : ℕ → TypeReaders
-type_readers k = record { expressions = readers k; nested = nested k }
+type_readers k = record { expressions = readers k; nested = nested k; declared = declared k }

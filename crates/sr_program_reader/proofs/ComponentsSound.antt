@@ -30,6 +30,7 @@ use Rattle.sr_tree.specs.declared.token.Word.TheVariants as word
 use Rattle.sr_tree.specs.declared.types.Formal.{Formal, out-Formal}
 use Rattle.sr_tree.specs.declared.types.PassMode.{PassMode}
 use Rattle.sr_tree.specs.declared.types.PassMode.TheVariants.{Val}
+use Rattle.sr_tree.specs.declared.types.TypePlace.TheVariants.{Elsewhere}
 use Rattle.sr_tree.specs.Components as g
 use Rattle.sr_tree.specs.Components.{SpellsList, SpellsEndName, SpellsEnd, SpellsSpecItem, SpellsProcItem, SpellsProc, SpellsProcedure, SpellsProcess, SpellsFinal, SpellsItem, final_count, IsOfResource, AllOfResource, IsByValue, AllByValue, SpellsOptionalFormals, SpellsGlobalBody, SpellsComponent}
 use Rattle.sr_tree.specs.Declarations.{SpellsImport, SpellsConst, SpellsTypeDecl, SpellsOpType, SpellsOp, SpellsVar, SpellsSem}
@@ -239,7 +240,7 @@ module _ (r : TypeReaders) (l : SoundTypeReaders r) where
   unfolding value_formal_at
   value_formal-sound = branch-by (anywhere (λ t. is_mode_by_place t.kind) (unfit-sound ValueFormal))
       (weaker-unless value-formal (unless-first (λ t. is_mode_by_place t.kind) SpellsFormal (formal_at r) some-formal
-      (record { at = λ s e. (formal-sound r l).at s })))
+      (record { at = λ s e. (formal-sound {p = Elsewhere} r l).at s })))
 
   more_value_formals-sound : (fs : List Formal) → Sound (Grows MoreValueFormals fs) (more_value_formals_at r fs)
   unfolding more_value_formals_at next_value_formal_at
