@@ -1,19 +1,18 @@
-ghost use Rattle.std.specs.Prelude.{◌≡◌, ◌<◌, ◌≤◌, length, true, false, if◌then◌else◌, IfOk};
+ghost use Rattle.std.specs.Prelude.{◌≡◌, ◌<◌, ◌≤◌, length, IfOk};
 ghost use Rattle.sr_reader.specs.Reader.{next_is};
-ghost use Rattle.sr_tree.specs.Tokens.{is_separator};
 ghost use Rattle.sr_parser.specs.Reads.{ReadsStatementUpTo};
 ghost use Rattle.sr_program_reader.specs.ComponentReaders.{begins_proc_item, final_at, proc_at, proc_block_at, proc_item_at, procedure_at, process_at};
-ghost use Rattle.sr_program_reader.specs.DeclarationReaders.{items_at, next_item_at};
 
-use crate::after::{let_go, pushed, separator_after, word_after};
+use crate::after::word_after;
 use crate::declaration::{const_decl, op_decl, sem_decl, var_decl};
 use crate::ends::end_after;
+use crate::lists::{Listed, list};
 use crate::parts::{enclosed_names, returned_name};
 use crate::quantifier::optional_quantifiers;
 use crate::statement::statement;
 use crate::words::next_is_statement;
 use sr_parse_expr::types::signature;
-use sr_parse_tokens::{ReadFail, name, next_is_separator, next_is_word, word};
+use sr_parse_tokens::{ReadFail, name, next_is_word, word};
 use sr_tree::{FinalCode, Proc, ProcItem, Procedure, Process, Token, Word};
 use sr_value::Row;
 use std::alloc::Global;
@@ -53,14 +52,37 @@ fn proc_item(alloc: Global, tokens: &[Token]) -> Result<(ProcItem, &[Token]), Re
     }
 }
 
+/// What may stand in the block of a proc, procedure or process, and in final code.
+struct BlockOfProc;
+
+impl Listed<ProcItem> for BlockOfProc {
+    ghost use Rattle.sr_expr_reader.proofs.Yields.{steps-readers};
+    ghost use Rattle.sr_program_reader.specs.StatementReaders.{statement_readers};
+
+    ghost begins = { λ t. begins_proc_item t.kind };
+
+    ghost reader = { λ k. proc_item_at (statement_readers k) };
+
+    ghost steps = { λ k. (statement_readers k).types.expressions.steps };
+
+    ghost bounded = { steps-readers };
+
+    fn next_begins(tokens: &[Token]) -> bool {
+        next_is_proc_item(tokens)
+    }
+
+    fn item(alloc: Global, tokens: &[Token]) -> Result<(ProcItem, &[Token]), ReadFail> {
+        proc_item(alloc, tokens)
+    }
+}
+
 /// Reads the block of a proc, procedure or process, or of final code.
-#[tactic(auto, unfolding(sr_program_reader::specs::ComponentReaders::proc_block_at, sr_program_reader::specs::DeclarationReaders::list_at))]
+#[tactic(auto, unfolding(sr_program_reader::specs::ComponentReaders::proc_block_at))]
 fn proc_block(alloc: Global, tokens: &[Token]) -> Result<(Row<ProcItem>, &[Token]), ReadFail>
     ensures reads { ReadsStatementUpTo (λ x. (x.0, x.1.now)) tokens.now result (λ r. proc_block_at r) }
     ensures shorter { IfOk result (λ x. length x.1.now ≤ length tokens.now) }
 {
-    let ((block, _), rest) = proc_items(alloc, (Row::new(alloc), true), tokens)?;
-    Ok((block, rest))
+    list::<ProcItem, BlockOfProc>(alloc, tokens)
 }
 
 /// Reads such a block after a tree.
@@ -75,58 +97,6 @@ fn proc_block_after<T: Drop>(
 {
     let (block, rest) = proc_block(alloc, tokens)?;
     Ok((tree, block, rest))
-}
-
-/// Reads items of a block as long as they go on, after others; the flag says whether one may begin here.
-#[tactic(auto, unfolding(sr_program_reader::specs::DeclarationReaders::items_at))]
-fn proc_items(
-    alloc: Global,
-    first: (Row<ProcItem>, bool),
-    tokens: &[Token],
-) -> Result<((Row<ProcItem>, bool), &[Token]), ReadFail>
-    ensures reads { ReadsStatementUpTo (λ x. (x.0, x.1.now)) tokens.now result (λ r. items_at (λ t. begins_proc_item t.kind) (proc_item_at r) r.types.expressions.steps first) }
-    ensures shorter { IfOk result (λ x. length x.1.now ≤ length tokens.now) }
-{
-    let mut state = first;
-    let mut rest = tokens;
-    'more: while block_goes_on(state.1, rest) {
-        let (more, after) = next_proc_item(alloc, state, rest)?;
-        state = more;
-        rest = after;
-    }
-    Ok((state, rest))
-}
-
-/// Reads a separator, after which another may begin, or an item, after which none may.
-#[tactic(auto, unfolding(sr_program_reader::specs::DeclarationReaders::next_item_at))]
-fn next_proc_item(
-    alloc: Global,
-    state: (Row<ProcItem>, bool),
-    tokens: &[Token],
-) -> Result<((Row<ProcItem>, bool), &[Token]), ReadFail>
-    ensures reads { ReadsStatementUpTo (λ x. (x.0, x.1.now)) tokens.now result (λ r. next_item_at (proc_item_at r) state) }
-    ensures shorter { IfOk result (λ x. length x.1.now < length tokens.now) }
-{
-    let (items, _) = state;
-    if next_is_separator(tokens) {
-        let (_, items, rest) = separator_after(items, tokens)?;
-        Ok(((items, true), rest))
-    } else {
-        match proc_item(alloc, tokens) {
-            Ok((item, rest)) => Ok(((pushed(items, item)?, false), rest)),
-            Err(fail) => {
-                let_go(items);
-                Err(fail)
-            }
-        }
-    }
-}
-
-/// Whether a separator stands next, or an item where one may begin.
-fn block_goes_on(may_begin: bool, tokens: &[Token]) -> bool
-    ensures { result ≡ next_is (λ t. if is_separator t.kind then true else if may_begin then begins_proc_item t.kind else false) tokens.now }
-{
-    next_is_separator(tokens) || (may_begin && next_is_proc_item(tokens))
 }
 
 /// Reads a proc.

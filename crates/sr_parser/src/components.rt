@@ -1,16 +1,16 @@
-ghost use Rattle.std.specs.Prelude.{◌≡◌, ◌<◌, ◌≤◌, length, true, false, if◌then◌else◌, IfOk};
+ghost use Rattle.std.specs.Prelude.{◌≡◌, ◌<◌, ◌≤◌, length, IfOk};
 ghost use Rattle.sr_reader.specs.Reader.{next_is};
-ghost use Rattle.sr_tree.specs.Tokens.{is_separator};
 ghost use Rattle.sr_parser.specs.Reads.{ReadsStatementUpTo};
 ghost use Rattle.sr_program_reader.specs.ComponentReaders.{begins_component, component_at, file_at, global_at, global_body_at, resource_at, split_resource_at, whole_resource_at};
-ghost use Rattle.sr_program_reader.specs.DeclarationReaders.{items_at, list_at, next_item_at};
+ghost use Rattle.sr_program_reader.specs.DeclarationReaders.{list_at};
 
-use crate::after::{let_go, pushed, separator_after, word_after};
+use crate::after::{let_go, word_after};
 use crate::by_value::{optional_value_formals_after, value_formals};
 use crate::ends::{end_after, nothing_more, this_name, this_name_after};
 use crate::items::{global_items, resource_items_after};
+use crate::lists::{Listed, list};
 use crate::spec::{global_spec, resource_spec};
-use sr_parse_tokens::{ReadFail, name, next_is_separator, next_is_sign, next_is_word, word};
+use sr_parse_tokens::{ReadFail, name, next_is_sign, next_is_word, word};
 use sr_tree::{Component, File, Item, Name, Sign, Token, Word};
 use sr_value::{Row, Span};
 use std::alloc::Global;
@@ -162,14 +162,36 @@ fn next_is_component(tokens: &[Token]) -> bool
     next_is_word(tokens, Word::Resource) || next_is_word(tokens, Word::Global)
 }
 
+/// What may stand in a file.
+struct Components;
+
+impl Listed<Component> for Components {
+    ghost use Rattle.sr_expr_reader.proofs.Yields.{steps-readers};
+    ghost use Rattle.sr_program_reader.specs.StatementReaders.{statement_readers};
+
+    ghost begins = { λ t. begins_component t.kind };
+
+    ghost reader = { λ k. component_at (statement_readers k) };
+
+    ghost steps = { λ k. (statement_readers k).types.expressions.steps };
+
+    ghost bounded = { steps-readers };
+
+    fn next_begins(tokens: &[Token]) -> bool {
+        next_is_component(tokens)
+    }
+
+    fn item(alloc: Global, tokens: &[Token]) -> Result<(Component, &[Token]), ReadFail> {
+        component(alloc, tokens)
+    }
+}
+
 /// Reads components with separators between.
-#[tactic(auto, unfolding(sr_program_reader::specs::DeclarationReaders::list_at))]
 fn component_list(alloc: Global, tokens: &[Token]) -> Result<(Row<Component>, &[Token]), ReadFail>
     ensures reads { ReadsStatementUpTo (λ x. (x.0, x.1.now)) tokens.now result (λ r. list_at (λ t. begins_component t.kind) (component_at r) r.types.expressions.steps) }
     ensures shorter { IfOk result (λ x. length x.1.now ≤ length tokens.now) }
 {
-    let ((components, _), rest) = components_after(alloc, (Row::new(alloc), true), tokens)?;
-    Ok((components, rest))
+    list::<Component, Components>(alloc, tokens)
 }
 
 /// Reads a file, up to the end of the tokens.
@@ -185,56 +207,4 @@ pub fn file(alloc: Global, tokens: &[Token]) -> Result<(File, &[Token]), ReadFai
             Err(fail)
         }
     }
-}
-
-/// Reads components as long as they go on, after others; the flag says whether one may begin here.
-#[tactic(auto, unfolding(sr_program_reader::specs::DeclarationReaders::items_at))]
-fn components_after(
-    alloc: Global,
-    first: (Row<Component>, bool),
-    tokens: &[Token],
-) -> Result<((Row<Component>, bool), &[Token]), ReadFail>
-    ensures reads { ReadsStatementUpTo (λ x. (x.0, x.1.now)) tokens.now result (λ r. items_at (λ t. begins_component t.kind) (component_at r) r.types.expressions.steps first) }
-    ensures shorter { IfOk result (λ x. length x.1.now ≤ length tokens.now) }
-{
-    let mut state = first;
-    let mut rest = tokens;
-    'more: while components_go_on(state.1, rest) {
-        let (more, after) = next_component(alloc, state, rest)?;
-        state = more;
-        rest = after;
-    }
-    Ok((state, rest))
-}
-
-/// Reads a separator, after which another may begin, or a component, after which none may.
-#[tactic(auto, unfolding(sr_program_reader::specs::DeclarationReaders::next_item_at))]
-fn next_component(
-    alloc: Global,
-    state: (Row<Component>, bool),
-    tokens: &[Token],
-) -> Result<((Row<Component>, bool), &[Token]), ReadFail>
-    ensures reads { ReadsStatementUpTo (λ x. (x.0, x.1.now)) tokens.now result (λ r. next_item_at (component_at r) state) }
-    ensures shorter { IfOk result (λ x. length x.1.now < length tokens.now) }
-{
-    let (items, _) = state;
-    if next_is_separator(tokens) {
-        let (_, items, rest) = separator_after(items, tokens)?;
-        Ok(((items, true), rest))
-    } else {
-        match component(alloc, tokens) {
-            Ok((item, rest)) => Ok(((pushed(items, item)?, false), rest)),
-            Err(fail) => {
-                let_go(items);
-                Err(fail)
-            }
-        }
-    }
-}
-
-/// Whether a separator stands next, or a component where one may begin.
-fn components_go_on(may_begin: bool, tokens: &[Token]) -> bool
-    ensures { result ≡ next_is (λ t. if is_separator t.kind then true else if may_begin then begins_component t.kind else false) tokens.now }
-{
-    next_is_separator(tokens) || (may_begin && next_is_component(tokens))
 }

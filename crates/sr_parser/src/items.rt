@@ -1,16 +1,15 @@
-ghost use Rattle.std.specs.Prelude.{◌≡◌, ◌<◌, ◌≤◌, length, true, false, if◌then◌else◌, IfOk};
+ghost use Rattle.std.specs.Prelude.{◌≡◌, ◌<◌, ◌≤◌, length, IfOk};
 ghost use Rattle.sr_reader.specs.Reader.{next_is};
-ghost use Rattle.sr_tree.specs.Tokens.{is_separator};
 ghost use Rattle.sr_parser.specs.Reads.{ReadsStatementUpTo};
 ghost use Rattle.sr_program_reader.specs.ComponentReaders.{begins_item, final_and_items_at, final_at, global_items_at, is_final_code, item_at, plain_items_at, resource_items_at};
-ghost use Rattle.sr_program_reader.specs.DeclarationReaders.{items_at, next_item_at};
 
-use crate::after::{let_go, pushed, separator_after};
+use crate::after::pushed;
 use crate::block::{final_code, proc_decl, procedure_decl, process_decl};
+use crate::lists::{Listed, items_after, list};
 use crate::spec::{next_is_spec, spec_item};
 use crate::statement::statement;
 use crate::words::next_is_statement;
-use sr_parse_tokens::{ReadFail, next_is_separator, next_is_word};
+use sr_parse_tokens::{ReadFail, next_is_word};
 use sr_tree::{FinalCode, Item, Token, Word};
 use sr_value::Row;
 use std::alloc::Global;
@@ -50,6 +49,30 @@ fn item(alloc: Global, tokens: &[Token]) -> Result<(Item, &[Token]), ReadFail>
     }
 }
 
+/// What may stand in a component outside its spec, other than final code.
+struct PlainItems;
+
+impl Listed<Item> for PlainItems {
+    ghost use Rattle.sr_expr_reader.proofs.Yields.{steps-readers};
+    ghost use Rattle.sr_program_reader.specs.StatementReaders.{statement_readers};
+
+    ghost begins = { λ t. begins_item t.kind };
+
+    ghost reader = { λ k. item_at (statement_readers k) };
+
+    ghost steps = { λ k. (statement_readers k).types.expressions.steps };
+
+    ghost bounded = { steps-readers };
+
+    fn next_begins(tokens: &[Token]) -> bool {
+        next_is_item(tokens)
+    }
+
+    fn item(alloc: Global, tokens: &[Token]) -> Result<(Item, &[Token]), ReadFail> {
+        item(alloc, tokens)
+    }
+}
+
 /// Reads items other than final code, after others; the flag says whether one may begin here.
 #[tactic(auto, unfolding(sr_program_reader::specs::ComponentReaders::plain_items_at))]
 fn plain_items(
@@ -60,7 +83,7 @@ fn plain_items(
     ensures reads { ReadsStatementUpTo (λ x. (x.0, x.1.now)) tokens.now result (λ r. plain_items_at r first) }
     ensures shorter { IfOk result (λ x. length x.1.now ≤ length tokens.now) }
 {
-    items_after(alloc, first, tokens)
+    items_after::<Item, PlainItems>(alloc, first, tokens)
 }
 
 /// Whether final code stands next where an item may begin.
@@ -129,63 +152,10 @@ pub fn resource_items_after<T: Drop>(
 }
 
 /// Reads the items of a global.
-#[tactic(auto, unfolding(sr_program_reader::specs::ComponentReaders::global_items_at, sr_program_reader::specs::DeclarationReaders::list_at))]
+#[tactic(auto, unfolding(sr_program_reader::specs::ComponentReaders::global_items_at))]
 pub fn global_items(alloc: Global, tokens: &[Token]) -> Result<(Row<Item>, &[Token]), ReadFail>
     ensures reads { ReadsStatementUpTo (λ x. (x.0, x.1.now)) tokens.now result (λ r. global_items_at r) }
     ensures shorter { IfOk result (λ x. length x.1.now ≤ length tokens.now) }
 {
-    let ((items, _), rest) = items_after(alloc, (Row::new(alloc), true), tokens)?;
-    Ok((items, rest))
-}
-
-/// Reads items other than final code as long as they go on, after others; the flag says whether one may begin here.
-#[tactic(auto, unfolding(sr_program_reader::specs::DeclarationReaders::items_at))]
-fn items_after(
-    alloc: Global,
-    first: (Row<Item>, bool),
-    tokens: &[Token],
-) -> Result<((Row<Item>, bool), &[Token]), ReadFail>
-    ensures reads { ReadsStatementUpTo (λ x. (x.0, x.1.now)) tokens.now result (λ r. items_at (λ t. begins_item t.kind) (item_at r) r.types.expressions.steps first) }
-    ensures shorter { IfOk result (λ x. length x.1.now ≤ length tokens.now) }
-{
-    let mut state = first;
-    let mut rest = tokens;
-    'more: while items_go_on(state.1, rest) {
-        let (more, after) = next_item(alloc, state, rest)?;
-        state = more;
-        rest = after;
-    }
-    Ok((state, rest))
-}
-
-/// Reads a separator, after which another may begin, or an item, after which none may.
-#[tactic(auto, unfolding(sr_program_reader::specs::DeclarationReaders::next_item_at))]
-fn next_item(
-    alloc: Global,
-    state: (Row<Item>, bool),
-    tokens: &[Token],
-) -> Result<((Row<Item>, bool), &[Token]), ReadFail>
-    ensures reads { ReadsStatementUpTo (λ x. (x.0, x.1.now)) tokens.now result (λ r. next_item_at (item_at r) state) }
-    ensures shorter { IfOk result (λ x. length x.1.now < length tokens.now) }
-{
-    let (items, _) = state;
-    if next_is_separator(tokens) {
-        let (_, items, rest) = separator_after(items, tokens)?;
-        Ok(((items, true), rest))
-    } else {
-        match item(alloc, tokens) {
-            Ok((item, rest)) => Ok(((pushed(items, item)?, false), rest)),
-            Err(fail) => {
-                let_go(items);
-                Err(fail)
-            }
-        }
-    }
-}
-
-/// Whether a separator stands next, or an item where one may begin.
-fn items_go_on(may_begin: bool, tokens: &[Token]) -> bool
-    ensures { result ≡ next_is (λ t. if is_separator t.kind then true else if may_begin then begins_item t.kind else false) tokens.now }
-{
-    next_is_separator(tokens) || (may_begin && next_is_item(tokens))
+    list::<Item, PlainItems>(alloc, tokens)
 }

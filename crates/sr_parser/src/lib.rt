@@ -11,6 +11,7 @@ mod declaration;
 mod ends;
 mod heads;
 mod items;
+mod lists;
 mod parts;
 mod program;
 mod quantifier;
