@@ -31,7 +31,8 @@ use Rattle.sr_order.specs.Names.{names_spans, spec_item_names, item_names, compo
 use Rattle.sr_scope.specs.Components.{sort_of, own_twice, collected, collected_twice, all_collected, all_collected_twice, files_collected_twice, files_imports, imported_names, item_imports, specs_imports, items_imports, imports_of, import_found, imports_found, place_of, component_found, components_found, files_found, can_be_main, last_component, main_found}
 use Rattle.sr_scope.specs.Declarations.{var_names}
 use Rattle.sr_scope.specs.Declares.{name_declared, name_twice, op_name}
-use Rattle.sr_scope.specs.Items.{literals_of, spec_declared, spec_twice, specs_declared, specs_twice, item_declared, item_twice, items_twice, spec_within, item_within, inside, spec_found, specs_found, item_found, items_found, served_name, serves, name_served, name_served_twice, served_twice}
+use Rattle.sr_scope.specs.Items.{spec_declared, spec_twice, specs_declared, specs_twice, item_declared, item_twice, items_twice, spec_within, item_within, inside, spec_found, specs_found, item_found, items_found, served_name, serves, name_served, name_served_twice, served_twice}
+use Rattle.sr_scope.specs.Literals.{literals_of}
 use Rattle.sr_scope.specs.Procs.{semaphore_names}
 use Rattle.sr_scope.specs.Resolved.{findings, program, no_place}
 use Rattle.sr_scope.specs.Types.{formal_read, formals_declared}

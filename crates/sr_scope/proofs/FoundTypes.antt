@@ -150,7 +150,7 @@ type_good (TypeTree-F.Char span) place blocks = nothing
 type_good (TypeTree-F.Str span length) place blocks = maybe_expr_among length place blocks
 type_good (TypeTree-F.Enum span literals) place blocks = nothing
 type_good (TypeTree-F.Rec span fields) place blocks =
-    besides (formals_twice_among (map formal_read (map (λ tree. tree.0) fields)) []) (formals_good place blocks fields)
+    besides (formals_twice_among (map formal_read (map (λ tree. tree.0) fields)) []) (after_one span (formals_good place blocks fields))
 type_good (TypeTree-F.CapOf span name) place blocks = qualified_among place blocks name
 type_good (TypeTree-F.CapMachine span) place blocks = nothing
 type_good (TypeTree-F.CapOperation span signature) place blocks = signature.1 place blocks

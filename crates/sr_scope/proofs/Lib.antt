@@ -4,6 +4,8 @@ pub mod FoundExprs
 pub mod FoundFiles
 pub mod FoundStatements
 pub mod FoundTypes
+pub mod LiteralLists
+pub mod LiteralNames
 pub mod Meant
 pub mod Operations
 pub mod OwnNames

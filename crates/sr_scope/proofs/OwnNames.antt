@@ -16,21 +16,20 @@ use Rattle.sr_tree.specs.declared.declaration.Semaphore.{Semaphore}
 use Rattle.sr_tree.specs.declared.name.Name.{Name}
 use Rattle.sr_tree.specs.declared.types.Decl.{Decl}
 use Rattle.sr_tree.specs.declared.types.Formal.{Formal, out-Formal}
-use Rattle.sr_tree.specs.declared.types.Returned.{Returned}
-use Rattle.sr_tree.specs.declared.types.Signature.{Signature}
-use Rattle.sr_tree.specs.declared.types.TypeTree.{TypeTree, out-TypeTree}
-use Rattle.sr_tree.specs.declared.types.TypeTree.TheFolds.{fold_out-TypeTree, fold_out-Formal, map-TypeTree}
-use Rattle.sr_tree.specs.declared.types.TypeTree.TheOpen.{TypeTree-F}
+use Rattle.sr_tree.specs.declared.types.TypeTree.{TypeTree}
+use Rattle.sr_tree.specs.declared.types.TypeTree.TheFolds.{fold_out-Formal}
 use Rattle.sr_tree.specs.Parts.{name_of, spec_of, formals_of, body_of}
-use Rattle.sr_order.specs.Names.{where_some, expr_names, names_spans, decl_names, dims_names, type_names_step, formal_names_step, returned_names_step, signature_names_step, type_names, formal_names, returned_names, signature_names, qualified_names, op_item_names, semaphore_names, spec_item_names, item_names, component_names, file_names}
+use Rattle.sr_order.specs.Names.{where_some, expr_names, names_spans, decl_names, dims_names, type_names_step, formal_names_step, returned_names_step, signature_names_step, type_names, formal_names, signature_names, qualified_names, op_item_names, semaphore_names, spec_item_names, item_names, component_names, file_names}
 use Rattle.sr_scope.specs.Components.{sort_of, own_declared, own_twice}
 use Rattle.sr_scope.specs.Declarations.{var_names}
 use Rattle.sr_scope.specs.Declares.{op_name, name_declared, name_twice, names_declared, names_twice}
 use Rattle.sr_scope.specs.Exprs.{Finds}
-use Rattle.sr_scope.specs.Items.{layer_literals, literals_of, spec_declared, spec_twice, specs_declared, specs_twice, item_declared, item_twice, items_declared, items_twice}
+use Rattle.sr_scope.specs.Items.{spec_declared, spec_twice, specs_declared, specs_twice, item_declared, item_twice, items_declared, items_twice}
+use Rattle.sr_scope.specs.Literals.{literals_of}
 use Rattle.sr_scope.specs.Procs.{semaphore_names as semaphores_named}
 use Rattle.sr_scope.specs.Types.{Formals, Signed, formal_read, formals_declared, formals_twice, type_step, formal_step, returned_step, signature_step}
 use Rattle.sr_scope.proofs.Among.{names_at, names_both}
+use Rattle.sr_scope.proofs.LiteralNames.{literals_within}
 use Rattle.sr_scope.proofs.Tables.{Declares, all_declared, all_twice, sorted, no_names, one_name, some_names, in_turn}
 
 -- ---- declarations
@@ -170,24 +169,17 @@ pub of_each : {A : Type 0} (own : A → List (Sort × Name)) (names : A → List
 of_each own names one [] = none
 of_each own names one (tree ∷ trees) = appended (own tree) (flat_map own trees) (one tree) (of_each own names one trees)
 
-literals_fewer : (literals : List Name) → Fewer (spans_of (sorted Literal literals)) (names_spans literals)
-literals_fewer [] = none
-literals_fewer (literal ∷ literals) = each literal.span (literals_fewer literals)
-
 abbrev S : Type 0
 S = List Span
 
-abbrev type_spans : TypeTree-F TypeTree Formal Returned Signature → S
-type_spans x = type_names_step (map-TypeTree TypeTree Formal Returned Signature S S S S type_names formal_names returned_names signature_names x)
-
-layer_fewer : (x : TypeTree-F TypeTree Formal Returned Signature) → Fewer (spans_of (sorted Literal (layer_literals x))) (type_spans x)
-layer_fewer (TypeTree-F.Enum span literals) = literals_fewer literals
-layer_fewer _ = none
+sorted_spans : (literals : List Name) → spans_of (sorted Literal literals) ≡ names_spans literals
+sorted_spans [] = refl
+sorted_spans (literal ∷ literals) = ap (λ spans. literal.span ∷ spans) (sorted_spans literals)
 
 type_fewer : (ty : TypeTree) → Fewer (spans_of (sorted Literal (literals_of ty))) (type_names ty)
-type_fewer ty =
-    subst (λ spans. Fewer (spans_of (sorted Literal (literals_of ty))) spans)
-    (sym (fold_out-TypeTree S S S S type_names_step formal_names_step returned_names_step signature_names_step ty)) (layer_fewer (out-TypeTree ty))
+type_fewer ty = record {
+  at = λ spot. subst (λ spans. names_at spot spans ≤ names_at spot (type_names ty)) (sym (sorted_spans (literals_of ty))) ((literals_within ty).at spot);
+}
 
 ops_fewer : (items : List OpItem) → Fewer (spans_of (sorted Operation (map op_name items))) (flat_map op_item_names items)
 ops_fewer [] = none

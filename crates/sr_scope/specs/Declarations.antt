@@ -1,14 +1,11 @@
 -- What is found in declarations, apart from the names that they declare.
-use Rattle.std.specs.Prelude.{List, [], ◌∷◌, ◌++◌, Option, Some, None, map}
+use Rattle.std.specs.Prelude.{List, [], ◌∷◌, ◌++◌, map}
 use Rattle.sr_names.specs.declared.meaning.Sort.TheVariants.{Quantifier as quantifier_sort}
 use Rattle.sr_names.specs.declared.place.Blocks.{Blocks}
-use Rattle.sr_names.specs.declared.place.Place.{Place}
 use Rattle.sr_names.specs.Entries.{Entries}
 use Rattle.sr_tree.specs.declared.declaration.ConstDecl.{ConstDecl}
-use Rattle.sr_tree.specs.declared.declaration.OpDecl.{OpDecl}
 use Rattle.sr_tree.specs.declared.declaration.OpItem.{OpItem}
 use Rattle.sr_tree.specs.declared.declaration.OpItem.TheVariants.{Signed, Typed}
-use Rattle.sr_tree.specs.declared.declaration.SemDecl.{SemDecl}
 use Rattle.sr_tree.specs.declared.declaration.Semaphore.{Semaphore}
 use Rattle.sr_tree.specs.declared.declaration.VarDecl.{VarDecl}
 use Rattle.sr_tree.specs.declared.expr.Expr.{Expr}

@@ -1,7 +1,6 @@
 -- What is found in the items of components, and what they declare.
 use Rattle.std.specs.Prelude.{List, [], ◌∷◌, ◌++◌, Option, Some, None, Bool, true, false, if◌then◌else◌, map}
 use Rattle.sr_names.specs.declared.finding.Finding.{Finding}
-use Rattle.sr_names.specs.declared.meaning.Decl.{Decl}
 use Rattle.sr_names.specs.declared.meaning.Meaning.{Meaning}
 use Rattle.sr_names.specs.declared.meaning.Meaning.TheVariants.{Predefined, Declared}
 use Rattle.sr_names.specs.declared.meaning.Sort.{Sort}
@@ -17,23 +16,15 @@ use Rattle.sr_tree.specs.declared.component.Item.TheVariants.{Spec, Proc, Proced
 use Rattle.sr_tree.specs.declared.component.SpecItem.{SpecItem}
 use Rattle.sr_tree.specs.declared.component.SpecItem.TheVariants.{Import, Const, «Type», OpType, Op, Var, Sem}
 use Rattle.sr_tree.specs.declared.name.Name.{Name}
-use Rattle.sr_tree.specs.declared.types.TypeTree.{TypeTree, out-TypeTree}
-use Rattle.sr_tree.specs.declared.types.TypeTree.TheOpen.{TypeTree-F}
 use Rattle.sr_scope.specs.Declarations.{const_found, var_found, var_names, semaphores_found, op_items_found}
 use Rattle.sr_scope.specs.Declares.{name_declared, name_twice, names_declared, names_twice, op_name}
 use Rattle.sr_scope.specs.Exprs.{Finds}
+use Rattle.sr_scope.specs.Literals.{literals_of}
 use Rattle.sr_scope.specs.Procs.{semaphore_names, proc_found, procedure_found, process_found, final_found}
 use Rattle.sr_scope.specs.Statements.{statement_found}
 use Rattle.sr_scope.specs.Types.{type_found, signature_read, signed_found}
 
-abbrev pub layer_literals : {A B C D : Type 0} → TypeTree-F A B C D → List Name
-layer_literals (TypeTree-F.Enum span literals) = literals
-layer_literals _ = []
-
--- the literals of an enumeration are constants of the scope of their type
-abbrev pub literals_of : TypeTree → List Name
-literals_of ty = layer_literals (out-TypeTree ty)
-
+-- the literals of the enumerations in a type are constants of the scope of the type
 abbrev pub spec_declared : SpecItem → Entries → Entries
 spec_declared (Import imports) table = table
 spec_declared (Const constant) table = name_declared Constant constant.name table

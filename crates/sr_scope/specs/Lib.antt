@@ -3,6 +3,7 @@ pub mod Declarations
 pub mod Declares
 pub mod Exprs
 pub mod Items
+pub mod Literals
 pub mod Names
 pub mod Procs
 pub mod Resolved

@@ -1,9 +1,6 @@
 -- What is found in procs, procedures, processes and final code.
-use Rattle.std.specs.Prelude.{List, [], ◌∷◌, ◌++◌, map}
+use Rattle.std.specs.Prelude.{List, [], ◌++◌, map}
 use Rattle.sr_names.specs.declared.meaning.Sort.TheVariants.{Constant, Variable, Operation}
-use Rattle.sr_names.specs.declared.place.Blocks.{Blocks}
-use Rattle.sr_names.specs.declared.place.Place.{Place}
-use Rattle.sr_names.specs.Entries.{Entries}
 use Rattle.sr_names.specs.Scopes.{opened}
 use Rattle.sr_tree.specs.declared.component.FinalCode.{FinalCode}
 use Rattle.sr_tree.specs.declared.component.Proc.{Proc}

@@ -1,5 +1,5 @@
 -- What is found in statements and blocks.
-use Rattle.std.specs.Prelude.{Bool, true, false, List, [], ◌∷◌, ◌++◌, Option, Some, None, map, if◌then◌else◌}
+use Rattle.std.specs.Prelude.{Bool, true, false, List, [], ◌∷◌, ◌++◌, Option, Some, None, if◌then◌else◌}
 use Rattle.sr_names.specs.declared.finding.Finding.{Finding}
 use Rattle.sr_names.specs.declared.meaning.Sort.TheVariants.{Constant, Variable}
 use Rattle.sr_names.specs.declared.place.Blocks.{Blocks}

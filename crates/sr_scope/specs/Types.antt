@@ -2,8 +2,6 @@
 use Rattle.std.specs.Prelude.{List, [], ◌∷◌, ◌++◌, Option, Some, None, map}
 use Rattle.sr_names.specs.declared.finding.Finding.{Finding}
 use Rattle.sr_names.specs.declared.meaning.Sort.TheVariants.{Variable}
-use Rattle.sr_names.specs.declared.place.Blocks.{Blocks}
-use Rattle.sr_names.specs.declared.place.Place.{Place}
 use Rattle.sr_names.specs.Entries.{Entries}
 use Rattle.sr_tree.specs.declared.expr.Expr.{Expr}
 use Rattle.sr_tree.specs.declared.name.Name.{Name}

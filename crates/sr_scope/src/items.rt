@@ -1,44 +1,18 @@
 ghost use Rattle.std.specs.Prelude.{◌≡◌, OnOk, Some, []};
 ghost use Rattle.std.specs.Option.{option_copied};
 ghost use Rattle.sr_names.specs.Diagnostics.{all_noted};
-ghost use Rattle.sr_scope.specs.Declares.{names_declared, names_twice};
-ghost use Rattle.sr_scope.specs.Items.{literals_of, spec_declared, spec_twice, specs_declared, specs_twice, item_declared, item_twice, items_declared, items_twice, spec_within, item_within, inside, spec_found, specs_found, item_found, items_found, served_name, is_operation, name_served, name_served_twice, served_twice};
+ghost use Rattle.sr_scope.specs.Items.{spec_declared, spec_twice, specs_declared, specs_twice, item_declared, item_twice, items_declared, items_twice, spec_within, item_within, inside, spec_found, specs_found, item_found, items_found, served_name, is_operation, name_served, name_served_twice, served_twice};
 
 use crate::declarations::{constant, operations, semaphores, variables};
-use crate::declares::{
-    declare_name, declare_names, declare_operations, declare_semaphores, declare_variables,
-};
+use crate::declares::{declare_name, declare_operations, declare_semaphores, declare_variables};
+use crate::literals::declare_literals;
 use crate::procs::{final_code, proc, procedure, process};
 use crate::statements::statement;
 use crate::types::{signature, type_tree};
 use sr_names::{Blocks, Diagnostics, Meaning, Place, Sort, Spot, Table};
-use sr_tree::{Item, Name, SpecItem, TypeTree};
+use sr_tree::{Item, Name, SpecItem};
 use sr_value::NoMemory;
 use std::alloc::Global;
-
-/// Declares the literals of an enumeration.
-fn declare_literals(
-    alloc: Global,
-    ty: &TypeTree,
-    table: &mut Table,
-    diagnostics: &mut Diagnostics,
-) -> Result<(), NoMemory>
-    ensures table { OnOk result (table.new ≡ names_declared Sort.Literal (literals_of ty.now) table.old) }
-    ensures noted { OnOk result (diagnostics.new ≡ all_noted diagnostics.old (names_twice Sort.Literal (literals_of ty.now) table.old)) }
-{
-    match ty {
-        TypeTree::Enum { literals, .. } => {
-            declare_names(
-                alloc,
-                literals.as_slice(),
-                Sort::Literal,
-                table,
-                diagnostics,
-            )
-        }
-        _ => Ok(()),
-    }
-}
 
 fn declare_spec_item(
     alloc: Global,

@@ -10,6 +10,7 @@ mod declares;
 mod exprs;
 mod items;
 mod laws;
+mod literals;
 mod names;
 mod procs;
 mod program;
