@@ -24,6 +24,7 @@ use Rattle.sr_tree.specs.declared.types.Returned.{Returned}
 use Rattle.sr_tree.specs.declared.types.Signature.{Signature as SignatureTree}
 use Rattle.sr_tree.specs.declared.types.TypeTree.{TypeTree, out-TypeTree}
 use Rattle.sr_tree.specs.declared.types.TypeTree.TheOpen.{TypeTree-F}
+use Rattle.sr_tree.specs.Nested.{types_within}
 use Rattle.sr_tree.specs.Parts.{name_of, spec_of, formals_of, body_of}
 use Rattle.sr_types.specs.declared.signature.Signature.{Signature}
 use Rattle.sr_types.specs.declared.ty.Ty.{Ty}
@@ -35,9 +36,9 @@ use Rattle.sr_check_expr.specs.declared.info.Info.TheVariants as info
 use Rattle.sr_check_expr.specs.Infos.{info_at}
 use Rattle.sr_check_decl.specs.declared.kind.NamedParam.{NamedParam}
 use Rattle.sr_check_decl.specs.declared.tally.Tally.{Tally}
-use Rattle.sr_check_decl.specs.Declaring.{declare_name, declared_if, const_declared, untyped_vars_declared, var_declared, var_declared_by, literals_declared, layer_declared, type_declared, op_item_name, op_type, ops_declared, sems_declared, semaphore_signature, process_signature, spec_item_declared, spec_items_declared, item_declared, items_declared, params_declared, standing, head_declared, component_typed, making, component_formals, component_declared, components_declared, files_declared, components_named, files_named, program_declared}
-use Rattle.sr_check_decl.specs.Entering.{entered, signed_entered, formals_entered, signature_entered}
-use Rattle.sr_check_decl.specs.Inferring.{is_settled, info_by, all_settled, can_settle, wave, waves, inferred, given_up, given_up_if, program_inferred, program_known}
+use Rattle.sr_check_decl.specs.Declaring.{at_facts, declare_name, declared_if, const_declared, untyped_vars_declared, var_declared, var_declared_by, literals_declared, layer_declared, types_declared, type_declared, op_item_name, op_type, ops_declared, sems_declared, semaphore_signature, process_signature, spec_item_declared, spec_items_declared, item_declared, items_declared, params_declared, standing, head_declared, component_typed, making, component_formals, component_declared, components_declared, files_declared, components_named, files_named, program_declared}
+use Rattle.sr_check_decl.specs.Entering.{entered, signed_entered, type_entered, formals_entered, signature_entered}
+use Rattle.sr_check_decl.specs.Inferring.{is_settled, info_by, all_settled, can_settle, wave, waves, given_up, given_up_if, program_inferred, program_known}
 use Rattle.sr_check_decl.specs.Parts.{component_decl}
 use Rattle.sr_check_decl.specs.TypeTrees.{decl_type, signature_type}
 use Rattle.sr_check_decl.specs.Variables.{declare, variable, vars_declared}
@@ -125,13 +126,20 @@ module _ (P : Spot → Ty → Spot → Bool → Type 0) where
       sound_literals spot number index [] facts h = h
       sound_literals spot number index (name ∷ names) facts h = sound_literals spot number (index + 1) names _ (sound_with facts (spot_of name.span) _ h tt)
 
-      sound_layer : (named : TypeDecl) (tally : Tally) (layer : TypeTree-F TypeTree Formal Returned SignatureTree) → Sound component tally.facts → Sound component (layer_declared named tally layer).facts
-      sound_layer named tally (TypeTree-F.Enum span literals) h = sound_literals _ _ _ literals _ (sound_with tally.facts (spot_of named.name.span) _ h tt)
-      sound_layer named tally (TypeTree-F.Rec span fields) h = sound_with tally.facts (spot_of named.name.span) _ h tt
-      sound_layer named tally _ h = sound_with tally.facts (spot_of named.name.span) _ h tt
+      sound_layer : (layer : TypeTree-F TypeTree Formal Returned SignatureTree) (tally : Tally) → Sound component tally.facts → Sound component (layer_declared layer tally).facts
+      sound_layer (TypeTree-F.Enum span literals) tally h = sound_literals _ _ _ literals _ (sound_with tally.facts (spot_of span) _ h tt)
+      sound_layer (TypeTree-F.Rec span fields) tally h = sound_with tally.facts (spot_of span) _ h tt
+      sound_layer _ tally h = h
+
+      sound_types : (trees : List TypeTree) (tally : Tally) → Sound component tally.facts → Sound component (types_declared trees tally).facts
+      sound_types [] tally h = h
+      sound_types (tree ∷ trees) tally h = sound_types trees _ (sound_layer (out-TypeTree tree) tally h)
 
       sound_type : (named : TypeDecl) (tally : Tally) → Sound component tally.facts → Sound component (type_declared named tally).facts
-      sound_type named tally h = sound_layer named _ (out-TypeTree named.ty) (keeps_type (Sound component) sound_signatures named.ty tally.facts h)
+      sound_type named tally h =
+          let entering = at_facts tally (type_entered named.ty tally.facts) in
+          let within = types_declared (types_within named.ty) entering in
+          sound_with within.facts (spot_of named.name.span) _ (sound_types (types_within named.ty) entering (keeps_type (Sound component) sound_signatures named.ty tally.facts h)) tt
 
       -- ---- operations
 

@@ -4,4 +4,5 @@ pub mod Naming
 pub mod Places
 pub mod ReadIn
 pub mod Tests
+pub mod TypesDeclared
 pub mod Waves

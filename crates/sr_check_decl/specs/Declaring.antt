@@ -1,7 +1,8 @@
 -- What the declarations of components declare, before any statement is looked at.
 -- Each is read where the signatures that are written in it have their numbers (`Entering`): `.._in` says what it declares
 -- there.
-use Rattle.std.specs.Prelude.{ℕ, ◌+◌, Bool, true, false, ◌||◌, List, [], ◌∷◌, Option, Some, None, if◌then◌else◌, is_some, map, length}
+use Rattle.std.specs.Prelude.{ℕ, ◌+◌, Bool, true, false, ◌||◌, List, [], ◌∷◌, Option, Some, None, is_some, map, length}
+use Rattle.sr_value.specs.declared.place.Span.{Span}
 use Rattle.sr_value.specs.declared.value.Value.TheVariants as value
 use Rattle.sr_names.specs.declared.meaning.Decl.{Decl}
 use Rattle.sr_names.specs.declared.spot.Spot.{Spot}
@@ -52,6 +53,7 @@ use Rattle.sr_check_decl.specs.declared.tally.Tally.{Tally}
 use Rattle.sr_check_decl.specs.Constants.{const_of, is_static}
 use Rattle.sr_check_decl.specs.Entering.{entered, signed_entered, type_entered, written_entered, formals_entered, signature_entered, ops_entered}
 use Rattle.sr_check_decl.specs.Parts.{component_decl}
+use Rattle.sr_tree.specs.Nested.{types_within}
 use Rattle.sr_tree.specs.Parts.{name_of, spec_of, formals_of, body_of}
 use Rattle.sr_check_decl.specs.TypeTrees.{free_bounds, fixed_bounds, type_kinding, formal_read, signature_read, signature_type, operation_type, formals_at, all_params, named_decl}
 use Rattle.sr_check_decl.specs.Variables.{declare, variable, vars_declared, untyped_var_rule}
@@ -98,10 +100,10 @@ literals_declared spot number index (name ∷ names) facts =
     literals_declared spot number (index + 1) names (declare_name facts name (literal_info spot number index))
 
 -- an enumeration declares its literals too, and enumerations are counted through the program
-abbrev pub enumeration_declared : Name → List Name → Tally → Tally
-enumeration_declared name literals tally = record {
-  facts = literals_declared (spot_of name.span) tally.enumerations 0 literals
-      (declare_name tally.facts name (info.Enumeration tally.enumerations (length literals)));
+abbrev pub enumeration_declared : Span → List Name → Tally → Tally
+enumeration_declared span literals tally = record {
+  facts = literals_declared (spot_of span) tally.enumerations 0 literals
+      (declare tally.facts (spot_of span) (info.Enumeration tally.enumerations (length literals)));
   enumerations = tally.enumerations + 1;
 }
 
@@ -114,16 +116,22 @@ fields_of facts fields = map field_info (all_params (formals_at (map formal_read
 abbrev pub at_facts : Tally → Facts → Tally
 at_facts tally facts = record tally { facts = facts }
 
-abbrev pub layer_declared : {C D : Type 0} → TypeDecl → Tally → TypeTree-F TypeTree Formal C D → Tally
-layer_declared named tally (TypeTree-F.Enum span literals) = enumeration_declared named.name literals tally
-layer_declared named tally (TypeTree-F.Rec span fields) = at_facts tally (declare_name tally.facts named.name (info.Record (fields_of tally.facts fields)))
-layer_declared named tally _ = at_facts tally (declare_name tally.facts named.name (info.«Type» (type_kinding named.ty tally.facts fixed_bounds).kind.ty))
+abbrev pub layer_declared : {C D : Type 0} → TypeTree-F TypeTree Formal C D → Tally → Tally
+layer_declared (TypeTree-F.Enum span literals) tally = enumeration_declared span literals tally
+layer_declared (TypeTree-F.Rec span fields) tally = at_facts tally (declare tally.facts (spot_of span) (info.Record (fields_of tally.facts fields)))
+layer_declared _ tally = tally
 
-abbrev pub type_declared_in : TypeDecl → Tally → Tally
-type_declared_in named tally = layer_declared named tally (out-TypeTree named.ty)
+-- enumerations and records, one after the other
+abbrev pub types_declared : List TypeTree → Tally → Tally
+types_declared [] tally = tally
+types_declared (tree ∷ trees) tally = types_declared trees (layer_declared (out-TypeTree tree) tally)
 
+abbrev pub name_declared : TypeDecl → Tally → Tally
+name_declared named tally = at_facts tally (declare_name tally.facts named.name (info.«Type» (type_kinding named.ty tally.facts fixed_bounds).kind.ty))
+
+-- what is written in the type is declared where it stands, and then the name of the type
 abbrev pub type_declared : TypeDecl → Tally → Tally
-type_declared named tally = type_declared_in named (at_facts tally (type_entered named.ty tally.facts))
+type_declared named tally = name_declared named (types_declared (types_within named.ty) (at_facts tally (type_entered named.ty tally.facts)))
 
 -- the type of the operations of a signature as it is written
 abbrev pub written_type : SignatureTree → Facts → Ty

@@ -1,6 +1,7 @@
 -- The signatures that are written in a declaration: before the declaration is read they are put into the table of the
 -- program, each after those that stand inside it.
 use Rattle.std.specs.Prelude.{List, [], ◌∷◌, ◌++◌, Option, Some, None, if◌then◌else◌, map}
+use Rattle.sr_names.specs.Spots.{spot_of}
 use Rattle.sr_tree.specs.declared.declaration.OpItem.{OpItem}
 use Rattle.sr_tree.specs.declared.declaration.OpItem.TheVariants.{Signed as OfSignature, Typed as OfType}
 use Rattle.sr_tree.specs.declared.types.Decl.{Decl as DeclTree}
@@ -18,6 +19,7 @@ use Rattle.sr_types.specs.declared.ty.Ty.{Ty}
 use Rattle.sr_types.specs.declared.ty.Ty.TheVariants as ty
 use Rattle.sr_types.specs.Signatures.{with_signature}
 use Rattle.sr_check_expr.specs.declared.facts.Facts.{Facts}
+use Rattle.sr_check_expr.specs.Infos.{type_spot}
 use Rattle.sr_check_decl.specs.declared.kind.NamedParam.{NamedParam}
 use Rattle.sr_check_decl.specs.declared.kind.Signed.{Signed}
 use Rattle.sr_check_decl.specs.TypeTrees.{mode_of, forms_of, formals_of, param_of, array_type, whole_signature, is_refused, signature_type, capability_kinding, named_kinding}
@@ -105,8 +107,8 @@ type_step (TypeTree-F.Int span) facts = read_in facts ty.Int
 type_step (TypeTree-F.Bool span) facts = read_in facts ty.Bool
 type_step (TypeTree-F.Char span) facts = read_in facts ty.Char
 type_step (TypeTree-F.Str span length) facts = read_in facts ty.Str
-type_step (TypeTree-F.Enum span literals) facts = read_in facts ty.Untyped
-type_step (TypeTree-F.Rec span fields) facts = read_in (in_turn fields facts).facts ty.Untyped
+type_step (TypeTree-F.Enum span literals) facts = read_in facts (ty.Enum (type_spot (spot_of span)))
+type_step (TypeTree-F.Rec span fields) facts = read_in (in_turn fields facts).facts (ty.Rec (type_spot (spot_of span)))
 type_step (TypeTree-F.CapOf span name) facts = read_in facts (capability_kinding facts span name).kind.ty
 type_step (TypeTree-F.CapMachine span) facts = read_in facts ty.Vm
 type_step (TypeTree-F.CapOperation span signature) facts = operation_after (signature facts)

@@ -329,14 +329,14 @@ array_kinding facts bound_policy span dims item =
 abbrev pub operation_kinding : Facts → Span → SignedFound → Kinding
 operation_kinding facts span read = kinding_at span read.found (signature_type facts read.signed)
 
--- enumerations and record types stand in type declarations alone, which say what they are
+-- an enumeration and a record type are each a type of their own, known by the place of the word `enum` or `rec`
 abbrev pub type_step : TypeTree-F Kinds ReadsFormals ReadsReturned ReadsSignature → Kinds
 type_step (TypeTree-F.Int span) facts bound_policy = kinding_at span [] ty.Int
 type_step (TypeTree-F.Bool span) facts bound_policy = kinding_at span [] ty.Bool
 type_step (TypeTree-F.Char span) facts bound_policy = kinding_at span [] ty.Char
 type_step (TypeTree-F.Str span length) facts bound_policy = kinding_at span (string_found bound_policy facts span length) ty.Str
-type_step (TypeTree-F.Enum span literals) facts bound_policy = kinding_at span [] ty.Untyped
-type_step (TypeTree-F.Rec span fields) facts bound_policy = kinding_at span (formals_found (formals_at fields facts true)) ty.Untyped
+type_step (TypeTree-F.Enum span literals) facts bound_policy = kinding_at span [] (ty.Enum (type_spot (spot_of span)))
+type_step (TypeTree-F.Rec span fields) facts bound_policy = kinding_at span (formals_found (formals_at fields facts true)) (ty.Rec (type_spot (spot_of span)))
 type_step (TypeTree-F.CapOf span name) facts bound_policy = capability_kinding facts span name
 type_step (TypeTree-F.CapMachine span) facts bound_policy = kinding_at span [] ty.Vm
 type_step (TypeTree-F.CapOperation span signature) facts bound_policy = operation_kinding facts span (signature facts)

@@ -1,7 +1,10 @@
-ghost use Rattle.std.specs.Prelude.{◌≡◌, [], None, IfOk, OnOk, map};
+ghost use Rattle.std.specs.Prelude.{◌≡◌, [], None, IfOk, OnOk, map, flat_map};
+ghost use Rattle.sr_names.specs.Spots.{spot_of};
+ghost use Rattle.sr_tree.specs.Nested.{types_within, formal_types, written_types, signature_types};
+ghost use Rattle.sr_check_decl.specs.Variables.{declare};
 ghost use Rattle.sr_check_decl.specs.TypeTrees.{type_kinding, fixed_bounds};
 ghost use Rattle.sr_check_decl.specs.Entering.{formals_entered, signed_entered};
-ghost use Rattle.sr_check_decl.specs.Declaring.{declared_if, const_declared, untyped_vars_declared, var_declared, literal_info, literals_declared, enumeration_declared, field_info, fields_of, type_declared, spec_item_declared, item_declared, spec_items_declared, items_declared, params_declared, making, component_typed, component_formals, with_formals, after_spec, component_declared, components_declared, files_declared, components_named, files_named, no_facts, program_declared, declare_name, at_facts, nowhere};
+ghost use Rattle.sr_check_decl.specs.Declaring.{declared_if, const_declared, untyped_vars_declared, var_declared, literal_info, literals_declared, enumeration_declared, field_info, fields_of, types_declared, type_declared, spec_item_declared, item_declared, spec_items_declared, items_declared, params_declared, making, component_typed, component_formals, with_formals, after_spec, component_declared, components_declared, files_declared, components_named, files_named, no_facts, program_declared, declare_name, at_facts, nowhere};
 
 use crate::constants::{constant, is_static};
 use crate::entering::{enter_formals, enter_operations, enter_signed, enter_type, enter_written};
@@ -17,10 +20,11 @@ use crate::written::{FIXED, FREE, all_formals, type_kind};
 use sr_check_expr::{Facts, FieldInfo, Here, Info, Infos, type_spot};
 use sr_names::{Decl, Diagnostics, Members, Sort, Spot, Uses};
 use sr_tree::{
-    Component, ConstDecl, File, Formal, Item, Name, SpecItem, TypeDecl, TypeTree, VarDecl,
+    Component, ConstDecl, File, Formal, Item, Name, Returned, Signature, SpecItem, TypeDecl,
+    TypeTree, VarDecl,
 };
 use sr_types::{Forms, Signatures, Static, Ty, Typed};
-use sr_value::{Duplicate, NoMemory, Row, Value};
+use sr_value::{Duplicate, NoMemory, Row, Span, Value};
 use std::alloc::Global;
 
 fn declare_if(facts: &mut Facts, met: bool, name: &Name, typed: Typed) -> Result<(), NoMemory>
@@ -98,17 +102,18 @@ fn declare_literals(
     Ok(())
 }
 
-fn declare_enumeration(tally: &mut Tally, name: &Name, literals: &[Name]) -> Result<(), NoMemory>
-    ensures { OnOk result (tally.new ≡ enumeration_declared name.now literals.now tally.old) }
+fn declare_enumeration(tally: &mut Tally, span: Span, literals: &[Name]) -> Result<(), NoMemory>
+    ensures { OnOk result (tally.new ≡ enumeration_declared span literals.now tally.old) }
 {
     let number = tally.enumerations;
+    let spot = Spot::of(span);
     let info = Info::Enumeration {
         number,
         literals: count_of(literals)?,
     };
-    declare_name(&mut tally.facts, name, info)?;
+    declare(&mut tally.facts, spot, info)?;
     tally.enumerations = next(number)?;
-    declare_literals(&mut tally.facts, Spot::of(name.span), number, literals)
+    declare_literals(&mut tally.facts, spot, number, literals)
 }
 
 fn field_info(alloc: Global, param: &NamedParam) -> Result<FieldInfo, NoMemory>
@@ -140,36 +145,98 @@ fn fields_of(alloc: Global, facts: &Facts, trees: &[Formal]) -> Result<Row<Field
 fn declare_record(
     alloc: Global,
     facts: &mut Facts,
-    name: &Name,
+    span: Span,
     trees: &[Formal],
 ) -> Result<(), NoMemory>
-    ensures { OnOk result (facts.new ≡ declare_name facts.old name.now (Info.Record (fields_of facts.old trees.now))) }
+    ensures { OnOk result (facts.new ≡ declare facts.old (spot_of span) (Info.Record (fields_of facts.old trees.now))) }
 {
     let fields = fields_of(alloc, facts, trees)?;
-    declare_name(facts, name, Info::Record(fields))
+    declare(facts, Spot::of(span), Info::Record(fields))
 }
 
-fn declare_named_type(alloc: Global, facts: &mut Facts, tree: &TypeDecl) -> Result<(), NoMemory>
+/// Declares the enumerations and records that are written in a type, in the order of the text.
+#[cycle(within)]
+#[tactic(auto, using(crate::proofs::TypesDeclared::record_declared))]
+fn declare_within(alloc: Global, tally: &mut Tally, tree: &TypeTree) -> Result<(), NoMemory>
+    ensures { OnOk result (tally.new ≡ types_declared (types_within tree.now) tally.old) }
+{
+    match tree {
+        TypeTree::Enum { span, literals } => {
+            declare_enumeration(tally, *span, literals.as_slice())
+        }
+        TypeTree::Rec { span, fields } => {
+            declare_record(alloc, &mut tally.facts, *span, fields.as_slice())?;
+            declare_within_formals(alloc, tally, fields.as_slice())
+        }
+        TypeTree::CapOperation { signature, .. } => {
+            declare_within_signature(alloc, tally, signature)
+        }
+        TypeTree::Array { item, .. } => declare_within(alloc, tally, item.get()),
+        TypeTree::Int { .. }
+        | TypeTree::Bool { .. }
+        | TypeTree::Char { .. }
+        | TypeTree::Str { .. }
+        | TypeTree::CapOf { .. }
+        | TypeTree::CapMachine { .. }
+        | TypeTree::Named { .. } => Ok(()),
+    }
+}
+
+#[cycle(within)]
+fn declare_within_formals(
+    alloc: Global,
+    tally: &mut Tally,
+    formals: &[Formal],
+) -> Result<(), NoMemory>
+    ensures { OnOk result (tally.new ≡ types_declared (flat_map formal_types formals.now) tally.old) }
+{
+    for formal in formals {
+        declare_within(alloc, tally, &formal.ty)?;
+    }
+    Ok(())
+}
+
+#[cycle(within)]
+fn declare_within_returned(
+    alloc: Global,
+    tally: &mut Tally,
+    returned: &Option<Returned>,
+) -> Result<(), NoMemory>
+    ensures { OnOk result (tally.new ≡ types_declared (written_types returned.now) tally.old) }
+{
+    match returned {
+        Some(written) => declare_within(alloc, tally, written.ty.get()),
+        None => Ok(()),
+    }
+}
+
+#[cycle(within)]
+#[tactic(auto, using(crate::proofs::TypesDeclared::signature_declared))]
+fn declare_within_signature(
+    alloc: Global,
+    tally: &mut Tally,
+    signature: &Signature,
+) -> Result<(), NoMemory>
+    ensures { OnOk result (tally.new ≡ types_declared (signature_types signature.now) tally.old) }
+{
+    declare_within_formals(alloc, tally, signature.formals.as_slice())?;
+    declare_within_returned(alloc, tally, &signature.returned)
+}
+
+fn declare_type_name(alloc: Global, facts: &mut Facts, tree: &TypeDecl) -> Result<(), NoMemory>
     ensures { OnOk result (facts.new ≡ declare_name facts.old tree.now.name (Info.«Type» (type_kinding tree.now.ty facts.old fixed_bounds).kind.ty)) }
 {
     let kind = type_kind(alloc, &tree.ty, facts, &mut Diagnostics::new(alloc), FIXED)?;
     declare_name(facts, &tree.name, Info::Type(kind.ty))
 }
 
-/// Declares a type, and the literals of an enumeration.
+/// Declares a type, and the enumerations and records that are written in it.
 fn declare_type(alloc: Global, tally: &mut Tally, tree: &TypeDecl) -> Result<(), NoMemory>
     ensures { OnOk result (tally.new ≡ type_declared tree.now tally.old) }
 {
     enter_type(alloc, &mut tally.facts, &tree.ty)?;
-    match &tree.ty {
-        TypeTree::Enum { literals, .. } => {
-            declare_enumeration(tally, &tree.name, literals.as_slice())
-        }
-        TypeTree::Rec { fields, .. } => {
-            declare_record(alloc, &mut tally.facts, &tree.name, fields.as_slice())
-        }
-        _ => declare_named_type(alloc, &mut tally.facts, tree),
-    }
+    declare_within(alloc, tally, &tree.ty)?;
+    declare_type_name(alloc, &mut tally.facts, tree)
 }
 
 fn declare_spec_item(

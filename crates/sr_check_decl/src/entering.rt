@@ -8,8 +8,8 @@ use crate::signatures::{
     formals_of, forms_of, is_refused, mode_of, param_of, signature_type, whole_signature,
 };
 use crate::types::{array, capability_kind, named_kind};
-use sr_check_expr::Facts;
-use sr_names::Diagnostics;
+use sr_check_expr::{Facts, type_spot};
+use sr_names::{Diagnostics, Spot};
 use sr_tree::{Formal, OpItem, QualifiedName, Returned, Signature, TypeTree};
 use sr_types::{Mode, Ty};
 use sr_value::{NoMemory, Row, Span};
@@ -71,10 +71,10 @@ pub(crate) fn enter_type(alloc: Global, facts: &mut Facts, tree: &TypeTree) -> R
         TypeTree::Bool { .. } => Ok(Ty::Bool),
         TypeTree::Char { .. } => Ok(Ty::Char),
         TypeTree::Str { .. } => Ok(Ty::Str),
-        TypeTree::Enum { .. } => Ok(Ty::Untyped),
-        TypeTree::Rec { fields, .. } => {
+        TypeTree::Enum { span, .. } => Ok(Ty::Enum(type_spot(Spot::of(*span)))),
+        TypeTree::Rec { span, fields } => {
             enter_formals(alloc, facts, fields.as_slice())?;
-            Ok(Ty::Untyped)
+            Ok(Ty::Rec(type_spot(Spot::of(*span))))
         }
         TypeTree::CapOf { span, name } => capability(alloc, facts, *span, name),
         TypeTree::CapMachine { .. } => Ok(Ty::Vm),

@@ -7,8 +7,8 @@ use crate::kind::{BoundPolicy, Kind, NamedParam, Signed};
 use crate::ranges::string;
 use crate::signatures::{formal_bounds, formals_of, forms_of, mode_of, param_of, signature_type};
 use crate::types::{array, capability_kind, named_kind, note_array, note_decl, note_decls};
-use sr_check_expr::Facts;
-use sr_names::Diagnostics;
+use sr_check_expr::{Facts, type_spot};
+use sr_names::{Diagnostics, Spot};
 use sr_tree::{Decl, DimsTree, Formal, Returned, Signature, TypeTree};
 use sr_types::{Mode, Ty};
 use sr_value::{NoMemory, Row, Span};
@@ -101,10 +101,10 @@ pub fn type_kind(
             string(alloc, facts, diagnostics, bound_policy, *span, length)?;
             Ok(kind_at(*span, Ty::Str))
         }
-        TypeTree::Enum { span, .. } => Ok(kind_at(*span, Ty::Untyped)),
+        TypeTree::Enum { span, .. } => Ok(kind_at(*span, Ty::Enum(type_spot(Spot::of(*span))))),
         TypeTree::Rec { span, fields } => {
             all_formals(alloc, fields.as_slice(), facts, diagnostics, true)?;
-            Ok(kind_at(*span, Ty::Untyped))
+            Ok(kind_at(*span, Ty::Rec(type_spot(Spot::of(*span)))))
         }
         TypeTree::CapOf { span, name } => capability_kind(alloc, facts, diagnostics, *span, name),
         TypeTree::CapMachine { span } => Ok(kind_at(*span, Ty::Vm)),

@@ -1,5 +1,5 @@
 -- A signature is read after its formals and what it returns.
-use Rattle.std.proofs.Common.{◌≡◌, sym, ap, ◌∙◌}
+use Rattle.std.proofs.Common.{sym, ap, ◌∙◌}
 use Rattle.std.specs.Option.{option_map}
 use Rattle.sr_tree.specs.declared.types.Signature.{out-Signature}
 use Rattle.sr_check_decl.specs.TypeTrees.{forms_of}
