@@ -4,3 +4,4 @@ pub mod Making
 pub mod Needed
 pub mod DeclaredOperation
 pub mod Together
+pub mod Within

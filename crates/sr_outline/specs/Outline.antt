@@ -18,6 +18,7 @@ use Rattle.sr_tree.specs.declared.declaration.TypeDecl.{TypeDecl}
 use Rattle.sr_tree.specs.declared.name.Name.{Name}
 use Rattle.sr_tree.specs.declared.types.TypeTree.{TypeTree, out-TypeTree}
 use Rattle.sr_tree.specs.declared.types.TypeTree.TheOpen.{TypeTree-F}
+use Rattle.sr_tree.specs.Nested.{types_within}
 use Rattle.sr_tables.specs.declared.tables.Tables.{Tables}
 use Rattle.sr_outline.specs.Heads.{Heads, heads_of, component_opened, operation_entry, spec_item_optypes}
 use Rattle.sr_outline.specs.Numbers.{component_spots, served_spots, site_spots, shared_of, component_served, component_sites, component_shared}
@@ -115,8 +116,12 @@ abbrev pub layer_literals : {B C D : Type 0} → TypeTree-F TypeTree B C D → L
 layer_literals (TypeTree-F.Enum span literals) = map (λ name. name.text) literals ∷ []
 layer_literals _ = []
 
+abbrev pub tree_literals : TypeTree → List (List (List ℕ))
+tree_literals tree = layer_literals (out-TypeTree tree)
+
+-- of all enumerations in a type, in the order of the text
 abbrev pub type_literals : TypeDecl → List (List (List ℕ))
-type_literals named = layer_literals (out-TypeTree named.ty)
+type_literals named = flat_map tree_literals (types_within named.ty)
 
 abbrev pub item_literals : SpecItem → List (List (List ℕ))
 item_literals inner = flat_map type_literals (spec_item_types inner)

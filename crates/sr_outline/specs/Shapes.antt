@@ -7,6 +7,7 @@ use Rattle.sr_check_expr.specs.declared.info.Info.TheVariants as info
 use Rattle.sr_check_expr.specs.Infos.{info_at}
 use Rattle.sr_core.specs.declared.formal.FormalShape.{FormalShape}
 use Rattle.sr_core.specs.declared.formal.FormalShape.TheVariants.{Fixed, Open, Open2}
+use Rattle.sr_names.specs.Spots.{spot_of}
 use Rattle.sr_tree.specs.declared.component.Component.{Component}
 use Rattle.sr_tree.specs.declared.component.SpecItem.{SpecItem}
 use Rattle.sr_tree.specs.declared.component.SpecItem.TheVariants as spec
@@ -19,6 +20,7 @@ use Rattle.sr_tree.specs.declared.types.RangeTree.{RangeTree}
 use Rattle.sr_tree.specs.declared.types.RangeTree.TheVariants.{Length, Bounds, From, Any}
 use Rattle.sr_tree.specs.declared.types.TypeTree.{TypeTree, out-TypeTree, fold-TypeTree}
 use Rattle.sr_tree.specs.declared.types.TypeTree.TheOpen.{TypeTree-F, Formal-F}
+use Rattle.sr_tree.specs.Nested.{types_within}
 use Rattle.sr_value.specs.declared.shape.Dims.{Dims}
 use Rattle.sr_value.specs.declared.shape.Dims.TheVariants.{One, Two}
 use Rattle.sr_value.specs.declared.shape.Shape.{Shape}
@@ -97,6 +99,10 @@ decl_shape facts (Some dims) item = shape.Arr (fixed_dims facts dims) item
 unfoldable pub named_shape : Facts → Shapes → QualifiedName → Shape
 named_shape facts shapes name = shape_at shapes (meant_by facts (deciding name))
 
+abbrev pub enumeration_shape : Option Info → Shape
+enumeration_shape (Some (info.Enumeration number literals)) = shape.Enum number literals
+enumeration_shape _ = shape.Int
+
 abbrev pub field_shapes : Facts → Formal-F Shape (List Shape) (Unit {0}) (Unit {0}) → List Shape
 field_shapes facts fields = map (λ decl. decl_shape facts decl.dims fields.ty) fields.decls
 
@@ -105,7 +111,7 @@ layer_shape facts shapes (TypeTree-F.Int span) = shape.Int
 layer_shape facts shapes (TypeTree-F.Bool span) = shape.Bool
 layer_shape facts shapes (TypeTree-F.Char span) = shape.Char
 layer_shape facts shapes (TypeTree-F.Str span length) = string_shape facts length
-layer_shape facts shapes (TypeTree-F.Enum span literals) = shape.Int
+layer_shape facts shapes (TypeTree-F.Enum span literals) = enumeration_shape (info_at facts.infos (spot_of span))
 layer_shape facts shapes (TypeTree-F.Rec span fields) = shape.Rec (flat_map (λ shapes. shapes) fields)
 layer_shape facts shapes (TypeTree-F.CapOf span name) = shape.Capa
 layer_shape facts shapes (TypeTree-F.CapMachine span) = shape.Capa
@@ -133,18 +139,6 @@ formal_shape facts shapes (Some dims) ty = array_formal facts dims (type_shape f
 
 -- ---- type declarations
 
-abbrev pub enumeration_shape : Option Info → Shape
-enumeration_shape (Some (info.Enumeration number literals)) = shape.Enum number literals
-enumeration_shape _ = shape.Int
-
-abbrev pub layer_declared : {B C D : Type 0} → Facts → Shapes → TypeDecl → TypeTree-F TypeTree B C D → Shape
-layer_declared facts shapes named (TypeTree-F.Enum span literals) = enumeration_shape (info_at facts.infos (spot_named named.name))
-layer_declared facts shapes named _ = type_shape facts shapes named.ty
-
--- the shape of the type that a declaration declares
-abbrev pub declared_shape : Facts → Shapes → TypeDecl → Shape
-declared_shape facts shapes named = layer_declared facts shapes named (out-TypeTree named.ty)
-
 abbrev pub spec_item_types : SpecItem → List TypeDecl
 spec_item_types (spec.«Type» named) = named ∷ []
 spec_item_types _ = []
@@ -152,8 +146,21 @@ spec_item_types _ = []
 abbrev pub types_in : List Component → List TypeDecl
 types_in components = flat_map (in_component spec_item_types) components
 
+abbrev pub at_word : {A B C D : Type 0} → Shapes → TypeTree-F A B C D → Shape → Shapes
+at_word shapes (TypeTree-F.Enum span literals) shape = with_entry shapes (spot_of span) shape
+at_word shapes (TypeTree-F.Rec span fields) shape = with_entry shapes (spot_of span) shape
+at_word shapes _ shape = shapes
+
+-- an enumeration or a record is kept by the place of its word
+abbrev pub with_written : Facts → Shapes → TypeTree → Shapes
+with_written facts shapes tree = at_word shapes (out-TypeTree tree) (type_shape facts shapes tree)
+
+-- and the declared type by its name
+abbrev pub with_name : Facts → Shapes → TypeDecl → Shapes
+with_name facts shapes named = with_entry shapes (spot_named named.name) (type_shape facts shapes named.ty)
+
 abbrev pub with_type : Facts → Shapes → TypeDecl → Shapes
-with_type facts shapes named = with_entry shapes (spot_named named.name) (declared_shape facts shapes named)
+with_type facts shapes named = with_name facts (fold (with_written facts) shapes (types_within named.ty)) named
 
 -- the declared types of a program, each by those before it
 abbrev pub with_types : Facts → Shapes → List TypeDecl → Shapes

@@ -5,6 +5,7 @@ ghost use Rattle.sr_tables.specs.Parts.{components_in, in_item};
 ghost use Rattle.std.specs.List.{enumerate_from};
 ghost use Rattle.sr_outline.specs.Heads.{with_heads};
 ghost use Rattle.sr_tables.specs.Tables.{with_entries};
+ghost use Rattle.sr_tree.specs.Nested.{formal_types, signature_types, types_within, written_types};
 
 use crate::heads::declare_heads;
 use crate::operations::{OperationTable, open_component};
@@ -14,7 +15,7 @@ use crate::waits::{note_procs, note_sites};
 use crate::weights::weigh_types;
 use sr_check_expr::Facts;
 use sr_tables::{Head, SpotMap, Spots, Tables, number_of, spot_named};
-use sr_tree::{File, Name, SpecItem, TypeTree};
+use sr_tree::{File, Formal, Name, Returned, Signature, SpecItem, TypeTree};
 use sr_value::{Duplicate, EnumNames, NoMemory, Row, Shape, Text};
 use std::alloc::Global;
 use std::mem;
@@ -240,16 +241,71 @@ fn literal_names(alloc: Global, literals: &[Name]) -> Result<Row<Text>, NoMemory
     Ok(names)
 }
 
+/// Appends the names of the literals of the enumerations that are written in a type, in the order of the text.
+#[cycle(literals)]
+fn push_within(alloc: Global, tree: &TypeTree, names: &mut EnumNames) -> Result<(), NoMemory>
+    ensures { OnOk result (names.new ≡ names.old ++ flat_map outline.tree_literals (types_within tree.now)) }
+{
+    match tree {
+        TypeTree::Enum { literals, .. } => names.push(literal_names(alloc, literals.as_slice())?),
+        TypeTree::Rec { fields, .. } => push_within_formals(alloc, fields.as_slice(), names),
+        TypeTree::CapOperation { signature, .. } => push_within_signature(alloc, signature, names),
+        TypeTree::Array { item, .. } => push_within(alloc, item.get(), names),
+        TypeTree::Int { .. }
+        | TypeTree::Bool { .. }
+        | TypeTree::Char { .. }
+        | TypeTree::Str { .. }
+        | TypeTree::CapOf { .. }
+        | TypeTree::CapMachine { .. }
+        | TypeTree::Named { .. } => Ok(()),
+    }
+}
+
+#[cycle(literals)]
+fn push_within_formals(
+    alloc: Global,
+    formals: &[Formal],
+    names: &mut EnumNames,
+) -> Result<(), NoMemory>
+    ensures { OnOk result (names.new ≡ names.old ++ flat_map outline.tree_literals (flat_map formal_types formals.now)) }
+{
+    for formal in formals {
+        push_within(alloc, &formal.ty, names)?;
+    }
+    Ok(())
+}
+
+#[cycle(literals)]
+fn push_within_returned(
+    alloc: Global,
+    returned: &Option<Returned>,
+    names: &mut EnumNames,
+) -> Result<(), NoMemory>
+    ensures { OnOk result (names.new ≡ names.old ++ flat_map outline.tree_literals (written_types returned.now)) }
+{
+    match returned {
+        Some(written) => push_within(alloc, written.ty.get(), names),
+        None => Ok(()),
+    }
+}
+
+#[cycle(literals)]
+fn push_within_signature(
+    alloc: Global,
+    signature: &Signature,
+    names: &mut EnumNames,
+) -> Result<(), NoMemory>
+    ensures { OnOk result (names.new ≡ names.old ++ flat_map outline.tree_literals (signature_types signature.now)) }
+{
+    push_within_formals(alloc, signature.formals.as_slice(), names)?;
+    push_within_returned(alloc, &signature.returned, names)
+}
+
 fn push_literals(alloc: Global, item: &SpecItem, names: &mut EnumNames) -> Result<(), NoMemory>
     ensures { OnOk result (names.new ≡ names.old ++ outline.item_literals item.now) }
 {
     match item {
-        SpecItem::Type(named) => match &named.ty {
-            TypeTree::Enum { literals, .. } => {
-                names.push(literal_names(alloc, literals.as_slice())?)
-            }
-            _ => Ok(()),
-        },
+        SpecItem::Type(named) => push_within(alloc, &named.ty, names),
         _ => Ok(()),
     }
 }

@@ -1,13 +1,15 @@
 //! What places of a type can hold: types with their bounds and the lengths of their strings.
 #![tactic(auto, using(crate::proofs::Appends::types_append))]
 
-ghost use Rattle.std.specs.Prelude.{◌≡◌, ◌++◌, IfOk, OnOk, None, flat_map, map, pos, unwrap_or};
+ghost use Rattle.std.specs.Prelude.{◌≡◌, ◌++◌, IfOk, OnOk, None, flat_map, fold, map, pos, unwrap_or};
 ghost use Rattle.std.specs.Option.{option_and_then, option_map};
 ghost use Rattle.sr_check_expr.specs.Infos.{info_at};
 ghost use Rattle.sr_check_expr.specs.Meanings.{known};
 ghost use Rattle.sr_outline.specs.Shapes as shapes;
 ghost use Rattle.sr_tables.specs.Lists.{lists};
 ghost use Rattle.sr_tables.specs.Parts.{in_item, in_component};
+ghost use Rattle.sr_tables.specs.Tables.{with_entry};
+ghost use Rattle.sr_tree.specs.Nested.{formal_types, signature_types, types_within, written_types};
 ghost use Rattle.sr_value.specs.Operands.{int_in};
 
 use sr_check_expr::{Facts, Info, infer, meant_by};
@@ -15,8 +17,8 @@ use sr_core::FormalShape;
 use sr_names::Spot;
 use sr_tables::{MOST_BYTES, SpotMap, deciding, shape_at, spot_named};
 use sr_tree::{
-    Component, Decl, DimsTree, Expr, Formal, Item, QualifiedName, RangeTree, SpecItem, TypeDecl,
-    TypeTree,
+    Component, Decl, DimsTree, Expr, Formal, Item, QualifiedName, RangeTree, Returned, Signature,
+    SpecItem, TypeDecl, TypeTree,
 };
 use sr_types::Static;
 use sr_value::{Boxed, Dims, Duplicate, NoMemory, Row, Shape};
@@ -295,7 +297,8 @@ pub fn type_shape(
     ensures { IfOk result (λ shape. shape ≡ shapes.type_shape facts.now table.now tree.now) }
 {
     match tree {
-        TypeTree::Int { .. } | TypeTree::Enum { .. } => Ok(Shape::Int),
+        TypeTree::Int { .. } => Ok(Shape::Int),
+        TypeTree::Enum { span, .. } => Ok(enumeration_shape(facts, Spot::of(*span))),
         TypeTree::Bool { .. } => Ok(Shape::Bool),
         TypeTree::Char { .. } => Ok(Shape::Char),
         TypeTree::Str { length, .. } => string_shape(alloc, length, facts),
@@ -360,7 +363,94 @@ fn enumeration_shape(facts: &Facts, spot: Spot) -> Shape
     }
 }
 
-/// Puts in the shape of a declared type.
+/// Puts in the shape of a type as it is written.
+fn insert_shape(
+    alloc: Global,
+    spot: Spot,
+    tree: &TypeTree,
+    facts: &Facts,
+    table: &mut SpotMap<Shape>,
+) -> Result<(), NoMemory>
+    ensures { OnOk result (table.new ≡ with_entry table.old spot (shapes.type_shape facts.now table.old tree.now)) }
+{
+    let shape = type_shape(alloc, tree, facts, table)?;
+    table.insert(spot, shape)
+}
+
+/// Puts in the shapes of the enumerations and records that are written in a type, by the places of their words.
+#[cycle(within)]
+fn declare_within(
+    alloc: Global,
+    tree: &TypeTree,
+    facts: &Facts,
+    table: &mut SpotMap<Shape>,
+) -> Result<(), NoMemory>
+    ensures { OnOk result (table.new ≡ fold (shapes.with_written facts.now) table.old (types_within tree.now)) }
+{
+    match tree {
+        TypeTree::Enum { span, .. } => { insert_shape(alloc, Spot::of(*span), tree, facts, table) }
+        TypeTree::Rec { span, fields } => {
+            insert_shape(alloc, Spot::of(*span), tree, facts, table)?;
+            declare_within_formals(alloc, fields.as_slice(), facts, table)
+        }
+        TypeTree::CapOperation { signature, .. } => {
+            declare_within_signature(alloc, signature, facts, table)
+        }
+        TypeTree::Array { item, .. } => declare_within(alloc, item.get(), facts, table),
+        TypeTree::Int { .. }
+        | TypeTree::Bool { .. }
+        | TypeTree::Char { .. }
+        | TypeTree::Str { .. }
+        | TypeTree::CapOf { .. }
+        | TypeTree::CapMachine { .. }
+        | TypeTree::Named { .. } => Ok(()),
+    }
+}
+
+#[cycle(within)]
+fn declare_within_formals(
+    alloc: Global,
+    formals: &[Formal],
+    facts: &Facts,
+    table: &mut SpotMap<Shape>,
+) -> Result<(), NoMemory>
+    ensures { OnOk result (table.new ≡ fold (shapes.with_written facts.now) table.old (flat_map formal_types formals.now)) }
+{
+    for formal in formals {
+        declare_within(alloc, &formal.ty, facts, table)?;
+    }
+    Ok(())
+}
+
+#[cycle(within)]
+fn declare_within_returned(
+    alloc: Global,
+    returned: &Option<Returned>,
+    facts: &Facts,
+    table: &mut SpotMap<Shape>,
+) -> Result<(), NoMemory>
+    ensures { OnOk result (table.new ≡ fold (shapes.with_written facts.now) table.old (written_types returned.now)) }
+{
+    match returned {
+        Some(written) => declare_within(alloc, written.ty.get(), facts, table),
+        None => Ok(()),
+    }
+}
+
+#[cycle(within)]
+fn declare_within_signature(
+    alloc: Global,
+    signature: &Signature,
+    facts: &Facts,
+    table: &mut SpotMap<Shape>,
+) -> Result<(), NoMemory>
+    ensures { OnOk result (table.new ≡ fold (shapes.with_written facts.now) table.old (signature_types signature.now)) }
+{
+    declare_within_formals(alloc, signature.formals.as_slice(), facts, table)?;
+    declare_within_returned(alloc, &signature.returned, facts, table)
+}
+
+/// Puts in the shape of a declared type, and of those that are written in it.
 fn declare_type(
     alloc: Global,
     named: &TypeDecl,
@@ -369,12 +459,8 @@ fn declare_type(
 ) -> Result<(), NoMemory>
     ensures { OnOk result (table.new ≡ shapes.with_type facts.now table.old named.now) }
 {
-    let spot = spot_named(&named.name);
-    let shape = match &named.ty {
-        TypeTree::Enum { .. } => enumeration_shape(facts, spot),
-        _ => type_shape(alloc, &named.ty, facts, table)?,
-    };
-    table.insert(spot, shape)
+    declare_within(alloc, &named.ty, facts, table)?;
+    insert_shape(alloc, spot_named(&named.name), &named.ty, facts, table)
 }
 
 fn declare_spec_item(

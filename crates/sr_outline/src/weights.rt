@@ -4,7 +4,9 @@
 use sr_check_expr::{Facts, meant_by};
 use sr_names::Spot;
 use sr_tables::{SpotMap, deciding, spot_named};
-use sr_tree::{Component, Decl, File, Formal, Item, QualifiedName, SpecItem, TypeDecl, TypeTree};
+use sr_tree::{
+    Component, Decl, File, Formal, Item, QualifiedName, Signature, SpecItem, TypeDecl, TypeTree,
+};
 use sr_value::NoMemory;
 use std::alloc::Global;
 
@@ -53,7 +55,7 @@ fn together(some: Weight, others: Weight) -> Weight {
 #[derive(Drop)]
 struct Weights {
     types: SpotMap<Weight>,
-    /// How many parts they have together.
+    /// How many parts they have together, with what is written in them.
     parts: u64,
 }
 
@@ -66,12 +68,18 @@ impl Weights {
         }
     }
 
-    /// Puts in the weight of a declared type, where all of them fit into memory.
-    fn insert(&mut self, spot: Spot, weight: Weight) -> Result<(), NoMemory> {
+    /// Counts shapes of this weight, where all of them fit into memory.
+    fn add(&mut self, weight: Weight) -> Result<(), NoMemory> {
         self.parts = self.parts.saturating_add(weight.parts);
         if self.parts > MOST_PARTS || weight.levels > MOST_LEVELS {
             return Err(NoMemory);
         }
+        Ok(())
+    }
+
+    /// Puts in the weight of a declared type.
+    fn insert(&mut self, spot: Spot, weight: Weight) -> Result<(), NoMemory> {
+        self.add(weight)?;
         self.types.insert(spot, weight)
     }
 }
@@ -118,7 +126,42 @@ fn type_weight(tree: &TypeTree, facts: &Facts, weights: &Weights) -> Weight {
     }
 }
 
+#[cycle(written_weights)]
+fn formals_written(formals: &[Formal], facts: &Facts, weights: &Weights) -> Weight {
+    let mut all = NOTHING;
+    for formal in formals {
+        all = together(all, written_weight(&formal.ty, facts, weights));
+    }
+    all
+}
+
+#[cycle(written_weights)]
+fn signature_written(signature: &Signature, facts: &Facts, weights: &Weights) -> Weight {
+    let formals = formals_written(signature.formals.as_slice(), facts, weights);
+    match &signature.returned {
+        Some(returned) => together(formals, written_weight(returned.ty.get(), facts, weights)),
+        None => formals,
+    }
+}
+
+/// The weight of the enumerations and records that are written in a type, each of which is kept by itself.
+#[cycle(written_weights)]
+fn written_weight(tree: &TypeTree, facts: &Facts, weights: &Weights) -> Weight {
+    match tree {
+        TypeTree::Enum { .. } => PLAIN,
+        TypeTree::Rec { fields, .. } => together(
+            type_weight(tree, facts, weights),
+            formals_written(fields.as_slice(), facts, weights),
+        ),
+        TypeTree::CapOperation { signature, .. } => signature_written(signature, facts, weights),
+        TypeTree::Array { item, .. } => written_weight(item.get(), facts, weights),
+        _ => NOTHING,
+    }
+}
+
 fn weigh_type(named: &TypeDecl, facts: &Facts, weights: &mut Weights) -> Result<(), NoMemory> {
+    let written = written_weight(&named.ty, facts, weights);
+    weights.add(written)?;
     let weight = type_weight(&named.ty, facts, weights);
     weights.insert(spot_named(&named.name), weight)
 }
