@@ -18,33 +18,14 @@ use Rattle.sr_tree.specs.Parts.{body_of, formals_of, spec_of}
 use Rattle.sr_value.specs.declared.place.Span.{Span}
 use Rattle.sr_check.proofs.Each.{Each}
 use Rattle.sr_front.proofs.EffectFreeCode.{code_names, component_code}
+use Rattle.sr_front.proofs.Sharing.{Shares, none, left_out, in_first, in_second, both_share, all_left_out, all_second}
 use Rattle.sr_front.proofs.TypeSpots.{Elsewhere, component_types, item_types, spec_item_types}
-
--- of the elements of a list some are in one list, others in another, and others in neither
-pub data Shares : List Span → List Span → List Span → Type 0 where
-  none : Shares [] [] []
-  left_out : {xs ys zs : List Span} (x : Span) → Shares xs ys zs → Shares (x ∷ xs) ys zs
-  in_first : {xs ys zs : List Span} (x : Span) → Shares xs ys zs → Shares (x ∷ xs) (x ∷ ys) zs
-  in_second : {xs ys zs : List Span} (x : Span) → Shares xs ys zs → Shares (x ∷ xs) ys (x ∷ zs)
-
-both_share : {xs ys zs us vs ws : List Span} → Shares xs ys zs → Shares us vs ws → Shares (xs ++ us) (ys ++ vs) (zs ++ ws)
-both_share none more = more
-both_share (left_out x shares) more = left_out x (both_share shares more)
-both_share (in_first x shares) more = in_first x (both_share shares more)
-both_share (in_second x shares) more = in_second x (both_share shares more)
-
-all_left_out : (xs : List Span) → Shares xs [] []
-all_left_out [] = none
-all_left_out (x ∷ xs) = left_out x (all_left_out xs)
-
-all_second : (xs : List Span) → Shares xs [] xs
-all_second [] = none
-all_second (x ∷ xs) = in_second x (all_second xs)
+use Rattle.sr_front.proofs.WordShares.{words_share}
 
 -- ---- names
 
 spec_item_shares : (one : SpecItem) → Shares (spec_item_names one) (spec_item_types one) []
-spec_item_shares (spec.«Type» named) = in_first named.name.span (all_left_out _)
+spec_item_shares (spec.«Type» named) = in_first named.name.span (words_share named.ty)
 spec_item_shares (spec.Import declared) = all_left_out _
 spec_item_shares (spec.Const declared) = all_left_out _
 spec_item_shares (spec.OpType declared) = all_left_out _

@@ -25,6 +25,7 @@ use Rattle.sr_tree.specs.declared.types.Returned.{Returned}
 use Rattle.sr_tree.specs.declared.types.Signature.{Signature as SignatureTree}
 use Rattle.sr_tree.specs.declared.types.TypeTree.{TypeTree, out-TypeTree}
 use Rattle.sr_tree.specs.declared.types.TypeTree.TheOpen.{TypeTree-F}
+use Rattle.sr_tree.specs.Nested.{types_within, layer_place, maybe_place, word_places}
 use Rattle.sr_tree.specs.Parts.{name_of, spec_of, formals_of, body_of}
 use Rattle.sr_types.specs.declared.signature.Signature.{Signature}
 use Rattle.sr_types.specs.declared.ty.Ty.{Ty}
@@ -37,8 +38,8 @@ use Rattle.sr_check_expr.specs.declared.info.Info.TheVariants as info
 use Rattle.sr_check_expr.specs.Infos.{info_at}
 use Rattle.sr_check_decl.specs.declared.kind.NamedParam.{NamedParam}
 use Rattle.sr_check_decl.specs.declared.tally.Tally.{Tally}
-use Rattle.sr_check_decl.specs.Declaring.{declared_if, const_declared, untyped_vars_declared, var_declared, var_declared_by, literals_declared, layer_declared, type_declared, ops_declared, op_item_name, op_type, operation, sems_declared, semaphore_signature, process_signature, spec_item_declared, spec_items_declared, item_declared, items_declared, params_declared, head_declared, component_typed, making, component_formals, component_declared, components_declared, files_declared, components_named, files_named, no_facts, program_declared}
-use Rattle.sr_check_decl.specs.Entering.{entered, signed_entered, formals_entered, signature_entered}
+use Rattle.sr_check_decl.specs.Declaring.{declared_if, const_declared, untyped_vars_declared, var_declared, var_declared_by, literals_declared, at_facts, layer_declared, types_declared, type_declared, ops_declared, op_item_name, op_type, operation, sems_declared, semaphore_signature, process_signature, spec_item_declared, spec_items_declared, item_declared, items_declared, params_declared, head_declared, component_typed, making, component_formals, component_declared, components_declared, files_declared, components_named, files_named, no_facts, program_declared}
+use Rattle.sr_check_decl.specs.Entering.{entered, signed_entered, type_entered, formals_entered, signature_entered}
 use Rattle.sr_check_decl.specs.Inferring.{is_settled, info_by, all_settled, can_settle, wave, waves, given_up, given_up_if, program_inferred, program_known}
 use Rattle.sr_check_decl.specs.TypeTrees.{decl_type}
 use Rattle.sr_check_decl.specs.Variables.{declare, variable, vars_declared}
@@ -47,10 +48,10 @@ use Rattle.sr_check.proofs.Each.{Each, each-left, each-right, each-parts}
 use Rattle.sr_check.proofs.Entered.{keeps_signed, keeps_type, keeps_signature, keeps_written, keeps_formals, keeps_ops}
 use Rattle.sr_front.proofs.Staying.{Loose}
 
--- ---- the names of types and components
+-- ---- the names of types and components, and the words of enumerations and records
 
 abbrev pub spec_item_types : SpecItem → List Span
-spec_item_types (spec.«Type» named) = named.name.span ∷ []
+spec_item_types (spec.«Type» named) = named.name.span ∷ word_places (types_within named.ty)
 spec_item_types _ = []
 
 abbrev pub item_types : Item → List Span
@@ -113,13 +114,23 @@ module _ (spot : Spot) where
   free_literals at number index [] facts free = free
   free_literals at number index (name ∷ names) facts free = free_literals at number (index + 1) names _ (free_with facts (spot_of name.span) _ tt free)
 
-  free_layer : (named : TypeDecl) (tally : Tally) (layer : TypeTree-F TypeTree Formal Returned SignatureTree) → Elsewhere named.name.span → Free tally.facts → Free (layer_declared named tally layer).facts
-  free_layer named tally (TypeTree-F.Enum span literals) apart free = free_literals _ _ _ literals _ (free_elsewhere tally.facts (spot_of named.name.span) _ apart free)
-  free_layer named tally (TypeTree-F.Rec span fields) apart free = free_elsewhere tally.facts (spot_of named.name.span) _ apart free
-  free_layer named tally _ apart free = free_elsewhere tally.facts (spot_of named.name.span) _ apart free
+  free_layer : (layer : TypeTree-F TypeTree Formal Returned SignatureTree) (tally : Tally) → Each Elsewhere (maybe_place (layer_place layer)) → Free tally.facts
+      → Free (layer_declared layer tally).facts
+  free_layer (TypeTree-F.Enum span literals) tally apart free = free_literals _ _ _ literals _ (free_elsewhere tally.facts (spot_of span) _ apart.0 free)
+  free_layer (TypeTree-F.Rec span fields) tally apart free = free_elsewhere tally.facts (spot_of span) _ apart.0 free
+  free_layer _ tally apart free = free
 
-  free_type : (named : TypeDecl) (tally : Tally) → Elsewhere named.name.span → Free tally.facts → Free (type_declared named tally).facts
-  free_type named tally apart free = free_layer named _ (out-TypeTree named.ty) apart (keeps_type Free free_signatures named.ty tally.facts free)
+  free_types : (trees : List TypeTree) (tally : Tally) → Each Elsewhere (word_places trees) → Free tally.facts → Free (types_declared trees tally).facts
+  free_types [] tally apart free = free
+  free_types (tree ∷ trees) tally apart free =
+      let place = maybe_place (layer_place (out-TypeTree tree)) in
+      free_types trees _ (each-right Elsewhere place (word_places trees) apart) (free_layer (out-TypeTree tree) tally (each-left Elsewhere place (word_places trees) apart) free)
+
+  free_type : (named : TypeDecl) (tally : Tally) → Each Elsewhere (named.name.span ∷ word_places (types_within named.ty)) → Free tally.facts → Free (type_declared named tally).facts
+  free_type named tally apart free =
+      let entering = at_facts tally (type_entered named.ty tally.facts) in
+      let written = types_declared (types_within named.ty) entering in
+      free_elsewhere written.facts (spot_of named.name.span) _ apart.0 (free_types (types_within named.ty) entering apart.1 (keeps_type Free free_signatures named.ty tally.facts free))
 
   -- ---- operations
 
@@ -136,7 +147,7 @@ module _ (spot : Spot) where
   free_spec_item : (in_spec : Bool) (inner : SpecItem) (tally : Tally) → Each Elsewhere (spec_item_types inner) → Free tally.facts → Free (spec_item_declared in_spec inner tally).facts
   free_spec_item in_spec (spec.Import imports) tally apart free = free
   free_spec_item in_spec (spec.Const constant) tally apart free = free_const in_spec constant tally.facts free
-  free_spec_item in_spec (spec.«Type» named) tally apart free = free_type named tally apart.0 free
+  free_spec_item in_spec (spec.«Type» named) tally apart free = free_type named tally apart free
   free_spec_item in_spec (spec.OpType named) tally apart free =
       free_with (signature_entered named.signature tally.facts) (spot_of named.name.span) _ tt (keeps_signature Free free_signatures named.signature tally.facts free)
   free_spec_item in_spec (spec.Op operations) tally apart free = free_ops operations.items _ (keeps_ops Free free_signatures operations.items tally.facts free)

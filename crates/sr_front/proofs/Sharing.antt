@@ -1,0 +1,24 @@
+-- Some elements of a list are in one list, others in another.
+use Rattle.std.proofs.Common.{List, [], ◌∷◌, ◌++◌}
+use Rattle.sr_value.specs.declared.place.Span.{Span}
+
+-- of the elements of a list some are in one list, others in another, and others in neither
+pub data Shares : List Span → List Span → List Span → Type 0 where
+  none : Shares [] [] []
+  left_out : {xs ys zs : List Span} (x : Span) → Shares xs ys zs → Shares (x ∷ xs) ys zs
+  in_first : {xs ys zs : List Span} (x : Span) → Shares xs ys zs → Shares (x ∷ xs) (x ∷ ys) zs
+  in_second : {xs ys zs : List Span} (x : Span) → Shares xs ys zs → Shares (x ∷ xs) ys (x ∷ zs)
+
+pub both_share : {xs ys zs us vs ws : List Span} → Shares xs ys zs → Shares us vs ws → Shares (xs ++ us) (ys ++ vs) (zs ++ ws)
+both_share none more = more
+both_share (left_out x shares) more = left_out x (both_share shares more)
+both_share (in_first x shares) more = in_first x (both_share shares more)
+both_share (in_second x shares) more = in_second x (both_share shares more)
+
+pub all_left_out : (xs : List Span) → Shares xs [] []
+all_left_out [] = none
+all_left_out (x ∷ xs) = left_out x (all_left_out xs)
+
+pub all_second : (xs : List Span) → Shares xs [] xs
+all_second [] = none
+all_second (x ∷ xs) = in_second x (all_second xs)
