@@ -34,6 +34,15 @@ module _ {X : Type 0} (n : X → ℕ) (xs : List X) (up : AllPairs (λ a b. n a 
       let greater : i ≤ place → x < n (get_or xs place e) = λ after. ranked _ x _ (sym (both.1 place e after low)) in
       absurd (⊎_elim (λ before. omega (arith, less before)) (λ after. omega (arith, greater after)) (cases_lt place i))
 
+  -- two places that hold the same are one
+  pub one_place : (i j : ℕ) (e d : X) → slice_get xs i ≡ Some e → slice_get xs j ≡ Some d → n e ≡ n d → i ≡ j
+  one_place i j e d at there same =
+      let low : i < length xs = slice_get_within xs i e at in
+      let high : j < length xs = slice_get_within xs j d there in
+      let here : n (get_or xs i e) ≡ n e = ap n (get_or_from_slice_get xs i e e at) in
+      let other : n (get_or xs j e) ≡ n d = ap n (get_or_from_slice_get xs j d e there) in
+      ⊎_elim (λ is. is) (λ apart. absurd (⊎_elim (λ before. omega (arith, up i j e before high)) (λ after. omega (arith, up j i e after low)) apart)) (cases_order i j)
+
 -- the place where those below end is that of the first that isn't below
 pub first_at : (least : ℕ) (xs : List ℕ) (i : ℕ) → IsPartitionPoint (λ y. ltb y least ≡ true) (λ y. ltb y least ≡ false) xs i → i ≤ length xs → slice_get xs i ≡ find (λ number. leb least number) xs
 first_at least [] i parted low = refl

@@ -3,9 +3,10 @@ ghost use Rattle.sr_queue.specs.Classes.{class_of};
 
 use sr_value::Owner;
 
-/// An operation of an owner.
+/// An operation of an owner: the class of invocations that an arm serves.
 #[derive(Clone, Copy, PartialEq, Eq, Hash)]
 pub struct Class {
+    /// Whether the owner is a process; else it is an instance.
     pub of_process: bool,
     pub owner: u32,
     pub op: u32,

@@ -1,4 +1,4 @@
-ghost use Rattle.std.specs.Prelude.{◌≡◌, ◌<◌, ℕ, [], ◌∷◌, ◌++◌, OnErr, OnOk, Some, count_by, find, length, nat_le, remove, slice_get};
+ghost use Rattle.std.specs.Prelude.{◌≡◌, ◌<◌, ℕ, [], ◌∷◌, ◌++◌, IfSome, OnErr, OnOk, Some, count_by, find, length, nat_le, remove, slice_get};
 ghost use Rattle.sr_queue.specs.Classes.{next_among, same_class};
 ghost use Rattle.sr_queue.specs.Indexes.{IsAscending};
 ghost use Rattle.sr_queue.specs.Lines.{ChangesLine, IsRising, line_in};
@@ -158,6 +158,30 @@ fn first_from(line: &VecDeque<u64>, least: u64) -> Option<u64>
 
 /// The place of a number.
 fn place_of(entries: &VecDeque<Numbered>, number: u64) -> Option<usize>
+    requires { IsAscending entries.now.items }
+    ensures { (place : ℕ) (e : Numbered) → slice_get entries.now.items place ≡ Some e → e.number ≡ number → result ≡ Some place }
+{
+    match place_by_distance(entries, number) {
+        Some(place) => Some(place),
+        None => place_by_halves(entries, number),
+    }
+}
+
+/// The place of a number that stands as far from the first as it is greater: none between them has left.
+fn place_by_distance(entries: &VecDeque<Numbered>, number: u64) -> Option<usize>
+    ensures { IfSome result (λ place. (e : Numbered) × (slice_get entries.now.items place ≡ Some e) × (e.number ≡ number)) }
+{
+    let first = entries.get(0)?.number;
+    let distance = number.wrapping_sub(first) as usize;
+    if entries.get(distance)?.number == number {
+        Some(distance)
+    } else {
+        None
+    }
+}
+
+/// The place of a number, found by halves.
+fn place_by_halves(entries: &VecDeque<Numbered>, number: u64) -> Option<usize>
     requires { IsAscending entries.now.items }
     ensures { (place : ℕ) (e : Numbered) → slice_get entries.now.items place ≡ Some e → e.number ≡ number → result ≡ Some place }
 {
