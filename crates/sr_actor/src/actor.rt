@@ -30,11 +30,15 @@ pub trait Actor: Drop {
     fn start(alloc: Global, start: &Start, ticks: u32) -> Result<Self, NoMemory>
         ensures { IfOk result (λ actor. (program : Self.Program) (more : List answers.Answer) → asks_after program actor more ≡ ask (core_of program) start.now ticks more) };
 
-    /// What it asks next. Asked again without an answer it says the same. After an error nothing is known of it.
-    fn next(&mut self, program: &Self::Program) -> Result<Asks, NoMemory>
-        ensures asks { IfOk result (λ asks. asks ≡ asks_after program.now self.old []) }
+    /// Runs to what it asks next. Run again without an answer it does nothing more. After an error nothing is known of it.
+    fn run(&mut self, program: &Self::Program) -> Result<(), NoMemory>
         ensures same { OnOk result ((more : List answers.Answer) → asks_after program.now self.new more ≡ asks_after program.now self.old more) }
         ensures asked { OnOk result (can_feed self.new) };
+
+    /// What it asks. It is lent, and not copied.
+    fn asked(&self) -> &Asks
+        requires { can_feed self.now }
+        ensures { (program : Self.Program) → result.now ≡ asks_after program self.now [] };
 
     /// Answers what it asked. It takes no memory.
     fn feed(&mut self, answer: Answer)
