@@ -180,7 +180,7 @@ carry_ready p new place after step runs is =
     let P : Process → Type 0 = λ q. Ready q in subst P (sym is) (stepped_ready step p place after runs)
 
 -- an instruction that was carried out
-carried_by : (program : Program) (p new : Process) (coded : Coded) (after : Frame) (step : Step) → Runs p → coded_at program.code.items p.address ≡ Some coded
+pub carried_by : (program : Program) (p new : Process) (coded : Coded) (after : Frame) (step : Step) → Runs p → coded_at program.code.items p.address ≡ Some coded
     → begun program.core.names coded.instruction (here_in p coded.place) (p.address - 1) p.frame.operands p.frame ≡ shown step after
     → new ≡ stepped step coded.place (record p { frame = after }) → Carries program (Ok true) p new
 carried_by program p new coded after step runs found does is =

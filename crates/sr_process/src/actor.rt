@@ -27,8 +27,16 @@ impl Actor for Process {
         Process::start(alloc, start, ticks)
     }
 
-    fn next(&mut self, program: &Compiled) -> Result<Asks, NoMemory> {
-        Process::next(self, program.program())
+    fn run(&mut self, program: &Compiled) -> Result<(), NoMemory> {
+        self.advance(program.program())
+    }
+
+    #[tactic(auto, using(crate::proofs::Moves::known_after))]
+    fn asked(&self) -> &Asks {
+        match Process::asked(self) {
+            Some(asks) => asks,
+            None => unreachable!(),
+        }
     }
 
     fn feed(&mut self, answer: Answer) {

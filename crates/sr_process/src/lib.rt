@@ -6,5 +6,6 @@ mod copies;
 mod entry;
 mod operands;
 mod process;
+mod together;
 
 pub use process::Process;

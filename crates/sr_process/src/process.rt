@@ -1,19 +1,21 @@
-ghost use Rattle.std.specs.Prelude.{◌≡◌, ◌≢◌, ◌<◌, ◌∷◌, ◌++◌, [], IfOk, IsSome, IsErr, List, None, OnErr, OnOk, Some, ℕ, option_copied};
+ghost use Rattle.std.specs.Prelude.{◌≡◌, ◌≢◌, ◌<◌, ◌∷◌, ◌++◌, [], IfOk, IsSome, IsErr, List, None, Ok, OnErr, OnOk, Some, ℕ, option_copied};
 ghost use Rattle.sr_ask.specs.declared.answer.Answer.{Answer as an_answer};
 ghost use Rattle.sr_ask.specs.declared.start.Start.{Start as a_start};
 ghost use Rattle.sr_code.specs.Runs.{code_ask};
 ghost use Rattle.sr_code.specs.declared.code.Program.{Program as a_program};
 ghost use Rattle.sr_process.specs.declared.process.Phase.TheVariants.{New as new_phase, Waiting as waiting_phase};
 ghost use Rattle.sr_process.specs.Processes.{Carries, Failed, Ready, Runs, Hears, ReadyIn, SameAsks, StandsFor, asked_by, asks_after, asking, coded_at, left, me_of, stepped};
+ghost use Rattle.sr_process.specs.Together.{Assigns, Puts};
 
 use crate::entry::{entry_address, entry_place, first_frame, no_frame};
 use crate::operands::copy_frame;
+use crate::together::{Assigned, Found, assignment_at, decided, instruction_at, number_at};
 use sr_ask::{Answer, Ask, Asks, Request, Start};
-use sr_code::{Code, Coded, Program};
-use sr_core::Me;
+use sr_code::{Coded, Instruction, Program};
+use sr_core::{Me, Root};
 use sr_execute::{Carried, Frame, Step, execute, execute_quickly, resume};
-use sr_frame::{Scene, results_now};
-use sr_value::{Duplicate, NoMemory, Place};
+use sr_frame::{Scene, own_stored, results_now};
+use sr_value::{Duplicate, NoMemory, Place, Value};
 use std::alloc::Global;
 
 /// How far a process has come.
@@ -43,16 +45,6 @@ pub struct Process {
     frame: Frame,
     asks: Asks,
     fed: Option<Answer>,
-}
-
-/// The instruction at an address.
-fn instruction_at(code: &Code, address: usize) -> Option<&Coded>
-    ensures { option_copied result ≡ coded_at code.now.items address }
-{
-    match address.checked_sub(1) {
-        Some(at) => code.items.get(at),
-        None => None,
-    }
 }
 
 fn copied_answer(alloc: Global, answer: &Option<Answer>) -> Result<Option<Answer>, NoMemory>
@@ -189,6 +181,61 @@ impl Process {
         Ok(())
     }
 
+    /// Puts a number that instructions put, or goes where the condition leads that it begins.
+    fn put_found(&mut self, program: &Program, found: Found) -> Result<bool, NoMemory>
+        requires runs { Runs self.old }
+        requires puts { Puts program.now.code self.old.frame.own self.old.address found }
+        ensures { Carries program.now result self.old self.new }
+    {
+        match decided(&program.code, &self.frame.own, found) {
+            Some(to) => self.address = to,
+            None => {
+                self.frame.operands.values.push(Value::Int(found.number))?;
+                self.address = found.after;
+            }
+        }
+        Ok(true)
+    }
+
+    /// Stores a number in an own variable, and whether it fits there.
+    fn assign(&mut self, program: &Program, assigned: Assigned) -> bool
+        requires runs { Runs self.old }
+        requires assigns { Assigns program.now.code self.old.frame.own self.old.address assigned }
+        ensures { Carries program.now (Ok result) self.old self.new }
+    {
+        match own_stored(
+            &mut self.frame.own,
+            assigned.var,
+            &[],
+            Value::Int(assigned.found.number),
+        ) {
+            Ok(()) => {
+                self.address = assigned.found.after;
+                true
+            }
+            Err(_) => false,
+        }
+    }
+
+    /// Instructions on numbers that are carried out together, and whether there were any.
+    fn carry_out_together(&mut self, program: &Program, coded: &Coded) -> Result<bool, NoMemory>
+        requires { Runs self.old }
+        ensures { Carries program.now result self.old self.new }
+    {
+        match coded.instruction {
+            Instruction::Spot(Root::Own(_)) => {}
+            Instruction::Constant(Value::Int(_)) => {}
+            _ => return Ok(false),
+        }
+        if let Some(found) = number_at(&program.code, &self.frame.own, self.address) {
+            return self.put_found(program, found);
+        }
+        match assignment_at(&program.code, &self.frame.own, self.address) {
+            Some(assigned) => Ok(self.assign(program, assigned)),
+            None => Ok(false),
+        }
+    }
+
     /// One instruction that loops often use, and whether it was one.
     fn carry_out_quickly(&mut self, program: &Program, coded: &Coded) -> Result<bool, NoMemory>
         requires runs { Runs self.old }
@@ -276,6 +323,9 @@ impl Process {
     {
         match instruction_at(&program.code, self.address) {
             Some(coded) => {
+                if self.carry_out_together(program, coded)? {
+                    return Ok(());
+                }
                 if self.carry_out_quickly(program, coded)? {
                     return Ok(());
                 }
@@ -337,7 +387,7 @@ impl Process {
     }
 
     /// Begins, hears what it was fed, and runs to its next request.
-    fn advance(&mut self, program: &Program) -> Result<(), NoMemory>
+    pub(crate) fn advance(&mut self, program: &Program) -> Result<(), NoMemory>
         ensures same { OnOk result (SameAsks program.now self.old self.new) }
         ensures asked { OnOk result (IsSome (asked_by self.new)) }
         ensures failed { Failed self.old → IsErr result }
