@@ -1,5 +1,5 @@
 -- What comes of a request that the machine has carried out.
-use Rattle.std.proofs.Common.{◌≡◌, ℕ, zero, suc, true, false, not, cond, List, [], ◌∷◌, ◌++◌, Option, Some, None, IsSome, refl, ap, sym, ◌∙◌, subst, eq-eqb}
+use Rattle.std.proofs.Common.{◌≡◌, ℕ, zero, suc, true, false, not, cond, List, [], ◌∷◌, ◌++◌, Some, None, IsSome, refl, ap, sym, ◌∙◌, subst, eq-eqb}
 use Rattle.std.specs.Prelude.{Ok, find}
 use Rattle.sr_ask.specs.declared.answer.Answer.{Answer}
 use Rattle.sr_ask.specs.declared.ask.Ask.{Ask}
@@ -19,7 +19,7 @@ use Rattle.sr_world.specs.Worlds.{World, started}
 use Rattle.sr_world.specs.declared.acted.Acted.{Acted}
 use Rattle.sr_world.specs.declared.acted.Acted.TheVariants as acted
 use Rattle.sr_world.specs.declared.ends.End.{End}
-use Rattle.sr_plain.specs.Carrying.{Names, written_of}
+use Rattle.sr_plain.specs.Carrying.{Names}
 use Rattle.sr_plain.specs.Crew.{Answers, member_of}
 use Rattle.sr_plain.specs.Engine.{Comes, IsCarried, IsEngine, Tries, WaitsForInput}
 use Rattle.sr_plain.specs.Leaving.{Leaves, LeavesIf, written_by}
@@ -153,7 +153,7 @@ module _ {A : Type 0} (after : A → List Answer → Asks) (can_feed : A → Typ
     engine-of a c none same = record { world = same; ticks = c.ticks; last = c.last; stands = c.stands; aside = subst (λ w. AreAside core limit state plain.waiters w) (sym none) c.aside }
 
     asked-is : (a : Acted) (c : IsCarried after can_feed core limit state events start name a plain) → Asked c.asks ≡ asks_next core limit state start
-    asked-is a c = (kept-is after can_feed core limit state events start plain.crew c.member c.stands c.lives c.here (Asked c.asks) c.asked).0
+    asked-is a c = kept-is after can_feed core limit state events start plain.crew c.member c.stands c.lives c.here (Asked c.asks) c.asked
 
     pub answered_not : IsCarried after can_feed core limit state events start name acted.Cannot plain
         → Tries after can_feed core limit state events (find (takes_turn core limit state) (start ∷ [])) (Ok None) plain
@@ -174,29 +174,26 @@ module _ {A : Type 0} (after : A → List Answer → Asks) (can_feed : A → Typ
         let o = open_ended c.asks name (asked-is acted.Undecided c) c.lives plain.world (does core state.world start.process c.asks name) refl c.acts in
         with-turn plainly.Wants plain o.turn (o.waits, engine-of acted.Undecided c c.noted o.world)
 
-    pub answered_done : (a : Answer) (plain' : Plain A) (asked : Option Asks) (output : List ℕ) → IsCarried after can_feed core limit state events start name (acted.Done a) plain
-        → ((m : Member A) → member_of plain.crew start.process ≡ Some m → Answers after can_feed start.process a m asked plain.crew plain'.crew) → output ≡ written_of asked
+    pub answered_done : (a : Answer) (plain' : Plain A) (output : List ℕ) → (c : IsCarried after can_feed core limit state events start name (acted.Done a) plain)
+        → ((m : Member A) → member_of plain.crew start.process ≡ Some m → Answers after can_feed start.process a m plain.crew plain'.crew) → output ≡ written_by c.asks.request
         → plain'.world ≡ plain.world → plain'.ticks ≡ plain.ticks → plain'.last ≡ start.process → plain'.waiters ≡ plain.waiters → plain'.woken ≡ plain.woken
         → Tries after can_feed core limit state events (find (takes_turn core limit state) (start ∷ [])) (Ok (Some (plainly.Stepped (Step start.process name) output))) plain'
-    answered_done a plain' asked output c answers wrote world ticks last waiters woken =
+    answered_done a plain' output c answers wrote world ticks last waiters woken =
         with-turn (plainly.Stepped (Step start.process name) output) plain' f.turn (record {
           later = later;
           goes = f.goes;
           turn_of = (refl, f.named);
-          written = f.left.output ∙ ap (λ text. state.world.output ++ text) (sym text);
+          written = f.left.output ∙ ap (λ text. state.world.output ++ text) (sym wrote);
           engine = record {
             world = world;
             ticks = ticks ∙ c.ticks;
             last = last ∙ sym (last-more events (Makes_item (Step start.process name)));
-            stands = answered-stands after can_feed core limit state events start plain.crew c.member c.stands c.lives c.here (Asked c.asks) c.asked a plain'.crew asked (answers c.member c.here) later name (written_by c.asks.request) (Step start.process name) refl f.left f.new f.goes order.0 order.1;
+            stands = answered-stands after can_feed core limit state events start plain.crew c.member c.stands c.lives c.here c.can_hear a plain'.crew (answers c.member c.here) later name (written_by c.asks.request) (Step start.process name) refl f.left f.new f.goes order.0 order.1;
             aside = subst (λ ws. AreAside core limit later ws plain'.woken) (sym waiters) (subst (λ w. AreAside core limit later plain.waiters w) (sym (woken ∙ c.noted.0))
                 (aside_step core limit state start c.asks name c.lives plain.world a plain.waiters c.acts f.left.lives c.noted.1 c.aside));
           };
         })
       where
-        text : output ≡ written_by c.asks.request
-        text = wrote ∙ ap written_of ((answers c.member c.here).asked ∙ c.asked)
-
         later : State
         later = record { world = plain.world; given = with_answer start.process a state.given }
 
@@ -210,8 +207,8 @@ module _ {A : Type 0} (after : A → List Answer → Asks) (can_feed : A → Typ
 
   -- one that is over its ticks
   pub is_over : (plain : Plain A) (m : Member A) → IsEngine after can_feed core limit state events plain → started state.world start.process ≡ Some start
-      → member_of plain.crew start.process ≡ Some m → m.asks ≡ Some OverTicks
+      → member_of plain.crew start.process ≡ Some m → OverTicks ≡ after m.actor []
       → Tries after can_feed core limit state events (find (takes_turn core limit state) (start ∷ [])) (Ok (Some (plainly.Over start.process))) plain
   is_over plain m engine lives here known =
-      let is = (kept-is after can_feed core limit state events start plain.crew m engine.stands lives here OverTicks known).0 in
+      let is = kept-is after can_feed core limit state events start plain.crew m engine.stands lives here OverTicks known in
       with-turn (plainly.Over start.process) plain (ap (λ a. not (is_blocked core state.world start.process a)) (sym is)) ((refl, sym is), engine)

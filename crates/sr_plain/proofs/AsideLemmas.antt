@@ -14,6 +14,7 @@ use Rattle.sr_core.specs.declared.component.Core.{Core}
 use Rattle.sr_core.specs.declared.owner.Me.{Me}
 use Rattle.sr_meaning.specs.Processes.{ask}
 use Rattle.sr_processes.specs.Living.{is_process}
+use Rattle.sr_queue.specs.Classes.{same_class}
 use Rattle.sr_world.proofs.StepLemmas.{same-step}
 use Rattle.sr_world.specs.Acting.{Acts}
 use Rattle.sr_world.specs.Deciding.{can_do}
@@ -29,7 +30,7 @@ use Rattle.sr_plain.specs.Changes.{change_of}
 use Rattle.sr_plain.specs.Noting.{IsSetAside, NotesBy}
 use Rattle.sr_plain.specs.Ready.{AreAside, IsAside, IsNoted, me_at}
 use Rattle.sr_plain.specs.Order.{Ascend}
-use Rattle.sr_plain.specs.Waiting.{IsTakenOut, WaitsFor, is_among, is_ready, same_class, waits, wakes}
+use Rattle.sr_plain.specs.Waiting.{IsTakenOut, WaitsFor, is_among, is_ready, waits, wakes}
 use Rattle.sr_plain.specs.Waking.{WakesUp}
 use Rattle.sr_plain.specs.declared.change.Woken.{Woken}
 use Rattle.sr_plain.specs.declared.waiters.Place.{Place}

@@ -7,32 +7,31 @@ use Rattle.sr_ask.specs.declared.ask.Asks.{Asks}
 use Rattle.sr_ask.specs.declared.start.Start.{Start}
 use Rattle.sr_core.specs.declared.component.Core.{Core}
 use Rattle.sr_meaning.specs.Processes.{ask}
-use Rattle.sr_plain.specs.Crew.{Begins, IsKept, LooksAt, Looks, Plays, member_of}
+use Rattle.sr_plain.specs.Crew.{Begins, LooksAt, Looks, Plays, member_of}
 use Rattle.sr_plain.specs.declared.member.Member.{Member}
 use Rattle.sr_plain.proofs.CrewLemmas.{looks-begun, looks-same}
 
 module _ {A : Type 0} (after : A → List Answer → Asks) (can_feed : A → Type 0) (meant : List Answer → Asks) where
-  at-then : (a b c : Option (Member A)) → LooksAt after can_feed meant a b → LooksAt after can_feed meant b c → LooksAt after can_feed meant a c
+  at-then : (a b c : Option (Member A)) → LooksAt after meant a b → LooksAt after meant b c → LooksAt after meant a c
   at-then None None c first second = second
   at-then None (Some m) None first second = absurd second
-  at-then None (Some m) (Some m') first second = record { actor = λ more. second.actor more ∙ first.actor more; kept = second.kept first.kept }
+  at-then None (Some m) (Some m') first second = record { actor = λ more. second.actor more ∙ first.actor more }
   at-then (Some m) None c first second = absurd first
   at-then (Some m) (Some m') None first second = absurd second
   at-then (Some m) (Some m') (Some m'') first second =
-      record { actor = λ more. second.actor more ∙ first.actor more; kept = λ kept. second.kept (first.kept kept) }
+      record { actor = λ more. second.actor more ∙ first.actor more }
 
-  pub looks-then : {S : Type 0} (p : ℕ) (a b c : HashMap ℕ (Member A) S) → Looks after can_feed meant p a b → Looks after can_feed meant p b c → Looks after can_feed meant p a c
+  pub looks-then : {S : Type 0} (p : ℕ) (a b c : HashMap ℕ (Member A) S) → Looks after meant p a b → Looks after meant p b c → Looks after meant p a c
   looks-then p a b c first second = record {
     itself = at-then (member_of a p) (member_of b p) (member_of c p) first.itself second.itself;
     others = λ q off. second.others q off ∙ first.others q off;
   }
 
 module _ {A P : Type 0} (after : P → A → List Answer → Asks) (can_feed : A → Type 0) (core_of : P → Core) (start : Start) (limit : ℕ) (program : P) where
-  pub begins-looks : {S : Type 0} (old new : HashMap ℕ (Member A) S) → Begins after core_of start limit old new → Looks (after program) can_feed (ask (core_of program) start limit) start.process old new
-  begins-looks old new (inl same) = subst (λ xs. Looks (after program) can_feed (ask (core_of program) start limit) start.process old xs) (sym same) (looks-same start.process (after program) can_feed (ask (core_of program) start limit) old)
+  pub begins-looks : {S : Type 0} (old new : HashMap ℕ (Member A) S) → Begins after core_of start limit old new → Looks (after program) (ask (core_of program) start limit) start.process old new
+  begins-looks old new (inl same) = subst (λ xs. Looks (after program) (ask (core_of program) start limit) start.process old xs) (sym same) (looks-same start.process (after program) can_feed (ask (core_of program) start limit) old)
   begins-looks old new (inr (none, begun)) =
-      let kept : IsKept (after program) can_feed begun.member.actor begun.member.asks = subst (IsKept (after program) can_feed begun.member.actor) (sym begun.asks) tt in
-      let plays : Plays (after program) can_feed (ask (core_of program) start limit) begun.member = record { actor = λ more. begun.actor program more; kept = kept } in
+      let plays : Plays (after program) (ask (core_of program) start limit) begun.member = record { actor = λ more. begun.actor program more } in
       looks-begun start.process (after program) can_feed (ask (core_of program) start limit) old new begun.member none begun.itself begun.others plays
 
 -- ---- what a call that may fail leaves

@@ -20,30 +20,30 @@ module _ {A S : Type 0} (p : ℕ) where
 
   module _ (after : A → List Answer → Asks) (can_feed : A → Type 0) where
     module _ (meant : List Answer → Asks) where
-      pub looks-same : (ms : HashMap ℕ (Member A) S) → Looks after can_feed meant p ms ms
+      pub looks-same : (ms : HashMap ℕ (Member A) S) → Looks after meant p ms ms
       looks-same ms = record { itself = by (member_of ms p); others = λ q off. refl }
         where
-          by : (o : Option (Member A)) → LooksAt after can_feed meant o o
+          by : (o : Option (Member A)) → LooksAt after meant o o
           by None = tt
-          by (Some m) = record { actor = λ more. refl; kept = λ kept. kept }
+          by (Some m) = record { actor = λ more. refl }
 
-      pub looks-written : (old new : HashMap ℕ (Member A) S) (m m' : Member A) → Some m ≡ member_of old p → WritesThrough nat_eq (nat_eq p) old m' new → IsSame after can_feed m m'
-          → Looks after can_feed meant p old new
+      pub looks-written : (old new : HashMap ℕ (Member A) S) (m m' : Member A) → Some m ≡ member_of old p → WritesThrough nat_eq (nat_eq p) old m' new → IsSame after m m'
+          → Looks after meant p old new
       looks-written old new m m' here written same = record {
-        itself = subst (λ o. LooksAt after can_feed meant o (member_of new p)) here (subst (λ o. LooksAt after can_feed meant (Some m) o) (sym (written-itself old new m m' here written)) same);
+        itself = subst (λ o. LooksAt after meant o (member_of new p)) here (subst (λ o. LooksAt after meant (Some m) o) (sym (written-itself old new m m' here written)) same);
         others = written-others old new m m' here written;
       }
 
-      pub looks-begun : (old new : HashMap ℕ (Member A) S) (m : Member A) → member_of old p ≡ None → member_of new p ≡ Some m → KeepsOthers p old new → Plays after can_feed meant m
-          → Looks after can_feed meant p old new
+      pub looks-begun : (old new : HashMap ℕ (Member A) S) (m : Member A) → member_of old p ≡ None → member_of new p ≡ Some m → KeepsOthers p old new → Plays after meant m
+          → Looks after meant p old new
       looks-begun old new m none here others plays = record {
-        itself = subst (λ o. LooksAt after can_feed meant o (member_of new p)) (sym none) (subst (λ o. LooksAt after can_feed meant None o) (sym here) plays);
+        itself = subst (λ o. LooksAt after meant o (member_of new p)) (sym none) (subst (λ o. LooksAt after meant None o) (sym here) plays);
         others = others;
       }
 
     -- one that went on as it would have, and then got an answer
     pub answers-written : (answer : Answer) (old looked new : HashMap ℕ (Member A) S) (m m' m'' : Member A) → Some m ≡ member_of old p → WritesThrough nat_eq (nat_eq p) old m' looked
-        → WritesThrough nat_eq (nat_eq p) old m'' new → IsFed after can_feed answer m' m'' → (member : Member A) → member_of looked p ≡ Some member → Answers after can_feed p answer member m'.asks looked new
+        → WritesThrough nat_eq (nat_eq p) old m'' new → IsFed after can_feed answer m' m'' → (member : Member A) → member_of looked p ≡ Some member → Answers after can_feed p answer member looked new
     answers-written answer old looked new m m' m'' here looks written fed member there =
         let at : member_of looked p ≡ Some m' = written-itself old looked m m' here looks in
         let same : m' ≡ member = cc in
@@ -51,7 +51,6 @@ module _ {A S : Type 0} (p : ℕ) where
           fed = m'';
           itself = written-itself old new m m'' here written;
           is_fed = subst (λ x. IsFed after can_feed answer x m'') same fed;
-          asked = ap (λ (x : Member A). x.asks) same;
           others = λ q off. written-others old new m m'' here written q off ∙ sym (written-others old looked m m' here looks q off);
         }
 

@@ -33,7 +33,7 @@ everyone core limit state waiters woken w is everything = record { aside = λ q 
 
 module _ {A : Type 0} (after : A → List Answer → Asks) (can_feed : A → Type 0) (core : Core) (limit : ℕ) where
   pub looked_engine : (state : State) (events : List Event) (start : Start) (plain looked : Plain A) → IsEngine after can_feed core limit state events plain
-      → started state.world start.process ≡ Some start → Looks after can_feed (ask core start limit) start.process plain.crew looked.crew
+      → started state.world start.process ≡ Some start → Looks after (ask core start limit) start.process plain.crew looked.crew
       → IsEngine after can_feed core limit state events (record plain { crew = looked.crew })
   looked_engine state events start plain looked engine lives looks = record {
     world = engine.world;
@@ -77,7 +77,7 @@ module _ {A : Type 0} (after : A → List Answer → Asks) (can_feed : A → Typ
     last = last;
     stands = record {
       leads = refl;
-      living = λ q s is. subst (λ o. StandsFor after can_feed (ask core s limit) [] o) (sym (nobody plain.crew empty q)) refl;
+      living = λ q s is. subst (λ o. StandsFor after (ask core s limit) [] o) (sym (nobody plain.crew empty q)) refl;
       unborn = λ q none. nobody plain.crew empty q;
       next = 2;
       order = record { counted = (refl, refl); ascend = (omega arith, omega arith) };

@@ -20,8 +20,9 @@ use Rattle.sr_world.specs.declared.acted.Acted.{Acted}
 use Rattle.sr_world.specs.declared.acted.Acted.TheVariants as acted
 use Rattle.sr_world.specs.Callers.{caller_in}
 use Rattle.sr_plain.specs.Answering.{AnsweredBy}
-use Rattle.sr_plain.specs.Carrying.{Names, written_of}
+use Rattle.sr_plain.specs.Carrying.{Names}
 use Rattle.sr_plain.specs.Crew.{Answers, IsFed, IsSame, Looks, member_of}
+use Rattle.sr_plain.specs.Leaving.{written_by}
 use Rattle.sr_plain.specs.Engine.{Comes, IsCarried, IsEngine, Steps, Tries, last_in}
 use Rattle.sr_plain.specs.Noting.{NotesBy}
 use Rattle.sr_plain.specs.Ready.{AreAside, me_at}
@@ -62,7 +63,7 @@ module _ {A : Type 0} (after : A → List Answer → Asks) (can_feed : A → Typ
     here-is : (m : Member A) → Some m ≡ member_of plain.crew me.process → member_of plain.crew start.process ≡ Some m
     here-is m here = subst (λ q. member_of plain.crew q ≡ Some m) process-is (sym here)
 
-    module _ (m : Member A) (here : Some m ≡ member_of plain.crew me.process) (asks : Ask) (known : m.asks ≡ Some (Asked asks)) (w' : World) (name : ℕ) (acted : Acted)
+    module _ (m : Member A) (here : Some m ≡ member_of plain.crew me.process) (asks : Ask) (known : Asked asks ≡ after m.actor []) (may : can_feed m.actor) (w' : World) (name : ℕ) (acted : Acted)
         (acts : Acts (does core plain.world me.process asks name) plain.world w' (Ok acted)) (names : Names (does core plain.world me.process asks name) plain.world name)
         (waiters : Waiters) (woken : Option Woken) (caller : ℕ) (caller_is : caller ≡ caller_in plain.world me.process asks.request)
         (notes : NotesBy core me asks caller name acted plain.waiters waiters woken) (ready : is_ready plain.waiters me.process ≡ true) (awake : plain.woken ≡ None) where
@@ -78,7 +79,7 @@ module _ {A : Type 0} (after : A → List Answer → Asks) (can_feed : A → Typ
       notes-is = subst (λ (x : Me). NotesBy core x asks caller name acted plain.waiters waiters woken) me_is notes
 
       asked-is : asks_next core limit state start ≡ Asked asks
-      asked-is = sym (kept-is after can_feed core limit state events start plain.crew m engine.stands lives (here-is m here) (Asked asks) known).0
+      asked-is = sym (kept-is after can_feed core limit state events start plain.crew m engine.stands lives (here-is m here) (Asked asks) known)
 
       pub carried_of : IsCarried after can_feed core limit state events start name acted (record plain { world = w'; waiters = waiters; woken = woken })
       carried_of = record {
@@ -86,6 +87,7 @@ module _ {A : Type 0} (after : A → List Answer → Asks) (can_feed : A → Typ
         asks = asks;
         here = here-is m here;
         asked = known;
+        can_hear = may;
         lives = lives;
         acts = acts-is;
         names = subst (λ (v : World). Names (does core v start.process asks name) v name) engine.world
@@ -98,7 +100,12 @@ module _ {A : Type 0} (after : A → List Answer → Asks) (can_feed : A → Typ
         noted = noted_is core limit state start asks name lives caller caller-is plain.waiters waiters woken w' acted notes-is (subst (λ q. is_ready plain.waiters q ≡ true) process-is ready);
       }
 
-    pub over_of : (m : Member A) → Some m ≡ member_of plain.crew me.process → m.asks ≡ Some OverTicks
+      -- what was written for the request
+      pub carried_wrote : (output : List ℕ) → output ≡ written_by asks.request → output ≡ written_by carried_of.asks.request
+      unfolding carried_of
+      carried_wrote output wrote = wrote
+
+    pub over_of : (m : Member A) → Some m ≡ member_of plain.crew me.process → OverTicks ≡ after m.actor []
         → Tries after can_feed core limit state events (find (takes_turn core limit state) (start ∷ [])) (Ok (Some (plainly.Over me.process))) plain
     over_of m here known =
         subst (λ q. Tries after can_feed core limit state events (find (takes_turn core limit state) (start ∷ [])) (Ok (Some (plainly.Over q))) plain) (sym process-is)
@@ -114,9 +121,9 @@ module _ {A : Type 0} (after : A → List Answer → Asks) (can_feed : A → Typ
     pub waiters : (m : Member A) (l : ℕ) → (plain_of m l).waiters ≡ plain.waiters
     pub woken : (m : Member A) (l : ℕ) → (plain_of m l).woken ≡ plain.woken
 
-  module _ (start : Start) (actor name : ℕ) (is : actor ≡ start.process) (plain_of : Member A → ℕ → Plain A) (m m' : Member A) (before last : ℕ) (came : Option Plainly) (differs : DiffersAt plain_of (plain_of m before))
+  module _ (start : Start) (actor name : ℕ) (is : actor ≡ start.process) (output : List ℕ) (plain_of : Member A → ℕ → Plain A) (m m' : Member A) (before last : ℕ) (came : Option Plainly) (differs : DiffersAt plain_of (plain_of m before))
       (answers : (a : Answer) → IsFed after can_feed a m m' → (member : Member A) → member_of (plain_of m before).crew start.process ≡ Some member
-      → Answers after can_feed start.process a member m.asks (plain_of m before).crew (plain_of m' last).crew) where
+      → Answers after can_feed start.process a member (plain_of m before).crew (plain_of m' last).crew) where
     goal-at : Option Plainly → Plain A → Type 0
     goal-at o plain = Tries after can_feed core limit state events (find (takes_turn core limit state) (start ∷ [])) (Ok o) plain
 
@@ -125,19 +132,19 @@ module _ {A : Type 0} (after : A → List Answer → Asks) (can_feed : A → Typ
     unheard o tried same same-last came_is =
         subst (λ x. goal-at x (plain_of m' last)) (sym came_is) (subst (λ x. goal-at o (plain_of x last)) (sym same) (subst (λ l. goal-at o (plain_of m l)) (sym same-last) tried))
 
-    pub hears : (a : Acted) → IsCarried after can_feed core limit state events start name a (plain_of m before) → AnsweredBy after can_feed actor name a m m' before last came
+    pub hears : (a : Acted) (carried : IsCarried after can_feed core limit state events start name a (plain_of m before)) → output ≡ written_by carried.asks.request → AnsweredBy after can_feed actor name output a m m' before last came
         → Tries after can_feed core limit state events (find (takes_turn core limit state) (start ∷ [])) (Ok came) (plain_of m' last)
     unfolding goal-at
-    hears (acted.Done a) carried by =
+    hears (acted.Done a) carried wrote by =
         subst (λ x. goal-at x (plain_of m' last)) (sym by.2)
-        (subst (λ n. goal-at (Some (plainly.Stepped (Step n name) (written_of m.asks))) (plain_of m' last)) (sym is)
-        (answered_done after can_feed core limit state events start name (plain_of m before) a (plain_of m' last) m.asks (written_of m.asks) carried (answers a by.0) refl
+        (subst (λ n. goal-at (Some (plainly.Stepped (Step n name) output)) (plain_of m' last)) (sym is)
+        (answered_done after can_feed core limit state events start name (plain_of m before) a (plain_of m' last) output carried (answers a by.0) wrote
         (differs.world m' last) (differs.ticks m' last) (differs.last m' last ∙ by.1 ∙ is) (differs.waiters m' last) (differs.woken m' last)))
-    hears acted.Cannot carried by = unheard None (answered_not after can_feed core limit state events start name (plain_of m before) carried) by.0 by.1 by.2
-    hears (acted.Ends ending) carried by =
+    hears acted.Cannot carried wrote by = unheard None (answered_not after can_feed core limit state events start name (plain_of m before) carried) by.0 by.1 by.2
+    hears (acted.Ends ending) carried wrote by =
         unheard (Some (plainly.Ended (Step actor name) ending))
         (subst (λ n. goal-at (Some (plainly.Ended (Step n name) ending)) (plain_of m before)) (sym is) (answered_ends after can_feed core limit state events start name (plain_of m before) ending carried)) by.0 by.1 by.2
-    hears acted.Undecided carried by = unheard (Some plainly.Wants) (answered_wants after can_feed core limit state events start name (plain_of m before) carried) by.0 by.1 by.2
+    hears acted.Undecided carried wrote by = unheard (Some plainly.Wants) (answered_wants after can_feed core limit state events start name (plain_of m before) carried) by.0 by.1 by.2
 
   -- ---- who is ready
 
@@ -200,25 +207,25 @@ module _ {A : Type 0} (after : A → List Answer → Asks) (can_feed : A → Typ
 
 module _ {A : Type 0} (after : A → List Answer → Asks) (can_feed : A → Type 0) (core : Core) (limit : ℕ) (state : State) (events : List Event) where
   pub looked_now : (plain : Plain A) → IsEngine after can_feed core limit state events plain → (s : Start) → started state.world s.process ≡ Some s → (looked : Plain A)
-      → Looks after can_feed (ask core s plain.ticks) s.process plain.crew looked.crew → IsEngine after can_feed core limit state events (record plain { crew = looked.crew })
+      → Looks after (ask core s plain.ticks) s.process plain.crew looked.crew → IsEngine after can_feed core limit state events (record plain { crew = looked.crew })
   looked_now plain engine s lives looked looks =
-      looked_engine after can_feed core limit state events s plain looked engine lives (subst (λ t. Looks after can_feed (ask core s t) s.process plain.crew looked.crew) engine.ticks looks)
+      looked_engine after can_feed core limit state events s plain looked engine lives (subst (λ t. Looks after (ask core s t) s.process plain.crew looked.crew) engine.ticks looks)
 
   -- ---- one that has begun
 
   module _ (plain looked : Plain A) (engine : IsEngine after can_feed core limit state events plain) (start : Start) (lives : started state.world start.process ≡ Some start) (me : Me) (me_is : me ≡ me_at start)
       (m m' : Member A) (here : Some m ≡ member_of plain.crew me.process) (looks : WritesThrough nat_eq (nat_eq me.process) plain.crew m' looked.crew) where
-    pub looked_member : IsSame after can_feed m m' → IsEngine after can_feed core limit state events (record plain { crew = looked.crew })
+    pub looked_member : IsSame after m m' → IsEngine after can_feed core limit state events (record plain { crew = looked.crew })
     looked_member same =
         looked_now plain engine start lives looked
-        (subst (λ q. Looks after can_feed (ask core start plain.ticks) q plain.crew looked.crew) (ap (λ (x : Me). x.process) me_is)
+        (subst (λ q. Looks after (ask core start plain.ticks) q plain.crew looked.crew) (ap (λ (x : Me). x.process) me_is)
         (looks-written me.process after can_feed (ask core start plain.ticks) plain.crew looked.crew m m' here looks same))
 
     pub answers_member : (heard : Plain A) (m'' : Member A) → WritesThrough nat_eq (nat_eq me.process) plain.crew m'' heard.crew → (a : Answer) → IsFed after can_feed a m' m''
-        → (member : Member A) → member_of looked.crew start.process ≡ Some member → Answers after can_feed start.process a member m'.asks looked.crew heard.crew
+        → (member : Member A) → member_of looked.crew start.process ≡ Some member → Answers after can_feed start.process a member looked.crew heard.crew
     answers_member heard m'' written a fed member there =
         let number : me.process ≡ start.process = ap (λ (x : Me). x.process) me_is in
-        subst (λ q. Answers after can_feed q a member m'.asks looked.crew heard.crew) number
+        subst (λ q. Answers after can_feed q a member looked.crew heard.crew) number
         (answers-written me.process after can_feed a plain.crew looked.crew heard.crew m m' m'' here looks written fed member (subst (λ q. member_of looked.crew q ≡ Some member) (sym number) there))
 
 pub if_none : {X : Type 0} {P : Type 0} (o : Option X) → o ≡ None → IfNone o P → P

@@ -10,7 +10,7 @@ use Rattle.sr_meaning.specs.Processes.{ask}
 use Rattle.sr_world.specs.Runs.{Event, Makes_item, Goes, State, asks_next, led, next, with_answer}
 use Rattle.sr_world.specs.Sound.{times_used}
 use Rattle.sr_world.specs.Worlds.{started}
-use Rattle.sr_plain.specs.Crew.{Answers, IsKept, KeepsLiving, LooksAt, Looks, Plays, member_of}
+use Rattle.sr_plain.specs.Crew.{Answers, KeepsLiving, LooksAt, Looks, Plays, member_of}
 use Rattle.sr_plain.specs.Engine.{StandsFor, Stands}
 use Rattle.sr_plain.specs.Leaving.{Leaves}
 use Rattle.sr_plain.specs.Order.{IsOrdered}
@@ -20,30 +20,30 @@ use Rattle.sr_plain.proofs.LedLemmas.{led-more, lives-used, sound, used-more}
 module _ {A : Type 0} (after : A → List Answer → Asks) (can_feed : A → Type 0) (core : Core) (limit : ℕ) (state : State) (events : List Event) where
   -- ---- a look
 
-  looked-for : (s : Start) (answers : List Answer) (old new : Option (Member A)) → LooksAt after can_feed (ask core s limit) old new
-      → StandsFor after can_feed (ask core s limit) answers old → StandsFor after can_feed (ask core s limit) answers new
+  looked-for : (s : Start) (answers : List Answer) (old new : Option (Member A)) → LooksAt after (ask core s limit) old new
+      → StandsFor after (ask core s limit) answers old → StandsFor after (ask core s limit) answers new
   looked-for s answers None None looks stands = stands
-  looked-for s answers None (Some m) looks stands = record { actor = λ more. looks.actor more ∙ ap (λ xs. ask core s limit (xs ++ more)) (sym stands); kept = looks.kept }
+  looked-for s answers None (Some m) looks stands = record { actor = λ more. looks.actor more ∙ ap (λ xs. ask core s limit (xs ++ more)) (sym stands) }
   looked-for s answers (Some m) None looks stands = absurd looks
-  looked-for s answers (Some m) (Some m') looks stands = record { actor = λ more. looks.actor more ∙ stands.actor more; kept = looks.kept stands.kept }
+  looked-for s answers (Some m) (Some m') looks stands = record { actor = λ more. looks.actor more ∙ stands.actor more }
 
   -- after a look an engine stands as before
-  pub looked-stands : {S : Type 0} (start : Start) (crew crew' : HashMap ℕ (Member A) S) → Stands after can_feed core limit state events crew → started state.world start.process ≡ Some start
-      → Looks after can_feed (ask core start limit) start.process crew crew' → Stands after can_feed core limit state events crew'
+  pub looked-stands : {S : Type 0} (start : Start) (crew crew' : HashMap ℕ (Member A) S) → Stands after core limit state events crew → started state.world start.process ≡ Some start
+      → Looks after (ask core start limit) start.process crew crew' → Stands after core limit state events crew'
   looked-stands start crew crew' stands lives looks = record { leads = stands.leads; living = living; unborn = unborn; next = stands.next; order = stands.order }
     where
-      living-by : (q : ℕ) (s : Start) (b : Bool) → (start.process == q) ≡ b → started state.world q ≡ Some s → StandsFor after can_feed (ask core s limit) (state.given q) (member_of crew' q)
-      living-by q s false off is = subst (StandsFor after can_feed (ask core s limit) (state.given q)) (sym (looks.others q off)) (stands.living q s is)
+      living-by : (q : ℕ) (s : Start) (b : Bool) → (start.process == q) ≡ b → started state.world q ≡ Some s → StandsFor after (ask core s limit) (state.given q) (member_of crew' q)
+      living-by q s false off is = subst (StandsFor after (ask core s limit) (state.given q)) (sym (looks.others q off)) (stands.living q s is)
       living-by q s true same is =
           let q-is : start.process ≡ q = eqb-true start.process q same in
           let found : started state.world start.process ≡ Some s = subst (λ n. started state.world n ≡ Some s) (sym q-is) is in
           let s-is : start ≡ s = cc in
-          let here : StandsFor after can_feed (ask core start limit) (state.given start.process) (member_of crew' start.process) =
+          let here : StandsFor after (ask core start limit) (state.given start.process) (member_of crew' start.process) =
           looked-for start (state.given start.process) (member_of crew start.process) (member_of crew' start.process) looks.itself (stands.living start.process start lives) in
-          subst (λ n. StandsFor after can_feed (ask core s limit) (state.given n) (member_of crew' n)) q-is
-          (subst (λ t. StandsFor after can_feed (ask core t limit) (state.given start.process) (member_of crew' start.process)) s-is here)
+          subst (λ n. StandsFor after (ask core s limit) (state.given n) (member_of crew' n)) q-is
+          (subst (λ t. StandsFor after (ask core t limit) (state.given start.process) (member_of crew' start.process)) s-is here)
 
-      living : (q : ℕ) (s : Start) → started state.world q ≡ Some s → StandsFor after can_feed (ask core s limit) (state.given q) (member_of crew' q)
+      living : (q : ℕ) (s : Start) → started state.world q ≡ Some s → StandsFor after (ask core s limit) (state.given q) (member_of crew' q)
       living q s is = living-by q s (start.process == q) refl is
 
       unborn-by : (q : ℕ) (b : Bool) → (start.process == q) ≡ b → times_used state.world q ≡ 0 → member_of crew' q ≡ None
@@ -57,10 +57,10 @@ module _ {A : Type 0} (after : A → List Answer → Asks) (can_feed : A → Typ
       unborn q none = unborn-by q (start.process == q) refl none
 
   -- after some that have ended left, an engine stands as before
-  pub kept-stands : {S : Type 0} (crew crew' : HashMap ℕ (Member A) S) → Stands after can_feed core limit state events crew → KeepsLiving state.world crew crew' → Stands after can_feed core limit state events crew'
+  pub kept-stands : {S : Type 0} (crew crew' : HashMap ℕ (Member A) S) → Stands after core limit state events crew → KeepsLiving state.world crew crew' → Stands after core limit state events crew'
   kept-stands crew crew' stands keeps = record {
     leads = stands.leads;
-    living = λ q s is. subst (StandsFor after can_feed (ask core s limit) (state.given q)) (sym (keeps.living q (ap is_some is))) (stands.living q s is);
+    living = λ q s is. subst (StandsFor after (ask core s limit) (state.given q)) (sym (keeps.living q (ap is_some is))) (stands.living q s is);
     unborn = λ q none. keeps.unborn q (stands.unborn q none);
     next = stands.next;
     order = stands.order;
@@ -68,18 +68,16 @@ module _ {A : Type 0} (after : A → List Answer → Asks) (can_feed : A → Typ
 
   -- ---- a step of a process
 
-  module _ {S : Type 0} (start : Start) (crew : HashMap ℕ (Member A) S) (m : Member A) (stands : Stands after can_feed core limit state events crew) (lives : started state.world start.process ≡ Some start)
+  module _ {S : Type 0} (start : Start) (crew : HashMap ℕ (Member A) S) (m : Member A) (stands : Stands after core limit state events crew) (lives : started state.world start.process ≡ Some start)
       (here : member_of crew start.process ≡ Some m) where
-    plays : Plays after can_feed (λ more. ask core start limit (state.given start.process ++ more)) m
-    plays = subst (StandsFor after can_feed (ask core start limit) (state.given start.process)) here (stands.living start.process start lives)
+    plays : Plays after (λ more. ask core start limit (state.given start.process ++ more)) m
+    plays = subst (StandsFor after (ask core start limit) (state.given start.process)) here (stands.living start.process start lives)
 
-    -- what is kept beside the process is what it asks
-    pub kept-is : (asks : Asks) → m.asks ≡ Some asks → (asks ≡ asks_next core limit state start) × can_feed m.actor
-    kept-is asks is =
-        let kept : IsKept after can_feed m.actor (Some asks) = subst (IsKept after can_feed m.actor) is plays.kept in
-        (kept.0 ∙ plays.actor [] ∙ ap (ask core start limit) (append-nil (state.given start.process)), kept.1)
+    -- what a process asks is what it is meant to ask
+    pub kept-is : (asks : Asks) → asks ≡ after m.actor [] → asks ≡ asks_next core limit state start
+    kept-is asks is = is ∙ plays.actor [] ∙ ap (ask core start limit) (append-nil (state.given start.process))
 
-    module _ (asks : Asks) (known : m.asks ≡ Some asks) (a : Answer) (crew' : HashMap ℕ (Member A) S) (asked : Option Asks) (answers : Answers after can_feed start.process a m asked crew crew') (later : State) (name : ℕ) (text : List ℕ) (item : Item)
+    module _ (may : can_feed m.actor) (a : Answer) (crew' : HashMap ℕ (Member A) S) (answers : Answers after can_feed start.process a m crew crew') (later : State) (name : ℕ) (text : List ℕ) (item : Item)
         (given : later.given ≡ with_answer start.process a state.given) (left : Leaves name text state.world later.world) (new : times_used state.world name ≡ 0)
         (goes : next core limit state item ≡ Goes later) (number : ℕ) (ordered : IsOrdered later.world number) where
       later-leads : led core limit (events ++ Makes_item item ∷ []) ≡ Goes later
@@ -95,32 +93,29 @@ module _ {A : Type 0} (after : A → List Answer → Asks) (can_feed : A → Typ
           by false is = refl
           by true is = absurd (true≢false (sym (eq-eqb start.process q (sym (eqb-true q start.process is))) ∙ off))
 
-      answered-for : StandsFor after can_feed (ask core start limit) (later.given start.process) (member_of crew' start.process)
+      answered-for : StandsFor after (ask core start limit) (later.given start.process) (member_of crew' start.process)
       answered-for =
           let fed = answers.is_fed in
-          let kept : IsKept after can_feed answers.fed.actor answers.fed.asks = subst (IsKept after can_feed answers.fed.actor) (sym fed.asks) tt in
-          let may : can_feed m.actor = (kept-is asks known).1 in
-          let played : Plays after can_feed (λ more. ask core start limit ((state.given start.process ++ a ∷ []) ++ more)) answers.fed = record {
+          let played : Plays after (λ more. ask core start limit ((state.given start.process ++ a ∷ []) ++ more)) answers.fed = record {
             actor = λ more. fed.actor may more ∙ plays.actor (a ∷ more) ∙ ap (ask core start limit) (sym (append_assoc (state.given start.process) (a ∷ []) more));
-            kept = kept;
           } in
-          subst (λ o. StandsFor after can_feed (ask core start limit) (later.given start.process) o) (sym answers.itself)
-          (subst (λ (xs : List Answer). Plays after can_feed (λ more. ask core start limit (xs ++ more)) answers.fed) (sym given-itself) played)
+          subst (λ o. StandsFor after (ask core start limit) (later.given start.process) o) (sym answers.itself)
+          (subst (λ (xs : List Answer). Plays after (λ more. ask core start limit (xs ++ more)) answers.fed) (sym given-itself) played)
 
       used-itself : 1 ≤ times_used state.world start.process
       used-itself = lives-used core limit events state stands.leads start.process start lives
 
       living-by : (q : ℕ) (s : Start) (b : Bool) → (start.process == q) ≡ b → (started state.world q ≡ Some s) ⊎ (q ≡ name)
-          → StandsFor after can_feed (ask core s limit) (later.given q) (member_of crew' q)
+          → StandsFor after (ask core s limit) (later.given q) (member_of crew' q)
       living-by q s true same (inl was) =
           let q-is : start.process ≡ q = eqb-true start.process q same in
           let found : started state.world start.process ≡ Some s = subst (λ n. started state.world n ≡ Some s) (sym q-is) was in
           let s-is : start ≡ s = cc in
-          subst (λ n. StandsFor after can_feed (ask core s limit) (later.given n) (member_of crew' n)) q-is
-          (subst (λ t. StandsFor after can_feed (ask core t limit) (later.given start.process) (member_of crew' start.process)) s-is answered-for)
+          subst (λ n. StandsFor after (ask core s limit) (later.given n) (member_of crew' n)) q-is
+          (subst (λ t. StandsFor after (ask core t limit) (later.given start.process) (member_of crew' start.process)) s-is answered-for)
       living-by q s false off (inl was) =
-          subst (λ o. StandsFor after can_feed (ask core s limit) (later.given q) o) (sym (answers.others q off))
-          (subst (λ xs. StandsFor after can_feed (ask core s limit) xs (member_of crew q)) (sym (given-other q off)) (stands.living q s was))
+          subst (λ o. StandsFor after (ask core s limit) (later.given q) o) (sym (answers.others q off))
+          (subst (λ xs. StandsFor after (ask core s limit) xs (member_of crew q)) (sym (given-other q off)) (stands.living q s was))
       living-by q s true same (inr made) =
           let q-is : start.process ≡ q = eqb-true start.process q same in
           let unused : times_used state.world start.process ≡ 0 = subst (λ n. times_used state.world n ≡ 0) (sym (q-is ∙ made)) new in absurd (omega (arith, used-itself, unused))
@@ -128,7 +123,7 @@ module _ {A : Type 0} (after : A → List Answer → Asks) (can_feed : A → Typ
           let unused : times_used state.world q ≡ 0 = subst (λ n. times_used state.world n ≡ 0) (sym made) new in
           let nobody : member_of crew' q ≡ None = answers.others q off ∙ stands.unborn q unused in
           let nothing : later.given q ≡ [] = given-other q off ∙ (sound core limit events state stands.leads).processes.hearers q unused in
-          subst (λ o. StandsFor after can_feed (ask core s limit) (later.given q) o) (sym nobody) nothing
+          subst (λ o. StandsFor after (ask core s limit) (later.given q) o) (sym nobody) nothing
 
       unborn-by : (q : ℕ) (b : Bool) → (start.process == q) ≡ b → times_used state.world q ≡ 0 → member_of crew' q ≡ None
       unborn-by q false off none = answers.others q off ∙ stands.unborn q none
@@ -137,7 +132,7 @@ module _ {A : Type 0} (after : A → List Answer → Asks) (can_feed : A → Typ
           let unused : times_used state.world start.process ≡ 0 = subst (λ n. times_used state.world n ≡ 0) (sym q-is) none in absurd (omega (arith, used-itself, unused))
 
       -- after its answer an engine stands for the later state
-      pub answered-stands : Stands after can_feed core limit later (events ++ Makes_item item ∷ []) crew'
+      pub answered-stands : Stands after core limit later (events ++ Makes_item item ∷ []) crew'
       answered-stands = record {
         leads = later-leads;
         living = λ q s is. living-by q s (start.process == q) refl (left.lives q s is);
@@ -149,7 +144,7 @@ module _ {A : Type 0} (after : A → List Answer → Asks) (can_feed : A → Typ
 
   -- ---- a run that comes to rest
 
-  module _ {S : Type 0} (crew : HashMap ℕ (Member A) S) (stands : Stands after can_feed core limit state events crew) (later : State) (name : ℕ) (text : List ℕ) (item : Item)
+  module _ {S : Type 0} (crew : HashMap ℕ (Member A) S) (stands : Stands after core limit state events crew) (later : State) (name : ℕ) (text : List ℕ) (item : Item)
       (given : later.given ≡ state.given) (left : Leaves name text state.world later.world) (new : times_used state.world name ≡ 0) (goes : next core limit state item ≡ Goes later)
       (number : ℕ) (ordered : IsOrdered later.world number) where
     rested-leads : led core limit (events ++ Makes_item item ∷ []) ≡ Goes later
@@ -158,14 +153,14 @@ module _ {A : Type 0} (after : A → List Answer → Asks) (can_feed : A → Typ
     given-same : (q : ℕ) → later.given q ≡ state.given q
     given-same q = ap (λ (f : ℕ → List Answer). f q) given
 
-    rested-living : (q : ℕ) (s : Start) → (started state.world q ≡ Some s) ⊎ (q ≡ name) → StandsFor after can_feed (ask core s limit) (later.given q) (member_of crew q)
-    rested-living q s (inl was) = subst (λ xs. StandsFor after can_feed (ask core s limit) xs (member_of crew q)) (sym (given-same q)) (stands.living q s was)
+    rested-living : (q : ℕ) (s : Start) → (started state.world q ≡ Some s) ⊎ (q ≡ name) → StandsFor after (ask core s limit) (later.given q) (member_of crew q)
+    rested-living q s (inl was) = subst (λ xs. StandsFor after (ask core s limit) xs (member_of crew q)) (sym (given-same q)) (stands.living q s was)
     rested-living q s (inr made) =
         let unused : times_used state.world q ≡ 0 = subst (λ n. times_used state.world n ≡ 0) (sym made) new in
         let nothing : later.given q ≡ [] = given-same q ∙ (sound core limit events state stands.leads).processes.hearers q unused in
-        subst (λ o. StandsFor after can_feed (ask core s limit) (later.given q) o) (sym (stands.unborn q unused)) nothing
+        subst (λ o. StandsFor after (ask core s limit) (later.given q) o) (sym (stands.unborn q unused)) nothing
 
-    pub rested-stands : Stands after can_feed core limit later (events ++ Makes_item item ∷ []) crew
+    pub rested-stands : Stands after core limit later (events ++ Makes_item item ∷ []) crew
     rested-stands = record {
       leads = rested-leads;
       living = λ q s is. rested-living q s (left.lives q s is);

@@ -1,39 +1,20 @@
 -- Those that wait for invocations.
-use Rattle.std.proofs.Common.{◌≡◌, ◌==◌, ◌&&◌, ◌||◌, ℕ, Bool, true, false, cond, Option, Some, None, refl, ap, sym, ◌∙◌, subst, true≢false, eqb-true}
+use Rattle.std.proofs.Common.{◌≡◌, ◌||◌, ℕ, Bool, true, false, cond, Option, Some, None, refl, ap, sym, ◌∙◌, subst, true≢false}
 use Rattle.std.specs.BTreeSet.{BTreeSet, contains}
-use Rattle.std.specs.Bool.{beq}
 use Rattle.std.specs.HashMap.{HashMap, UpdatesBy, get}
 use Rattle.std.specs.Ordering.{nat_cmp}
+use Rattle.sr_queue.proofs.ClassLemmas.{same_parts}
+use Rattle.sr_queue.specs.Classes.{class_of, same_class}
+use Rattle.sr_queue.specs.declared.class.Class.{Class}
 use Rattle.sr_value.specs.declared.capability.Owner.{Owner}
 use Rattle.sr_world.specs.Worlds.{World}
-use Rattle.sr_plain.specs.Waiting.{IsWokenAt, WaitsThere, class_of, is_among, is_ready, same_class, waits}
+use Rattle.sr_plain.specs.Waiting.{IsWokenAt, WaitsThere, is_among, is_ready, waits}
 use Rattle.sr_plain.specs.Waking.{WakesByChange}
 use Rattle.sr_plain.specs.declared.change.Change.TheVariants as change
-use Rattle.sr_plain.specs.declared.waiters.Class.{Class}
 use Rattle.sr_plain.specs.declared.waiters.Place.{Place}
 use Rattle.sr_plain.specs.declared.waiters.Place.TheVariants.{Watched, Served}
 use Rattle.sr_plain.specs.declared.waiters.Waiters.{Waiters}
 use Rattle.sr_plain.specs.declared.waiters.Waiting.{Waiting}
-
--- ---- when two operations are the same
-
-same_kind : (a b : Bool) → beq a b ≡ true → a ≡ b
-same_kind true true is = refl
-same_kind true false is = absurd (true≢false (sym is))
-same_kind false true is = absurd (true≢false (sym is))
-same_kind false false is = refl
-
-same_parts : (a b : Class) → same_class a b ≡ true → a ≡ b
-same_parts a b same = by (beq a.of_process b.of_process) (a.owner == b.owner) (a.op == b.op) refl refl refl same
-  where
-    by : (kind owner op : Bool) → beq a.of_process b.of_process ≡ kind → (a.owner == b.owner) ≡ owner → (a.op == b.op) ≡ op → (kind && (owner && op)) ≡ true → a ≡ b
-    by true true true kind owner op _ =
-        ap (λ x. record a { of_process = x }) (same_kind a.of_process b.of_process kind)
-        ∙ ap (λ x. record a { of_process = b.of_process; owner = x }) (eqb-true a.owner b.owner owner)
-        ∙ ap (λ x. record b { op = x }) (eqb-true a.op b.op op)
-    by true true false kind owner op is = absurd (true≢false (sym is))
-    by true false more kind owner op is = absurd (true≢false (sym is))
-    by false owner more kind _ _ is = absurd (true≢false (sym is))
 
 -- ---- one more that waits
 

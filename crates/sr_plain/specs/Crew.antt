@@ -1,5 +1,5 @@
 -- The processes that have begun.
-use Rattle.std.specs.Prelude.{◌≡◌, ◌⊎◌, ◌==◌, ℕ, false, List, [], ◌∷◌, Option, Some, None, IsSome, nat_eq}
+use Rattle.std.specs.Prelude.{◌≡◌, ◌⊎◌, ◌==◌, ℕ, false, List, ◌∷◌, Option, Some, None, IsSome, nat_eq}
 use Rattle.std.specs.HashMap.{HashMap, get}
 use Rattle.sr_ask.specs.declared.answer.Answer.{Answer}
 use Rattle.sr_ask.specs.declared.ask.Asks.{Asks}
@@ -15,25 +15,17 @@ member_of members process = get nat_eq members process
 
 -- ---- what a process asks
 
--- what is kept beside a process is what it asks next, and an answer may be fed
-abbrev pub IsKept : {A : Type 0} → (A → List Answer → Asks) → (A → Type 0) → A → Option Asks → Type 0
-IsKept after can_feed actor None = Unit {0}
-IsKept after can_feed actor (Some asks) = (asks ≡ after actor []) × can_feed actor
-
 -- a process asks what is meant
-pub record Plays {A : Type 0} (after : A → List Answer → Asks) (can_feed : A → Type 0) (meant : List Answer → Asks) (member : Member A) : Type 0 where
+pub record Plays {A : Type 0} (after : A → List Answer → Asks) (meant : List Answer → Asks) (member : Member A) : Type 0 where
   pub actor : (more : List Answer) → after member.actor more ≡ meant more
-  pub kept : IsKept after can_feed member.actor member.asks
 
 -- a process goes on as it would have
-pub record IsSame {A : Type 0} (after : A → List Answer → Asks) (can_feed : A → Type 0) (old new : Member A) : Type 0 where
+pub record IsSame {A : Type 0} (after : A → List Answer → Asks) (old new : Member A) : Type 0 where
   pub actor : (more : List Answer) → after new.actor more ≡ after old.actor more
-  pub kept : IsKept after can_feed old.actor old.asks → IsKept after can_feed new.actor new.asks
 
--- a process has got an answer, and what it asks then isn't known
+-- a process has got an answer, where it had asked
 pub record IsFed {A : Type 0} (after : A → List Answer → Asks) (can_feed : A → Type 0) (answer : Answer) (old new : Member A) : Type 0 where
   pub actor : can_feed old.actor → (more : List Answer) → after new.actor more ≡ after old.actor (answer ∷ more)
-  pub asks : new.asks ≡ None
 
 -- ---- one process of many
 
@@ -46,7 +38,6 @@ pub record HasBegun {A P S : Type 0} (after : P → A → List Answer → Asks) 
   pub member : Member A
   pub itself : member_of new start.process ≡ Some member
   pub others : KeepsOthers start.process old new
-  pub asks : member.asks ≡ None
   pub actor : (program : P) (more : List Answer) → after program member.actor more ≡ ask (core_of program) start limit more
 
 -- it has begun already, or it begins
@@ -56,25 +47,24 @@ Begins after core_of start limit old new = (new ≡ old) ⊎ ((member_of old sta
 -- ---- a look at a process
 
 -- it goes on as it would have, or it has begun
-abbrev pub LooksAt : {A : Type 0} → (A → List Answer → Asks) → (A → Type 0) → (List Answer → Asks) → Option (Member A) → Option (Member A) → Type 0
-LooksAt after can_feed meant None None = Unit {0}
-LooksAt after can_feed meant None (Some new) = Plays after can_feed meant new
-LooksAt after can_feed meant (Some old) (Some new) = IsSame after can_feed old new
-LooksAt after can_feed meant (Some old) None = ⊥
+abbrev pub LooksAt : {A : Type 0} → (A → List Answer → Asks) → (List Answer → Asks) → Option (Member A) → Option (Member A) → Type 0
+LooksAt after meant None None = Unit {0}
+LooksAt after meant None (Some new) = Plays after meant new
+LooksAt after meant (Some old) (Some new) = IsSame after old new
+LooksAt after meant (Some old) None = ⊥
 
-pub record Looks {A S : Type 0} (after : A → List Answer → Asks) (can_feed : A → Type 0) (meant : List Answer → Asks) (process : ℕ) (old new : HashMap ℕ (Member A) S) : Type 0 where
-  pub itself : LooksAt after can_feed meant (member_of old process) (member_of new process)
+pub record Looks {A S : Type 0} (after : A → List Answer → Asks) (meant : List Answer → Asks) (process : ℕ) (old new : HashMap ℕ (Member A) S) : Type 0 where
+  pub itself : LooksAt after meant (member_of old process) (member_of new process)
   pub others : KeepsOthers process old new
 
 -- ---- an answer, and an end
 
--- a process has got an answer, and this is what it had asked
-pub record Answers {A S : Type 0} (after : A → List Answer → Asks) (can_feed : A → Type 0) (process : ℕ) (answer : Answer) (member : Member A) (said : Option Asks)
+-- a process has got an answer
+pub record Answers {A S : Type 0} (after : A → List Answer → Asks) (can_feed : A → Type 0) (process : ℕ) (answer : Answer) (member : Member A)
     (old new : HashMap ℕ (Member A) S) : Type 0 where
   pub fed : Member A
   pub itself : member_of new process ≡ Some fed
   pub is_fed : IsFed after can_feed answer member fed
-  pub asked : said ≡ member.asks
   pub others : KeepsOthers process old new
 
 -- who lives stays as it is, and nobody begins

@@ -37,17 +37,17 @@ abbrev pub last_in : List Event → ℕ
 last_in events = fold last_by 0 events
 
 -- a process stands for the answers that it got; one that hasn't begun has got none
-abbrev pub StandsFor : {A : Type 0} → (A → List Answer → Asks) → (A → Type 0) → (List Answer → Asks) → List Answer → Option (Member A) → Type 0
-StandsFor after can_feed meant answers None = answers ≡ []
-StandsFor after can_feed meant answers (Some member) = Plays after can_feed (λ more. meant (answers ++ more)) member
+abbrev pub StandsFor : {A : Type 0} → (A → List Answer → Asks) → (List Answer → Asks) → List Answer → Option (Member A) → Type 0
+StandsFor after meant answers None = answers ≡ []
+StandsFor after meant answers (Some member) = Plays after (λ more. meant (answers ++ more)) member
 
 -- The events lead to the state, and each living process stands for its answers. Nobody has begun under a number that
 -- wasn't given out. The numbers were given out in their order.
-pub record Stands {A S : Type 0} (after : A → List Answer → Asks) (can_feed : A → Type 0) (core : Core) (limit : ℕ) (state : State) (events : List Event)
+pub record Stands {A S : Type 0} (after : A → List Answer → Asks) (core : Core) (limit : ℕ) (state : State) (events : List Event)
     (members : HashMap ℕ (Member A) S) : Type 0 where
   pub leads : led core limit events ≡ Goes state
   pub living : (process : ℕ) (start : Start) → started state.world process ≡ Some start
-      → StandsFor after can_feed (ask core start limit) (state.given process) (member_of members process)
+      → StandsFor after (ask core start limit) (state.given process) (member_of members process)
   pub unborn : (process : ℕ) → times_used state.world process ≡ 0 → member_of members process ≡ None
   pub next : ℕ
   pub order : IsOrdered state.world next
@@ -58,7 +58,7 @@ pub record IsEngine {A : Type 0} (after : A → List Answer → Asks) (can_feed 
   pub world : plain.world ≡ state.world
   pub ticks : plain.ticks ≡ limit
   pub last : plain.last ≡ last_in events
-  pub stands : Stands after can_feed core limit state events plain.crew
+  pub stands : Stands after core limit state events plain.crew
   pub aside : AreAside core limit state plain.waiters plain.woken
 
 -- the machine has carried out what a process asks, and it isn't answered yet
@@ -67,13 +67,14 @@ pub record IsCarried {A : Type 0} (after : A → List Answer → Asks) (can_feed
   pub member : Member A
   pub asks : Ask
   pub here : member_of plain.crew start.process ≡ Some member
-  pub asked : member.asks ≡ Some (Asked asks)
+  pub asked : Asked asks ≡ after member.actor []
+  pub can_hear : can_feed member.actor
   pub lives : started state.world start.process ≡ Some start
   pub acts : Acts (does core state.world start.process asks name) state.world plain.world (Ok acted)
   pub names : Names (does core state.world start.process asks name) state.world name
   pub ticks : plain.ticks ≡ limit
   pub last : plain.last ≡ last_in events
-  pub stands : Stands after can_feed core limit state events plain.crew
+  pub stands : Stands after core limit state events plain.crew
   pub aside : AreAside core limit state plain.waiters None
   pub noted : IsNoted core state.world start asks name acted plain.waiters plain.woken
 

@@ -1,7 +1,6 @@
 -- Who is asked in turn, and where the others wait.
-use Rattle.std.specs.Prelude.{◌≡◌, ◌&&◌, ◌<◌, ◌≤◌, ◌==◌, ◌||◌, ℕ, Bool, true, false, Option, Some, None, slice_get, if◌then◌else◌}
+use Rattle.std.specs.Prelude.{◌≡◌, ◌<◌, ◌≤◌, ◌==◌, ◌||◌, ℕ, Bool, true, false, Option, Some, None, slice_get, if◌then◌else◌}
 use Rattle.std.specs.BTreeSet.{BTreeSet, contains}
-use Rattle.std.specs.Bool.{beq}
 use Rattle.std.specs.HashMap.{get}
 use Rattle.std.specs.Ordering.{nat_cmp}
 use Rattle.sr_ask.specs.declared.request.Request.{Request}
@@ -10,14 +9,13 @@ use Rattle.sr_core.specs.declared.component.Core.{Core}
 use Rattle.sr_core.specs.declared.owner.Me.{Me}
 use Rattle.sr_core.specs.declared.site.Arm.{Arm}
 use Rattle.sr_core.specs.declared.site.Site.{Site}
+use Rattle.sr_queue.specs.Classes.{class_of, same_class}
 use Rattle.sr_select.specs.Laws.{is_plain}
 use Rattle.sr_value.specs.declared.capability.Owner.{Owner}
-use Rattle.sr_value.specs.declared.capability.Owner.TheVariants.{Inst, Proc}
 use Rattle.sr_plain.specs.Changes.{owner_at}
 use Rattle.sr_plain.specs.declared.change.Change.{Change}
 use Rattle.sr_plain.specs.declared.change.Change.TheVariants.{Nothing, Watched, Class, Everything}
 use Rattle.sr_plain.specs.declared.change.Woken.{Woken}
-use Rattle.sr_plain.specs.declared.waiters.Class.{Class as a_class}
 use Rattle.sr_plain.specs.declared.waiters.Place.{Place}
 use Rattle.sr_plain.specs.declared.waiters.Place.TheVariants as places
 use Rattle.sr_plain.specs.declared.waiters.Waiters.{Waiters}
@@ -25,11 +23,6 @@ use Rattle.sr_plain.specs.declared.waiters.Waiting.{Waiting}
 use Rattle.sr_plain.specs.declared.waiters.Waiting.TheVariants.{One, Many}
 
 -- ---- places
-
--- an operation of an owner
-abbrev pub class_of : Owner → ℕ → a_class
-class_of (Inst owner) op = record { of_process = false; owner = owner; op = op }
-class_of (Proc owner) op = record { of_process = true; owner = owner; op = op }
 
 -- where a process waits for invocations of an operation
 abbrev pub key_of : Owner → ℕ → Place
@@ -46,9 +39,6 @@ abbrev pub is_among : Option Waiting → ℕ → Bool
 is_among None process = false
 is_among (Some (One first)) process = first == process
 is_among (Some (Many processes)) process = contains nat_cmp processes process
-
-abbrev pub same_class : a_class → a_class → Bool
-same_class a b = beq a.of_process b.of_process && ((a.owner == b.owner) && (a.op == b.op))
 
 abbrev pub waits : Waiters → Place → ℕ → Bool
 waits waiters places.Watched process = contains nat_cmp waiters.watched process

@@ -5,9 +5,10 @@ ghost use Rattle.sr_world.specs.declared.acted.Acted.TheVariants.{Cannot};
 
 use crate::carrying::Carried;
 use crate::change::{Woken, change_of, owner_of};
-use crate::waiters::{Place, Waiters, class_of};
+use crate::waiters::{Place, Waiters};
 use sr_ask::{Ask, Request};
 use sr_core::{Arm, Core, Me, Site};
+use sr_queue::class_of;
 use sr_value::{NoMemory, Owner};
 use sr_world::Acted;
 

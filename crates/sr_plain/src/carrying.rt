@@ -1,22 +1,24 @@
 ghost use Rattle.std.specs.Prelude.{◌≡◌, ℕ, IfOk, OnErr, Ok};
-ghost use Rattle.sr_plain.specs.Carrying.{Names, written_of};
+ghost use Rattle.sr_plain.specs.Carrying.{Names};
+ghost use Rattle.sr_plain.specs.Leaving.{written_by};
 ghost use Rattle.sr_world.specs.Acting.{Acts, NeedsNew};
 ghost use Rattle.sr_world.specs.Callers.{caller_in};
 ghost use Rattle.sr_world.specs.Does.{Does as what};
 ghost use Rattle.sr_world.specs.Names.{IsLeastUnused};
 ghost use Rattle.sr_world.specs.Steps.{does};
 
-use sr_ask::{Ask, Asks, Request};
+use sr_ask::{Ask, Request};
 use sr_core::Core;
-use sr_value::{NoMemory, Text};
+use sr_value::{Duplicate, NoMemory, Text};
 use sr_world::{Acted, World};
 use std::alloc::Global;
 
-/// What the machine did, the number of the step, and who waited for what was answered.
+/// What the machine did, the number of the step, who waited for what was answered, and what was written.
 #[derive(Drop)]
 pub struct Carried {
     pub name: u32,
     pub caller: u32,
+    pub output: Text,
     pub acted: Acted,
 }
 
@@ -47,32 +49,38 @@ fn name_for(world: &World, core: &Core, ask: &Ask) -> Result<u32, NoMemory>
     Ok(0)
 }
 
+/// What a request writes.
+fn written(alloc: Global, request: &Request) -> Result<Text, NoMemory>
+    ensures { IfOk result (λ text. text ≡ written_by request.now) }
+{
+    match request {
+        Request::Write { bytes } => bytes.copy(alloc),
+        _ => Ok(Text::new(alloc)),
+    }
+}
+
 /// Has the machine carry a request out.
-pub fn carry_out(world: &mut World, core: &Core, actor: u32, ask: &Ask) -> Result<Carried, NoMemory>
+pub fn carry_out(
+    alloc: Global,
+    world: &mut World,
+    core: &Core,
+    actor: u32,
+    ask: &Ask,
+) -> Result<Carried, NoMemory>
     ensures acts { IfOk result (λ carried. Acts (does core.now world.old actor ask.now carried.name) world.old world.new (Ok carried.acted)) }
     ensures names { IfOk result (λ carried. Names (does core.now world.old actor ask.now carried.name) world.old carried.name) }
     ensures caller { IfOk result (λ carried. carried.caller ≡ caller_in world.old actor ask.now.request) }
+    ensures output { IfOk result (λ carried. carried.output ≡ written_by ask.now.request) }
     ensures err { OnErr result (world.new ≡ world.old) }
 {
     let name = name_for(world, core, ask)?;
     let caller = world.caller(actor, &ask.request);
+    let output = written(alloc, &ask.request)?;
     let acted = world.act(core, actor, ask, name)?;
     Ok(Carried {
         name,
         caller,
+        output,
         acted,
     })
-}
-
-/// What a process wrote that asked so.
-pub fn written(alloc: Global, asks: Option<Asks>) -> Text
-    ensures { result ≡ written_of asks }
-{
-    match asks {
-        Some(Asks::Asked(ask)) => match ask.request {
-            Request::Write { bytes } => bytes,
-            _ => Text::new(alloc),
-        },
-        _ => Text::new(alloc),
-    }
 }

@@ -18,7 +18,7 @@ fn begin<A: Actor>(
     ensures { OnOk result (HasBegun A.asks_after A.core_of start.now ticks crew.old crew.new) }
 {
     let actor = A::start(alloc, start, ticks)?;
-    crew.insert(start.process, Member { actor, asks: None })?;
+    crew.insert(start.process, Member { actor })?;
     Ok(())
 }
 

@@ -165,15 +165,20 @@ impl<A: Actor> Plain<A> {
         match self.crew.get_mut(&me.process) {
             Some(member) => {
                 member.look(program)?;
-                match &member.asks {
-                    Some(Asks::Asked(ask)) => {
+                match member.actor.asked() {
+                    Asks::Asked(ask) => {
                         let core = A::core(program);
-                        let carried = carry_out(&mut self.world, core, me.process, ask)?;
+                        let carried = carry_out(
+                            self.alloc,
+                            &mut self.world,
+                            core,
+                            me.process,
+                            ask,
+                        )?;
                         self.woken = note(&mut self.waiters, core, me, ask, &carried)?;
-                        Ok(member.hear(self.alloc, me.process, carried, &mut self.last))
+                        Ok(member.hear(me.process, carried, &mut self.last))
                     }
-                    Some(Asks::OverTicks) => Ok(Some(Plainly::Over(me.process))),
-                    None => unreachable!(),
+                    Asks::OverTicks => Ok(Some(Plainly::Over(me.process))),
                 }
             }
             None => unreachable!(),

@@ -1,22 +1,14 @@
 ghost use Rattle.std.specs.Prelude.{◌≡◌, ◌<◌, ℕ, IfNone, IfOk, IfSome, OnOk, false, true};
 ghost use Rattle.std.specs.BTreeSet.{btree_set_len, contains};
 ghost use Rattle.std.specs.Ordering.{nat_cmp};
-ghost use Rattle.sr_plain.specs.Waiting.{HaveJoined, IsJoined, IsMadeReady, IsNext, IsTakenOut, IsWokenAt, WaitsAlso, WaitsThere, class_of as class_in, is_ready};
+ghost use Rattle.sr_plain.specs.Waiting.{HaveJoined, IsJoined, IsMadeReady, IsNext, IsTakenOut, IsWokenAt, WaitsAlso, WaitsThere, is_ready};
 ghost use Rattle.sr_plain.specs.declared.waiters.Place.TheVariants.{Served};
 
-use sr_value::{NoMemory, Owner};
+use sr_queue::Class;
+use sr_value::NoMemory;
 use std::alloc::Global;
 use std::collections::{BTreeSet, HashMap};
 use std::ops::Bound;
-
-/// An operation of an owner.
-#[derive(Clone, Copy, PartialEq, Eq, Hash)]
-pub struct Class {
-    /// Whether the owner is a process, and no instance.
-    pub of_process: bool,
-    pub owner: u32,
-    pub op: u32,
-}
 
 /// Where a process waits.
 #[derive(Clone, Copy)]
@@ -44,24 +36,6 @@ pub struct Waiters {
     pub(crate) watched: BTreeSet<u32>,
     /// Those that wait for invocations.
     pub(crate) classes: HashMap<Class, Waiting>,
-}
-
-/// An operation of an owner.
-pub(crate) fn class_of(owner: Owner, op: u32) -> Class
-    ensures { result ≡ class_in owner op }
-{
-    match owner {
-        Owner::Inst(owner) => Class {
-            of_process: false,
-            owner,
-            op,
-        },
-        Owner::Proc(owner) => Class {
-            of_process: true,
-            owner,
-            op,
-        },
-    }
 }
 
 fn join(ready: &mut BTreeSet<u32>, processes: &mut BTreeSet<u32>) -> Result<(), NoMemory>

@@ -2,7 +2,8 @@ ghost use Rattle.std.specs.Prelude.{OnOk};
 ghost use Rattle.sr_plain.specs.Waking.{ReadiesAll, ReadiesIfLives, WakesUp, WakesByChange};
 
 use crate::change::{Change, Woken};
-use crate::waiters::{Place, Waiters, class_of};
+use crate::waiters::{Place, Waiters};
+use sr_queue::class_of;
 use sr_value::NoMemory;
 use sr_world::World;
 

@@ -1,6 +1,7 @@
 use Rattle.std.proofs.Common.{◌≡◌, ◌∙◌, Some, ap, eq-eqb, is_some, refl, subst, sym, true, true≢false}
 use Rattle.std.specs.HashMap.{UpdatesBy}
-use Rattle.sr_plain.specs.Waiting.{is_among, same_class}
+use Rattle.sr_queue.specs.Classes.{same_class}
+use Rattle.sr_plain.specs.Waiting.{is_among}
 use Rattle.sr_plain.specs.declared.waiters.Waiting.TheVariants.{One}
 use Rattle.sr_plain.proofs.BeginLemmas.{on_ok}
 use Rattle.sr_plain.proofs.WaitLemmas.{waits-written}
