@@ -1,5 +1,5 @@
 use sr_value::{
-    Boxed, Compare, Dims, Duplicate, Fault, MOST_BYTES, NoMemory, Operator, Row, Shape, Text,
+    Compare, Dims, Duplicate, Fault, MOST_BYTES, NoMemory, Operator, Row, Shape, Shared, Text,
     Value, ValueFail, arith,
 };
 use std::alloc::Global;
@@ -46,7 +46,7 @@ fn values_are_copied(alloc: Global) -> Result<bool, NoMemory> {
 fn shapes_are_copied(alloc: Global) -> Result<bool, NoMemory> {
     let shape = Shape::Arr {
         dims: Dims::One { lo: 1, hi: 2 },
-        item: Boxed::new(alloc, Shape::Str { most: 9 })?,
+        item: Shared::new(alloc, Shape::Str { most: 9 })?,
     };
     let copy = shape.copy(alloc)?;
     Ok(shape.same(&copy) && !shape.same(&Shape::Capa))

@@ -1,6 +1,6 @@
 use crate::picks::Picks;
 use sr_core::{Formal, FormalShape};
-use sr_value::{Boxed, Cap, Dims, Duplicate, NoMemory, Row, Shape, Value, ValueFail, default_of};
+use sr_value::{Cap, Dims, Duplicate, NoMemory, Row, Shape, Shared, Value, ValueFail, default_of};
 use std::alloc::Global;
 
 /// How many rows and columns an array of any length is given, less one.
@@ -57,7 +57,7 @@ pub fn some_argument(
 }
 
 fn some_array(alloc: Global, dims: Dims, item: &Shape) -> Result<Value, NoMemory> {
-    let item = Boxed::new(alloc, item.copy(alloc)?)?;
+    let item = Shared::new(alloc, item.copy(alloc)?)?;
     first_value(alloc, &Shape::Arr { dims, item })
 }
 

@@ -2,7 +2,7 @@
 
 use crate::nodes::{Node, Words};
 use sr_case_files::unescaped;
-use sr_value::{Boxed, Cap, Dims, NoMemory, Owner, Row, Sel, Shape, Text, Value};
+use sr_value::{Cap, Dims, NoMemory, Owner, Row, Sel, Shape, Shared, Text, Value};
 use std::alloc::Global;
 
 /// The number that a text spells, or 0.
@@ -158,11 +158,11 @@ pub fn shape_of(alloc: Global, node: &Node) -> Result<Shape, NoMemory> {
     match node {
         Node::Word(word) => Ok(word_shape(word.as_str())),
         Node::Quoted(_) => Ok(Shape::Capa),
-        Node::Round(fields) => Ok(Shape::Rec(shapes_of(alloc, fields)?)),
+        Node::Round(fields) => Ok(Shape::Rec(Shared::new(alloc, shapes_of(alloc, fields)?)?)),
         Node::Square(parts) => match parts.as_slice() {
             [Node::Word(dims), item] => Ok(Shape::Arr {
                 dims: dims_of(dims.as_str()),
-                item: Boxed::new(alloc, shape_of(alloc, item)?)?,
+                item: Shared::new(alloc, shape_of(alloc, item)?)?,
             }),
             _ => Ok(Shape::Capa),
         },

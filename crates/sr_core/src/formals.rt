@@ -6,7 +6,7 @@ ghost use Rattle.sr_core.specs.Values.{formal_shape, high_bound, sent_extent};
 ghost use Rattle.sr_core.specs.Formals.{after_first, sent_after, sent_to};
 
 use crate::{FormalShape, Mode};
-use sr_value::{Boxed, Dims, Duplicate, Fault, Shape, Value, ValueFail};
+use sr_value::{Dims, Duplicate, Fault, Shape, Shared, Value, ValueFail};
 use std::alloc::Global;
 
 /// How many indices there are from `lo` to `hi`.
@@ -86,7 +86,7 @@ pub fn formal_shape(
         FormalShape::Open { lo, item } => match high_bound(*lo, None, rows_sent(sent)) {
             Ok(hi) => Ok(Shape::Arr {
                 dims: Dims::One { lo: *lo, hi },
-                item: Boxed::new(alloc, item.copy(alloc)?)?,
+                item: Shared::new(alloc, item.copy(alloc)?)?,
             }),
             Err(fault) => Err(ValueFail::Fault(fault)),
         },
@@ -105,7 +105,7 @@ pub fn formal_shape(
                         lo2: *lo2,
                         hi2,
                     },
-                    item: Boxed::new(alloc, item.copy(alloc)?)?,
+                    item: Shared::new(alloc, item.copy(alloc)?)?,
                 }),
                 Err(fault) => Err(ValueFail::Fault(fault)),
             },

@@ -16,7 +16,7 @@ use crate::variables::{make_at, store_at};
 use sr_code::Operands;
 use sr_core::{FormalShape, Mode, Scope, formal_shape, sent_to};
 use sr_frame::{Scene, bounded_by, take_first};
-use sr_value::{Boxed, Dims, Fault, NoMemory, Row, Shape, Value, ValueFail};
+use sr_value::{Dims, Fault, NoMemory, Row, Shape, Shared, Value, ValueFail};
 use std::alloc::Global;
 
 /// A number becomes the shape of strings of that length.
@@ -37,7 +37,7 @@ pub fn one_dimension(scene: &Scene, frame: &mut Frame, next: usize) -> Result<St
 {
     let hi = frame.operands.numbers.take(0);
     let lo = frame.operands.numbers.take(0);
-    let item = Boxed::new(scene.alloc, frame.operands.shapes.take(Shape::Int))?;
+    let item = Shared::new(scene.alloc, frame.operands.shapes.take(Shape::Int))?;
     let dims = Dims::One { lo, hi };
     put_shape(frame, Shape::Arr { dims, item }, next)
 }
@@ -50,7 +50,7 @@ pub fn two_dimensions(scene: &Scene, frame: &mut Frame, next: usize) -> Result<S
     let lo2 = frame.operands.numbers.take(0);
     let hi = frame.operands.numbers.take(0);
     let lo = frame.operands.numbers.take(0);
-    let item = Boxed::new(scene.alloc, frame.operands.shapes.take(Shape::Int))?;
+    let item = Shared::new(scene.alloc, frame.operands.shapes.take(Shape::Int))?;
     let dims = Dims::Two { lo, hi, lo2, hi2 };
     put_shape(frame, Shape::Arr { dims, item }, next)
 }

@@ -8,11 +8,11 @@ use Rattle.sr_value.specs.declared.shape.Dims.{Dims}
 use Rattle.sr_value.specs.declared.shape.Sel.{Sel}
 use Rattle.sr_value.specs.declared.shape.Shape.{Shape, out-Shape, out-roll-Shape}
 use Rattle.sr_value.specs.declared.shape.Shape.TheOpen.{Shape-F}
-use Rattle.sr_value.specs.declared.shape.Shape.TheVariants.{Rec as rec_shape, Arr as arr_shape, rolls-Rec as rolls-rec-shape, rolls-Arr as rolls-arr-shape}
+use Rattle.sr_value.specs.declared.shape.Shape.TheVariants.{Arr as arr_shape, rolls-Arr as rolls-arr-shape}
 use Rattle.sr_value.specs.declared.value.Value.{Value, out-Value, out-roll-Value}
 use Rattle.sr_value.specs.declared.value.Value.TheOpen.{Value-F}
-use Rattle.sr_value.specs.declared.value.Value.TheVariants.{Rec, Arr, rolls-Rec, rolls-Arr}
-use Rattle.sr_value.specs.Parts.{Part_of, field_place, item_place, layer_parts, layer_with_part, or_fault, part_at, some_part, stored_at, with_ok, with_part}
+use Rattle.sr_value.specs.declared.value.Value.TheVariants.{Arr, rolls-Arr}
+use Rattle.sr_value.specs.Parts.{Part_of, item_place, layer_parts, layer_with_part, or_fault, part_at, some_part, stored_at, with_ok, with_part}
 use Rattle.sr_in_place.specs.Puts.{Wrote, item_stored}
 
 set-same : (at : ℕ) (values : List Value) (part : Value) → slice_get values at ≡ Some part → slice_set values at part ≡ values
@@ -20,14 +20,8 @@ set-same at [] part here = absurd (true≢false (sym (ap is_some here)))
 set-same zero (value ∷ values) part here = let same : value ≡ part = cc in ap (λ v. v ∷ values) (sym same)
 set-same (suc at) (value ∷ values) part here = ap (λ vs. value ∷ vs) (set-same at values part here)
 
-out-rec-shape : (shapes : List Shape) → out-Shape (rec_shape shapes) ≡ Shape-F.Rec shapes
-out-rec-shape shapes = ap out-Shape (sym (rolls-rec-shape shapes)) ∙ out-roll-Shape (Shape-F.Rec shapes)
-
 out-arr-shape : (dims : Dims) (item : Shape) → out-Shape (arr_shape dims item) ≡ Shape-F.Arr dims item
 out-arr-shape dims item = ap out-Shape (sym (rolls-arr-shape dims item)) ∙ out-roll-Shape (Shape-F.Arr dims item)
-
-out-rec : (fields : List Value) → out-Value (Rec fields) ≡ Value-F.Rec fields
-out-rec fields = ap out-Value (sym (rolls-Rec fields)) ∙ out-roll-Value (Value-F.Rec fields)
 
 out-arr : (dims : Dims) (items : List Value) → out-Value (Arr dims items) ≡ Value-F.Arr dims items
 out-arr dims items = ap out-Value (sym (rolls-Arr dims items)) ∙ out-roll-Value (Value-F.Arr dims items)
@@ -38,9 +32,6 @@ module _ (shape : Shape) (place : Value) (path : List Sel) (step : Sel) (rest : 
   at-step found is =
       ap (λ p. stored_at shape place p value) path-is
       ∙ ap (λ f. with_ok (or_fault Index f) (λ part. with_ok (stored_at part.shape part.value rest value) (λ held. Ok (with_part place part.at held)))) is
-
-  no-part : layer_parts (out-Shape shape) (out-Value place) step ≡ None → stored_at shape place path value ≡ Err Index
-  no-part none = at-step None none
 
   -- one of the parts was written
   wrote : (result : Result (Unit {0}) Fault) (whole : List Value → Value) (old new : List Value) (at : ℕ) (inner : Shape)
@@ -63,17 +54,6 @@ module _ (shape : Shape) (place : Value) (path : List Sel) (step : Sel) (rest : 
           → Wrote r old new (item_stored inner old at rest value) → Wrote r place (whole new) (stored_at shape place path value)
       by (Ok done) all meant = all ∙ ap (λ r. with_ok r (λ items. Ok (whole items))) meant
       by (Err fault) all meant = (all ∙ ap (λ r. with_ok r (λ items. Ok (whole items))) meant.0, ap whole meant.1 ∙ sym same)
-
-  pub wrote-field : (shapes : List Shape) (fields new : List Value) → shape ≡ rec_shape shapes → place ≡ Rec fields → (at : ℕ) → Some at ≡ field_place step
-      → (inner : Shape) → Some inner ≡ slice_get shapes at → (result : Result (Unit {0}) Fault)
-      → Wrote result fields new (item_stored inner fields at rest value) → Wrote result place (Rec new) (stored_at shape place path value)
-  wrote-field shapes fields new shape-is place-is at place-at inner inner-is result one =
-      wrote result Rec fields new at inner
-      (ap (λ s. layer_parts s (out-Value place) step) (ap out-Shape shape-is ∙ out-rec-shape shapes)
-      ∙ ap (λ v. layer_parts (Shape-F.Rec shapes) v step) (ap out-Value place-is ∙ out-rec fields)
-      ∙ ap (λ p. part_at p (slice_get fields) (slice_get shapes)) (sym place-at)
-      ∙ ap (some_part at (slice_get fields at)) (sym inner-is))
-      (λ held. ap (λ v. layer_with_part place v at held) (ap out-Value place-is ∙ out-rec fields)) place-is one
 
   pub wrote-item : (dims' : Dims) (inner : Shape) (dims : Dims) (items new : List Value) → shape ≡ arr_shape dims' inner → place ≡ Arr dims items → (at : ℕ) → Some at ≡ item_place dims step
       → (result : Result (Unit {0}) Fault) → Wrote result items new (item_stored inner items at rest value) → Wrote result place (Arr dims new) (stored_at shape place path value)

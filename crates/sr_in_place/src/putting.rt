@@ -36,7 +36,7 @@ fn put_from(
         Shape::Str { .. } => put_char(place, step, path, at + 1, value),
         Shape::Rec(shapes) => match place {
             Value::Rec(fields) => match field_place(step) {
-                Some(spot) => match shapes.get(spot) {
+                Some(spot) => match shapes.get().get(spot) {
                     Some(inner) => put_item(inner, fields, spot, path, at + 1, value),
                     None => Err(Fault::Index),
                 },

@@ -12,7 +12,9 @@ use sr_core::{Declaration, DimsExpr, Expr, ItemShape, Range, Scope, Setup, Shape
 use sr_interpreter_expr::{
     Interpreter, IsDone, Scene, Stop, ask, evaluate, failed, number_of, put_own, store,
 };
-use sr_value::{Boxed, Dims, Duplicate, Fault, NoMemory, Row, Shape, Value, ValueFail, default_of};
+use sr_value::{
+    Dims, Duplicate, Fault, NoMemory, Row, Shape, Shared, Value, ValueFail, default_of,
+};
 use std::alloc::Global;
 
 /// A string of at most so many bytes; E6 below 0.
@@ -52,7 +54,7 @@ fn row_shape(
     let item = item_shape(scene, interpreter, item)?;
     Ok(Shape::Arr {
         dims: Dims::One { lo, hi },
-        item: Boxed::new(scene.alloc, item)?,
+        item: Shared::new(scene.alloc, item)?,
     })
 }
 
@@ -73,7 +75,7 @@ fn table_shape(
     let item = item_shape(scene, interpreter, item)?;
     Ok(Shape::Arr {
         dims: Dims::Two { lo, hi, lo2, hi2 },
-        item: Boxed::new(scene.alloc, item)?,
+        item: Shared::new(scene.alloc, item)?,
     })
 }
 

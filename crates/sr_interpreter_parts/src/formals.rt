@@ -12,7 +12,7 @@ use crate::declarations::{make, spot_in, store_whole};
 use sr_ask::Spot;
 use sr_core::{Formal, FormalShape, Mode, Returned, Scope};
 use sr_interpreter_expr::{Interpreter, Scene, Stop, failed};
-use sr_value::{Boxed, Dims, Duplicate, Fault, NoMemory, Row, Shape, Value, ValueFail};
+use sr_value::{Dims, Duplicate, Fault, NoMemory, Row, Shape, Shared, Value, ValueFail};
 use std::alloc::Global;
 
 /// How many indices there are from `lo` to `hi`.
@@ -92,7 +92,7 @@ fn formal_shape(
         FormalShape::Open { lo, item } => match high_bound(*lo, None, rows_sent(sent)) {
             Ok(hi) => Ok(Shape::Arr {
                 dims: Dims::One { lo: *lo, hi },
-                item: Boxed::new(alloc, item.copy(alloc)?)?,
+                item: Shared::new(alloc, item.copy(alloc)?)?,
             }),
             Err(fault) => Err(ValueFail::Fault(fault)),
         },
@@ -111,7 +111,7 @@ fn formal_shape(
                         lo2: *lo2,
                         hi2,
                     },
-                    item: Boxed::new(alloc, item.copy(alloc)?)?,
+                    item: Shared::new(alloc, item.copy(alloc)?)?,
                 }),
                 Err(fault) => Err(ValueFail::Fault(fault)),
             },

@@ -1,11 +1,11 @@
 use sr_store::Blocks;
-use sr_value::{Boxed, Dims, Fault, NoMemory, Row, Sel, Shape, Text, Value, ValueFail};
+use sr_value::{Dims, Fault, NoMemory, Row, Sel, Shape, Shared, Text, Value, ValueFail};
 use std::alloc::Global;
 use std::test::Fail;
 
 /// The shape of an array of ints.
 fn ints(alloc: Global, lo: i32, hi: i32) -> Result<Shape, NoMemory> {
-    let item = Boxed::new(alloc, Shape::Int)?;
+    let item = Shared::new(alloc, Shape::Int)?;
     let dims = Dims::One { lo, hi };
     Ok(Shape::Arr { dims, item })
 }

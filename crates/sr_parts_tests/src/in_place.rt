@@ -1,11 +1,11 @@
 use sr_in_place::{fit, put};
-use sr_value::{Boxed, Dims, Fault, NoMemory, Row, Sel, Shape, Value};
+use sr_value::{Dims, Fault, NoMemory, Row, Sel, Shape, Shared, Value};
 use std::alloc::Global;
 use std::test::Fail;
 
 /// The shape of an array of one int with this index.
 fn one_int(alloc: Global, index: i32) -> Result<Shape, NoMemory> {
-    let item = Boxed::new(alloc, Shape::Int)?;
+    let item = Shared::new(alloc, Shape::Int)?;
     let dims = Dims::One {
         lo: index,
         hi: index,

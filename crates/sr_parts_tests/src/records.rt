@@ -1,5 +1,5 @@
 use sr_store::Blocks;
-use sr_value::{Boxed, Dims, Fault, NoMemory, Row, Sel, Shape, Text, Value, ValueFail};
+use sr_value::{Dims, Fault, NoMemory, Row, Sel, Shape, Shared, Text, Value, ValueFail};
 use std::alloc::Global;
 use std::test::Fail;
 
@@ -17,7 +17,7 @@ enum Sent {
 fn two_records(alloc: Global) -> Result<Shape, NoMemory> {
     let mut fields = Row::new(alloc);
     fields.push(Shape::Str { most: 2 })?;
-    let item = Boxed::new(alloc, Shape::Rec(fields))?;
+    let item = Shared::new(alloc, Shape::Rec(Shared::new(alloc, fields)?))?;
     let dims = Dims::One { lo: 1, hi: 2 };
     Ok(Shape::Arr { dims, item })
 }

@@ -1,7 +1,7 @@
 //! Queues of invocations with one argument.
 
 use sr_queue::{MOST_PENDING, Pending, Queue};
-use sr_value::{Boxed, Dims, NoMemory, Owner, Row, Shape, Value};
+use sr_value::{Dims, NoMemory, Owner, Row, Shape, Shared, Value};
 use std::alloc::Global;
 
 /// The type of a formal, whose arrays count from 11.
@@ -34,14 +34,14 @@ fn numbers_from(alloc: Global, lo: i32) -> Result<Shape, NoMemory> {
             lo,
             hi: lo.saturating_add(2),
         },
-        item: Boxed::new(alloc, Shape::Int)?,
+        item: Shared::new(alloc, Shape::Int)?,
     })
 }
 
 fn holder_of(alloc: Global, field: Shape) -> Result<Shape, NoMemory> {
     let mut fields = Row::new(alloc);
     fields.push(field)?;
-    Ok(Shape::Rec(fields))
+    Ok(Shape::Rec(Shared::new(alloc, fields)?))
 }
 
 pub fn shape_of(alloc: Global, kind: Kind) -> Result<Shape, NoMemory> {

@@ -1,4 +1,4 @@
-use Rattle.std.proofs.Common.{◌≡◌, map, List, Result, Ok, refl, ap, sym, ◌∙◌, rules}
+use Rattle.std.proofs.Common.{◌≡◌, map, List, Result, Ok, ap, sym, ◌∙◌}
 use Rattle.sr_value.specs.declared.shape.Shape.{Shape, fold-roll-Shape}
 use Rattle.sr_value.specs.declared.shape.Shape.TheOpen.{Shape-F}
 use Rattle.sr_value.specs.declared.shape.Shape.TheVariants.{Rec as rec_shape, rolls-Rec, Char as char_shape, rolls-Char}

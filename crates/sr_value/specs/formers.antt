@@ -1,2 +1,3 @@
 pub mod boxed
 pub mod row
+pub mod shared

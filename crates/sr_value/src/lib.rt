@@ -22,6 +22,7 @@ mod place;
 mod predefined;
 mod row;
 mod shape;
+mod shared;
 mod store;
 mod text;
 mod unset;
@@ -46,8 +47,11 @@ pub use predefined::{
 };
 pub use row::Row;
 pub use shape::{Dims, Sel, Shape};
+pub use shared::Shared;
 pub use store::stored;
 pub use text::Text;
-pub use unset::{MOST_CELLS, default_of, has_bounds_in_range, shape_fault};
+pub use unset::{
+    MOST_CELLS, default_of, has_bounds_in_range, has_few_cells, has_strings_in_range, shape_fault,
+};
 pub use value::Value;
 pub use value_text::{EnumNames, text_of};

@@ -1,10 +1,10 @@
 ghost use Rattle.std.specs.Prelude.{◌≡◌, ◌↔◌, IsTrue, IfOk};
 
-use crate::boxed::Boxed;
 use crate::compare::Compare;
 use crate::copies::Duplicate;
 use crate::memory::NoMemory;
 use crate::row::Row;
+use crate::shared::Shared;
 use std::alloc::Global;
 
 /// The bounds of an array, of one dimension or two, each from its lowest index to its highest.
@@ -72,8 +72,8 @@ pub enum Shape {
     Enum { ty: u32, count: u32 },
     /// Strings of at most `most` bytes.
     Str { most: u32 },
-    Rec(Row<Shape>),
-    Arr { dims: Dims, item: Boxed<Shape> },
+    Rec(Shared<Row<Shape>>),
+    Arr { dims: Dims, item: Shared<Shape> },
     Capa,
 }
 
@@ -84,7 +84,6 @@ impl Duplicate for Shape {
 }
 
 /// A copy of a shape.
-#[cycle(copied_shapes)]
 fn copied_shape(alloc: Global, shape: &Shape) -> Result<Shape, NoMemory>
     ensures { IfOk result (λ c. c ≡ shape.now) }
 {
@@ -97,24 +96,13 @@ fn copied_shape(alloc: Global, shape: &Shape) -> Result<Shape, NoMemory>
             count: *count,
         }),
         Shape::Str { most } => Ok(Shape::Str { most: *most }),
-        Shape::Rec(fields) => Ok(Shape::Rec(copied_shapes(alloc, fields.as_slice())?)),
+        Shape::Rec(fields) => Ok(Shape::Rec(fields.copy(alloc)?)),
         Shape::Arr { dims, item } => Ok(Shape::Arr {
             dims: *dims,
-            item: Boxed::new(alloc, copied_shape(alloc, item.get())?)?,
+            item: item.copy(alloc)?,
         }),
         Shape::Capa => Ok(Shape::Capa),
     }
-}
-
-#[cycle(copied_shapes)]
-fn copied_shapes(alloc: Global, shapes: &[Shape]) -> Result<Row<Shape>, NoMemory>
-    ensures { IfOk result (λ c. c ≡ shapes.now) }
-{
-    let mut copies = Row::new(alloc);
-    for shape in shapes {
-        copies.push(copied_shape(alloc, shape)?)?;
-    }
-    Ok(copies)
 }
 
 impl Compare for Shape {
@@ -144,7 +132,7 @@ fn same_shape(mine: &Shape, theirs: &Shape) -> bool
             _ => false,
         },
         Shape::Rec(fields) => match theirs {
-            Shape::Rec(their_fields) => same_shapes(fields.as_slice(), their_fields.as_slice()),
+            Shape::Rec(their_fields) => { same_shapes(fields.as_slice(), their_fields.as_slice()) },
             _ => false,
         },
         Shape::Arr { dims, item } => match theirs {

@@ -59,7 +59,7 @@ fn stored_from(
             Shape::Rec(shapes) => match old {
                 Value::Rec(fields) => match field_place(step) {
                     Some(place) => match fields.get(place) {
-                        Some(field) => match shapes.get(place) {
+                        Some(field) => match shapes.get().get(place) {
                             Some(inner) => match stored_from(
                                 alloc,
                                 inner,

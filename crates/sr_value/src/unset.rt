@@ -1,4 +1,4 @@
-ghost use Rattle.std.specs.Prelude.{◌≡◌, ◌+◌, ◌*◌, ◌≤◌, min, map, sum, replicate, ◌^◌, IfOk, IfSome, IsNone};
+ghost use Rattle.std.specs.Prelude.{◌≡◌, ◌+◌, ◌*◌, ◌≤◌, min, map, sum, replicate, ◌^◌, nat_le, IfOk, IfSome, IsNone};
 ghost use Rattle.std.specs.List.{list_all};
 ghost use Rattle.sr_value.specs.Operators.{Answers};
 ghost use Rattle.sr_value.specs.Shapes.{in_range, extent, dims_in_range, item_count, bounds_in_range, cell_count, strings_in_range, has_size, unset_value, shape_fault, default_value};
@@ -29,7 +29,7 @@ pub fn shape_fault(shape: &Shape) -> Option<Fault>
     if !has_bounds_in_range(shape) {
         return Some(Fault::Range);
     }
-    if cells(shape) > MOST_CELLS || !has_strings_in_range(shape) {
+    if !has_few_cells(shape) || !has_strings_in_range(shape) {
         return Some(Fault::TooLarge);
     }
     None
@@ -74,7 +74,7 @@ fn have_bounds_in_range(shapes: &[Shape]) -> bool
 
 /// Whether no string place within the shape is longer than a string may be.
 #[cycle(strings)]
-fn has_strings_in_range(shape: &Shape) -> bool
+pub fn has_strings_in_range(shape: &Shape) -> bool
     ensures { result ≡ strings_in_range shape.now }
 {
     match shape {
@@ -95,6 +95,13 @@ fn have_strings_in_range(shapes: &[Shape]) -> bool
         }
     }
     true
+}
+
+/// Whether a place of this shape has at most [`MOST_CELLS`] cells.
+pub fn has_few_cells(shape: &Shape) -> bool
+    ensures { result ≡ nat_le (cell_count shape.now) MOST_CELLS }
+{
+    cells(shape) <= MOST_CELLS
 }
 
 /// The number of cells of a place, counted up to [`TOO_MANY`].

@@ -1,5 +1,4 @@
-use Rattle.std.proofs.Common.{rules, arith}
-use Rattle.std.proofs.lemmas.Grind.{common_steps}
+use Rattle.std.proofs.Common.{rules}
 use Rattle.sr_value.proofs.FitLemmas.{fitted-char}
 use Rattle.sr_value.proofs.store.stored_char.Goals as goal
 
