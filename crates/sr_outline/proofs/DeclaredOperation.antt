@@ -1,5 +1,5 @@
 -- The operations, put into the tables.
-use Rattle.std.proofs.Common.{◌≡◌, ℕ, List, [], flat_map, ap, ◌∙◌, Result, Ok, Err, OnOk}
+use Rattle.std.proofs.Common.{◌≡◌, List, [], flat_map, ap, ◌∙◌, Result, Ok, Err, OnOk}
 use Rattle.std.specs.List.{enumerate_from}
 use Rattle.sr_check_expr.specs.declared.facts.Facts.{Facts}
 use Rattle.sr_core.specs.declared.component.Operation.{Operation}

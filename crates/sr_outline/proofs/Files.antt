@@ -1,5 +1,5 @@
 -- A turn over the files of a program: what the components of one file add, and then those of the files after it.
-use Rattle.std.proofs.Common.{◌≡◌, ℕ, suc, ◌+◌, ◌<◌, List, ◌∷◌, ◌++◌, fold, flat_map, length, drop, get_or, arith, sym, ap, ◌∙◌}
+use Rattle.std.proofs.Common.{◌≡◌, ℕ, suc, ◌+◌, ◌<◌, List, ◌∷◌, fold, flat_map, length, drop, get_or, arith, sym, ap, ◌∙◌}
 use Rattle.std.proofs.Math.Seq.{drop-cons}
 use Rattle.std.specs.List.{enumerate_from}
 use Rattle.sr_names.specs.declared.spot.Spot.{Spot}

@@ -5,3 +5,4 @@ pub mod Needed
 pub mod DeclaredOperation
 pub mod Together
 pub mod Within
+pub mod LargeShapes

@@ -1,13 +1,12 @@
 -- The search for the globals that are needed comes to an end, and finds them in an order in which they can be made.
-use Rattle.std.proofs.Common.{◌≡◌, ℕ, zero, suc, ◌+◌, ◌<◌, ◌≤◌, ◌⊎◌, Bool, true, false, not, ◌&&◌, ◌||◌, cond, eqb, if◌then◌else◌, List, [], ◌∷◌, ◌++◌, length, refl, sym, ap, ◌∙◌, subst, inl, inr, arith, unwrap_or, Option, None}
-use Rattle.std.specs.Prelude.{slice_get, fold, IsTrue}
-use Rattle.std.specs.List.{list_all, list_any, IsDistinct, AllByRecursion}
-use Rattle.std.proofs.lemmas.Bool.{true≢false, false≢true, both_ways, eqb-true, eqb-false, eq-eqb, ne_eqb, cases_Bool, cases_lt, false_from_ne_true, and_parts, and_from, or_cases, or_parts, or_from, or_left, or_right, cond-true, cond-false, not-true, not_from_false}
+use Rattle.std.proofs.Common.{◌≡◌, ℕ, zero, suc, ◌+◌, ◌<◌, ◌≤◌, ◌⊎◌, Bool, true, false, not, ◌&&◌, ◌||◌, eqb, List, [], ◌∷◌, ◌++◌, length, refl, sym, ap, ◌∙◌, subst, inl, inr, arith, unwrap_or, Option}
+use Rattle.std.specs.List.{list_all, IsDistinct, AllByRecursion}
+use Rattle.std.proofs.lemmas.Bool.{false≢true, eqb-true, eq-eqb, cases_Bool, cases_lt, false_from_ne_true, and_parts, and_from, or_cases, or_parts, or_from, or_left, or_right, cond-true, cond-false, not_from_false}
 use Rattle.std.proofs.lemmas.List.Folds.{list_any-append}
 use Rattle.std.proofs.lemmas.Option.{slice_get_past}
 use Rattle.std.proofs.lemmas.Map.Keys.{IsDistinct-cons}
 use Rattle.std.proofs.lemmas.Map.Steps.{length-le_from_distinct_below}
-use Rattle.sr_outline.specs.Needs.{Leads, at_once, through, NoCycle, among, in_order, CanBeMade, NeedsInOrder}
+use Rattle.sr_outline.specs.Needs.{Leads, at_once, through, NoCycle, among, in_order, NeedsInOrder}
 use Rattle.sr_outline.specs.Outline.{imports_at, member, needs_of, with_needed, with_number}
 
 -- ---- members
@@ -28,15 +27,7 @@ member_left m xs ys h = member-append m xs ys ∙ or_left _ _ h
 member_last : (m : ℕ) (xs : List ℕ) → member m (xs ++ m ∷ []) ≡ true
 member_last m xs = member-append m xs (m ∷ []) ∙ or_right (member m xs) _ (member_first m [])
 
--- all are among others exactly where each of them is
-among_at : (xs ys : List ℕ) → among xs ys ≡ true → (m : ℕ) → member m xs ≡ true → member m ys ≡ true
-among_at [] ys h m k = absurd (false≢true k)
-among_at (x ∷ xs) ys h m k = by (or_cases (eqb m x) (member m xs) k) (among_at xs ys (and_parts (member x ys) (among xs ys) h).1 m)
-  where
-    by : (eqb m x ≡ true) ⊎ (member m xs ≡ true) → (member m xs ≡ true → member m ys ≡ true) → member m ys ≡ true
-    by (inl e) more = subst (λ n. member n ys ≡ true) (sym (eqb-true m x e)) (and_parts (member x ys) (among xs ys) h).0
-    by (inr k) more = more k
-
+-- all are among others where each of them is
 among_from : (xs ys : List ℕ) → ((m : ℕ) → member m xs ≡ true → member m ys ≡ true) → among xs ys ≡ true
 among_from [] ys h = refl
 among_from (x ∷ xs) ys h = and_from (member x ys) (among xs ys) (h x (member_first x xs)) (among_from xs ys (λ m k. h m (member_after m x xs k)))

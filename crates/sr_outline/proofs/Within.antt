@@ -18,7 +18,7 @@ use Rattle.sr_check_expr.specs.declared.facts.Facts.{Facts}
 use Rattle.sr_tables.specs.Shapes.{Shapes}
 use Rattle.sr_tables.specs.Tables.{with_entry}
 use Rattle.sr_outline.specs.Outline.{tree_literals, layer_literals}
-use Rattle.sr_outline.specs.Shapes.{at_word, type_shape, with_written}
+use Rattle.sr_outline.specs.Shapes.{at_word, declared_shape, with_written}
 
 abbrev HT : Type 0
 HT = Holds TypeTree
@@ -63,10 +63,10 @@ record_literals span fields =
 
 pub record_written : (facts : Facts) (shapes : Shapes) (span : Span) (fields : List Formal)
     → fold (with_written facts) shapes (types_within (ty.Rec span fields))
-    ≡ fold (with_written facts) (with_entry shapes (spot_of span) (type_shape facts shapes (ty.Rec span fields))) (flat_map formal_types fields)
+    ≡ fold (with_written facts) (with_entry shapes (spot_of span) (declared_shape facts shapes (ty.Rec span fields))) (flat_map formal_types fields)
 record_written facts shapes span fields =
     ap (λ types. fold (with_written facts) shapes types) (record_types span fields)
-    ∙ ap (λ layer. fold (with_written facts) (at_word shapes layer (type_shape facts shapes (ty.Rec span fields))) (flat_map formal_types fields)) (out-record span fields)
+    ∙ ap (λ layer. fold (with_written facts) (at_word shapes layer (declared_shape facts shapes (ty.Rec span fields))) (flat_map formal_types fields)) (out-record span fields)
 
 -- ---- signatures
 

@@ -109,6 +109,7 @@ with_heads facts shapes heads declared = with_entries heads (map (head_entry fac
 abbrev pub heads_of : Facts → Shapes → List Component → Heads
 heads_of facts shapes components = with_heads facts shapes [] (flat_map (in_component spec_item_optypes) components)
 
+-- the head of a declared type of operations; one that has none, as in a program that is refused, takes nothing
 abbrev pub head_at : Heads → Spot → Head
 head_at heads spot = unwrap_or (found_at heads spot) (sent_head [])
 

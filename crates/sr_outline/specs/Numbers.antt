@@ -14,7 +14,6 @@ use Rattle.sr_tree.specs.declared.component.ProcItem.TheVariants as inner
 use Rattle.sr_tree.specs.declared.component.SpecItem.{SpecItem}
 use Rattle.sr_tree.specs.declared.component.SpecItem.TheVariants as spec
 use Rattle.sr_tree.specs.declared.declaration.ConstDecl.{ConstDecl}
-use Rattle.sr_tree.specs.declared.declaration.Semaphore.{Semaphore}
 use Rattle.sr_tree.specs.declared.declaration.VarDecl.{VarDecl}
 use Rattle.sr_tree.specs.declared.expr.Expr.{Expr}
 use Rattle.sr_tree.specs.declared.expr.Invocation.{Invocation, out-Invocation}
@@ -188,7 +187,7 @@ receive_names facts span operation places = place_spots places ++ receive_return
 unfoldable pub received_names : Facts → Span → Name → List Expr → List Spot
 received_names facts span operation places = receive_names facts span (meant_by facts operation) places
 
--- the operation that `P` receives
+-- the operation that `P` receives; without one, as in a program that is refused, where the `P` stands
 abbrev pub waited_by : Facts → Span → List Expr → Spot
 waited_by facts span (semaphore ∷ []) = unwrap_or (operation_meant facts semaphore) (spot_of span)
 waited_by facts span _ = spot_of span

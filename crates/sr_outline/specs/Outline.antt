@@ -96,6 +96,7 @@ item_imports facts components inner = flat_map (globals_named facts components) 
 abbrev pub imports_of : Facts → List Spot → ComponentTree → List ℕ
 imports_of facts components component = fold with_number [] (in_component (item_imports facts components) component)
 
+-- what the global of a number imports; each number of an accepted program is that of a component
 abbrev pub imports_at : List (List ℕ) → ℕ → List ℕ
 imports_at imports global = unwrap_or (slice_get imports global) []
 

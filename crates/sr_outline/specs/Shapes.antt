@@ -1,5 +1,5 @@
 -- What places of a type can hold: types with their bounds and the lengths of their strings.
-use Rattle.std.specs.Prelude.{ℕ, ℤ, pos, negsuc, List, [], ◌∷◌, Option, Some, None, unwrap_or, map, flat_map, fold}
+use Rattle.std.specs.Prelude.{◌≡◌, ℕ, ◌+◌, ◌*◌, nat_le, Bool, true, if◌then◌else◌, ℤ, pos, negsuc, List, [], ◌∷◌, Option, Some, None, unwrap_or, map, flat_map, fold}
 use Rattle.std.specs.Option.{option_map, option_and_then}
 use Rattle.sr_check_expr.specs.declared.facts.Facts.{Facts}
 use Rattle.sr_check_expr.specs.declared.info.Info.{Info}
@@ -26,6 +26,7 @@ use Rattle.sr_value.specs.declared.shape.Dims.TheVariants.{One, Two}
 use Rattle.sr_value.specs.declared.shape.Shape.{Shape}
 use Rattle.sr_value.specs.declared.shape.Shape.TheVariants as shape
 use Rattle.sr_value.specs.Operands.{int_in}
+use Rattle.sr_value.specs.Shapes.{bounds_in_range, cell_count, strings_in_range}
 use Rattle.sr_outline.specs.declared.shapes.Ends.{Ends}
 use Rattle.sr_check_expr.specs.Meanings.{typed_expr, known, meant_by}
 use Rattle.sr_tables.specs.Parts.{deciding, spot_named, in_component}
@@ -34,7 +35,7 @@ use Rattle.sr_tables.specs.Tables.{with_entry}
 
 -- ---- static bounds and lengths
 
--- the number that a static expression is
+-- the number that a static expression is; without one, as in a program that is refused, 0
 abbrev pub fixed_number : Facts → Expr → ℤ
 fixed_number facts expr = unwrap_or (option_and_then int_in (known (typed_expr facts expr).typed.value)) (pos 0)
 
@@ -146,6 +147,26 @@ spec_item_types _ = []
 abbrev pub types_in : List Component → List TypeDecl
 types_in components = flat_map (in_component spec_item_types) components
 
+-- a shape that no variable can have: it has more than 1,048,576 cells, and where asked a string that is too long (E10)
+abbrev pub too_large : Bool → Shape
+too_large strings_fit = shape.Rec (shape.Arr (One (pos 1) (pos 1048577)) shape.Int ∷ shape.Str (if strings_fit then 0 else 65536) ∷ [])
+
+-- the shape that is kept for a declared type: one of more than 1,048,576 cells is never built
+abbrev pub kept_shape : Shape → Shape
+kept_shape shape = if nat_le (cell_count shape) 1048576 then shape else too_large (strings_in_range shape)
+
+-- a shape that is kept in place of another has its fault, by itself and as a part: its bounds are in range, its strings
+-- fit where the other's do, and it has too many cells beside any others and in an array of any length where the other has
+abbrev pub KeepsFault : Type 0
+KeepsFault =
+    (shape : Shape) → bounds_in_range shape ≡ true
+    → (bounds_in_range (kept_shape shape) ≡ true)
+    × (strings_in_range (kept_shape shape) ≡ strings_in_range shape)
+    × ((items others : ℕ) → nat_le (items * cell_count (kept_shape shape) + others) 1048576 ≡ nat_le (items * cell_count shape + others) 1048576)
+
+abbrev pub declared_shape : Facts → Shapes → TypeTree → Shape
+declared_shape facts shapes tree = kept_shape (type_shape facts shapes tree)
+
 abbrev pub at_word : {A B C D : Type 0} → Shapes → TypeTree-F A B C D → Shape → Shapes
 at_word shapes (TypeTree-F.Enum span literals) shape = with_entry shapes (spot_of span) shape
 at_word shapes (TypeTree-F.Rec span fields) shape = with_entry shapes (spot_of span) shape
@@ -153,11 +174,11 @@ at_word shapes _ shape = shapes
 
 -- an enumeration or a record is kept by the place of its word
 abbrev pub with_written : Facts → Shapes → TypeTree → Shapes
-with_written facts shapes tree = at_word shapes (out-TypeTree tree) (type_shape facts shapes tree)
+with_written facts shapes tree = at_word shapes (out-TypeTree tree) (declared_shape facts shapes tree)
 
 -- and the declared type by its name
 abbrev pub with_name : Facts → Shapes → TypeDecl → Shapes
-with_name facts shapes named = with_entry shapes (spot_named named.name) (type_shape facts shapes named.ty)
+with_name facts shapes named = with_entry shapes (spot_named named.name) (declared_shape facts shapes named.ty)
 
 abbrev pub with_type : Facts → Shapes → TypeDecl → Shapes
 with_type facts shapes named = with_name facts (fold (with_written facts) shapes (types_within named.ty)) named

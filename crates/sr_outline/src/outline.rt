@@ -12,7 +12,7 @@ use crate::operations::{OperationTable, open_component};
 use crate::shapes::declare_types;
 use crate::variables::note_shared;
 use crate::waits::{note_procs, note_sites};
-use crate::weights::weigh_types;
+use crate::weights::Weights;
 use sr_check_expr::Facts;
 use sr_tables::{Head, SpotMap, Spots, Tables, number_of, spot_named};
 use sr_tree::{File, Formal, Name, Returned, Signature, SpecItem, TypeTree};
@@ -40,6 +40,7 @@ fn note_component(
     component: &sr_tree::Component,
     facts: &Facts,
     number: u32,
+    weights: &mut Weights,
     tables: &mut Tables,
 ) -> Result<(), NoMemory>
     ensures { OnOk result (tables.new ≡ outline.with_component facts.now tables.old (number, component.now)) }
@@ -48,7 +49,7 @@ fn note_component(
     note_procs(component, facts, &mut tables.procs)?;
     note_sites(component, facts, &mut tables.sites)?;
     note_shared(alloc, component, number, facts, &mut tables.shared)?;
-    declare_types(alloc, component, facts, &mut tables.shapes)
+    declare_types(alloc, component, facts, weights, &mut tables.shapes)
 }
 
 /// Puts in the declarations of these components, numbered from this number on. Returns the number after the last.
@@ -57,6 +58,7 @@ fn note_components(
     components: &[sr_tree::Component],
     facts: &Facts,
     first: usize,
+    weights: &mut Weights,
     tables: &mut Tables,
 ) -> Result<usize, NoMemory>
     ensures tables { OnOk result (tables.new ≡ fold (outline.with_component facts.now) tables.old (enumerate_from first components.now)) }
@@ -65,7 +67,7 @@ fn note_components(
     let mut number = first;
     for component in components {
         let at = number_of(number)?;
-        note_component(alloc, component, facts, at, tables)?;
+        note_component(alloc, component, facts, at, weights, tables)?;
         number += 1;
     }
     Ok(number)
@@ -80,9 +82,17 @@ fn note_files(
 ) -> Result<(), NoMemory>
     ensures { OnOk result (tables.new ≡ fold (outline.with_component facts.now) tables.old (enumerate_from 0 (components_in files.now))) }
 {
+    let mut weights = Weights::new(alloc);
     let mut number = 0;
     for file in files {
-        number = note_components(alloc, file.components.as_slice(), facts, number, tables)?;
+        number = note_components(
+            alloc,
+            file.components.as_slice(),
+            facts,
+            number,
+            &mut weights,
+            tables,
+        )?;
     }
     Ok(())
 }
@@ -226,7 +236,6 @@ fn note_all(
 pub fn tables_of(alloc: Global, files: &[File], facts: &Facts) -> Result<Tables, NoMemory>
     ensures { IfOk result (λ tables. tables ≡ outline.tables_of facts.now (components_in files.now)) }
 {
-    weigh_types(alloc, files, facts)?;
     let mut tables = empty_tables(alloc);
     note_all(alloc, files, facts, &mut tables).and(Ok(tables))
 }

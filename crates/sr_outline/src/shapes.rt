@@ -12,6 +12,7 @@ ghost use Rattle.sr_tables.specs.Tables.{with_entry};
 ghost use Rattle.sr_tree.specs.Nested.{formal_types, signature_types, types_within, written_types};
 ghost use Rattle.sr_value.specs.Operands.{int_in};
 
+use crate::weights::{STAND_IN, Weights};
 use sr_check_expr::{Facts, Info, infer, meant_by};
 use sr_core::FormalShape;
 use sr_names::Spot;
@@ -21,7 +22,9 @@ use sr_tree::{
     SpecItem, TypeDecl, TypeTree,
 };
 use sr_types::Static;
-use sr_value::{Boxed, Dims, Duplicate, NoMemory, Row, Shape};
+use sr_value::{
+    Boxed, Dims, Duplicate, NoMemory, Row, Shape, Shared, has_few_cells, has_strings_in_range,
+};
 use std::alloc::Global;
 
 /// The number that a value is; 0 where it isn't known.
@@ -95,7 +98,7 @@ fn line_shape(alloc: Global, ends: Ends, item: Shape) -> Result<FormalShape, NoM
     match ends.hi {
         Some(hi) => Ok(FormalShape::Fixed(Shape::Arr {
             dims: Dims::One { lo: ends.lo, hi },
-            item: Boxed::new(alloc, item)?,
+            item: Shared::new(alloc, item)?,
         })),
         None => Ok(FormalShape::Open { lo: ends.lo, item }),
     }
@@ -119,7 +122,7 @@ fn table_shape(
                     lo2: columns.lo,
                     hi2,
                 },
-                item: Boxed::new(alloc, item)?,
+                item: Shared::new(alloc, item)?,
             }));
         }
     }
@@ -218,7 +221,7 @@ pub fn decl_shape(
     match dims {
         None => Ok(item),
         Some(dims) => {
-            let item = Boxed::new(alloc, item)?;
+            let item = Shared::new(alloc, item)?;
             let dims = fixed_dims(alloc, dims, facts)?;
             Ok(Shape::Arr { dims, item })
         }
@@ -303,14 +306,15 @@ pub fn type_shape(
         TypeTree::Char { .. } => Ok(Shape::Char),
         TypeTree::Str { length, .. } => string_shape(alloc, length, facts),
         TypeTree::Rec { fields, .. } => {
-            Ok(Shape::Rec(field_shapes(alloc, fields.as_slice(), facts, table)?))
+            let fields = field_shapes(alloc, fields.as_slice(), facts, table)?;
+            Ok(Shape::Rec(Shared::new(alloc, fields)?))
         }
         TypeTree::CapOf { .. } | TypeTree::CapMachine { .. } | TypeTree::CapOperation { .. } => {
             Ok(Shape::Capa)
         }
         TypeTree::Array { dims, item, .. } => {
             let dims = fixed_dims(alloc, dims, facts)?;
-            let item = Boxed::new(alloc, type_shape(alloc, item.get(), facts, table)?)?;
+            let item = Shared::new(alloc, type_shape(alloc, item.get(), facts, table)?)?;
             Ok(Shape::Arr { dims, item })
         }
         TypeTree::Named { name, .. } => named_shape(alloc, name, facts, table),
@@ -363,18 +367,60 @@ fn enumeration_shape(facts: &Facts, spot: Spot) -> Shape
     }
 }
 
+/// The shape of a declared type, and whether it is the one that is written.
+struct Kept {
+    shape: Shape,
+    whole: bool,
+}
+
+/// A shape that no variable can have, of more than 1,048,576 cells; with a string that is too long where it is to have one.
+fn too_large(alloc: Global, has_strings_in_range: bool) -> Result<Shape, NoMemory>
+    ensures { IfOk result (λ shape. shape ≡ shapes.too_large has_strings_in_range) }
+{
+    let item = Shared::new(alloc, Shape::Int)?;
+    let dims = Dims::One {
+        lo: 1,
+        hi: 1_048_577,
+    };
+    let most = if has_strings_in_range {
+        0
+    } else {
+        MOST_BYTES + 1
+    };
+    let mut fields = Row::new(alloc);
+    fields.push(Shape::Arr { dims, item })?;
+    fields.push(Shape::Str { most })?;
+    Ok(Shape::Rec(Shared::new(alloc, fields)?))
+}
+
+/// The shape that is kept for a declared type of this shape.
+fn kept_shape(alloc: Global, shape: Shape) -> Result<Kept, NoMemory>
+    ensures { IfOk result (λ kept. kept.shape ≡ shapes.kept_shape shape) }
+{
+    if has_few_cells(&shape) {
+        return Ok(Kept { shape, whole: true });
+    }
+    Ok(Kept {
+        shape: too_large(alloc, has_strings_in_range(&shape))?,
+        whole: false,
+    })
+}
+
 /// Puts in the shape of a type as it is written.
 fn insert_shape(
     alloc: Global,
     spot: Spot,
     tree: &TypeTree,
     facts: &Facts,
+    weights: &mut Weights,
     table: &mut SpotMap<Shape>,
 ) -> Result<(), NoMemory>
-    ensures { OnOk result (table.new ≡ with_entry table.old spot (shapes.type_shape facts.now table.old tree.now)) }
+    ensures { OnOk result (table.new ≡ with_entry table.old spot (shapes.declared_shape facts.now table.old tree.now)) }
 {
-    let shape = type_shape(alloc, tree, facts, table)?;
-    table.insert(spot, shape)
+    let weight = weights.weigh(tree, facts)?;
+    let Kept { shape, whole } = kept_shape(alloc, type_shape(alloc, tree, facts, table)?)?;
+    table.insert(spot, shape)?;
+    weights.insert(spot, if whole { weight } else { STAND_IN })
 }
 
 /// Puts in the shapes of the enumerations and records that are written in a type, by the places of their words.
@@ -383,20 +429,23 @@ fn declare_within(
     alloc: Global,
     tree: &TypeTree,
     facts: &Facts,
+    weights: &mut Weights,
     table: &mut SpotMap<Shape>,
 ) -> Result<(), NoMemory>
     ensures { OnOk result (table.new ≡ fold (shapes.with_written facts.now) table.old (types_within tree.now)) }
 {
     match tree {
-        TypeTree::Enum { span, .. } => { insert_shape(alloc, Spot::of(*span), tree, facts, table) }
+        TypeTree::Enum { span, .. } => {
+            insert_shape(alloc, Spot::of(*span), tree, facts, weights, table)
+        }
         TypeTree::Rec { span, fields } => {
-            insert_shape(alloc, Spot::of(*span), tree, facts, table)?;
-            declare_within_formals(alloc, fields.as_slice(), facts, table)
+            insert_shape(alloc, Spot::of(*span), tree, facts, weights, table)?;
+            declare_within_formals(alloc, fields.as_slice(), facts, weights, table)
         }
         TypeTree::CapOperation { signature, .. } => {
-            declare_within_signature(alloc, signature, facts, table)
+            declare_within_signature(alloc, signature, facts, weights, table)
         }
-        TypeTree::Array { item, .. } => declare_within(alloc, item.get(), facts, table),
+        TypeTree::Array { item, .. } => declare_within(alloc, item.get(), facts, weights, table),
         TypeTree::Int { .. }
         | TypeTree::Bool { .. }
         | TypeTree::Char { .. }
@@ -412,12 +461,13 @@ fn declare_within_formals(
     alloc: Global,
     formals: &[Formal],
     facts: &Facts,
+    weights: &mut Weights,
     table: &mut SpotMap<Shape>,
 ) -> Result<(), NoMemory>
     ensures { OnOk result (table.new ≡ fold (shapes.with_written facts.now) table.old (flat_map formal_types formals.now)) }
 {
     for formal in formals {
-        declare_within(alloc, &formal.ty, facts, table)?;
+        declare_within(alloc, &formal.ty, facts, weights, table)?;
     }
     Ok(())
 }
@@ -427,12 +477,13 @@ fn declare_within_returned(
     alloc: Global,
     returned: &Option<Returned>,
     facts: &Facts,
+    weights: &mut Weights,
     table: &mut SpotMap<Shape>,
 ) -> Result<(), NoMemory>
     ensures { OnOk result (table.new ≡ fold (shapes.with_written facts.now) table.old (written_types returned.now)) }
 {
     match returned {
-        Some(written) => declare_within(alloc, written.ty.get(), facts, table),
+        Some(written) => declare_within(alloc, written.ty.get(), facts, weights, table),
         None => Ok(()),
     }
 }
@@ -442,12 +493,13 @@ fn declare_within_signature(
     alloc: Global,
     signature: &Signature,
     facts: &Facts,
+    weights: &mut Weights,
     table: &mut SpotMap<Shape>,
 ) -> Result<(), NoMemory>
     ensures { OnOk result (table.new ≡ fold (shapes.with_written facts.now) table.old (signature_types signature.now)) }
 {
-    declare_within_formals(alloc, signature.formals.as_slice(), facts, table)?;
-    declare_within_returned(alloc, &signature.returned, facts, table)
+    declare_within_formals(alloc, signature.formals.as_slice(), facts, weights, table)?;
+    declare_within_returned(alloc, &signature.returned, facts, weights, table)
 }
 
 /// Puts in the shape of a declared type, and of those that are written in it.
@@ -455,24 +507,33 @@ fn declare_type(
     alloc: Global,
     named: &TypeDecl,
     facts: &Facts,
+    weights: &mut Weights,
     table: &mut SpotMap<Shape>,
 ) -> Result<(), NoMemory>
     ensures { OnOk result (table.new ≡ shapes.with_type facts.now table.old named.now) }
 {
-    declare_within(alloc, &named.ty, facts, table)?;
-    insert_shape(alloc, spot_named(&named.name), &named.ty, facts, table)
+    declare_within(alloc, &named.ty, facts, weights, table)?;
+    insert_shape(
+        alloc,
+        spot_named(&named.name),
+        &named.ty,
+        facts,
+        weights,
+        table,
+    )
 }
 
 fn declare_spec_item(
     alloc: Global,
     item: &SpecItem,
     facts: &Facts,
+    weights: &mut Weights,
     table: &mut SpotMap<Shape>,
 ) -> Result<(), NoMemory>
     ensures { OnOk result (table.new ≡ shapes.with_types facts.now table.old (shapes.spec_item_types item.now)) }
 {
     match item {
-        SpecItem::Type(named) => declare_type(alloc, named, facts, table),
+        SpecItem::Type(named) => declare_type(alloc, named, facts, weights, table),
         _ => Ok(()),
     }
 }
@@ -481,12 +542,13 @@ fn declare_spec(
     alloc: Global,
     items: &[SpecItem],
     facts: &Facts,
+    weights: &mut Weights,
     table: &mut SpotMap<Shape>,
 ) -> Result<(), NoMemory>
     ensures { OnOk result (table.new ≡ shapes.with_types facts.now table.old (flat_map shapes.spec_item_types items.now)) }
 {
     for item in items {
-        declare_spec_item(alloc, item, facts, table)?;
+        declare_spec_item(alloc, item, facts, weights, table)?;
     }
     Ok(())
 }
@@ -495,13 +557,14 @@ fn declare_body(
     alloc: Global,
     items: &[Item],
     facts: &Facts,
+    weights: &mut Weights,
     table: &mut SpotMap<Shape>,
 ) -> Result<(), NoMemory>
     ensures { OnOk result (table.new ≡ shapes.with_types facts.now table.old (flat_map (in_item shapes.spec_item_types) items.now)) }
 {
     for item in items {
         if let Item::Spec(inner) = item {
-            declare_spec_item(alloc, inner, facts, table)?;
+            declare_spec_item(alloc, inner, facts, weights, table)?;
         }
     }
     Ok(())
@@ -512,10 +575,11 @@ pub fn declare_types(
     alloc: Global,
     component: &Component,
     facts: &Facts,
+    weights: &mut Weights,
     table: &mut SpotMap<Shape>,
 ) -> Result<(), NoMemory>
     ensures { OnOk result (table.new ≡ shapes.with_types facts.now table.old (in_component shapes.spec_item_types component.now)) }
 {
-    declare_spec(alloc, component.spec(), facts, table)?;
-    declare_body(alloc, component.body(), facts, table)
+    declare_spec(alloc, component.spec(), facts, weights, table)?;
+    declare_body(alloc, component.body(), facts, weights, table)
 }

@@ -1,24 +1,23 @@
-//! How much memory the shapes of the declared types take, found before any of them is made.
+//! How many parts the shapes of declared types have, found before they are made: a walk over a shape goes to each
+//! part as often as the shape has it, though the memory of shapes shares them.
 #![tactic(auto)]
 
 use sr_check_expr::{Facts, meant_by};
 use sr_names::Spot;
-use sr_tables::{SpotMap, deciding, spot_named};
-use sr_tree::{
-    Component, Decl, File, Formal, Item, QualifiedName, Signature, SpecItem, TypeDecl, TypeTree,
-};
+use sr_tables::{SpotMap, deciding};
+use sr_tree::{Decl, Formal, QualifiedName, TypeTree};
 use sr_value::NoMemory;
 use std::alloc::Global;
 
 /// So many parts the shapes of all declared types have together at most.
-const MOST_PARTS: u64 = 1_048_576;
+const MOST_PARTS: u64 = 16_777_216;
 
 /// So many levels a shape has at most: a walk over it fits into 8 MiB of stack.
 const MOST_LEVELS: u64 = 2_048;
 
 /// How large the shape of a type is.
 #[derive(Clone, Copy)]
-struct Weight {
+pub struct Weight {
     parts: u64,
     levels: u64,
 }
@@ -27,6 +26,12 @@ struct Weight {
 const PLAIN: Weight = Weight {
     parts: 1,
     levels: 1,
+};
+
+/// The weight of the shape that stands for one of too many cells.
+pub const STAND_IN: Weight = Weight {
+    parts: 4,
+    levels: 3,
 };
 
 /// The weight of no shapes.
@@ -53,13 +58,20 @@ fn together(some: Weight, others: Weight) -> Weight {
 
 /// The weights of the types that are declared so far.
 #[derive(Drop)]
-struct Weights {
+pub struct Weights {
     types: SpotMap<Weight>,
-    /// How many parts they have together, with what is written in them.
+    /// How many parts all shapes had together that were weighed.
     parts: u64,
 }
 
 impl Weights {
+    pub fn new(alloc: Global) -> Weights {
+        Weights {
+            types: SpotMap::new(alloc),
+            parts: 0,
+        }
+    }
+
     /// The weight of a declared type.
     fn at(&self, spot: Spot) -> Weight {
         match self.types.get(spot) {
@@ -68,18 +80,19 @@ impl Weights {
         }
     }
 
-    /// Counts shapes of this weight, where all of them fit into memory.
-    fn add(&mut self, weight: Weight) -> Result<(), NoMemory> {
+    /// The weight of a type as it is written. Out of memory where its shape, or all shapes together, are too large to
+    /// walk over.
+    pub fn weigh(&mut self, tree: &TypeTree, facts: &Facts) -> Result<Weight, NoMemory> {
+        let weight = type_weight(tree, facts, self);
         self.parts = self.parts.saturating_add(weight.parts);
         if self.parts > MOST_PARTS || weight.levels > MOST_LEVELS {
             return Err(NoMemory);
         }
-        Ok(())
+        Ok(weight)
     }
 
     /// Puts in the weight of a declared type.
-    fn insert(&mut self, spot: Spot, weight: Weight) -> Result<(), NoMemory> {
-        self.add(weight)?;
+    pub fn insert(&mut self, spot: Spot, weight: Weight) -> Result<(), NoMemory> {
         self.types.insert(spot, weight)
     }
 }
@@ -124,91 +137,4 @@ fn type_weight(tree: &TypeTree, facts: &Facts, weights: &Weights) -> Weight {
         TypeTree::Named { name, .. } => named_weight(name, facts, weights),
         _ => PLAIN,
     }
-}
-
-#[cycle(written_weights)]
-fn formals_written(formals: &[Formal], facts: &Facts, weights: &Weights) -> Weight {
-    let mut all = NOTHING;
-    for formal in formals {
-        all = together(all, written_weight(&formal.ty, facts, weights));
-    }
-    all
-}
-
-#[cycle(written_weights)]
-fn signature_written(signature: &Signature, facts: &Facts, weights: &Weights) -> Weight {
-    let formals = formals_written(signature.formals.as_slice(), facts, weights);
-    match &signature.returned {
-        Some(returned) => together(formals, written_weight(returned.ty.get(), facts, weights)),
-        None => formals,
-    }
-}
-
-/// The weight of the enumerations and records that are written in a type, each of which is kept by itself.
-#[cycle(written_weights)]
-fn written_weight(tree: &TypeTree, facts: &Facts, weights: &Weights) -> Weight {
-    match tree {
-        TypeTree::Enum { .. } => PLAIN,
-        TypeTree::Rec { fields, .. } => together(
-            type_weight(tree, facts, weights),
-            formals_written(fields.as_slice(), facts, weights),
-        ),
-        TypeTree::CapOperation { signature, .. } => signature_written(signature, facts, weights),
-        TypeTree::Array { item, .. } => written_weight(item.get(), facts, weights),
-        _ => NOTHING,
-    }
-}
-
-fn weigh_type(named: &TypeDecl, facts: &Facts, weights: &mut Weights) -> Result<(), NoMemory> {
-    let written = written_weight(&named.ty, facts, weights);
-    weights.add(written)?;
-    let weight = type_weight(&named.ty, facts, weights);
-    weights.insert(spot_named(&named.name), weight)
-}
-
-fn weigh_spec_item(item: &SpecItem, facts: &Facts, weights: &mut Weights) -> Result<(), NoMemory> {
-    match item {
-        SpecItem::Type(named) => weigh_type(named, facts, weights),
-        _ => Ok(()),
-    }
-}
-
-fn weigh_spec(items: &[SpecItem], facts: &Facts, weights: &mut Weights) -> Result<(), NoMemory> {
-    for item in items {
-        weigh_spec_item(item, facts, weights)?;
-    }
-    Ok(())
-}
-
-fn weigh_body(items: &[Item], facts: &Facts, weights: &mut Weights) -> Result<(), NoMemory> {
-    for item in items {
-        if let Item::Spec(inner) = item {
-            weigh_spec_item(inner, facts, weights)?;
-        }
-    }
-    Ok(())
-}
-
-fn weigh_components(
-    components: &[Component],
-    facts: &Facts,
-    weights: &mut Weights,
-) -> Result<(), NoMemory> {
-    for component in components {
-        weigh_spec(component.spec(), facts, weights)?;
-        weigh_body(component.body(), facts, weights)?;
-    }
-    Ok(())
-}
-
-/// Answers out of memory where the shapes of the declared types are too large to be made.
-pub fn weigh_types(alloc: Global, files: &[File], facts: &Facts) -> Result<(), NoMemory> {
-    let mut weights = Weights {
-        types: SpotMap::new(alloc),
-        parts: 0,
-    };
-    for file in files {
-        weigh_components(file.components.as_slice(), facts, &mut weights)?;
-    }
-    Ok(())
 }

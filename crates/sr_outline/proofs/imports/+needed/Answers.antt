@@ -1,5 +1,5 @@
 -- One global more is put in, and at the end there are all.
-use Rattle.std.proofs.Common.{◌≡◌, ℕ, ◌+◌, List, drop, sym, ap, ◌∙◌}
+use Rattle.std.proofs.Common.{ℕ, ◌+◌, List, drop, sym, ap, ◌∙◌}
 use Rattle.std.proofs.lemmas.List.{drop_all}
 use Rattle.sr_outline.specs.Outline.{with_needed}
 use Rattle.sr_outline.proofs.Needed.{needed_next, needed_none}
