@@ -1,4 +1,12 @@
 pub mod Applied
+pub mod Blocks
+pub mod EffectFree
 pub mod Formals
+pub mod Leaving
+pub mod Numbers
+pub mod Serving
+pub mod Sites
+pub mod Tests
 pub mod Values
+pub mod Waiting
 pub mod WellFormed

@@ -7,7 +7,7 @@ use Rattle.sr_core.specs.declared.component.Body.{Body}
 use Rattle.sr_core.specs.declared.expression.Expr.TheVariants.{Load}
 use Rattle.sr_core.specs.declared.statement.Statement.{Statement}
 use Rattle.sr_core.specs.declared.statement.Statement.TheVariants.{Fa}
-use Rattle.sr_core.specs.WellFormed.{Where, argument_ok, block_ok}
+use Rattle.sr_core.specs.Numbers.{Where, argument_ok, block_ok}
 use Rattle.sr_names.specs.declared.spot.Spot.{Spot}
 use Rattle.sr_tree.specs.declared.component.Item.{Item}
 use Rattle.sr_tree.specs.declared.component.Item.TheVariants as item

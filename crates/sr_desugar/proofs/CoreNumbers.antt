@@ -6,7 +6,8 @@ use Rattle.std.proofs.lemmas.List.FromFn.{length-enumerate_from}
 use Rattle.std.specs.List.{enumerate_from, list_all}
 use Rattle.sr_check_expr.specs.declared.facts.Facts.{Facts}
 use Rattle.sr_core.specs.declared.component.Core.{Core}
-use Rattle.sr_core.specs.WellFormed.{codes_of, numbers_ok}
+use Rattle.sr_core.specs.Numbers.{numbers_ok}
+use Rattle.sr_core.specs.Tests.{codes_of}
 use Rattle.sr_tree.specs.declared.component.Component.{Component as ComponentTree}
 use Rattle.sr_tree.specs.declared.component.File.{File}
 use Rattle.sr_tree.specs.Parts.{body_of, spec_of}

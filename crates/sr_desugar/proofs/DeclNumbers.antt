@@ -10,7 +10,8 @@ use Rattle.sr_core.specs.declared.statement.Scope.{Scope}
 use Rattle.sr_core.specs.declared.statement.Scope.TheVariants.{Own, Shared}
 use Rattle.sr_core.specs.declared.statement.Setup.{Setup}
 use Rattle.sr_core.specs.declared.statement.Statement.{Statement}
-use Rattle.sr_core.specs.WellFormed.{Where, dims_ok, expr_ok, if_some, item_ok, setup_ok, var_ok}
+use Rattle.sr_core.specs.Numbers.{Where, dims_ok, expr_ok, item_ok, setup_ok, var_ok}
+use Rattle.sr_core.specs.Tests.{if_some}
 use Rattle.sr_names.specs.declared.spot.Spot.{Spot}
 use Rattle.sr_tree.specs.declared.declaration.ConstDecl.{ConstDecl}
 use Rattle.sr_tree.specs.declared.declaration.VarDecl.{VarDecl}

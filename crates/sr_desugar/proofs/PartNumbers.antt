@@ -6,7 +6,8 @@ use Rattle.sr_core.specs.declared.expression.Expr.{Expr as CoreExpr}
 use Rattle.sr_core.specs.declared.expression.Expr.TheVariants as core
 use Rattle.sr_core.specs.declared.statement.Action.{Action}
 use Rattle.sr_core.specs.declared.statement.Action.TheVariants as action
-use Rattle.sr_core.specs.WellFormed.{Where, action_ok, co_ok, expr_ok, if_some, place_ok, quantifier_ok}
+use Rattle.sr_core.specs.Numbers.{Where, action_ok, co_ok, expr_ok, place_ok, quantifier_ok}
+use Rattle.sr_core.specs.Tests.{if_some}
 use Rattle.sr_names.specs.declared.predefined.Predefined.{Predefined}
 use Rattle.sr_names.specs.declared.predefined.Predefined.TheVariants as predefined
 use Rattle.sr_names.specs.declared.spot.Spot.{Spot}

@@ -7,7 +7,7 @@ use Rattle.sr_core.specs.declared.statement.Bump.TheVariants.{Increase, Decrease
 use Rattle.sr_core.specs.declared.statement.CoArm.{CoArm}
 use Rattle.sr_core.specs.declared.statement.Guarded.{Guarded}
 use Rattle.sr_core.specs.declared.statement.Statement.{Statement}
-use Rattle.sr_core.specs.WellFormed.{Where, block_ok}
+use Rattle.sr_core.specs.Numbers.{Where, block_ok}
 use Rattle.sr_names.specs.declared.spot.Spot.{Spot}
 use Rattle.sr_names.specs.Spots.{spot_of}
 use Rattle.sr_tree.specs.declared.expr.Expr.{Expr}

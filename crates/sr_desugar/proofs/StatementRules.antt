@@ -15,7 +15,7 @@ use Rattle.sr_core.specs.declared.statement.Statement.{Statement, roll-Statement
 use Rattle.sr_core.specs.declared.statement.Statement.TheFolds.{fold-CoArm, fold-Guarded, fold-Statement, fold-roll-CoArm, fold-roll-Guarded, fold-roll-Statement, map-Statement}
 use Rattle.sr_core.specs.declared.statement.Statement.TheOpen.{Statement-F}
 use Rattle.sr_core.specs.declared.statement.Statement.TheVariants as core
-use Rattle.sr_core.specs.WellFormed.{Test, Where, action_ok, all_pass, block_ok, co_arm_ok, co_ok, expr_ok, guarded_ok, quantifier_ok, setup_ok, statement_ok, var_ok}
+use Rattle.sr_core.specs.Numbers.{Test, Where, action_ok, all_pass, block_ok, co_arm_ok, co_ok, expr_ok, guarded_ok, quantifier_ok, setup_ok, statement_ok, var_ok}
 
 -- a statement, and what stands in statements
 abbrev pub one_ok : Statement → Test

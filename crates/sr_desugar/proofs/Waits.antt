@@ -17,7 +17,8 @@ use Rattle.sr_core.specs.declared.statement.Statement.{Statement as CoreStatemen
 use Rattle.sr_core.specs.declared.statement.Statement.TheFolds.{fold-Statement as fold_core, fold-CoArm as fold_core_arm, fold-Guarded, fold-roll-Statement as fold_roll_core, fold-roll-CoArm as fold_roll_core_arm, fold-roll-Guarded, map-CoArm as map_core_arm}
 use Rattle.sr_core.specs.declared.statement.Statement.TheOpen.{Statement-F as Core-F, CoArm-F as CoreArm-F}
 use Rattle.sr_core.specs.declared.statement.Statement.TheVariants as core
-use Rattle.sr_core.specs.WellFormed.{all_true, block_waits, co_arm_waits, guarded_waits, site_ok, statement_waits}
+use Rattle.sr_core.specs.Blocks.{block_waits, co_arm_waits, guarded_waits, site_ok, statement_waits}
+use Rattle.sr_core.specs.Tests.{all_true}
 use Rattle.sr_names.specs.declared.predefined.Predefined.{Predefined}
 use Rattle.sr_names.specs.declared.spot.Spot.{Spot}
 use Rattle.sr_names.specs.Spots.{spot_of}

@@ -9,7 +9,8 @@ use Rattle.sr_core.specs.declared.site.Site.{Site}
 use Rattle.sr_core.specs.declared.statement.Scope.TheVariants.{Own, Shared}
 use Rattle.sr_core.specs.declared.statement.Statement.TheOpen.{Statement-F as Core-F}
 use Rattle.sr_core.specs.declared.statement.Statement.TheVariants as core
-use Rattle.sr_core.specs.WellFormed.{all_waits_ok, block_waits, codes_of}
+use Rattle.sr_core.specs.Blocks.{all_waits_ok, block_waits}
+use Rattle.sr_core.specs.Tests.{codes_of}
 use Rattle.sr_names.specs.declared.spot.Spot.{Spot}
 use Rattle.sr_tree.specs.declared.component.Component.{Component}
 use Rattle.sr_tree.specs.declared.component.File.{File}

@@ -47,7 +47,7 @@ int_constant number = int_expr (pos number)
 
 -- ---- types whose bounds are found when the declaration is reached
 
--- `[n]` is `[1:n]`
+-- `[n]` is `[1:n]`; a `*`, which only a formal of an accepted program has, is nothing
 abbrev pub range_core : Scene → RangeTree → Range
 range_core scene (Length span length) = record { lo = int_constant 1; hi = core_value scene length }
 range_core scene (Bounds span low high) = record { lo = core_value scene low; hi = core_value scene high }
@@ -90,7 +90,7 @@ shape_expr scene written ty = layer_place scene written ty (out-TypeTree ty)
 
 -- ---- variables
 
--- a variable of the component, or of the process
+-- a variable of the component, or of the process; one that isn't shared, as in a program that is refused, has number 0
 abbrev pub var_number : Scene → Scope → Spot → ℕ
 var_number scene Own spot = own_number scene spot
 var_number scene Shared spot = by (found_at scene.tables.shared spot)

@@ -2,7 +2,8 @@
 use Rattle.std.specs.Prelude.{Bool}
 use Rattle.std.specs.List.{list_all}
 use Rattle.sr_core.specs.declared.component.Core.{Core}
-use Rattle.sr_core.specs.WellFormed.{codes_of, numbers_ok}
+use Rattle.sr_core.specs.Numbers.{numbers_ok}
+use Rattle.sr_core.specs.Tests.{codes_of}
 use Rattle.sr_desugar.specs.Core.{LoweredComponent}
 
 -- the initial and the final code of every component

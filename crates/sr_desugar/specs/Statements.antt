@@ -116,6 +116,7 @@ receive_made scene span operation places = record {
 abbrev pub all_told : LoweredInvocation → List CoreExpr
 all_told sending = values (lowered_of sending.arguments)
 
+-- `V` without an argument, as in a program that is refused, is of nothing
 abbrev pub first_expr : List CoreExpr → CoreExpr
 first_expr [] = nothing
 first_expr (expr ∷ exprs) = expr

@@ -1,7 +1,7 @@
 ghost use Rattle.std.specs.List.{list_all};
 ghost use Rattle.std.specs.Prelude.{List, IsTrue};
 ghost use Rattle.sr_check_expr.specs.declared.facts.Facts.{Facts};
-ghost use Rattle.sr_core.specs.WellFormed.{all_waits_ok};
+ghost use Rattle.sr_core.specs.Blocks.{all_waits_ok};
 ghost use Rattle.sr_desugar.specs.Core.{core_of, wholes_of};
 ghost use Rattle.sr_desugar.specs.Laws.{WaitApart};
 ghost use Rattle.sr_desugar.specs.Numbered.{codes_numbered, procs_numbered};

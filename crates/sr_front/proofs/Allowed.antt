@@ -14,7 +14,8 @@ use Rattle.sr_core.specs.declared.statement.Statement.{Statement as CoreStatemen
 use Rattle.sr_core.specs.declared.statement.Statement.TheFolds.{fold-Statement as fold_core, fold-CoArm as fold_core_arm, fold-Guarded, fold-roll-Statement as fold_roll_core, fold-roll-CoArm as fold_roll_core_arm, fold-roll-Guarded, map-CoArm as map_core_arm}
 use Rattle.sr_core.specs.declared.statement.Statement.TheOpen.{Statement-F as Core-F, CoArm-F as CoreArm-F, Guarded-F}
 use Rattle.sr_core.specs.declared.statement.Statement.TheVariants as core
-use Rattle.sr_core.specs.WellFormed.{Enclosing, Rule, all_allowed, block_allowed, within_arm, within_loop, action_allowed, co_arm_allowed, guarded_allowed, statement_allowed, if_some}
+use Rattle.sr_core.specs.Leaving.{Enclosing, Rule, all_allowed, block_allowed, within_arm, within_loop, action_allowed, co_arm_allowed, guarded_allowed, statement_allowed}
+use Rattle.sr_core.specs.Tests.{if_some}
 use Rattle.sr_check.specs.Contexts.{Context, Steps, in_order, with_facts, looping, with_more}
 use Rattle.sr_check.specs.Invoking.{invoked_found, is_serving, may_reply, started_found}
 use Rattle.sr_check.specs.Quantifying.{expr_with, quantifiers_found, quantifiers_known}

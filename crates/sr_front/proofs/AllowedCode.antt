@@ -7,7 +7,8 @@ use Rattle.sr_core.specs.declared.component.Body.{Body}
 use Rattle.sr_core.specs.declared.statement.Scope.TheVariants.{Own, Shared}
 use Rattle.sr_core.specs.declared.statement.Statement.TheOpen.{Statement-F as Core-F}
 use Rattle.sr_core.specs.declared.statement.Statement.TheVariants as core
-use Rattle.sr_core.specs.WellFormed.{Enclosing, all_allowed_in, block_allowed, body_allowed, codes_allowed, if_some, within_loop}
+use Rattle.sr_core.specs.Leaving.{Enclosing, all_allowed_in, block_allowed, body_allowed, codes_allowed, within_loop}
+use Rattle.sr_core.specs.Tests.{if_some}
 use Rattle.sr_check.specs.Checked.{checked, first_refused}
 use Rattle.sr_check.specs.Components.{beginning, block_read, component_read, components_read, files_read, head_found, item_read, items_procs, items_read, proc_item_read, proc_rules}
 use Rattle.sr_check.specs.Contexts.{Context, with_facts}

@@ -12,6 +12,7 @@ use Rattle.std.proofs.lemmas.Option.{slice_get-map, slice_get_within}
 use Rattle.sr_check_expr.specs.declared.facts.Facts.{Facts}
 use Rattle.sr_core.specs.declared.component.Component.{Component as CoreComponent}
 use Rattle.sr_core.specs.declared.component.Core.{Core}
+use Rattle.sr_core.specs.Tests as tests
 use Rattle.sr_core.specs.WellFormed as wf
 use Rattle.sr_desugar.specs.Core.{LoweredComponent, core_of, whole_of, wholes_of, wholes_from, all_components, component_formals, component_codes, scene_of}
 use Rattle.sr_outline.specs.Outline.{tables_of, imports_of as numbers_of, imports_at, needs_of, member}
@@ -66,7 +67,7 @@ all_enumerated test n (x ∷ xs) h =
 -- ---- what a core has at a number
 
 with_component_at : (core : Core) (number : ℕ) (test : CoreComponent → Bool) (component : CoreComponent)
-    → slice_get core.components number ≡ Some component → wf.with_component core number test ≡ test component
+    → slice_get core.components number ≡ Some component → tests.with_component core number test ≡ test component
 with_component_at core number test component e = rw e refl
 
 -- the component with this number, in the core
@@ -125,7 +126,7 @@ main_made facts tables imports number (SplitResource span name spec (formal ∷ 
 main_made facts tables imports number (Global span name spec body) h = absurd (false≢true h)
 
 pub main_is : (files : List File) (facts : Facts) → can_be_main (last_component files) ≡ true
-    → wf.with_component (core_of files facts) (length (core_of files facts).components - 1) wf.is_main ≡ true
+    → tests.with_component (core_of files facts) (length (core_of files facts).components - 1) wf.is_main ≡ true
 main_is files facts h = by (last_component files) refl h
   where
     tables : Tables
@@ -135,7 +136,7 @@ main_is files facts h = by (last_component files) refl h
     imports = map (numbers_of facts (tables_of facts (components_in files)).components) (components_in files)
 
     by : (last : Option Component) → last_component files ≡ last → can_be_main last ≡ true
-        → wf.with_component (core_of files facts) (length (core_of files facts).components - 1) wf.is_main ≡ true
+        → tests.with_component (core_of files facts) (length (core_of files facts).components - 1) wf.is_main ≡ true
     by None e h = absurd (false≢true h)
     by (Some component) e h =
         with_component_at (core_of files facts) (length (core_of files facts).components - 1) wf.is_main (whole_of facts tables imports (length (components_in files) - 1, component)).component
@@ -198,12 +199,12 @@ no_finals scene (item.Process process ∷ items) e = no_finals scene items e
 no_finals scene (item.Final final ∷ items) e = let one : 1 + final_count items ≡ 0 = sym (sum_by_from weight 1 items) ∙ e in absurd (omega arith)
 no_finals scene (item.Statement statement ∷ items) e = no_finals scene items e
 
-no_final_code : (scene : Scene) (component : Component) → final_count (body_of component) ≡ 0 → wf.is_there (component_codes scene component).last ≡ false
-no_final_code scene component e = ap (λ finals. wf.is_there (first_final finals)) (no_finals scene (body_of component) e)
+no_final_code : (scene : Scene) (component : Component) → final_count (body_of component) ≡ 0 → tests.is_there (component_codes scene component).last ≡ false
+no_final_code scene component e = ap (λ finals. tests.is_there (first_final finals)) (no_finals scene (body_of component) e)
 
 final_of_global : (facts : Facts) (tables : Tables) (imports : List (List ℕ)) (number : ℕ) (component : Component)
     → (kind_of component ≡ kind.Global → final_count (body_of component) ≡ 0)
-    → (not (wf.is_global (kind_of component)) || not (wf.is_there (whole_of facts tables imports (number, component)).component.final_code)) ≡ true
+    → (not (wf.is_global (kind_of component)) || not (tests.is_there (whole_of facts tables imports (number, component)).component.final_code)) ≡ true
 final_of_global facts tables imports number (Resource span name formals items) h = refl
 final_of_global facts tables imports number (SplitResource span name spec formals items) h = refl
 final_of_global facts tables imports number (Global span name spec body) h =

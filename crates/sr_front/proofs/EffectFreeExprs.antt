@@ -25,7 +25,7 @@ use Rattle.sr_core.specs.declared.expression.Function.TheVariants as function
 use Rattle.sr_core.specs.declared.expression.Leaf.TheVariants as leaf
 use Rattle.sr_core.specs.declared.expression.Part.{Part}
 use Rattle.sr_core.specs.declared.expression.Step.TheVariants as step
-use Rattle.sr_core.specs.WellFormed.{is_effect_free}
+use Rattle.sr_core.specs.EffectFree.{is_effect_free}
 use Rattle.sr_names.specs.declared.finding.Rule.TheVariants.{Guard, BadUse}
 use Rattle.sr_names.specs.declared.meaning.Decl.{Decl}
 use Rattle.sr_names.specs.declared.meaning.Meaning.{Meaning}

@@ -20,7 +20,7 @@ use Rattle.sr_core.specs.declared.expression.Reading.{Reading}
 use Rattle.sr_core.specs.declared.expression.Step.{Step, roll-Step}
 use Rattle.sr_core.specs.declared.expression.Step.TheVariants as step
 use Rattle.sr_core.specs.declared.owner.Root.{Root}
-use Rattle.sr_core.specs.WellFormed.{is_effect_free, leaf_waits, node_effect_free, part_effect_free, step_effect_free}
+use Rattle.sr_core.specs.EffectFree.{is_effect_free, leaf_waits, node_effect_free, part_effect_free, step_effect_free}
 use Rattle.sr_lower_expr.specs.declared.scene.Lowered.{Lowered}
 use Rattle.sr_lower_expr.specs.declared.scene.Lowered.TheVariants as lowered
 use Rattle.sr_lower_expr.specs.declared.scene.Scene.{Scene}

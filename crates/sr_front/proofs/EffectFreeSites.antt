@@ -9,7 +9,8 @@ use Rattle.sr_core.specs.declared.site.Site.{Site}
 use Rattle.sr_core.specs.declared.statement.CoArm.{CoArm as CoreCoArm}
 use Rattle.sr_core.specs.declared.statement.Guarded.{Guarded}
 use Rattle.sr_core.specs.declared.statement.Statement.{Statement as CoreStatement}
-use Rattle.sr_core.specs.WellFormed.{if_some, is_effect_free}
+use Rattle.sr_core.specs.EffectFree.{is_effect_free}
+use Rattle.sr_core.specs.Tests.{if_some}
 use Rattle.sr_check.specs.Contexts.{Context, Step, Steps, in_order, looping, with_facts}
 use Rattle.sr_check.specs.Invoking.{started_found}
 use Rattle.sr_check.specs.Quantifying.{expr_with, maybe_with, quantifiers_found, quantifiers_known}

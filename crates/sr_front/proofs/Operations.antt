@@ -9,7 +9,8 @@ use Rattle.std.proofs.lemmas.List.Quantifiers.{position-Some}
 use Rattle.sr_check_expr.specs.declared.facts.Facts.{Facts}
 use Rattle.sr_core.specs.declared.component.Core.{Core}
 use Rattle.sr_core.specs.declared.component.Operation.{Operation}
-use Rattle.sr_core.specs.WellFormed.{if_some, operation_ok}
+use Rattle.sr_core.specs.Serving.{operation_ok}
+use Rattle.sr_core.specs.Tests.{if_some}
 use Rattle.sr_desugar.specs.Core.{LoweredComponent, core_of, procs_in, whole_of, wholes_from}
 use Rattle.sr_names.specs.declared.spot.Spot.{Spot}
 use Rattle.sr_names.specs.Searches.{At}

@@ -10,7 +10,7 @@ use Rattle.sr_core.specs.declared.component.Component.{Component as CoreComponen
 use Rattle.sr_core.specs.declared.component.Core.{Core}
 use Rattle.sr_core.specs.declared.component.Operation.{Operation}
 use Rattle.sr_core.specs.declared.component.Proc.{Proc}
-use Rattle.sr_core.specs.WellFormed.{all_numbers_ok, numbers_ok, proc_numbers_ok}
+use Rattle.sr_core.specs.Numbers.{all_numbers_ok, numbers_ok, proc_numbers_ok}
 use Rattle.sr_desugar.specs.Core.{LoweredComponent, whole_of}
 use Rattle.sr_desugar.specs.Numbered.{codes_numbered, procs_numbered}
 use Rattle.sr_names.specs.declared.spot.Spot.{Spot}

@@ -12,7 +12,8 @@ use Rattle.sr_core.specs.declared.formal.Formal.{Formal}
 use Rattle.sr_core.specs.declared.formal.Mode.{Mode}
 use Rattle.sr_core.specs.declared.formal.Mode.TheVariants.{Val, Var, Res}
 use Rattle.sr_core.specs.declared.formal.Returned.{Returned}
-use Rattle.sr_core.specs.WellFormed.{mode_eq, names_formals, proc_ok, procs_ok, same_there}
+use Rattle.sr_core.specs.Serving.{mode_eq, names_formals, proc_ok, procs_ok}
+use Rattle.sr_core.specs.Tests.{same_there}
 use Rattle.sr_names.specs.declared.spot.Spot.{Spot}
 use Rattle.sr_names.specs.Searches.{At}
 use Rattle.sr_tables.specs.declared.tables.Tables.{Tables}

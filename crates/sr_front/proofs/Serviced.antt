@@ -6,7 +6,9 @@ use Rattle.sr_check_expr.specs.declared.facts.Facts.{Facts}
 use Rattle.sr_core.specs.declared.component.Core.{Core}
 use Rattle.sr_core.specs.declared.component.Operation.{Operation}
 use Rattle.sr_core.specs.declared.site.Arm.{Arm as CoreArm}
-use Rattle.sr_core.specs.WellFormed.{if_some, is_effect_free, is_there, names_formals, one_owner, same_there, with_operation}
+use Rattle.sr_core.specs.EffectFree.{is_effect_free}
+use Rattle.sr_core.specs.Serving.{names_formals, one_owner}
+use Rattle.sr_core.specs.Tests.{if_some, is_there, same_there, with_operation}
 use Rattle.sr_names.specs.declared.meaning.Decl.{Decl}
 use Rattle.sr_outline.specs.Numbers.{is_wait, wait_operation}
 use Rattle.sr_tables.specs.Lists.{lists, maybe_lists}

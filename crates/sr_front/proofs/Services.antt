@@ -7,7 +7,7 @@ use Rattle.sr_check.specs.Owners.{Declared, Owned, component_at, component_owned
 use Rattle.sr_check.specs.Servicing.{AllServiceOwn, Served, ServicesOwn, component_served as component_meant, item_served as item_meant, meant_at}
 use Rattle.sr_check_expr.specs.declared.facts.Facts.{Facts}
 use Rattle.sr_check_expr.specs.Naming.{decl_of}
-use Rattle.sr_core.specs.WellFormed.{procs_ok}
+use Rattle.sr_core.specs.Serving.{procs_ok}
 use Rattle.sr_names.specs.declared.meaning.Decl.{Decl}
 use Rattle.sr_names.specs.declared.spot.Spot.{Spot}
 use Rattle.sr_names.specs.Noted.{Meanings}

@@ -15,7 +15,8 @@ use Rattle.sr_core.specs.declared.site.Arm.{Arm as CoreArm}
 use Rattle.sr_core.specs.declared.site.Site.{Site}
 use Rattle.sr_core.specs.declared.statement.Scope.{Scope}
 use Rattle.sr_core.specs.declared.statement.Scope.TheVariants.{Own as own_scope, Shared as shared_scope}
-use Rattle.sr_core.specs.WellFormed.{arm_ok, arms_ok, names_formals, same_there, scope_eq, with_operation}
+use Rattle.sr_core.specs.Serving.{arm_ok, arms_ok, names_formals, scope_eq}
+use Rattle.sr_core.specs.Tests.{same_there, with_operation}
 use Rattle.sr_desugar.specs.Core.{LoweredComponent, standing, whole_of}
 use Rattle.sr_names.specs.declared.meaning.Decl.{Decl}
 use Rattle.sr_names.specs.declared.spot.Spot.{Spot}

@@ -11,10 +11,6 @@ module _ {A : Type 0} (test : A → Bool) where
   pub rest_passes : (thing : A) (things : List A) → IsTrue (list_all test (thing ∷ things)) → IsTrue (list_all test things)
   rest_passes thing things all = (and_parts (test thing) (list_all test things) all).1
 
-  pub each_passes : ((thing : A) → IsTrue (test thing)) → (things : List A) → IsTrue (list_all test things)
-  each_passes passes [] = refl
-  each_passes passes (thing ∷ things) = and_from _ _ (passes thing) (each_passes passes things)
-
   pub one_taken : (things : List A) → IsTrue (list_all test things) → IsTrue (list_all test (take 1 things))
   one_taken [] all = refl
   one_taken (thing ∷ things) all = and_from _ _ (first_passes thing things all) refl

@@ -15,7 +15,7 @@ use Rattle.sr_core.specs.declared.expression.Leaf.TheVariants as leaf
 use Rattle.sr_core.specs.declared.expression.Part.{Part}
 use Rattle.sr_core.specs.declared.expression.Readable.{Readable}
 use Rattle.sr_core.specs.declared.expression.Step.TheVariants as step
-use Rattle.sr_core.specs.WellFormed.{Where, argument_ok, expr_ok, place_ok}
+use Rattle.sr_core.specs.Numbers.{Where, argument_ok, expr_ok, place_ok}
 use Rattle.sr_names.specs.declared.meaning.Meaning.{Meaning}
 use Rattle.sr_names.specs.declared.meaning.Meaning.TheVariants.{Predefined as MeansPredefined, Declared}
 use Rattle.sr_names.specs.declared.predefined.Predefined.{Predefined}

@@ -21,7 +21,7 @@ use Rattle.sr_core.specs.declared.expression.Reading.{Reading, roll-Reading}
 use Rattle.sr_core.specs.declared.expression.Step.{Step, roll-Step}
 use Rattle.sr_core.specs.declared.expression.Step.TheVariants as step
 use Rattle.sr_core.specs.declared.owner.Root.{Root}
-use Rattle.sr_core.specs.WellFormed.{Test, Where, argument_exists, argument_ok, expr_ok, leaf_exists, node_exists, part_exists, place_exists, place_ok, reading_exists, root_exists, step_exists}
+use Rattle.sr_core.specs.Numbers.{Test, Where, argument_exists, argument_ok, expr_ok, leaf_exists, node_exists, part_exists, place_exists, place_ok, reading_exists, root_exists, step_exists}
 
 abbrev pub step_ok : Step → Test
 step_ok = fold-Step Test Test Test Test Test Test argument_exists node_exists part_exists step_exists place_exists reading_exists

@@ -9,7 +9,7 @@ use Rattle.sr_core.specs.declared.expression.Step.{Step}
 use Rattle.sr_core.specs.declared.owner.Home.TheVariants as home
 use Rattle.sr_core.specs.declared.owner.Root.{Root}
 use Rattle.sr_core.specs.declared.owner.Root.TheVariants as root
-use Rattle.sr_core.specs.WellFormed.{Test, Where, expr_ok, place_ok, root_exists}
+use Rattle.sr_core.specs.Numbers.{Test, Where, expr_ok, place_ok, root_exists}
 use Rattle.sr_names.specs.declared.spot.Spot.{Spot}
 use Rattle.sr_names.specs.Spots.{same_spot}
 use Rattle.sr_value.specs.declared.value.Value.TheVariants.{Bool as truth_value}

@@ -86,6 +86,7 @@ values all = map value_of all
 
 -- ---- constants and names
 
+-- without a value, as in a program that is refused, nothing
 abbrev pub constant_or_nothing : Option Value → Expr
 constant_or_nothing None = nothing
 constant_or_nothing (Some value) = core.Leaf (leaf.Constant value)
@@ -119,10 +120,11 @@ abbrev pub index_step : Lowered → Option LoweredTree → Step
 index_step first None = step.At (value_of first)
 index_step first (Some second) = step.At2 (value_of first) (value_of second.1)
 
+-- the place of a field; one that isn't there, as in a program that is refused, has number 0
 abbrev pub field_number : Facts → types.Spot → List ℕ → ℕ
 field_number facts spot name = unwrap_or (position (λ field. bytes_eq field.name name) (record_fields facts.infos spot)) 0
 
--- an operation of a resource's spec
+-- an operation of a resource's spec; where there is none, as in a program that is refused, the resource stands for it
 abbrev pub spec_operation : Facts → types.Spot → List ℕ → Spot
 spec_operation facts resource name = unwrap_or (option_map (λ decl. decl.spot) (member_named facts.specs (name_spot resource) name)) (name_spot resource)
 
@@ -178,11 +180,12 @@ end_value false shape = lowest_value shape
 abbrev pub end_core : Scene → Bool → Ty → Expr
 end_core scene is_high ty = end_or_nothing (end_value is_high (shape_of_type scene.tables.shapes ty))
 
--- `low(T)` and `high(T)` are known before the run
+-- `low(T)` and `high(T)` are known before the run; without a type, as in a program that is refused, they are nothing
 abbrev pub ends_core : Scene → Bool → List Ty → Expr
 ends_core scene is_high [] = nothing
 ends_core scene is_high (ty ∷ types) = end_core scene is_high ty
 
+-- how many literals the type of the first argument has; without an argument, as in a program that is refused, 0
 abbrev pub literals_in : Facts → List Tree → ℕ
 literals_in facts [] = 0
 literals_in facts (tree ∷ trees) = literals_of facts (type_of facts tree)
@@ -278,7 +281,7 @@ abbrev pub machine_core : Option LoweredTree → Expr
 machine_core None = core.Leaf leaf.MyMachine
 machine_core (Some machine) = value_of machine.1
 
--- an instance of the component that is declared at a spot
+-- an instance of the component that is declared at a spot; where none is, as in a program that is refused, nothing
 abbrev pub instance_core : Scene → Spot → List Expr → Expr → Expr
 instance_core scene spot args machine = by (position (same_spot spot) scene.tables.components)
   where

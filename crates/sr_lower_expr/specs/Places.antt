@@ -54,6 +54,7 @@ nowhere = root.Shared home.Mine 0
 
 -- ---- variables
 
+-- what isn't imported, as in a program that is refused, counts as the component's own
 abbrev pub imported_home : Option ℕ → Home
 imported_home None = home.Mine
 imported_home (Some import) = home.Imported import
@@ -85,6 +86,7 @@ own_place scene spot = place_at (own_root scene spot)
 
 -- ---- operations
 
+-- the same of operations
 abbrev pub imported_whose : Option ℕ → OperationOwner
 imported_whose None = whose.Mine
 imported_whose (Some import) = whose.Imported import

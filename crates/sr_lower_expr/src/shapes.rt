@@ -5,7 +5,7 @@ ghost use Rattle.sr_lower_expr.specs.Shapes as shapes;
 use sr_check_expr::name_spot;
 use sr_tables::{MOST_BYTES, SpotMap, shape_at};
 use sr_types::Ty;
-use sr_value::{Boxed, Dims, NoMemory, Shape};
+use sr_value::{Dims, NoMemory, Shape, Shared};
 use std::alloc::Global;
 
 /// The shape of a type. It has no bounds: its strings have 65,535 bytes, and its arrays no items.
@@ -20,7 +20,7 @@ pub fn shape_of_type(alloc: Global, ty: &Ty, table: &SpotMap<Shape>) -> Result<S
         Ty::Enum(spot) | Ty::Rec(spot) => shape_at(alloc, table, name_spot(*spot)),
         Ty::Vector(item) => Ok(Shape::Arr {
             dims: Dims::One { lo: 1, hi: 0 },
-            item: Boxed::new(alloc, shape_of_type(alloc, item.get(), table)?)?,
+            item: Shared::new(alloc, shape_of_type(alloc, item.get(), table)?)?,
         }),
         Ty::Matrix(item) => Ok(Shape::Arr {
             dims: Dims::Two {
@@ -29,7 +29,7 @@ pub fn shape_of_type(alloc: Global, ty: &Ty, table: &SpotMap<Shape>) -> Result<S
                 lo2: 1,
                 hi2: 0,
             },
-            item: Boxed::new(alloc, shape_of_type(alloc, item.get(), table)?)?,
+            item: Shared::new(alloc, shape_of_type(alloc, item.get(), table)?)?,
         }),
         Ty::Resource(_) | Ty::Op(_) | Ty::Vm | Ty::NullCap | Ty::Untyped => Ok(Shape::Capa),
     }

@@ -12,6 +12,6 @@ most_bytes = 65535
 abbrev pub Shapes : Type 0
 Shapes = List (Spot × Shape)
 
--- the shape of a declared type
+-- the shape of a declared type; one that has none, as in a program that is refused, is an `int`
 abbrev pub shape_at : Shapes → Spot → Shape
 shape_at shapes spot = unwrap_or (found_at shapes spot) shape.Int
