@@ -116,6 +116,16 @@ impl Places {
         self.instances[&instance].state
     }
 
+    /// How far an instance has come, where it was added.
+    pub fn state_of(&self, instance: u32) -> Option<State>
+        ensures { result ≡ state_of self.now instance }
+    {
+        match self.instances.get(&instance) {
+            Some(info) => Some(info.state),
+            None => None,
+        }
+    }
+
     /// Puts an instance into a state. All else stays.
     pub fn set(&mut self, instance: u32, state: State)
         requires { IsAdded self.old instance }

@@ -12,6 +12,9 @@ use std::alloc::Global;
 use std::collections::VecDeque;
 use std::marker::Model;
 
+/// How many lines are kept though they may be empty: the next invocation takes no memory for its line then.
+const LINES_KEPT: usize = 64;
+
 /// What is known of a pending invocation without a look at it.
 #[derive(Clone, Copy)]
 pub struct Numbered {
@@ -27,7 +30,7 @@ pub struct Index {
     entries: VecDeque<Numbered>,
     /// The number of the next that arrives.
     next: u64,
-    /// The numbers of each operation that has any.
+    /// The numbers of each operation that has any, and of some that had.
     lines: IndexMap<Class, VecDeque<u64>>,
 }
 
@@ -123,7 +126,7 @@ fn note(
     Ok(())
 }
 
-/// Takes a number out of the line of an operation, and the line with its last.
+/// Takes a number out of the line of an operation.
 fn forget(lines: &mut IndexMap<Class, VecDeque<u64>>, class: Class, number: u64)
     requires { IsRising (line_in lines.old.entries class) }
     ensures { (place : ℕ) → slice_get (line_in lines.old.entries class) place ≡ Some number → ChangesLine lines.old.entries lines.new.entries class (remove (line_in lines.old.entries class) place) }
@@ -133,6 +136,16 @@ fn forget(lines: &mut IndexMap<Class, VecDeque<u64>>, class: Class, number: u64)
     };
     take_number(line, number);
     if line.is_empty() {
+        drop_empty(lines, class);
+    }
+}
+
+/// Drops the line of an operation, which is empty, unless few lines are kept.
+fn drop_empty(lines: &mut IndexMap<Class, VecDeque<u64>>, class: Class)
+    requires { line_in lines.old.entries class ≡ [] }
+    ensures { ChangesLine lines.old.entries lines.new.entries class [] }
+{
+    if lines.len() > LINES_KEPT {
         let _ = lines.swap_remove(&class);
     }
 }

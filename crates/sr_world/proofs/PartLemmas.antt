@@ -89,6 +89,13 @@ ready_after_is Boot own actor world = refl
 ready_after_is Proc own actor world = refl
 ready_after_is Final own actor world = refl
 
+-- any other reply leaves each instance as it is
+pub ready_kept : (role : Role) (own : Bool) (actor : ℕ) (world : World) → role ≢ Initial → ready_after role own actor world ≡ world
+ready_kept Initial own actor world not = absurd (not refl)
+ready_kept Boot own actor world not = refl
+ready_kept Proc own actor world not = refl
+ready_kept Final own actor world not = refl
+
 -- who lives after a process has ended is another, and lived before
 pub live_without : (starts : List Start) (process p : ℕ) → IsLive (without_process starts process) p → (p ≢ process) × IsLive starts p
 live_without [] process p live = absurd (true≢false (sym live))

@@ -6,7 +6,7 @@ ghost use Rattle.sr_world.specs.Answering.{answer_held, answer as answer_of, dut
 ghost use Rattle.sr_world.specs.Does.{Did};
 ghost use Rattle.sr_world.specs.Invoking.{instance_of_process as instance_for};
 ghost use Rattle.sr_world.specs.Parts.{CanReply, held_with, held_without, let_go as let_go_of, replies_after, replies_unless};
-ghost use Rattle.sr_world.specs.Steps.{reply as reply_of, take as take_of};
+ghost use Rattle.sr_world.specs.Steps.{ready_after as ready_after_of, reply as reply_of, take as take_of};
 ghost use Rattle.sr_world.specs.Updates.{use_name};
 
 use crate::acted::Acted;
@@ -139,7 +139,6 @@ impl World {
     }
 
     /// A process answers an invocation. Initial code that answers its `create` is ready from then on.
-    #[tactic(auto, using(crate::proofs::PartLemmas::ready_after_is))]
     pub(crate) fn reply(
         &mut self,
         role: Role,
@@ -151,9 +150,22 @@ impl World {
     {
         let results = results.copy(self.alloc)?;
         self.answer_held(actor, held, results)?;
-        let instance = self.instance_of_process(actor);
-        ready_own(&mut self.places, role, held == actor, instance);
+        self.note_answered(role, actor, held == actor);
         Ok(Acted::Done(Answer::Done))
+    }
+
+    /// Initial code that answered its `create` is ready from then on. The instance of any other process isn't looked for.
+    #[tactic(auto, using(crate::proofs::PartLemmas::ready_after_is, crate::proofs::PartLemmas::ready_kept))]
+    fn note_answered(&mut self, role: Role, actor: u32, own: bool)
+        ensures { self.new ≡ ready_after_of role own actor self.old }
+    {
+        match role {
+            Role::Initial => {
+                let instance = self.instance_of_process(actor);
+                ready_own(&mut self.places, role, own, instance);
+            }
+            _ => {}
+        }
     }
 
     /// The earliest reply to one of these invocations.

@@ -13,11 +13,7 @@ use std::alloc::Global;
 pub fn state_at(places: &Places, instance: u32) -> Option<State>
     ensures { result ≡ state_of places.now instance }
 {
-    if places.is_added(instance) {
-        Some(places.state(instance))
-    } else {
-        None
-    }
+    places.state_of(instance)
 }
 
 /// Whether an instance has ended, or never was.

@@ -1,5 +1,4 @@
 ghost use Rattle.std.specs.Prelude.{◌≡◌, IfOk};
-ghost use Rattle.sr_calls.specs.Calls.{CanHold, with_item};
 ghost use Rattle.sr_world.specs.Acting.{Acts};
 ghost use Rattle.sr_world.specs.Selecting.{choice_of, fault_at, select as select_of, select_at as select_of_at, service_at as service_of_at};
 
@@ -8,20 +7,10 @@ use crate::ends::End;
 use crate::reads::GuardReads;
 use crate::world::World;
 use sr_ask::Answer;
-use sr_calls::{Calls, Held};
 use sr_core::{Core, Me, Site};
 use sr_queue::Pending;
 use sr_select::{Choice, choose};
 use sr_value::{Fault, NoMemory, Row, Value};
-
-/// Notes that a process services an invocation. It takes no memory.
-fn take_over(calls: &mut Calls, process: u32, held: Held)
-    requires { CanHold calls.old process }
-    ensures held { calls.new.held ≡ with_item calls.old.held process held }
-    ensures replies { calls.new.replies ≡ calls.old.replies }
-{
-    let _ = calls.hold(process, held.id, held.back, held.back_id);
-}
 
 impl World {
     /// What an `in` statement of a process does. It takes memory only where guards do.
@@ -53,15 +42,10 @@ impl World {
         if place >= self.queue.len() {
             return Ok(Acted::Cannot);
         }
-        self.calls.reserve(process)?;
-        let Pending {
-            id,
-            args,
-            back,
-            back_id,
-            ..
-        } = self.queue.remove_at(place);
-        take_over(&mut self.calls, process, Held { id, back, back_id });
+        let pending = self.queue.at(place);
+        self.calls
+            .hold(process, pending.id, pending.back, pending.back_id)?;
+        let Pending { id, args, back, .. } = self.queue.remove_at(place);
         Ok(Acted::Done(Answer::Picked {
             id,
             arm,

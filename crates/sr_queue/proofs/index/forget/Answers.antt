@@ -14,15 +14,14 @@ returns-then-is_empty c = λ place at.
     let old = c.args.lines.now in
     let line = c.take_number.new.line in
     let new = c.get_mut.follows.lender line in
-    let last = c.swap_remove.new.self in
+    let last = c.drop_empty.new.lines in
     let was = ap numbers_of c.in-Some.ensures.value in
     let left : line.items ≡ remove (line_in old.entries c.args.class) place = c.take_number.ensures place (ap (λ ns. slice_get ns place) was ∙ at) ∙ ap (λ ns. remove ns place) was in
     let none : line.items ≡ [] = nil_from_length line.items (sym line.ok.0 ∙ eqb-true line.len 0 (sym c.is_empty.ensures ∙ c.if-is_empty.true)) in
     let first : ChangesLine old.entries new.entries c.args.class (remove (line_in old.entries c.args.class) place) =
     changes-from old.entries new.entries c.args.class (Some line) (remove (line_in old.entries c.args.class) place) left (((c.get_mut.follows.holds line).3 (ap is_some (sym c.in-Some.ensures.value))).0) in
-    let second : ChangesLine new.entries last.entries c.args.class (remove (line_in old.entries c.args.class) place) =
-    changes-from new.entries last.entries c.args.class None (remove (line_in old.entries c.args.class) place) (sym none ∙ left) c.swap_remove.ensures.updates.0 in
-    changes-twice old.entries new.entries last.entries c.args.class _ _ first second
+    let second : ChangesLine new.entries last.entries c.args.class [] = c.drop_empty.ensures in
+    subst (ChangesLine old.entries last.entries c.args.class) (sym none ∙ left) (changes-twice old.entries new.entries last.entries c.args.class _ _ first second)
 
 pub returns-else-is_empty : goal.returns-else-is_empty
 returns-else-is_empty c = λ place at.
