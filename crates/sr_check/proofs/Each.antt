@@ -1,5 +1,5 @@
 -- What holds of each element of a list, one element after another.
-use Rattle.std.proofs.Common.{◌≡◌, suc, zero, List, [], ◌∷◌, ◌++◌, refl, arith}
+use Rattle.std.proofs.Common.{suc, zero, List, [], ◌∷◌, ◌++◌, arith}
 use Rattle.std.specs.List.{All, flat_map}
 
 abbrev pub Each : {X : Type 0} → (X → Type 0) → List X → Type 0

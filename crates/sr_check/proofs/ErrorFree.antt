@@ -1,6 +1,6 @@
 -- Findings of which none is a broken rule: their parts, and where there are none.
-use Rattle.std.proofs.Common.{◌≡◌, ◌⊎◌, refl, sym, subst, inl, inr, Bool, true, false, List, [], ◌∷◌, ◌++◌, None, MatchOption}
-use Rattle.std.specs.Prelude.{IsTrue, if◌then◌else◌}
+use Rattle.std.proofs.Common.{◌≡◌, refl, sym, subst, inl, inr, Bool, true, false, List, [], ◌∷◌, ◌++◌, None, MatchOption}
+use Rattle.std.specs.Prelude.{IsTrue}
 use Rattle.sr_names.specs.declared.finding.Finding.{Finding}
 use Rattle.sr_names.specs.declared.finding.Finding.TheVariants.{Use, Broken}
 use Rattle.sr_names.specs.declared.finding.Rule.{Rule}

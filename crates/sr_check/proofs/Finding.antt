@@ -2,9 +2,7 @@
 use Rattle.std.proofs.Common.{◌≡◌, ◌⊎◌, inl, inr, Bool, true, false, not, ◌&&◌, ◌||◌, true≢false, List, [], ◌∷◌, ◌++◌, Option, Some, None, refl, sym, ◌∙◌, ap, subst, map, is_some}
 use Rattle.std.specs.List.{list_any}
 use Rattle.sr_value.specs.declared.place.Span.{Span}
-use Rattle.sr_names.specs.declared.finding.Rule.{Rule}
 use Rattle.sr_names.specs.declared.finding.Rule.TheVariants.{BadUse}
-use Rattle.sr_names.specs.Readings.{broken}
 use Rattle.sr_names.specs.declared.meaning.Decl.{Decl}
 use Rattle.sr_names.specs.declared.meaning.Meaning.{Meaning}
 use Rattle.sr_names.specs.declared.meaning.Meaning.TheVariants.{Predefined as MeansPredefined, Declared}

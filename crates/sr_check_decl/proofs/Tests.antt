@@ -1,5 +1,5 @@
 -- Tests over lists.
-use Rattle.std.proofs.Common.{◌≡◌, ◌⊎◌, inl, inr, ℕ, ◌+◌, ◌<◌, suc, zero, Bool, true, false, not, ◌&&◌, ◌||◌, cond, true≢false, List, [], ◌∷◌, ◌++◌, length, take, get_or, Some, None, refl, sym, ◌∙◌, ap, arith}
+use Rattle.std.proofs.Common.{◌≡◌, ◌⊎◌, inl, inr, ℕ, ◌+◌, ◌<◌, suc, zero, Bool, true, false, not, ◌&&◌, ◌||◌, cond, true≢false, List, [], ◌∷◌, ◌++◌, length, get_or, Some, None, refl, sym, ◌∙◌, ap, arith}
 use Rattle.std.specs.List.{filter, list_any, list_all, slice_get}
 
 pub and_left : (a b : Bool) → (a && b) ≡ true → a ≡ true
@@ -65,26 +65,6 @@ module _ {A : Type 0} (p : A → Bool) where
       by : (b : Bool) → list_any p (filter q ys) ≡ true → list_any p (cond b (y ∷ filter q ys) (filter q ys)) ≡ true
       by true h = or_right (p y) _ h
       by false h = h
-
-  pub all-more : (xs : List A) (i : ℕ) (d : A) → i < length xs → list_all p (take i xs) ≡ true → p (get_or xs i d) ≡ true → list_all p (take (i + 1) xs) ≡ true
-  all-more xs i d low so_far here =
-      let more : i + 1 ≡ suc i = omega arith in
-      ap (λ n. list_all p (take n xs)) more ∙ front xs i low so_far here
-    where
-      front : (ys : List A) (j : ℕ) → j < length ys → list_all p (take j ys) ≡ true → p (get_or ys j d) ≡ true → list_all p (take (suc j) ys) ≡ true
-      front [] j low so_far here = refl
-      front (y ∷ ys) zero low so_far here = both (p y) _ here refl
-      front (y ∷ ys) (suc j) low so_far here =
-          both (p y) _ (and_left _ _ so_far) (front ys j (omega arith) (and_right (p y) _ so_far) here)
-
-  pub all-fails : (xs : List A) (i : ℕ) (d : A) → i < length xs → p (get_or xs i d) ≡ false → list_all p xs ≡ false
-  all-fails [] i d low e = absurd (omega arith)
-  all-fails (x ∷ xs) zero d low e = ap (λ b. b && list_all p xs) e
-  all-fails (x ∷ xs) (suc i) d low e = by (p x) (all-fails xs i d (omega arith) e)
-    where
-      by : (b : Bool) → list_all p xs ≡ false → (b && list_all p xs) ≡ false
-      by true h = h
-      by false h = refl
 
   pub all-weaker : (q : A → Bool) → ((x : A) → p x ≡ true → q x ≡ true) → (xs : List A) → list_all p xs ≡ true → list_all q xs ≡ true
   all-weaker q weaker [] e = refl

@@ -41,10 +41,6 @@ names-first (g.names n h m) f q = ap f h
 pub dims-first : {d : DimsTree} {u : List Token} → SpellsDims d u → (f : TokenKind → Bool) (q : List Token) → next_is (λ t. f t.kind) (u ++ q) ≡ f (kind.Sign sign.OpenBracket)
 dims-first (g.dims o c h x y i) f q = ap f h
 
-pub decl-first : {d : Decl} {u : List Token} → SpellsDecl d u → (f : TokenKind → Bool) (q : List Token) → next_is (λ t. f t.kind) (u ++ q) ≡ f kind.Name
-decl-first (g.bare n h) f q = ap f h
-decl-first (g.sized n h d) f q = ap f h
-
 pub decls-first : {ds : List Decl} {u : List Token} → SpellsDecls ds u → (f : TokenKind → Bool) (q : List Token) → next_is (λ t. f t.kind) (u ++ q) ≡ f kind.Name
 decls-first (g.decls (g.bare n h) m) f q = ap f h
 decls-first (g.decls (g.sized n h d) m) f q = ap f h

@@ -18,7 +18,7 @@ use Rattle.sr_tree.specs.declared.token.Sign.TheVariants as sign
 use Rattle.sr_tree.specs.declared.token.Token.{Token}
 use Rattle.sr_tree.specs.declared.token.Word.TheVariants as word
 use Rattle.sr_tree.specs.Expressions as g
-use Rattle.sr_tree.specs.Expressions.{SpellsExpr, SpellsFactor, SpellsCreate, SpellsOn, SpellsPrimary, SpellsSecond, SpellsPart, SpellsMoreParts, SpellsArguments, SpellsMoreExprs, SpellsQualifiedName, expr_span, part, invocation, is_conversion_word, is_array}
+use Rattle.sr_tree.specs.Expressions.{SpellsExpr, SpellsFactor, SpellsCreate, SpellsPrimary, SpellsSecond, SpellsMoreParts, SpellsMoreExprs, SpellsQualifiedName, expr_span, part, invocation, is_conversion_word, is_array}
 use Rattle.sr_tree.specs.Tables.{IsSign, IsWord, IsName, name_of, literal_of, basic_of, conversion_of, unary_of, binary_of, right_level}
 use Rattle.sr_tree.specs.Tests.{is_sign, is_word, is_name}
 use Rattle.sr_expr_reader.specs.Readers.{binary_at, unary_at, literal_at, conversion_at, qualified_at, enclosed_at, is_comma, next_argument_at, more_arguments_at, arguments_at, on_at, create_at, repeated_part_at, part_at, next_part_at, more_parts_at, array_at, bracketed_at, unconverted_at, converted_at, start_at, field_at, second_at, index_at, call_at, is_callable, is_suffix, suffix_at, suffixes_at, primary_at, signed_at, pending_at, factor_at, is_operator, operation_at, operators_at, operand_at}
@@ -327,15 +327,6 @@ field-yields p t n q h i =
     yields_met _ (λ r. field_at p) _ (t ∷ n ∷ q) _ (is_that_sign sign.Point t h)
     (token_then (sign_at sign.Point) _ t (n ∷ q) t.span _ (sign-reads sign.Point t (n ∷ q) h)
     (below_token name_at _ n q (name_of n) _ (name-reads n q i) (below_returned _ q)))
-
-pub second-yields : {m : Option Expr} {v : List Token} → SpellsSecond m v → (q : List Token) → next_is (λ t. is_sign sign.Comma t.kind) q ≡ false
-    → ((e : Expr) (u : List Token) (d : SpellsExpr 5 e u) → Below (λ r. r.operand 5) (u ++ q) (Ok (e, q))) → Below second_at (v ++ q) (Ok (m, q))
-unfolding second_at
-second-yields g.no_second q e f = below_unmet _ _ _ q _ e (below_returned None q)
-second-yields (g.second {e = a} {u = u} comma h d) q e f =
-    below_met _ _ _ (comma ∷ (u ++ q)) _ (is_that_sign sign.Comma comma h)
-    (below_token (sign_at sign.Comma) _ comma (u ++ q) comma.span _ (sign-reads sign.Comma comma (u ++ q) h)
-    (below_then (λ r. r.operand 5) _ u q a _ (f a u d) (below_returned (Some a) q)))
 
 pub index-yields : (p e : Expr) (m : Option Expr) (o k : Token) (v w q : List Token) → IsSign sign.OpenBracket o → IsSign sign.CloseBracket k
     → Below (λ r. r.operand 5) (v ++ (w ++ k ∷ q)) (Ok (e, w ++ k ∷ q)) → Below second_at (w ++ k ∷ q) (Ok (m, k ∷ q))

@@ -10,7 +10,7 @@ use Rattle.sr_tree.specs.declared.expr.Part.{Part}
 use Rattle.sr_tree.specs.declared.token.Sign.TheVariants as sign
 use Rattle.sr_tree.specs.declared.token.Token.{Token}
 use Rattle.sr_tree.specs.Expressions as g
-use Rattle.sr_tree.specs.Expressions.{SpellsExpr, SpellsFactor, SpellsCreate, SpellsOn, SpellsPrimary, SpellsSecond, SpellsPart, SpellsMoreParts, SpellsArguments, SpellsMoreExprs, SpellsQualifiedName, expr_span, part, invocation, is_conversion_word, is_array}
+use Rattle.sr_tree.specs.Expressions.{SpellsExpr, SpellsFactor, SpellsCreate, SpellsOn, SpellsPrimary, SpellsSecond, SpellsPart, SpellsMoreParts, SpellsArguments, SpellsMoreExprs, expr_span, part, invocation}
 use Rattle.sr_tree.specs.Tables.{IsSign, name_of, right_level}
 use Rattle.sr_tree.specs.Tests.{is_sign}
 use Rattle.sr_expr_reader.specs.Readers.{is_comma, next_argument_at, arguments_at, on_at, create_at, repeated_part_at, part_at, next_part_at, start_at, second_at, is_suffix, suffix_at, primary_at, factor_at, is_operator, operation_at, operand_at}

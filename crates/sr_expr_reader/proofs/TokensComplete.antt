@@ -132,12 +132,6 @@ bracket-stops t q h = record {
   on = ap (is_word word.On) h;
 }
 
-no_suffix_of : (a b c d : Bool) → a ≡ false → b ≡ false → d ≡ false → (if a then true else if b then true else if c then false else d) ≡ false
-no_suffix_of true b c d e f h = e
-no_suffix_of false true c d e f h = f
-no_suffix_of false false true d e f h = refl
-no_suffix_of false false false d e f h = h
-
 -- a point or an opening bracket, which continue each primary
 abbrev pub continues : Token → Bool
 continues t = if is_sign sign.Point t.kind then true else if is_sign sign.OpenBracket t.kind then true else is_sign sign.OpenParen t.kind
@@ -170,11 +164,6 @@ pub continued-paren : (q : List Token) → next_is continues q ≡ false → nex
 continued-paren [] h = refl
 continued-paren (t ∷ q) h = paren_continues (is_sign sign.Point t.kind) (is_sign sign.OpenBracket t.kind) (is_sign sign.OpenParen t.kind) h
 
-pub stops-suffix : (p : Expr) (q : List Token) → Stops q → next_is (is_suffix p) q ≡ false
-stops-suffix p [] st = refl
-stops-suffix p (t ∷ q) st =
-    no_suffix_of (is_sign sign.Point t.kind) (is_sign sign.OpenBracket t.kind) (is_conversion_word p) (is_sign sign.OpenParen t.kind) st.point st.bracket st.paren
-
 no_follow : (limit : ℕ) (e : Expr) (m : Option BinaryOperator) → is_some m ≡ false → may_follow limit e m ≡ false
 no_follow limit e None h = refl
 no_follow limit e (Some o) h = cc
@@ -204,11 +193,6 @@ pub only_operator : (k : TokenKind) (o : BinaryOperator) → binary_of k ≡ Som
 only_operator (kind.Sign s) o h = only_operator_sign s o h
 only_operator (kind.Word w) o h = only_operator_word w o h
 only_operator _ o h = absurd (none_some o h)
-
-pub operator-suffix : (p : Expr) (t : Token) (o : BinaryOperator) → binary_of t.kind ≡ Some o → is_suffix p t ≡ false
-operator-suffix p t o h =
-    let only = only_operator t.kind o h in
-    no_suffix_of (is_sign sign.Point t.kind) (is_sign sign.OpenBracket t.kind) (is_conversion_word p) (is_sign sign.OpenParen t.kind) only.point only.bracket only.paren
 
 pub operator-continued : (t : Token) (o : BinaryOperator) → binary_of t.kind ≡ Some o → continues t ≡ false
 operator-continued t o h =

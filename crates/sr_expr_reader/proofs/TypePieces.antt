@@ -26,10 +26,10 @@ use Rattle.sr_tree.specs.Expressions.{SpellsExpr, SpellsQualifiedName}
 use Rattle.sr_tree.specs.Tables.{IsSign, IsWord, IsSeparator, basic_of}
 use Rattle.sr_tree.specs.Tests.{is_sign, is_word}
 use Rattle.sr_tree.specs.Types as g
-use Rattle.sr_tree.specs.Types.{SpellsNames, SpellsDims, SpellsDecl, SpellsDecls, SpellsMode, SpellsKinds, SpellsMoreKinds, SpellsFormalIn, SpellsMoreFormalsIn, SpellsMoreFieldsIn, MayDeclare, kind_of, pass_mode_of}
+use Rattle.sr_tree.specs.Types.{SpellsNames, SpellsDims, SpellsDecl, SpellsDecls, SpellsMoreKinds, SpellsFormalIn, SpellsMoreFormalsIn, SpellsMoreFieldsIn, MayDeclare, kind_of}
 use Rattle.sr_expr_reader.specs.Readers.{qualified_at}
 use Rattle.sr_tree.specs.Tokens.{sign_at, word_at, separator_at, is_separator}
-use Rattle.sr_expr_reader.specs.TypeReaders.{basic_type, basic_type_at, mode_of, mode_word_at, invocation_kind_of, kind_at, names_at, dims_at, decl_at, decls_at, mode_at, formal_after_at, formal_at, is_separated, next_formal_at, more_formals_at, formals_after_at, formals_at, returned_at, more_kinds_at, kinds_at, returns_open, own_kinds_at, signature_at, string_at, cap_at, array_type_at, plain_type_at, enum_at, next_field_at, more_fields_at, record_type_at, type_at, type_in_at, TypeReaders, within, nested, declared, type_readers}
+use Rattle.sr_expr_reader.specs.TypeReaders.{basic_type, basic_type_at, mode_of, mode_word_at, invocation_kind_of, kind_at, names_at, dims_at, decl_at, decls_at, mode_at, formal_after_at, formal_at, is_separated, next_formal_at, more_formals_at, formals_after_at, returned_at, more_kinds_at, kinds_at, returns_open, own_kinds_at, signature_at, string_at, cap_at, array_type_at, plain_type_at, enum_at, next_field_at, more_fields_at, record_type_at, type_at, type_in_at, TypeReaders, within, nested, declared, type_readers}
 use Rattle.sr_expr_reader.proofs.DeclsComplete.{name-first, dims-first, decls-first, complete-name, complete-names, complete-dims, complete-decl, complete-decls}
 use Rattle.sr_expr_reader.proofs.ExpressionEdges.{expr-begins, begins-no-sign, continues_expr, token-stops}
 use Rattle.sr_expr_reader.proofs.ExpressionsComplete.{operand-below}
@@ -280,11 +280,6 @@ module _ (p : TypePlace) where
       (below_then formals_after_at _ u (v ++ (w ++ q)) fs _ (below formals_after_at (u ++ (v ++ (w ++ q))) _ a)
       (below_then returned_at _ v (w ++ q) x _ (below returned_at (v ++ (w ++ q)) _ b)
       (below_then (λ r. own_kinds_at x) _ w q ks _ (below (λ r. own_kinds_at x) (w ++ q) _ c) (below_returned _ q))))
-
-  pub formals-yields : {fs : List Formal} (o : Token) (s q : List Token) → IsSign sign.OpenParen o → YieldsIn (readers_in p) formals_after_at s (Ok (fs, q))
-      → YieldsIn (readers_in p) formals_at (o ∷ s) (Ok (fs, q))
-  unfolding formals_at
-  formals-yields o s q h y = token_then (sign_at sign.OpenParen) (λ r x. formals_after_at r) o s o.span _ (sign-reads sign.OpenParen o s h) (below formals_after_at s _ y)
 
 -- types that may be declared
 

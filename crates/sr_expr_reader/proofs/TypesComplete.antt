@@ -23,11 +23,11 @@ use Rattle.sr_tree.specs.Tests.{is_sign, is_word}
 use Rattle.sr_tree.specs.Types as g
 use Rattle.sr_tree.specs.Types.{SpellsPlainTypeIn, SpellsTypeIn, SpellsFormalIn, SpellsMoreFormalsIn, SpellsFormalsIn, SpellsReturnedIn, SpellsKinds, SpellsSignatureIn, SpellsFieldIn, SpellsMoreFieldsIn, SpellsType, EndsOpen, BracesBelong, formal_span}
 use Rattle.sr_tree.specs.Tokens.{is_separator, separator_at}
-use Rattle.sr_expr_reader.specs.TypeReaders.{mode_of, formal_after_at, formal_at, is_separated, next_formal_at, formals_after_at, formals_at, returned_at, ends_open, returns_open, own_kinds_at, signature_at, plain_type_at, next_field_at, type_at, type_in_at, type_readers}
+use Rattle.sr_expr_reader.specs.TypeReaders.{mode_of, formal_after_at, formal_at, is_separated, next_formal_at, formals_after_at, returned_at, ends_open, returns_open, own_kinds_at, signature_at, plain_type_at, next_field_at, type_at, type_in_at, type_readers}
 use Rattle.sr_expr_reader.proofs.DeclsComplete.{name-first, dims-first, decls-first}
 use Rattle.sr_expr_reader.proofs.Families.{YieldsIn, LoopsIn, below}
 use Rattle.sr_expr_reader.proofs.ListsComplete.{list-stops, list-goes}
-use Rattle.sr_expr_reader.proofs.TypePieces.{separator-reads, plain-basic, plain-string, plain-any-string, plain-machine, plain-operation, plain-cap, plain-array, plain-named, formal-after, formal-with, formal-without, formal-opens, more-formals-stop, more-fields-stop, no-formals, some-formals, returns-nothing, returns-yields, no-kinds, some-kinds, own-open, own-closed, signature-yields, formals-yields, readers_in, nested-plain, nested-enum, nested-record}
+use Rattle.sr_expr_reader.proofs.TypePieces.{separator-reads, plain-basic, plain-string, plain-any-string, plain-machine, plain-operation, plain-cap, plain-array, plain-named, formal-after, formal-with, formal-without, formal-opens, more-formals-stop, more-fields-stop, no-formals, some-formals, returns-nothing, returns-yields, no-kinds, some-kinds, own-open, own-closed, signature-yields, readers_in, nested-plain, nested-enum, nested-record}
 use Rattle.sr_expr_reader.proofs.TypesSound.{decls_start, formal_of, returned_of, signature_of, mode-of-formal}
 use Rattle.sr_expr_reader.proofs.TypesOpen.{spelled-open-type}
 use Rattle.sr_expr_reader.proofs.TypesQuiet.{QuietPlainType, QuietSignature, QuietTail, QuietType, TypeStops, stops-quiet-type, braces-quiet-type}
@@ -232,11 +232,6 @@ module _ {p : TypePlace} where
     more_fields g.no_more_fields fs k q h = fields_stop p fs k q h
     more_fields (g.one_more_field {f = f} {fs = gs} {u = u} {v = v} s h d m) fs k q i =
         fields_go p fs f gs s u v (k ∷ q) h (complete_field d (v ++ k ∷ q) (more-fields-stop m k q i)) (more_fields m (fs ++ f ∷ []) k q i)
-
-  pub complete-formals : {fs : List Formal} {u : List Token} → SpellsFormalsIn p fs u → (q : List Token) → YieldsIn (readers_in p) formals_at (u ++ q) (Ok (fs, q))
-  complete-formals {fs = fs} f q =
-      let o = complete_opened f in
-      subst (λ y. YieldsIn (readers_in p) formals_at (y ++ q) (Ok (fs, q))) (sym o.splits) (formals-yields p o.opening (o.rest ++ q) q o.opens (o.reads q))
 
 -- the type that a declaration gives a name
 pub complete-type : {t : TypeTree} {u : List Token} (d : SpellsType t u) (q : List Token) → QuietType d q → YieldsIn type_readers type_at (u ++ q) (Ok (t, q))

@@ -12,15 +12,11 @@ use Rattle.sr_tree.specs.declared.types.Returned.{Returned}
 use Rattle.sr_tree.specs.declared.types.Signature.{Signature, out-Signature, roll-Signature, fold_out-Signature}
 use Rattle.sr_tree.specs.declared.types.TypePlace.{TypePlace}
 use Rattle.sr_tree.specs.declared.types.TypeTree.{TypeTree, fold-roll-TypeTree}
-use Rattle.sr_tree.specs.declared.types.TypeTree.TheFolds.{fold-Signature}
 use Rattle.sr_tree.specs.declared.types.TypeTree.TheOpen.{TypeTree-F}
 use Rattle.sr_tree.specs.declared.types.TypeTree.TheVariants as ty
 use Rattle.sr_tree.specs.Types as g
 use Rattle.sr_tree.specs.Types.{EndsOpen, SpellsPlainTypeIn, SpellsTypeIn}
 use Rattle.sr_expr_reader.specs.TypeReaders.{ends_open, has_no_kinds, type_ends_open}
-
-abbrev fold_signature : Signature → Bool
-fold_signature = fold-Signature Bool Bool Bool Bool type_ends_open (λ formal. false) (λ returned. false) (λ signature. has_no_kinds signature.kinds)
 
 pub operation-open : (s : Span) (x : Signature) → ends_open (ty.CapOperation s x) ≡ has_no_kinds (out-Signature x).kinds
 unfolding ends_open

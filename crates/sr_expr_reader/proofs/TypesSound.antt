@@ -31,7 +31,7 @@ use Rattle.sr_tree.specs.declared.types.TypeTree.TheVariants as ty
 use Rattle.sr_tree.specs.Expressions.{SpellsExpr, SpellsQualifiedName, expr_span}
 use Rattle.sr_tree.specs.Tables.{IsSign, IsWord, basic_of, word_basic}
 use Rattle.sr_tree.specs.Types as g
-use Rattle.sr_tree.specs.Types.{SpellsNames, SpellsMoreNames, SpellsRange, SpellsSecondRange, SpellsDims, SpellsDecl, SpellsDecls, SpellsMoreDecls, SpellsKinds, SpellsMoreKinds, SpellsPlainTypeIn, SpellsTypeIn, SpellsFieldIn, SpellsMoreFieldsIn, SpellsFormalIn, SpellsFormalsIn, SpellsMoreFormalsIn, SpellsReturnedIn, SpellsSignatureIn, SpellsType, MayDeclare, EndsOpen, BracesBelong, kind_of, pass_mode_of, formal_span}
+use Rattle.sr_tree.specs.Types.{SpellsNames, SpellsMoreNames, SpellsRange, SpellsSecondRange, SpellsDims, SpellsDecl, SpellsDecls, SpellsMoreDecls, SpellsKinds, SpellsMoreKinds, SpellsPlainTypeIn, SpellsTypeIn, SpellsFieldIn, SpellsMoreFieldsIn, SpellsFormalIn, SpellsFormalsIn, SpellsMoreFormalsIn, SpellsReturnedIn, SpellsSignatureIn, SpellsType, MayDeclare, BracesBelong, kind_of, pass_mode_of, formal_span}
 use Rattle.sr_expr_reader.specs.Readers.{Readers, is_comma}
 use Rattle.sr_tree.specs.Tokens.{sign_at, name_at, separator_at}
 use Rattle.sr_expr_reader.specs.TypeReaders.{TypeReaders, basic_type, basic_type_at, mode_of, mode_word_at, invocation_kind_of, kind_at, next_name_at, more_names_at, names_at, upper_bound_at, range_at, second_range_at, dims_at, decl_at, next_decl_at, more_decls_at, decls_at, mode_at, formal_start, formal_after_at, formal_at, is_separated, next_formal_at, more_formals_at, formals_after_at, formals_at, returned_at, more_kinds_at, kinds_at, returns_open, own_kinds_at, signature_at, string_at, cap_at, array_type_at, plain_type_at, enum_at, next_field_at, more_fields_at, record_type_at, type_at, nested_in, within, nested, type_readers}

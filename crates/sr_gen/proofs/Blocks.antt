@@ -18,7 +18,7 @@ use Rattle.sr_meaning.specs.declared.ending.Ending.{Ending}
 use Rattle.sr_meaning.specs.declared.ending.Ending.TheVariants.{Through, Left, Turned}
 use Rattle.sr_meaning.specs.Expressions.{Meaning, choice, expr_meaning}
 use Rattle.sr_meaning.specs.Here.{settle}
-use Rattle.sr_meaning.specs.Statements.{CoPart, block_meaning, condition_meaning, continue, first_true, guarded_meaning, if_meaning, or_try, truth_expr}
+use Rattle.sr_meaning.specs.Statements.{CoPart, block_meaning, continue, first_true, guarded_meaning, if_meaning, or_try, truth_expr}
 use Rattle.sr_gen_expr.specs.Emitting.{Gives, tree_here}
 use Rattle.sr_gen_expr.proofs.Stretching.{follows_at, follows_last}
 use Rattle.sr_gen.specs.Doing.{Acts, Checks, Tries, checked, tried, way}
@@ -40,12 +40,6 @@ checks_truth {line = line} expr {past = past} {c0 = c0} e g = record {
       → go m (unless truth past (length c0) on) stage ≡ go m (point (checked truth past (length c0)) on) stage
   chosen m on low true stage = refl
   chosen m on low false stage = ap (λ n. go m (point n on) stage) (lower_of past (length c0) low)
-
-pub checks_none : (past : ℕ) (core : Core) (line : Place) (c0 : List Coded) → Checks past core line (condition_meaning None) c0 c0
-checks_none past core line c0 = record {
-  grows = extends_self c0;
-  runs = λ low m same h on. follows_give (λ truth. go m (point (checked truth past (length c0)) on)) true;
-}
 
 -- ---- guarded blocks
 

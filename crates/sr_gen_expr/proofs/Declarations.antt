@@ -17,7 +17,6 @@ use Rattle.sr_core.specs.declared.expression.Expr.{Expr}
 use Rattle.sr_core.specs.declared.formal.Formal.{Formal}
 use Rattle.sr_core.specs.declared.formal.Returned.{Returned}
 use Rattle.sr_core.specs.declared.statement.Declaration.{Declaration}
-use Rattle.sr_core.specs.declared.statement.DimsExpr.{DimsExpr}
 use Rattle.sr_core.specs.declared.statement.DimsExpr.TheVariants.{One as one_range, Two as two_ranges}
 use Rattle.sr_core.specs.declared.statement.ItemShape.{ItemShape}
 use Rattle.sr_core.specs.declared.statement.ItemShape.TheVariants.{Fixed as fixed_item, Str as string_item}
@@ -96,10 +95,6 @@ gives_two range range2 item {c0 = c0} {c1 = c1} e shaped hi2 lo2 hi lo = record 
       (point (length c0) (put_shape (an_array (two_dims l u l2 u2) shape) on)) refl
       (follows_give (λ s. go m (point (length c0) (put_shape s on))) (an_array (two_dims l u l2 u2) shape)))))));
 }
-
--- a type means what its dimensions mean
-pub dims_is : (shape : ShapeExpr) (dims : DimsExpr) → shape.dims ≡ dims → shape_meaning shape ≡ (λ here. dims_shape dims shape.item here)
-dims_is shape dims is = ap (λ found. λ here. dims_shape found shape.item here) is
 
 -- ---- declarations
 

@@ -1,5 +1,5 @@
 -- The next reply of a `co`, by the place of its invocation among those that are out.
-use Rattle.std.proofs.Common.{◌≡◌, ℕ, ◌<◌, List, length, map, Option, option_map, Some, None, Result, Err, refl, sym, ap, ◌∙◌, inl, inr, subst, arith}
+use Rattle.std.proofs.Common.{◌≡◌, ℕ, ◌<◌, List, length, map, Option, option_map, Some, Result, Err, refl, sym, ap, ◌∙◌, inl, inr, subst, arith}
 use Rattle.std.specs.List.{slice_get}
 use Rattle.std.proofs.lemmas.Option.{slice_get-map, slice_get_cases}
 use Rattle.sr_ask.specs.Behaviors.{Stage, Outcome, Came, Stops, and_then}
@@ -19,11 +19,6 @@ use Rattle.sr_interpreter_expr.specs.declared.stop.Stop.{Stop}
 use Rattle.sr_interpreter_expr.specs.declared.stop.Stop.TheVariants.{Asks as stopped, NoMemory as out_of_memory}
 use Rattle.sr_interpreter_parts.proofs.Replies.{Placed, placed}
 use Rattle.sr_ask.specs.Replies.{Completion}
-
--- an invocation at a place, by its arm
-pub some_out : (found : Option Out) (arm : ℕ) → option_map (λ out. out.arm) found ≡ Some arm → (out : Out) × (found ≡ Some out) × (out.arm ≡ arm)
-some_out None arm e = cc
-some_out (Some out) arm e = (out, refl, cc)
 
 placed_now : (here : Here) (stage : Stage) → Placed stage.out (take_place here stage) (take_one here stage)
 placed_now here stage = placed stage.out (ask_of (Take (map (λ out. out.id) stage.out)) here) here.limit stage.answers stage refl

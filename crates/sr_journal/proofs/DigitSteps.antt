@@ -136,15 +136,8 @@ uncapped (Ok x) most c rest h w e =
     (whole, w c rest whole)
 uncapped (Err u) most c rest h w e = cc
 
-failed : (r : Reading ℕ) (e : JournalFail) → with_capped r ≡ Err e → r ≡ Err e
-failed (Ok x) e h = cc
-failed (Err u) e h = h
-
 -- a number that has a limit isn't capped
 pub limited-ok : (zeros : Bool) (most end c : ℕ) (s rest : List ℕ) → most < 2 ^ 32 → with_capped (number_at zeros (limit_of most) end s) ≡ Ok (c, rest) → (number_at zeros (Some most) end s ≡ Ok (c, rest)) × (c ≤ most)
 limited-ok zeros most end c s rest h e =
     let f : with_capped (number_at zeros (Some most) end s) ≡ Ok (c, rest) = ap (λ l. with_capped (number_at zeros l end s)) (sym (some-limit most h)) ∙ e in
     uncapped (number_at zeros (Some most) end s) most c rest h (number-within zeros most end s) f
-
-pub limited-err : (zeros : Bool) (most end : ℕ) (s : List ℕ) (e : JournalFail) → most < 2 ^ 32 → with_capped (number_at zeros (limit_of most) end s) ≡ Err e → number_at zeros (Some most) end s ≡ Err e
-limited-err zeros most end s e h f = failed (number_at zeros (Some most) end s) e (ap (λ l. with_capped (number_at zeros l end s)) (sym (some-limit most h)) ∙ f)

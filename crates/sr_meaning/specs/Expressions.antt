@@ -55,7 +55,7 @@ choice false one other = other
 
 -- ---- leaves
 
--- an operation's capability names its owner
+-- An operation's capability names its owner. A process of an accepted program has a home for each import of its component.
 abbrev pub owner_of : OperationOwner → Here → Owner
 owner_of Mine here = Inst here.start.instance
 owner_of (Imported at) here = Inst (unwrap_or (slice_get here.start.homes at) 0)
@@ -99,7 +99,7 @@ called target args returns here =
 abbrev pub ensured : List ℕ → Cap → Meaning (Unit {0})
 ensured globals vm here = globals_ensured globals vm (asker here)
 
--- the globals that a component needs, each after those that it imports
+-- the globals that a component needs, each after those that it imports; a number without a component, as in no accepted program, needs none
 abbrev pub needs_of : Core → ℕ → List ℕ
 needs_of core component = unwrap_or (option_map (λ c. c.needs) (slice_get core.components component)) []
 

@@ -11,7 +11,7 @@ use Rattle.sr_core.specs.declared.owner.Home.TheVariants.{Mine, Imported}
 use Rattle.sr_core.specs.declared.owner.Root.{Root}
 use Rattle.sr_meaning.specs.Here.{Here, asker}
 
--- the instance whose shared variables are meant
+-- the instance whose shared variables are meant; a process of an accepted program has a home for each import of its component
 abbrev pub block_of : Home → Here → ℕ
 block_of Mine here = here.start.instance
 block_of (Imported at) here = unwrap_or (slice_get here.start.homes at) 0

@@ -31,7 +31,7 @@ use Rattle.sr_meaning.specs.Statements.{block_of, make_formals, make_returned, r
 abbrev pub proc_at : Core → ℕ → Option Proc
 proc_at core code = slice_get core.procs code
 
--- the component of a proc is the component of its operation
+-- the component of a proc is the component of its operation; each proc of an accepted program has one
 abbrev pub component_of_proc : Core → Proc → ℕ
 component_of_proc core proc = unwrap_or (option_map (λ operation. operation.component) (slice_get core.operations proc.op)) 0
 
@@ -39,7 +39,7 @@ component_of_proc core proc = unwrap_or (option_map (λ operation. operation.com
 abbrev pub main_of : Core → ℕ
 main_of core = length core.components - 1
 
--- the boot process makes main
+-- the boot process makes main; a number without a proc, as in no accepted program, is of component 0
 abbrev pub component_for : Role → Core → ℕ → ℕ
 component_for Boot core code = main_of core
 component_for Role.Proc core code = unwrap_or (option_map (component_of_proc core) (proc_at core code)) 0

@@ -326,13 +326,13 @@ quantified (q ∷ rest) inner here =
 
 -- ---- in
 
--- what goes with a `Select` of what the guards name
+-- what goes with a `Select` of what the guards name; a process of an accepted program has a home for each import of its component
 abbrev pub named_value : Named → Meaning Value
 named_value (Named.Own var) here stage = settle (with_ok (own_at stage.own var) (λ own. Ok own.value)) here stage
 named_value (Named.Home at) here stage = Came (Capa (Cap.Res (unwrap_or (slice_get here.start.homes at) 0))) stage
 named_value Named.Machine here stage = Came (Capa (Vm here.start.vm)) stage
 
--- what a site without number has: no arms
+-- what a site that isn't there has: no arms; each `in` of an accepted program finds its site
 abbrev pub no_site : Site
 no_site = record { scope = Scope.Shared; arms = []; has_else = false; names = []; reads = []; counts = [] }
 
@@ -348,7 +348,7 @@ service_for pick arm = record {
 }
 
 -- The formals and the returned name are made, then the block runs. However it ends, the service ends with it:
--- it replies if it hasn't.
+-- it replies if it hasn't. An arm or a block that isn't there, as in no accepted program, does nothing.
 abbrev pub service_meaning : Pick → Option Arm → Option (List (Meaning Ending)) → Meaning Ending
 service_meaning pick (Some arm) (Some block) here stage =
     (set_service (service_for pick arm) >>= λ _.
@@ -379,7 +379,7 @@ abbrev pub optional_place : Option PlaceExpr → Meaning (Option Located)
 optional_place None here = give None
 optional_place (Some place) here = place_of_expr place here >>= λ at. give (Some at)
 
--- the values of the quantifiers at this turn
+-- the values of the quantifiers at this turn; one without a number, as in no accepted program, is 0
 abbrev pub own_number : List (Option Own) → ℕ → ℤ
 own_number own var = unwrap_or (int_in (own_or_nothing (own_at own var))) (pos 0)
 
@@ -420,7 +420,7 @@ abbrev pub store_value : Option Located → Value → Meaning (Unit {0})
 store_value None value here = give tt
 store_value (Some place) value here = store_place place value here
 
--- the stores of a reply, and then the block of its arm
+-- the stores of a reply, and then the block of its arm; an arm that isn't there, as in no accepted program, does nothing
 abbrev pub complete : Completion → Option CoPart → Meaning Ending
 complete completion None here = give Through
 complete completion (Some part) here =

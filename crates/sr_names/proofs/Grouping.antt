@@ -191,9 +191,6 @@ shrinks-next targets s new (enters_next front spot are none e) = λ links good i
 pub when_err : {T E : Type 0} (r : Result T E) (P : T → Type 0) (y : E) → r ≡ Err y → IfOk r P
 when_err r P y e = subst (λ x. IfOk x P) (sym e) tt
 
-none-some : {A : Type 0} (x : A) → None ≡ Some x → ⊥
-none-some x e = cc
-
 module _ (targets : List (Spot × List Spot)) (group : Group) (old new : Search) (front : List Spot) (spot : Spot) (unread : group.pending < length old.pending) (are : old.pending ≡ front ++ spot ∷ []) where
   pub went-merged : (mark : Mark) → mark_of old.marks spot ≡ Some mark → stands_before mark group.path ≡ true → new ≡ record old { pending = front ++ spot ∷ [] } → WentOn targets group old new
   went-merged (OnPath at) is before e = merges front spot at unread are is (ltb-true at group.path before) e

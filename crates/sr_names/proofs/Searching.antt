@@ -53,11 +53,6 @@ has-target (first ∷ links) spot link h e = by (same_spot spot first.from) refl
     by false f (inl k) rec = let same : first.from ≡ spot = ap (λ (l : Link). l.from) k ∙ e in absurd (let t : same_spot spot first.from ≡ true = subst (λ x. same_spot x first.from ≡ true) same (same_spot-refl first.from) in cc)
     by false f (inr k) rec = rec k
 
-ends-from : (links : List Link) (link : Link) → Among links link → Ends links link.from
-ends-from [] link h = absurd h
-ends-from (first ∷ links) link (inl e) = inl (ap (λ (l : Link). l.from) e)
-ends-from (first ∷ links) link (inr h) = inr (inr (ends-from links link h))
-
 ends-to : (links : List Link) (link : Link) → Among links link → Ends links link.to
 ends-to [] link h = absurd h
 ends-to (first ∷ links) link (inl e) = inr (inl (ap (λ (l : Link). l.to) e))

@@ -42,10 +42,6 @@ ascend-after file before from [] others h none_left after = after
 ascend-after file before from (span ∷ spans) others h (one_more s f b more) after =
     (omega (arith, h, f), ascend-after file before (suc span.from) spans others h more after)
 
-pub after-lower : (low high : ℕ) (spans : List Span) → low ≤ high → After high spans → After low spans
-after-lower low high [] h after = tt
-after-lower low high (span ∷ spans) h after = (omega (arith, h, after.0), after-lower low high spans h after.1)
-
 -- a span is at another place than those of later files
 apart-files : (span : Span) (others : List Span) → After span.file others → AllByRecursion (λ other. same_place span other ≡ false) others
 apart-files span [] after = tt

@@ -19,7 +19,7 @@ use Rattle.sr_tree.specs.declared.statement.Statement.TheVariants as statement
 use Rattle.sr_tree.specs.declared.token.Token.{Token}
 use Rattle.sr_tree.specs.Expressions.{create_span, expr_span}
 use Rattle.sr_tree.specs.Statements as s
-use Rattle.sr_tree.specs.Statements.{SpellsNamed, SpellsInvocation, SpellsStatus, SpellsPlaces, SpellsMorePlaces, SpellsBy, SpellsSuchThat, SpellsQuantifier, SpellsMoreQuantifiers, SpellsQuantifiers, SpellsOptionalNames, SpellsReturnedName, SpellsCondition, SpellsCallWord, SpellsOptionalQuantifiers, SpellsCoStart, SpellsCoCall, SpellsStatement, SpellsBranch, SpellsMoreBranches, SpellsBranches, SpellsArm, SpellsMoreArms, SpellsCoArm, SpellsMoreCoArms, SpellsBlockItem, SpellsItems, SpellsBlock, first_span}
+use Rattle.sr_tree.specs.Statements.{SpellsNamed, SpellsInvocation, SpellsStatus, SpellsPlaces, SpellsMorePlaces, SpellsBy, SpellsSuchThat, SpellsQuantifier, SpellsMoreQuantifiers, SpellsQuantifiers, SpellsOptionalNames, SpellsReturnedName, SpellsCondition, SpellsOptionalQuantifiers, SpellsCoStart, SpellsCoCall, SpellsStatement, SpellsBranch, SpellsMoreBranches, SpellsBranches, SpellsArm, SpellsMoreArms, SpellsCoArm, SpellsMoreCoArms, SpellsBlockItem, SpellsItems, SpellsBlock, first_span}
 use Rattle.sr_tree.specs.Tables.{name_of}
 use Rattle.sr_order.specs.Order.{Picks, nothing, left_out, picked}
 use Rattle.sr_order.specs.Spans.{joined}

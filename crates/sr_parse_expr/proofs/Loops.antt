@@ -1,5 +1,5 @@
 -- Loops over tokens, as readers give them.
-use Rattle.std.proofs.Common.{◌≡◌, refl, sym, ◌∙◌, ap, ℕ, ◌<◌, ◌≤◌, Bool, true, false, List, length, Result, Ok, Err, arith}
+use Rattle.std.proofs.Common.{◌≡◌, sym, ◌∙◌, ap, ℕ, ◌<◌, ◌≤◌, Bool, true, false, List, length, Ok, Err, arith}
 use Rattle.sr_reader.specs.Reader.{Reader, next_is, while}
 use Rattle.sr_reader.proofs.Loops.{while-stop, while-fail, while-go}
 use Rattle.sr_tree.specs.declared.token.Token.{Token}

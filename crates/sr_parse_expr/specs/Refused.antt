@@ -1,5 +1,5 @@
 -- The place of a refusal among tokens.
-use Rattle.std.specs.Prelude.{◌≡◌, ℕ, suc, ◌+◌, ◌-◌, ◌<◌, List, ◌∷◌, length, drop, max, slice_get, Option, Some, None}
+use Rattle.std.specs.Prelude.{◌≡◌, ℕ, suc, ◌+◌, ◌-◌, ◌<◌, List, length, drop, max, slice_get, Option, Some, None}
 use Rattle.sr_reader.specs.Pieces.{IsDead, IsLongest}
 use Rattle.sr_text.specs.declared.refusal.FrontFail.{FrontFail}
 use Rattle.sr_text.specs.declared.refusal.FrontFail.TheVariants as front

@@ -1,6 +1,5 @@
 -- What several puts append, one after the other.
 use Rattle.std.proofs.Common.{◌≡◌, ℕ, ◌+◌, List, [], ◌++◌, length, take, None, Some, refl, sym, ap, ◌∙◌, arith, append_assoc, append-nil, length-append}
-use Rattle.std.proofs.lemmas.List.{take-append-le}
 use Rattle.std.proofs.Math.Seq.{take-append-add}
 use Rattle.std.specs.declared.option.Option.{Option}
 use Rattle.std.specs.Io.KnownBytes.{append_known}
@@ -24,13 +23,4 @@ PutInPart-after held mid now first second whole part =
       appended =
           part.appended ∙ ap (λ known. append_known known (take part.count second)) whole ∙ append_known-append held first _
           ∙ ap (append_known held) (sym (take-append-add first second part.count));
-    }
-
--- a text of which a part was put stands before another
-pub PutInPart-before : (held now : Option (List ℕ)) (first second : List ℕ) → PutInPart held now first → PutInPart held now (first ++ second)
-PutInPart-before held now first second part =
-    record {
-      count = part.count;
-      short = omega (arith, length-append first second, part.short);
-      appended = part.appended ∙ ap (append_known held) (sym (take-append-le part.count first second (omega (arith, part.short))));
     }

@@ -1,11 +1,10 @@
 -- How far a text has been put into a sink.
-use Rattle.std.proofs.Common.{◌≡◌, ◌≢◌, ℕ, ◌+◌, ◌≤◌, List, ◌++◌, length, take, drop, sym, ap, ◌∙◌, arith, length-drop}
-use Rattle.std.proofs.lemmas.List.{drop-drop, take_all}
+use Rattle.std.proofs.Common.{◌≡◌, ℕ, ◌+◌, ◌≤◌, List, ◌++◌, length, take, drop, sym, ap, ◌∙◌, arith, length-drop}
+use Rattle.std.proofs.lemmas.List.{drop-drop}
 use Rattle.std.proofs.Math.Seq.{take-add}
 use Rattle.std.specs.declared.option.Option.{Option}
 use Rattle.std.specs.Io.KnownBytes.{append_known}
-use Rattle.sr_ports.specs.Streams.{PutInPart}
-use Rattle.sr_ports.proofs.Growth.{append_known-nil, append_known-append}
+use Rattle.sr_ports.proofs.Growth.{append_known-append}
 
 -- the sink took the first `count` of the bytes, and the rest is to go
 pub record Progress (bytes rest : List ℕ) (held now : Option (List ℕ)) : Type 0 where
@@ -13,10 +12,6 @@ pub record Progress (bytes rest : List ℕ) (held now : Option (List ℕ)) : Typ
   pub within : count ≤ length bytes
   pub to_go : rest ≡ drop count bytes
   pub appended : now ≡ append_known held (take count bytes)
-
-pub begins : (bytes : List ℕ) (held : Option (List ℕ)) → Progress bytes bytes held held
-begins bytes held =
-    record { count = 0; within = omega arith; to_go = grind arith; appended = sym (append_known-nil held) }
 
 left : (bytes rest : List ℕ) (held now : Option (List ℕ)) (done : Progress bytes rest held now) → length rest + done.count ≡ length bytes
 left bytes rest held now done =
@@ -35,11 +30,3 @@ goes_on bytes rest held mid now count done fits put =
           ∙ ap (λ xs. append_known held (take done.count bytes ++ take count xs)) done.to_go
           ∙ ap (append_known held) (sym (take-add done.count count bytes));
     }
-
-pub ends : (bytes rest : List ℕ) (held now : Option (List ℕ)) → Progress bytes rest held now → length rest ≡ 0 → now ≡ append_known held bytes
-ends bytes rest held now done none =
-    done.appended ∙ ap (append_known held) (take_all done.count bytes (omega (arith, left bytes rest held now done)))
-
-pub breaks_off : (bytes rest : List ℕ) (held now : Option (List ℕ)) → Progress bytes rest held now → length rest ≢ 0 → PutInPart held now bytes
-breaks_off bytes rest held now done some =
-    record { count = done.count; short = omega (arith, left bytes rest held now done); appended = done.appended }

@@ -1,4 +1,4 @@
-ghost use Rattle.std.specs.Prelude.{◌≡◌, ◌⊎◌, ◌↔◌, Some, None, length, take, IsErrOf};
+ghost use Rattle.std.specs.Prelude.{◌≡◌, ◌⊎◌, ◌↔◌, Some, None, IsErrOf};
 ghost use Rattle.std.specs.Option.{option_copied};
 ghost use Rattle.sr_ports.specs.Faults.{Counts};
 ghost use Rattle.sr_ports.specs.Files.{bytes_of, ReadsFile};

@@ -1,7 +1,7 @@
 -- Processes under their numbers.
-use Rattle.std.proofs.Common.{◌≡◌, ℕ, Bool, true, false, cond, not, List, [], ◌∷◌, ◌++◌, Option, None, Some, IsSome, is_some, map, refl, ap, sym, ◌∙◌, subst, true≢false, nat_eq}
+use Rattle.std.proofs.Common.{◌≡◌, ℕ, Bool, true, false, cond, not, List, [], ◌∷◌, ◌++◌, Option, None, Some, IsSome, is_some, refl, ap, sym, ◌∙◌, true≢false, nat_eq}
 use Rattle.std.proofs.lemmas.List.{map-append}
-use Rattle.std.specs.Prelude.{filter, find}
+use Rattle.std.specs.Prelude.{find}
 use Rattle.std.specs.Map.{keys_of, lookup, remove_entry}
 use Rattle.sr_ask.specs.declared.start.Start.{Start}
 use Rattle.sr_processes.specs.Living.{is_process, numbers_of, start_of, without_process}

@@ -22,7 +22,7 @@ use Rattle.sr_tree.specs.declared.token.TokenKind.TheVariants as kind
 use Rattle.sr_tree.specs.declared.token.Word.{Word}
 use Rattle.sr_tree.specs.declared.token.Word.TheVariants as word
 use Rattle.sr_tree.specs.Components as g
-use Rattle.sr_tree.specs.Components.{SpellsList, SpellsEndName, SpellsEnd, SpellsSpecItem, SpellsProcItem, SpellsProc, SpellsProcedure, SpellsProcess, SpellsFinal, SpellsItem, IsOfResource, AllOfResource}
+use Rattle.sr_tree.specs.Components.{SpellsList, SpellsEnd, SpellsSpecItem, SpellsProcItem, SpellsProc, SpellsProcedure, SpellsProcess, SpellsFinal, SpellsItem, IsOfResource, AllOfResource}
 use Rattle.sr_tree.specs.Statements.{SpellsStatement}
 use Rattle.sr_tree.specs.Tables.{IsName, IsSeparator, name_of}
 use Rattle.sr_tree.specs.Tests.{is_sign, is_word, is_name}

@@ -27,7 +27,7 @@ use Rattle.sr_tree.specs.Components.{SpellsList, SpellsEnd, SpellsSpecItem, Spel
 use Rattle.sr_tree.specs.Tables.{IsSign, IsWord, name_of}
 use Rattle.sr_tree.specs.Tests.{is_sign, is_word, is_name}
 use Rattle.sr_tree.specs.Types as types
-use Rattle.sr_tree.specs.Types.{SpellsFormal, SpellsMoreFormals, SpellsFormals, SpellsMode, pass_mode_of}
+use Rattle.sr_tree.specs.Types.{SpellsFormal, SpellsMoreFormals, SpellsFormals, pass_mode_of}
 use Rattle.sr_tree.specs.Tokens.{sign_at, word_at, name_at, separator_at, is_separator}
 use Rattle.sr_expr_reader.specs.TypeReaders.{TypeReaders, type_readers, is_separated, formal_at}
 use Rattle.sr_expr_reader.proofs.DeclsComplete.{decls-first}

@@ -32,7 +32,7 @@ use Rattle.sr_tree.specs.declared.types.PassMode.{PassMode}
 use Rattle.sr_tree.specs.declared.types.PassMode.TheVariants.{Val}
 use Rattle.sr_tree.specs.declared.types.TypePlace.TheVariants.{Elsewhere}
 use Rattle.sr_tree.specs.Components as g
-use Rattle.sr_tree.specs.Components.{SpellsList, SpellsEndName, SpellsEnd, SpellsSpecItem, SpellsProcItem, SpellsProc, SpellsProcedure, SpellsProcess, SpellsFinal, SpellsItem, final_count, IsOfResource, AllOfResource, IsByValue, AllByValue, SpellsOptionalFormals, SpellsGlobalBody, SpellsComponent}
+use Rattle.sr_tree.specs.Components.{SpellsList, SpellsEndName, SpellsEnd, SpellsSpecItem, SpellsProcItem, SpellsProc, SpellsProcedure, SpellsProcess, SpellsFinal, SpellsItem, final_count, AllOfResource, IsByValue, AllByValue, SpellsOptionalFormals, SpellsGlobalBody, SpellsComponent}
 use Rattle.sr_tree.specs.Declarations.{SpellsImport, SpellsConst, SpellsTypeDecl, SpellsOpType, SpellsOp, SpellsVar, SpellsSem}
 use Rattle.sr_tree.specs.Statements.{SpellsReturnedName, SpellsOptionalQuantifiers, SpellsStatement}
 use Rattle.sr_tree.specs.Tables.{IsSign, IsWord, IsName, name_of}

@@ -1,6 +1,5 @@
 -- What is spelled as a declaration is read, where the token after it continues nothing.
 use Rattle.std.proofs.Common.{◌≡◌, refl, sym, ◌∙◌, ap, subst, false, List, [], ◌∷◌, ◌++◌, Option, Some, None, Ok, append_assoc, lit≤}
-use Rattle.std.specs.Prelude.{is_some}
 use Rattle.sr_reader.specs.Reader.{next_is}
 use Rattle.sr_reader.proofs.Soundness.{append-nil}
 use Rattle.sr_tree.specs.declared.declaration.ConstDecl.{ConstDecl}
@@ -15,15 +14,14 @@ use Rattle.sr_tree.specs.declared.declaration.VarDecl.{VarDecl}
 use Rattle.sr_tree.specs.declared.expr.Expr.{Expr}
 use Rattle.sr_tree.specs.declared.token.Sign.TheVariants as sign
 use Rattle.sr_tree.specs.declared.token.Token.{Token}
-use Rattle.sr_tree.specs.declared.token.TokenKind.{TokenKind}
 use Rattle.sr_tree.specs.declared.token.Word.TheVariants as word
 use Rattle.sr_tree.specs.declared.types.Signature.{Signature}
 use Rattle.sr_tree.specs.declared.types.TypeTree.{TypeTree}
 use Rattle.sr_tree.specs.Declarations as g
 use Rattle.sr_tree.specs.Declarations.{SpellsOptionalType, SpellsImport, SpellsConst, SpellsTypeDecl, SpellsOpType, SpellsOpItem, SpellsMoreOpItems, SpellsOp, SpellsValues, SpellsVar, SpellsInitial, SpellsMoreSemaphores, SpellsSem}
 use Rattle.sr_tree.specs.Expressions as expressions
-use Rattle.sr_tree.specs.Expressions.{SpellsExpr, SpellsMoreExprs, SpellsQualifiedName}
-use Rattle.sr_tree.specs.Tables.{IsSign, IsName, name_of, binary_of}
+use Rattle.sr_tree.specs.Expressions.{SpellsExpr, SpellsMoreExprs}
+use Rattle.sr_tree.specs.Tables.{IsSign, IsName, name_of}
 use Rattle.sr_tree.specs.Tests.{is_sign, is_word}
 use Rattle.sr_tree.specs.Types.{SpellsSignature}
 use Rattle.sr_expr_reader.specs.Readers.{readers, is_comma, is_operator, operation_at, operand_at, qualified_at, next_argument_at, more_arguments_at}
@@ -50,47 +48,6 @@ pub record Rests (q : List Token) : Type 0 where
   pub comma : next_is (λ t. is_sign sign.Comma t.kind) q ≡ false
   pub colon : next_is (λ t. is_sign sign.Colon t.kind) q ≡ false
   pub assign : next_is (λ t. is_sign sign.Assign t.kind) q ≡ false
-
--- that of a token
-pub record RestsAt (k : TokenKind) : Type 0 where
-  pub operator : is_some (binary_of k) ≡ false
-  pub point : is_sign sign.Point k ≡ false
-  pub bracket : is_sign sign.OpenBracket k ≡ false
-  pub paren : is_sign sign.OpenParen k ≡ false
-  pub on : is_word word.On k ≡ false
-  pub brace : is_sign sign.OpenBrace k ≡ false
-  pub returns : is_word word.Returns k ≡ false
-  pub comma : is_sign sign.Comma k ≡ false
-  pub colon : is_sign sign.Colon k ≡ false
-  pub assign : is_sign sign.Assign k ≡ false
-
-pub rests-at : (k : TokenKind) → RestsAt k → (t : Token) → t.kind ≡ k → (q : List Token) → Rests (t ∷ q)
-rests-at k r t h q = record {
-  stops = record {
-    operator = ap (λ x. is_some (binary_of x)) h ∙ r.operator;
-    point = ap (is_sign sign.Point) h ∙ r.point;
-    bracket = ap (is_sign sign.OpenBracket) h ∙ r.bracket;
-    paren = ap (is_sign sign.OpenParen) h ∙ r.paren;
-    on = ap (is_word word.On) h ∙ r.on;
-  };
-  types = record {
-    point = ap (is_sign sign.Point) h ∙ r.point;
-    brace = ap (is_sign sign.OpenBrace) h ∙ r.brace;
-    returns = ap (is_word word.Returns) h ∙ r.returns;
-  };
-  comma = ap (is_sign sign.Comma) h ∙ r.comma;
-  colon = ap (is_sign sign.Colon) h ∙ r.colon;
-  assign = ap (is_sign sign.Assign) h ∙ r.assign;
-}
-
-pub rests-end : Rests []
-rests-end = record {
-  stops = record { operator = refl; point = refl; bracket = refl; paren = refl; on = refl };
-  types = record { point = refl; brace = refl; returns = refl };
-  comma = refl;
-  colon = refl;
-  assign = refl;
-}
 
 -- ---- parts of declarations
 

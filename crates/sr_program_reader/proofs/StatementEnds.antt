@@ -1,5 +1,5 @@
 -- What may stand after expressions, declarations and statements.
-use Rattle.std.proofs.Common.{◌≡◌, refl, ap, Bool, true, false, List, [], ◌∷◌, Some}
+use Rattle.std.proofs.Common.{◌≡◌, refl, ap, Bool, true, false, List, ◌∷◌, Some}
 use Rattle.std.specs.Prelude.{if◌then◌else◌}
 use Rattle.sr_reader.specs.Reader.{next_is}
 use Rattle.sr_tree.specs.declared.statement.Direction.{Direction}
@@ -14,7 +14,7 @@ use Rattle.sr_tree.specs.Statements.{direction_of}
 use Rattle.sr_tree.specs.Tables.{IsSign, IsWord, IsSeparator}
 use Rattle.sr_tree.specs.Tests.{is_sign, is_word}
 use Rattle.sr_tree.specs.Tokens.{is_separator}
-use Rattle.sr_expr_reader.proofs.ExpressionEdges.{continues_expr, token-stops, end-stops}
+use Rattle.sr_expr_reader.proofs.ExpressionEdges.{continues_expr, token-stops}
 use Rattle.sr_expr_reader.proofs.TokensSound.{none_some}
 use Rattle.sr_expr_reader.proofs.TokensComplete.{Stops}
 use Rattle.sr_expr_reader.proofs.TypesQuiet.{continues_type, token-stops-type}
@@ -80,20 +80,6 @@ token-ends t q h =
       arrow = decrement.1;
       returns = types.returns;
     }
-
-pub nothing-ends : Ends []
-nothing-ends = record {
-  stops = end-stops;
-  brace = refl;
-  comma = refl;
-  colon = refl;
-  assign = refl;
-  exchange = refl;
-  increment = refl;
-  decrement = refl;
-  arrow = refl;
-  returns = refl;
-}
 
 pub separator-ends : (t : Token) (q : List Token) → IsSeparator t → Ends (t ∷ q)
 separator-ends t q h = token-ends t q (ap continues_item h)

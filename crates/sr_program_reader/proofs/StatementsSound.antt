@@ -88,9 +88,6 @@ pub data Alternatives {A : Type 0} (P : A → List Token → Type 0) (More : Lis
   alternatives : {a : A} {bs : List A} {o : Option (List BlockItem)} {u v x : List Token} → P a u → More bs v → SpellsOtherwise o x
       → Alternatives P More (a ∷ bs, o) (u ++ (v ++ x))
 
-none_there : (m : Option (List BlockItem)) → m ≡ None → (is : List BlockItem) → m ≡ Some is → ⊥
-none_there m h is e = none_some is (sym h ∙ e)
-
 else_spells : {is : List BlockItem} {u : List Token} (t : Token) → IsSign sign.Alternative t → ElseBlock is u → SpellsOtherwise (Some is) (t ∷ u)
 else_spells t h (else_block w a i j d) = s.otherwise t w a h i j d
 

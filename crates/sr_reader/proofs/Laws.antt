@@ -1,5 +1,5 @@
 -- What a reader that is local and whole says of the pieces that have a tree.
-use Rattle.std.proofs.Common.{◌≡◌, refl, sym, ◌∙◌, ap, subst, ℕ, zero, suc, ◌+◌, ◌-◌, ◌<◌, ◌≤◌, List, [], ◌∷◌, ◌++◌, length, take, drop, Option, Some, None, Result, Ok, Err, ◌⊎◌, inl, inr, append_assoc, length-append, arith}
+use Rattle.std.proofs.Common.{◌≡◌, refl, sym, ◌∙◌, ap, subst, ℕ, zero, suc, ◌+◌, ◌-◌, ◌<◌, ◌≤◌, List, [], ◌∷◌, ◌++◌, length, take, drop, Result, Ok, Err, ◌⊎◌, inl, inr, append_assoc, length-append, arith}
 use Rattle.sr_reader.specs.Pieces.{GoesOn, IsLongest, IsDead}
 use Rattle.sr_reader.specs.Reader.{Reader}
 use Rattle.sr_reader.proofs.Soundness.{Sound, Outcome, IsRead, IsStopped, first, append-nil}

@@ -1,6 +1,6 @@
 -- Loops of readers.
-use Rattle.std.proofs.Common.{◌≡◌, refl, sym, ◌∙◌, ap, ℕ, zero, suc, ◌<◌, ◌≤◌, Bool, true, false, cond, List, [], ◌∷◌, ◌++◌, length, Result, Ok, Err, arith}
-use Rattle.sr_reader.specs.Reader.{Reader, returned, continued, ◌>>=◌, next_is, branch, while}
+use Rattle.std.proofs.Common.{◌≡◌, refl, ◌∙◌, ap, ℕ, zero, suc, ◌<◌, ◌≤◌, Bool, true, false, cond, List, [], ◌∷◌, ◌++◌, length, Ok, Err, arith}
+use Rattle.sr_reader.specs.Reader.{Reader, returned, continued, ◌>>=◌, next_is, while}
 use Rattle.sr_reader.proofs.Soundness.{Sound, SoundWhere, Then, joined, Returns, returns, returned-sound, weaker, weaker-where, then-where, branch-where}
 
 -- if each step is local, so is the loop

@@ -1,5 +1,5 @@
 -- Which pieces of a list, from its front, a grammar gives a tree.
-use Rattle.std.specs.Prelude.{◌≡◌, ℕ, ◌≤◌, List, [], ◌∷◌, ◌++◌, length, take, drop}
+use Rattle.std.specs.Prelude.{◌≡◌, ℕ, ◌≤◌, List, ◌∷◌, ◌++◌, length, take, drop}
 
 -- a list that begins with these symbols and one more has a tree
 pub record GoesOn {T A : Type 0} (Spells : A → List T → Type 0) (u : List T) (t : T) : Type 0 where

@@ -1,5 +1,5 @@
 -- Readers: what a parser reads from the front of a list of symbols.
-use Rattle.std.specs.Prelude.{ℕ, zero, suc, Bool, true, false, List, [], ◌∷◌, length, Option, Some, None, Result, Ok, Err, if◌then◌else◌}
+use Rattle.std.specs.Prelude.{ℕ, zero, suc, Bool, false, List, [], ◌∷◌, length, Option, Some, None, Result, Ok, Err, if◌then◌else◌}
 
 -- what is read and what stands after it, or how many symbols are left where nothing fits
 abbrev pub Reader : Type 0 → Type 0 → Type 0

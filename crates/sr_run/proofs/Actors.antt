@@ -7,12 +7,12 @@ use Rattle.sr_ask.specs.declared.start.Start.{Start}
 use Rattle.sr_core.specs.declared.component.Core.{Core}
 use Rattle.sr_world.proofs.KeepLemmas.{live-counts}
 use Rattle.sr_world.proofs.RunLemmas.{sound-first, sound-input, sound-next}
-use Rattle.sr_world.specs.Runs.{Goes, Illegal, Next, Over, State, and_then, begun, first, is_legal, next, run, run_from, step_of}
+use Rattle.sr_world.specs.Runs.{Goes, Illegal, Next, Over, State, begun, first, is_legal, next, run, run_from, step_of}
 use Rattle.sr_world.specs.Sound.{IsSound}
 use Rattle.sr_world.specs.Worlds.{started}
 use Rattle.sr_run.specs.Causes as causes
 use Rattle.sr_run.specs.Numbers.{FitsItem, HasActor, IsNumbered}
-use Rattle.sr_run.specs.Runs.{Call, IsRun, Runs}
+use Rattle.sr_run.specs.Runs.{Call, Runs}
 use Rattle.sr_run.specs.declared.end.LimitKind.{LimitKind}
 use Rattle.sr_run.specs.declared.end.LimitKind.TheVariants as limit
 use Rattle.sr_run.specs.declared.end.RunEnd.{RunEnd}

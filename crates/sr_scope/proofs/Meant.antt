@@ -16,7 +16,7 @@ use Rattle.sr_names.specs.Components.{member_named, with_members}
 use Rattle.sr_names.specs.Entries.{Entries}
 use Rattle.sr_names.specs.Predefined.{predefined_named}
 use Rattle.sr_names.specs.Readings.{declaration}
-use Rattle.sr_names.specs.Scopes.{no_blocks, is_usable, ready, shown, candidates, from_imports, visible_named, outside, denotes}
+use Rattle.sr_names.specs.Scopes.{no_blocks, is_usable, ready, shown, candidates, from_imports, visible_named, denotes}
 use Rattle.sr_names.specs.Shown.{counted}
 use Rattle.sr_names.specs.Sorts.{is_hidden}
 use Rattle.sr_names.specs.Specs.{Specs}

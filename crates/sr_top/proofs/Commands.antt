@@ -1,12 +1,12 @@
 -- What a command to run can ask for.
-use Rattle.std.proofs.Common.{◌≡◌, ◌≤◌, ◌&&◌, ℕ, Bool, true, false, List, [], ◌∷◌, length, Option, None, Some, cond, nat_le, is_some, refl, ap, sym, ◌∙◌, subst, arith, true≢false}
-use Rattle.std.specs.Prelude.{count_by, option_and_then}
+use Rattle.std.proofs.Common.{◌≡◌, ◌≤◌, ◌&&◌, ℕ, Bool, true, false, List, [], ◌∷◌, length, Option, None, Some, cond, nat_le, is_some, refl, ap, sym, subst, arith, true≢false}
+use Rattle.std.specs.Prelude.{count_by}
 use Rattle.std.specs.List.{list_all}
 use Rattle.std.specs.Option.{option_map}
 use Rattle.std.proofs.lemmas.Bool.{leb-true}
 use Rattle.std.proofs.lemmas.Option.{option_and_then_some}
 use Rattle.sr_top.specs.Journal.{CanBeAsked}
-use Rattle.sr_words.specs.Commands.{any_command, command_of, default_of, files_of, gen_command, is_journal, journal_of, may_stand, most_of, plain_words, run_command, seed_of, setting_number, values_of, verb_command, verb_of}
+use Rattle.sr_words.specs.Commands.{any_command, command_of, default_of, files_of, gen_command, is_journal, journal_of, may_stand, most_of, plain_words, run_command, seed_of, setting_number, values_of, verb_of}
 use Rattle.sr_words.specs.Numbers.{is_number, number_within, value_of}
 use Rattle.sr_words.specs.Parts.{parts_of}
 use Rattle.sr_words.specs.declared.command.Command.{Command}

@@ -1,9 +1,8 @@
 -- When a call has a journal, and that it is one that can be written.
-use Rattle.std.proofs.Common.{◌≡◌, ◌≤◌, ◌<◌, ◌⊎◌, ◌+◌, ℕ, suc, Bool, true, false, List, [], ◌∷◌, length, map, Option, None, Some, inl, inr, refl, ap, sym, ◌∙◌, subst, arith}
+use Rattle.std.proofs.Common.{◌≡◌, ◌≤◌, ◌⊎◌, ℕ, suc, Bool, true, false, List, [], ◌∷◌, length, map, Option, None, Some, inl, inr, refl, ap, sym, ◌∙◌, subst, arith}
 use Rattle.std.specs.Prelude.{Result, Ok, Err, IfOk, IfErr, IfNone, IfSome, unwrap_or}
 use Rattle.std.specs.List.{AllByRecursion}
 use Rattle.std.specs.Option.{option_map}
-use Rattle.std.specs.Str.{IsUtf8}
 use Rattle.sr_ask.specs.declared.item.Item.{Item}
 use Rattle.sr_ask.specs.declared.item.Item.TheVariants.{Step, Quiesce}
 use Rattle.sr_compiled.specs.declared.compiled.Compiled.{Compiled}
@@ -17,7 +16,7 @@ use Rattle.sr_journal.specs.declared.header.Header.{Header}
 use Rattle.sr_run.specs.Numbers.{IsNumbered}
 use Rattle.sr_run.specs.declared.end.RunEnd.{RunEnd}
 use Rattle.sr_run.specs.declared.end.RunEnd.TheVariants as run_end
-use Rattle.sr_top.specs.Causes.{Call, RunsNothing, ending_of}
+use Rattle.sr_top.specs.Causes.{Call, ending_of}
 use Rattle.sr_top.specs.Journal.{CanBeAsked, EndsBeforeRun, EndsWithRun, HasHeaderIf, with_header, without, HasNoJournal, IsPrepared, PutsJournal, header_if, header_of, size_of, sizes_of}
 use Rattle.sr_top.specs.Report.{GotAsFar}
 use Rattle.sr_top.specs.Programs.{classes_in, core_in}

@@ -10,7 +10,7 @@ use Rattle.sr_front.specs.Cores.{IsCoreOf}
 use Rattle.sr_front.specs.Reading.{contents_of}
 use Rattle.sr_journal.specs.declared.header.Header.{Header}
 use Rattle.sr_top.specs.Journal.{IsPrepared}
-use Rattle.sr_top.specs.Reading.{AreCompiled, AreFiles, AreRead, EndsCompiling, EndsReading, IsRead, StopsCompiling, first_bytes, sample_files}
+use Rattle.sr_top.specs.Reading.{AreCompiled, AreFiles, AreRead, EndsCompiling, IsRead, StopsCompiling, first_bytes, sample_files}
 use Rattle.sr_top.specs.Tasks.{Named, Origin, Sampled}
 use Rattle.sr_top.specs.declared.report.Ending.{Ending}
 use Rattle.sr_top.specs.declared.report.Ending.TheVariants.{Done, Quiet, Stopped, Failed, Limit, Refused, NoFile, ReadFault, WriteFault, NoMemory, Usage}
@@ -42,20 +42,6 @@ pub stopped_as : {P : Type 0} (told : Option (List (List ℕ × List ℕ))) (nam
     → IfErr result (EndsCompiling told (Named names) faults faults_now)
 stopped_as told names files faults faults_now (Ok program) read same stops = tt
 stopped_as told names files faults faults_now (Err ending) read same stops = ended_as told (Named names) files faults faults_now ending read same stops
-
-pub reading_as : (told : Option (List (List ℕ × List ℕ))) (names : List (List ℕ)) (faults faults_now : ℕ) (ending : Ending)
-    → EndsReading told names faults faults_now ending → EndsCompiling told (Named names) faults faults_now ending
-reading_as told names faults faults_now (Refused refusal) ends = absurd ends
-reading_as told names faults faults_now Done ends = ends
-reading_as told names faults faults_now Quiet ends = ends
-reading_as told names faults faults_now (Stopped status) ends = ends
-reading_as told names faults faults_now (Failed fault place) ends = ends
-reading_as told names faults faults_now (Limit kind) ends = ends
-reading_as told names faults faults_now (NoFile file) ends = ends
-reading_as told names faults faults_now ReadFault ends = ends
-reading_as told names faults faults_now WriteFault ends = ends
-reading_as told names faults faults_now NoMemory ends = ends
-reading_as told names faults faults_now Usage ends = ends
 
 pub compiled_of : (told : Option (List (List ℕ × List ℕ))) (names : List (List ℕ)) (steps ticks : ℕ) (journal : Bool) (core : Core) (classes : Classes) (header : Option Header)
     → IsPrepared told names steps ticks journal core classes header → AreCompiled told (Named names) core classes

@@ -1,5 +1,5 @@
 -- What the words of a call ask for.
-use Rattle.std.specs.Prelude.{ℕ, Bool, false, List, [], ◌∷◌, codes, Option, Some, None, unwrap_or}
+use Rattle.std.specs.Prelude.{ℕ, Bool, false, List, [], ◌∷◌, codes, Option, unwrap_or}
 use Rattle.std.specs.Option.{option_map}
 use Rattle.sr_words.specs.Commands.{command_of, default_of}
 use Rattle.sr_words.specs.declared.command.Command.{Command}

@@ -1,6 +1,5 @@
 ghost use Rattle.std.specs.Prelude.{◌≤◌, length, IfErr, IfOk};
 ghost use Rattle.sr_front.specs.Cores.{IsCoreOf};
-ghost use Rattle.sr_front.specs.Program.{IsRefused};
 ghost use Rattle.sr_front.specs.Reading.{contents_of};
 ghost use Rattle.sr_top.specs.Programs.{classes_in, core_in};
 ghost use Rattle.sr_top.specs.Reading.{StopsCompiling};

@@ -1,11 +1,10 @@
 -- The tree that is kept beside the enumerations and records in it is the tree that they are in.
 use Rattle.std.proofs.Common.{◌≡◌, ◌∙◌, List, [], ◌∷◌, Option, Some, None, map, refl, ap, sym, subst}
-use Rattle.std.specs.Option.{option_map}
 use Rattle.sr_tree.specs.declared.types.Formal.{Formal, roll-Formal}
 use Rattle.sr_tree.specs.declared.types.Returned.{Returned, roll-Returned}
 use Rattle.sr_tree.specs.declared.types.Signature.{Signature, roll-Signature}
 use Rattle.sr_tree.specs.declared.types.TypeTree.{TypeTree, roll-TypeTree}
-use Rattle.sr_tree.specs.declared.types.TypeTree.TheFolds.{fold-TypeTree, fold-Formal, fold-Returned, fold-Signature, fold-roll-TypeTree, fold-roll-Formal, fold-roll-Returned, fold-roll-Signature, ind-TypeTree, ind-Formal, ind-Returned, ind-Signature, map-TypeTree, map-Formal, map-Returned, map-Signature}
+use Rattle.sr_tree.specs.declared.types.TypeTree.TheFolds.{fold-TypeTree, fold-Formal, fold-Returned, fold-Signature, fold-roll-TypeTree, fold-roll-Formal, fold-roll-Returned, fold-roll-Signature, ind-Formal, map-TypeTree, map-Formal, map-Returned, map-Signature}
 use Rattle.sr_tree.specs.declared.types.TypeTree.TheOpen.{TypeTree-F, Formal-F, Returned-F, Signature-F}
 use Rattle.sr_tree.specs.declared.types.TypeTree.TheVariants as ty
 use Rattle.sr_tree.specs.Nested.{Holds, all_trees, type_step, formal_step, returned_step, signature_step}
@@ -50,10 +49,6 @@ S = (tree : Signature) × ((signature_read tree).tree ≡ tree)
 same_row : (trees : List F) → all_trees (map formal_read (map (λ f. f.0) trees)) ≡ map (λ f. f.0) trees
 same_row [] = refl
 same_row (tree ∷ trees) = λ i. tree.1 i ∷ same_row trees i
-
-same_maybe : (returned : Option R) → option_map (λ part. part.tree) (option_map returned_read (option_map (λ r. r.0) returned)) ≡ option_map (λ r. r.0) returned
-same_maybe None = refl
-same_maybe (Some returned) = ap Some returned.1
 
 abbrev bare_type : TypeTree-F T F R S → TypeTree-F TypeTree Formal Returned Signature
 bare_type = map-TypeTree T F R S TypeTree Formal Returned Signature (λ e. e.0) (λ e. e.0) (λ e. e.0) (λ e. e.0)

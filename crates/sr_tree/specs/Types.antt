@@ -219,8 +219,5 @@ SpellsMoreFormals = SpellsMoreFormalsIn Elsewhere
 abbrev pub SpellsFormals : List Formal → List Token → Type 0
 SpellsFormals = SpellsFormalsIn Elsewhere
 
-abbrev pub SpellsReturned : Option Returned → List Token → Type 0
-SpellsReturned = SpellsReturnedIn Elsewhere
-
 abbrev pub SpellsSignature : Signature → List Token → Type 0
 SpellsSignature = SpellsSignatureIn Elsewhere

@@ -1,5 +1,5 @@
 -- What types and signatures are hashed by. Equal ones are hashed alike, which is all that a table needs.
-use Rattle.std.specs.Prelude.{ℕ, [], ◌++◌}
+use Rattle.std.specs.Prelude.{[], ◌++◌}
 use Rattle.std.specs.Hash.{HashWrites, u8, u32, usize, slice, option}
 use Rattle.sr_types.specs.declared.signature.Forms.{Forms}
 use Rattle.sr_types.specs.declared.signature.Forms.TheVariants.{Both, Call, Send}

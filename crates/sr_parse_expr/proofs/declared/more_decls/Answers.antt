@@ -1,5 +1,5 @@
 -- What the loop gives is what its reader gives.
-use Rattle.std.proofs.Common.{◌≡◌, refl, sym, ◌∙◌, List, arith}
+use Rattle.std.proofs.Common.{refl, sym, ◌∙◌, List, arith}
 use Rattle.std.proofs.lemmas.Result.{err_from_is_err_and}
 use Rattle.std.specs.Borrow.{Bor}
 use Rattle.sr_tree.specs.declared.types.Decl.{Decl}

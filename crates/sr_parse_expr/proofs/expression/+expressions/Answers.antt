@@ -1,5 +1,5 @@
 -- What is left of the readers of expressions: fields of the record of readers, and loops.
-use Rattle.std.proofs.Common.{◌≡◌, refl, sym, ◌∙◌, subst, List, arith}
+use Rattle.std.proofs.Common.{refl, sym, ◌∙◌, subst, List, arith}
 use Rattle.std.proofs.lemmas.Result.{err_from_is_err_and}
 use Rattle.std.specs.Borrow.{Bor}
 use Rattle.sr_tree.specs.declared.expr.Expr.{Expr}

@@ -1,5 +1,5 @@
 -- What is left of the readers of types: the field of the record of readers, and the loop.
-use Rattle.std.proofs.Common.{◌≡◌, refl, sym, ◌∙◌, List, arith}
+use Rattle.std.proofs.Common.{refl, sym, ◌∙◌, List, arith}
 use Rattle.std.proofs.lemmas.Result.{err_from_is_err_and}
 use Rattle.std.specs.Borrow.{Bor}
 use Rattle.sr_tree.specs.declared.token.Token.{Token}

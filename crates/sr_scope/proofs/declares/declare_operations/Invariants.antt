@@ -1,6 +1,6 @@
 -- The scope and what was noted so far, and what the rest adds, are what the whole list adds.
 use Rattle.std.proofs.Common.{◌≡◌, drop, map}
-use Rattle.sr_names.specs.declared.meaning.Sort.TheVariants.{Variable, Operation}
+use Rattle.sr_names.specs.declared.meaning.Sort.TheVariants.{Operation}
 use Rattle.sr_names.specs.Diagnostics.{all_noted}
 use Rattle.sr_scope.specs.Declares.{names_declared, names_twice, op_name}
 use Rattle.sr_scope.proofs.declares.declare_operations.Given as goal

@@ -1,5 +1,5 @@
 -- The outer scopes are as before, and what was noted so far and what the rest adds are what the whole list adds.
-use Rattle.std.proofs.Common.{◌≡◌, drop, map}
+use Rattle.std.proofs.Common.{◌≡◌, drop}
 use Rattle.sr_names.specs.Diagnostics.{all_noted}
 use Rattle.sr_scope.specs.Procs.{proc_items_found}
 use Rattle.sr_scope.proofs.procs.proc_items.Given as goal

@@ -1,5 +1,5 @@
 -- What each command does is handed on with the names of its files.
-use Rattle.std.proofs.Common.{◌∙◌, List, [], None, Some, ap, false, inl, inr, refl, subst, sym}
+use Rattle.std.proofs.Common.{◌∙◌, List, [], Some, ap, false, inl, inr, refl, subst, sym}
 use Rattle.std.specs.Prelude.{IfSome, unwrap_or}
 use Rattle.std.specs.Option.{option_map}
 use Rattle.sr_ask.specs.declared.item.Item.{Item}
@@ -8,9 +8,7 @@ use Rattle.sr_top.proofs.Asked.{handed_on, named_as, task_is}
 use Rattle.sr_top.proofs.Commands.{can_be_asked}
 use Rattle.sr_top.specs.Causes.{Call, HasCause}
 use Rattle.sr_top.specs.Journal.{CanBeAsked, EndsBeforeRun, HasHeaderIf, without}
-use Rattle.sr_top.specs.Tasks.{Checks, ListsClasses, Named, Runs, Sampled, keeps_journal}
-use Rattle.sr_words.specs.Commands.{default_of}
-use Rattle.sr_words.specs.declared.part.Setting.TheVariants.{Steps, Ticks}
+use Rattle.sr_top.specs.Tasks.{Checks, ListsClasses, Named, Runs, keeps_journal}
 use Rattle.sr_top.proofs.obeying.obey.Goals as goal
 
 pub returns-in-Run-clause-cause : goal.returns-in-Run-clause-cause

@@ -1,5 +1,5 @@
 -- What the call did follows from why it ended, and its journal from what stands before it.
-use Rattle.std.proofs.Common.{◌∙◌, ap, subst, sym}
+use Rattle.std.proofs.Common.{◌∙◌, ap, subst}
 use Rattle.sr_top.proofs.Endings.{complete, headline}
 use Rattle.sr_top.proofs.Journals.{journal_of}
 use Rattle.sr_top.specs.Report.{GotAsFar, diag_text}

@@ -1,12 +1,11 @@
 -- The components of a name grow, or the name and its first component go last.
 use Rattle.std.proofs.Common.{◌≡◌, ◌++◌, ◌∷◌, [], List, None, Some, OnOk, Result, Ok, Err, ap, sym, ◌∙◌, subst}
-use Rattle.std.specs.List.{list_any}
 use Rattle.std.specs.Map.{lookup, set_value}
 use Rattle.std.specs.Str.{bytes_eq}
 use Rattle.indexmap.specs.IndexMap.{insert_entry}
 use Rattle.indexmap.specs.IndexSet.{insert_key}
 use Rattle.sr_names.specs.declared.spot.Spot.{Spot}
-use Rattle.sr_names.specs.Declarers.{Declarers, IsDeclarer, named_declarers}
+use Rattle.sr_names.specs.Declarers.{IsDeclarer, named_declarers}
 use Rattle.sr_names.specs.Spots.{same_spot}
 use Rattle.sr_names.proofs.DeclaringLemmas.{holds-added, is-added, named-set, set-keeps, set-found, push-keeps, push-found, is-declarer}
 use Rattle.sr_names.proofs.TableLemmas.{lookup-named, named-insert}

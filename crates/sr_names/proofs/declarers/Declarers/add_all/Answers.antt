@@ -1,7 +1,7 @@
 -- The component is one of those of one name more.
-use Rattle.std.proofs.Common.{◌≡◌, ℕ, List, Some, option_copied, ap, sym, ◌∙◌, subst}
+use Rattle.std.proofs.Common.{ℕ, List, option_copied, ap, sym, ◌∙◌, subst}
 use Rattle.sr_names.specs.declared.spot.Spot.{Spot}
-use Rattle.sr_names.specs.Declarers.{Declarers, IsDeclarer}
+use Rattle.sr_names.specs.Declarers.{IsDeclarer}
 use Rattle.sr_names.proofs.DeclaringLemmas.{added-next, some_same, none-some}
 use Rattle.sr_names.proofs.declarers.Declarers.add_all.Goals as goal
 use Rattle.sr_names.proofs.declarers.Declarers.add_all.Goals.{in-Some+in_ok-add, in_default}

@@ -1,6 +1,6 @@
 use Rattle.std.proofs.Common.{◌≡◌, ◌∷◌, ◌++◌, [], ap, nat_eq, subst, sym, ◌∙◌}
 use Rattle.indexmap.proofs.CallerLemmas.{insert_entry-new}
-use Rattle.sr_processes.specs.Living.{IsLive, Living}
+use Rattle.sr_processes.specs.Living.{IsLive}
 use Rattle.sr_processes.specs.Tables.{IsNumbered, starts_in}
 use Rattle.sr_processes.proofs.NumberLemmas.{absent, numbered-push, starts-push}
 use Rattle.sr_processes.proofs.processes.Processes.add.Goals as goal

@@ -1,4 +1,4 @@
-use Rattle.std.proofs.Common.{◌≡◌, ap, nat_eq, subst, sym, ◌∙◌}
+use Rattle.std.proofs.Common.{ap, subst, sym, ◌∙◌}
 use Rattle.sr_processes.specs.Living.{without_process}
 use Rattle.sr_processes.specs.Tables.{IsNumbered, starts_in}
 use Rattle.sr_processes.proofs.NumberLemmas.{filtered-none, filtered-remove, numbered-remove}

@@ -1,5 +1,5 @@
 -- The table of hashes holds what is equal, which is the signature itself; what stood there stands where it stood.
-use Rattle.std.proofs.Common.{◌≡◌, Some, sym, ap, ◌∙◌}
+use Rattle.std.proofs.Common.{Some, sym, ap, ◌∙◌}
 use Rattle.indexmap.specs.IndexSet.{insert_key}
 use Rattle.sr_types.specs.Decided.{signature_decides, signature_itself}
 use Rattle.sr_types.specs.Equality.{equal_signatures}

@@ -1,5 +1,5 @@
 -- What the table of hashes answers is the place of the signature.
-use Rattle.std.proofs.Common.{◌≡◌, ap, ◌∙◌, position}
+use Rattle.std.proofs.Common.{ap, ◌∙◌, position}
 use Rattle.sr_types.specs.Equality.{equal_signatures}
 use Rattle.sr_types.proofs.Numbers.{number-found}
 use Rattle.sr_types.proofs.signatures.Signatures.number.Goals as goal
