@@ -164,6 +164,7 @@ KeepsFault =
     × (strings_in_range (kept_shape shape) ≡ strings_in_range shape)
     × ((items others : ℕ) → nat_le (items * cell_count (kept_shape shape) + others) 1048576 ≡ nat_le (items * cell_count shape + others) 1048576)
 
+-- the shape that a declared type is kept with
 abbrev pub declared_shape : Facts → Shapes → TypeTree → Shape
 declared_shape facts shapes tree = kept_shape (type_shape facts shapes tree)
 

@@ -10,7 +10,7 @@ use sr_value::NoMemory;
 use std::alloc::Global;
 
 /// So many parts the shapes of all declared types have together at most.
-const MOST_PARTS: u64 = 16_777_216;
+const MOST_PARTS: u64 = 67_108_864;
 
 /// So many levels a shape has at most: a walk over it fits into 8 MiB of stack.
 const MOST_LEVELS: u64 = 2_048;
