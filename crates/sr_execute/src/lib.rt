@@ -11,6 +11,8 @@ mod parts;
 mod places;
 mod putting;
 mod quick;
+mod quick_calls;
+mod quick_variables;
 mod reading;
 mod results;
 mod resumption;

@@ -1,5 +1,5 @@
 ghost use Rattle.sr_value.specs.Operators.{Answers};
-ghost use Rattle.sr_code.specs.Operands.{put_place, put_value};
+ghost use Rattle.sr_code.specs.Operands.{put_place, put_shape, put_value};
 ghost use Rattle.sr_frame.specs.Scenes.{here_of};
 ghost use Rattle.sr_frame.specs.Variables.{own_value};
 ghost use Rattle.sr_execute.specs.Executes.{begun, ticking, went};
@@ -7,13 +7,22 @@ ghost use Rattle.sr_execute.specs.Quick.{DoesOrLeaves};
 ghost use Rattle.sr_code.specs.declared.instruction.Instruction.TheVariants as instruction;
 
 use crate::frame::Frame;
-use crate::places::{root_in, take_place};
+use crate::places::{owner_in, root_in, take_place};
+use crate::quick_calls::{
+    quick_collect, quick_end_service, quick_list, quick_open_service, quick_pass_value,
+    quick_reply, quick_store_results, quick_to_call,
+};
+use crate::quick_variables::{
+    quick_each, quick_make, quick_make_formal, quick_store_formal, quick_store_in,
+};
 use crate::tops::top_or;
 use sr_ask::{Located, Own, Spot};
 use sr_code::Instruction;
-use sr_core::{number, truth};
+use sr_core::{Scope, number, truth};
 use sr_frame::{Scene, own_stored, own_value, whole};
-use sr_value::{Fault, NoMemory, Operator, Row, Sel, Value, ValueFail, arith};
+use sr_value::{
+    Cap, Duplicate, Fault, NoMemory, Operator, Row, Sel, Shape, Value, ValueFail, arith,
+};
 use std::alloc::Global;
 
 /// Where an instruction leads that loops often use. It is smaller than a `Step`, which may hold a request.
@@ -53,12 +62,83 @@ pub fn execute_quickly(
         Instruction::Again { to } => quick_tick(frame, *to),
         Instruction::Jump { to } => Ok(Carried::Goes((*to).min(next))),
         Instruction::JumpUnless { to } => quick_jump_unless(scene, frame, *to, next),
+        Instruction::Each { var, head } => quick_each(scene, frame, *var, *head, next),
+        _ => declare_quickly(scene, frame, instruction, next),
+    }
+}
+
+/// Carries out an instruction that makes own variables, or that puts operands for them.
+fn declare_quickly(
+    scene: &Scene,
+    frame: &mut Frame,
+    instruction: &Instruction,
+    next: usize,
+) -> Result<Carried, NoMemory>
+    ensures { DoesOrLeaves result frame.old frame.new (begun scene.now.names.now instruction.now (here_of scene.now) next frame.old.operands frame.old) }
+{
+    match instruction {
+        Instruction::Constant(value) => quick_value(frame, value.copy(scene.alloc)?, next),
+        Instruction::FixedShape(shape) => quick_shape(frame, shape.copy(scene.alloc)?, next),
+        Instruction::Make {
+            scope: Scope::Own,
+            var,
+        } => quick_make(scene, frame, *var, next),
+        Instruction::StoreIn {
+            scope: Scope::Own,
+            var,
+        } => quick_store_in(scene, frame, *var, next),
+        Instruction::MakeFormal {
+            scope: Scope::Own,
+            var,
+            mode,
+            shape,
+        } => quick_make_formal(scene, frame, *var, *mode, shape, next),
+        Instruction::StoreFormal {
+            scope: Scope::Own,
+            var,
+            mode,
+        } => quick_store_formal(scene, frame, *var, *mode, next),
+        _ => serve_quickly(scene, frame, instruction, next),
+    }
+}
+
+/// Carries out an instruction of a call or of a service that asks nothing.
+fn serve_quickly(
+    scene: &Scene,
+    frame: &mut Frame,
+    instruction: &Instruction,
+    next: usize,
+) -> Result<Carried, NoMemory>
+    ensures { DoesOrLeaves result frame.old frame.new (begun scene.now.names.now instruction.now (here_of scene.now) next frame.old.operands frame.old) }
+{
+    match instruction {
+        Instruction::Operation { whose, op } => {
+            let owner = owner_in(scene, *whose);
+            quick_value(frame, Value::Capa(Cap::Op { owner, op: *op }), next)
+        }
+        Instruction::ToCall => quick_to_call(scene, frame, next),
+        Instruction::PassValue => quick_pass_value(scene, frame, next),
+        Instruction::StoreResults { to } => quick_store_results(scene, frame, *to, next),
+        Instruction::DropValue => {
+            let _ = frame.operands.values.pop();
+            Ok(Carried::Goes(next))
+        }
+        Instruction::Arguments => quick_list(frame, scene.start.args.copy(scene.alloc)?, next),
+        Instruction::NoValues => quick_list(frame, Row::new(scene.alloc), next),
+        Instruction::Collect => quick_collect(scene, frame, next),
+        Instruction::DropList => {
+            let _ = frame.operands.lists.pop();
+            Ok(Carried::Goes(next))
+        }
+        Instruction::OpenService { gives } => quick_open_service(scene, frame, gives, next),
+        Instruction::EndService => quick_end_service(scene, frame, next),
+        Instruction::Reply => quick_reply(scene, frame, next),
         _ => Ok(Carried::Left),
     }
 }
 
 /// A value goes on the operands.
-fn quick_value(frame: &mut Frame, value: Value, next: usize) -> Result<Carried, NoMemory>
+pub fn quick_value(frame: &mut Frame, value: Value, next: usize) -> Result<Carried, NoMemory>
     ensures { DoesOrLeaves result frame.old frame.new (went next (put_value value frame.old.operands) frame.old) }
 {
     frame.operands.values.push(value)?;
@@ -70,6 +150,14 @@ fn quick_place(frame: &mut Frame, place: Located, next: usize) -> Result<Carried
     ensures { DoesOrLeaves result frame.old frame.new (went next (put_place place frame.old.operands) frame.old) }
 {
     frame.operands.places.push(place)?;
+    Ok(Carried::Goes(next))
+}
+
+/// A shape goes on the operands.
+fn quick_shape(frame: &mut Frame, shape: Shape, next: usize) -> Result<Carried, NoMemory>
+    ensures { DoesOrLeaves result frame.old frame.new (went next (put_shape shape frame.old.operands) frame.old) }
+{
+    frame.operands.shapes.push(shape)?;
     Ok(Carried::Goes(next))
 }
 

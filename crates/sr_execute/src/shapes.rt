@@ -118,7 +118,7 @@ pub fn store_in(
 }
 
 /// The type of a formal, by the next of the list.
-fn formal_found(
+pub fn formal_found(
     alloc: Global,
     operands: &Operands,
     mode: Mode,
@@ -157,7 +157,7 @@ pub fn make_formal(
 }
 
 /// Takes what a formal is sent, where it is sent something.
-fn take_sent(mode: Mode, args: &mut Row<Value>) -> Option<Value>
+pub fn take_sent(mode: Mode, args: &mut Row<Value>) -> Option<Value>
     ensures sent { result ≡ sent_to mode args.old }
     ensures others { args.new ≡ sent_after mode args.old }
 {

@@ -81,7 +81,7 @@ pub fn quantify(
 }
 
 /// The next value of a quantifier, and what is left of it.
-fn next_number(loops: &mut Stack<Numbers>) -> Option<(i32, Numbers)>
+pub fn next_number(loops: &mut Stack<Numbers>) -> Option<(i32, Numbers)>
     ensures next { MatchOption result (first_or [] loops.old ≡ []) (λ found. first_or [] loops.old ≡ found.0 ∷ found.1) }
     ensures others { loops.new ≡ below loops.old }
 {

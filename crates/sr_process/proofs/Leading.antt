@@ -1,7 +1,7 @@
 -- What single instructions lead to, and one after another.
 use Rattle.std.specs.Ordering.{int_cmp}
 use Rattle.std.specs.declared.cmp.Ordering.{Ordering}
-use Rattle.std.proofs.Common.{◌≡◌, ◌<◌, ◌-◌, ◌∙◌, ℕ, ℤ, Bool, true, false, min, List, [], Option, Some, Result, Ok, ◌+ℤ◌, ◌-ℤ◌, option_map, ap, refl, sym, arith}
+use Rattle.std.proofs.Common.{◌≡◌, ◌<◌, ◌-◌, ◌∙◌, ℕ, ℤ, Bool, true, false, min, List, [], Option, Some, Result, Ok, ◌+ℤ◌, ◌-ℤ◌, option_map, suc, ap, refl, sym, arith}
 use Rattle.sr_value.specs.declared.fault.Fault.{Fault}
 use Rattle.sr_value.specs.declared.operator.Operator.{Operator}
 use Rattle.sr_value.specs.declared.operator.Operator.TheVariants.{Add, Sub}
@@ -18,22 +18,25 @@ use Rattle.sr_ask.specs.Places.{whole}
 use Rattle.sr_ask.specs.declared.environment.Own.{Own}
 use Rattle.sr_ask.specs.declared.environment.Spot.TheVariants.{Own as an_own}
 use Rattle.sr_core.specs.declared.owner.Root.TheVariants.{Own as own_root}
-use Rattle.sr_code.specs.Operands.{put_place, put_value}
+use Rattle.sr_code.specs.Operands.{put_number, put_place, put_value}
 use Rattle.sr_code.specs.declared.code.Code.{Code}
 use Rattle.sr_code.specs.declared.code.Coded.{Coded}
 use Rattle.sr_code.specs.declared.code.Program.{Program}
 use Rattle.sr_code.specs.declared.instruction.Instruction.{Instruction}
-use Rattle.sr_code.specs.declared.instruction.Instruction.TheVariants.{Constant, JumpUnless, Load, LoadAgain, Operate, Spot as spot_instruction, Store}
+use Rattle.sr_code.specs.declared.instruction.Instruction.TheVariants.{At, Constant, Jump, JumpUnless, Load, LoadAgain, Operate, Spot as spot_instruction, Store, ToNumber}
 use Rattle.sr_code.specs.declared.operands.Operands.{Operands}
-use Rattle.sr_execute.specs.Executes.{Went, begun, settled, went, went_to, with_own}
+use Rattle.sr_execute.specs.Executes.{Went, begun, settled, ticking, went, went_to, with_own}
 use Rattle.sr_code.specs.Acts.{unless}
 use Rattle.sr_execute.specs.declared.frame.Frame.{Frame}
 use Rattle.sr_execute.specs.declared.step.Step.TheVariants.{Goes}
 use Rattle.sr_frame.specs.Variables.{own_stored, own_value}
-use Rattle.sr_process.specs.Processes.{Carries, coded_at, here_in, left}
-use Rattle.sr_process.specs.Together.{Assigns, Decides, Follows, Jumps, LeadsTo, Loads, Puts, Replaces, Standing, frame_in, placed, stand}
+use Rattle.sr_process.specs.Processes.{Carries, Runs, coded_at, here_in, left}
+use Rattle.sr_process.specs.Together.{Decides, Does, Follows, Indexes, Jumps, LeadsTo, Loads, Puts, Replaces, Standing, TicksTo, frame_in, path_of, place_in, placed, stand, whole_of}
 use Rattle.sr_process.specs.declared.process.Process.{Process}
 use Rattle.sr_process.specs.declared.together.Found.{Found}
+use Rattle.sr_process.specs.declared.together.Part.{Part}
+use Rattle.sr_process.specs.declared.together.Stretch.{Stretch}
+use Rattle.sr_process.specs.declared.together.Stretch.TheVariants.{Puts as puts_number, Stores as stores_number}
 use Rattle.sr_process.proofs.Moves.{carried_by, same_then}
 
 less_then : (a b c : ℕ) → b < a → c < b → c < a
@@ -103,21 +106,36 @@ spot_leads code own coded address var on at is =
     one code coded (stand own address on) (stand own (address - 1) (put_place (whole (an_own var)) on)) at (λ names here frame.
     ap (λ (i : Instruction). begun names i here (address - 1) on (frame_in (stand own address on) frame)) is)
 
-pub load_leads : (code : Code) (own : List (Option Own)) (coded : Coded) (var address : ℕ) (n : ℤ) → coded_at code.items address ≡ Some coded → coded.instruction ≡ Load → own_value own var [] ≡ Ok (Int n)
-    → Loads code own var address (record { number = n; after = address - 1 })
-load_leads code own coded var address n at is holds = λ on.
-    let before : Standing = stand own address (put_place (whole (an_own var)) on) in
+pub load_leads : (code : Code) (own : List (Option Own)) (coded : Coded) (part : Part) (address : ℕ) (n : ℤ) → coded_at code.items address ≡ Some coded → coded.instruction ≡ Load → own_value own part.var (path_of part.index) ≡ Ok (Int n)
+    → Loads code own part address (record { number = n; after = address - 1 })
+load_leads code own coded part address n at is holds = λ on.
+    let before : Standing = stand own address (put_place (place_in part) on) in
     one code coded before (stand own (address - 1) (put_value (Int n) on)) at (λ names here frame.
     ap (λ (i : Instruction). begun names i here (address - 1) before.operands (frame_in before frame)) is
     ∙ ap (λ (r : Result Value Fault). settled r (λ value. went (address - 1) (put_value value on) (frame_in before frame))) holds)
 
-pub load_again_leads : (code : Code) (own : List (Option Own)) (coded : Coded) (var address : ℕ) (n : ℤ) → coded_at code.items address ≡ Some coded → coded.instruction ≡ LoadAgain → own_value own var [] ≡ Ok (Int n)
-    → Follows code own var address (record { number = n; after = address - 1 })
-load_again_leads code own coded var address n at is holds = λ on.
-    let before : Standing = stand own address (put_place (whole (an_own var)) on) in
+pub load_again_leads : (code : Code) (own : List (Option Own)) (coded : Coded) (part : Part) (address : ℕ) (n : ℤ) → coded_at code.items address ≡ Some coded → coded.instruction ≡ LoadAgain → own_value own part.var (path_of part.index) ≡ Ok (Int n)
+    → Follows code own part address (record { number = n; after = address - 1 })
+load_again_leads code own coded part address n at is holds = λ on.
+    let before : Standing = stand own address (put_place (place_in part) on) in
     one code coded before (stand own (address - 1) (put_value (Int n) before.operands)) at (λ names here frame.
     ap (λ (i : Instruction). begun names i here (address - 1) before.operands (frame_in before frame)) is
     ∙ ap (λ (r : Result Value Fault). settled r (λ value. went (address - 1) (put_value value before.operands) (frame_in before frame))) holds)
+
+to_number_leads : (code : Code) (own : List (Option Own)) (coded : Coded) (address : ℕ) (n : ℤ) (on : Operands) → coded_at code.items address ≡ Some coded → coded.instruction ≡ ToNumber
+    → LeadsTo code (stand own address (put_value (Int n) on)) (stand own (address - 1) (put_number n on))
+to_number_leads code own coded address n on at is =
+    let before : Standing = stand own address (put_value (Int n) on) in
+    one code coded before (stand own (address - 1) (put_number n on)) at (λ names here frame.
+    ap (λ (i : Instruction). begun names i here (address - 1) before.operands (frame_in before frame)) is
+    ∙ ap (λ (r : Result ℤ Fault). settled r (λ number. went (address - 1) (put_number number on) (frame_in before frame))) (ap (or_fault Range) (int_is n)))
+
+at_leads : (code : Code) (own : List (Option Own)) (coded : Coded) (var address : ℕ) (n : ℤ) (on : Operands) → coded_at code.items address ≡ Some coded → coded.instruction ≡ At
+    → LeadsTo code (stand own address (put_number n (put_place (place_in (whole_of var)) on))) (stand own (address - 1) (put_place (place_in (record { var = var; index = Some n })) on))
+at_leads code own coded var address n on at is =
+    let before : Standing = stand own address (put_number n (put_place (place_in (whole_of var)) on)) in
+    one code coded before (stand own (address - 1) (put_place (place_in (record { var = var; index = Some n })) on)) at (λ names here frame.
+    ap (λ (i : Instruction). begun names i here (address - 1) before.operands (frame_in before frame)) is)
 
 operate_leads : (code : Code) (own : List (Option Own)) (coded : Coded) (op : Operator) (x y : ℤ) (z : Value) (address : ℕ) (on : Operands) → coded_at code.items address ≡ Some coded → coded.instruction ≡ Operate op → value_of op (Int x) (Int y) ≡ Ok z
     → LeadsTo code (stand own address (put_value (Int y) (put_value (Int x) on))) (stand own (address - 1) (put_value z on))
@@ -143,10 +161,10 @@ jump_to code own coded address to at is = λ on.
     ap (λ (i : Instruction). begun names i here (address - 1) before.operands (frame_in before frame)) is
     ∙ ap (λ (r : Result Bool Fault). settled r (λ truth. went_to (unless truth to (address - 1) on) (frame_in before frame))) (truth_is false))
 
-store_leads : (code : Code) (own stored : List (Option Own)) (coded : Coded) (var address : ℕ) (n : ℤ) (on : Operands) → coded_at code.items address ≡ Some coded → coded.instruction ≡ Store → own_stored own var [] (Int n) ≡ Ok stored
-    → LeadsTo code (stand own address (put_value (Int n) (put_place (whole (an_own var)) on))) (stand stored (address - 1) on)
-store_leads code own stored coded var address n on at is fits =
-    let before : Standing = stand own address (put_value (Int n) (put_place (whole (an_own var)) on)) in
+store_leads : (code : Code) (own stored : List (Option Own)) (coded : Coded) (part : Part) (address : ℕ) (n : ℤ) (on : Operands) → coded_at code.items address ≡ Some coded → coded.instruction ≡ Store → own_stored own part.var (path_of part.index) (Int n) ≡ Ok stored
+    → LeadsTo code (stand own address (put_value (Int n) (put_place (place_in part) on))) (stand stored (address - 1) on)
+store_leads code own stored coded part address n on at is fits =
+    let before : Standing = stand own address (put_value (Int n) (put_place (place_in part) on)) in
     one code coded before (stand stored (address - 1) on) at (λ names here frame.
     ap (λ (i : Instruction). begun names i here (address - 1) before.operands (frame_in before frame)) is
     ∙ ap (λ (r : Result (List (Option Own)) Fault). settled r (λ held. went (address - 1) on (with_own held (frame_in before frame)))) fits)
@@ -154,13 +172,35 @@ store_leads code own stored coded var address n on at is fits =
 -- ---- several instructions
 
 pub spot_then_loads : (code : Code) (own : List (Option Own)) (coded : Coded) (address var : ℕ) (found : Found) → coded_at code.items address ≡ Some coded → coded.instruction ≡ spot_instruction (own_root var)
-    → Loads code own var (address - 1) found → Puts code own address found
+    → Loads code own (whole_of var) (address - 1) found → Puts code own address found
 spot_then_loads code own coded address var found at is loads = λ on.
     leads_then code (stand own address on) (stand own (address - 1) (put_place (whole (an_own var)) on)) (stand own found.after (put_value (Int found.number) on))
     (spot_leads code own coded address var on at is) (loads on)
 
-pub number_follows : (code : Code) (own : List (Option Own)) (var address : ℕ) (found : Found) → Puts code own address found → Follows code own var address found
-number_follows code own var address found puts = λ on. puts (put_place (whole (an_own var)) on)
+pub number_follows : (code : Code) (own : List (Option Own)) (part : Part) (address : ℕ) (found : Found) → Puts code own address found → Follows code own part address found
+number_follows code own part address found puts = λ on. puts (put_place (place_in part) on)
+
+-- an index of a variable that was put
+pub then_indexes : (code : Code) (to_number item : Coded) (first : Found) → coded_at code.items first.after ≡ Some to_number → to_number.instruction ≡ ToNumber
+    → coded_at code.items (first.after - 1) ≡ Some item → item.instruction ≡ At → Indexes code first (record { number = first.number; after = first.after - 1 - 1 })
+then_indexes code to_number item first at_first is_first at_item is_item = λ own var on.
+    let placed_on : Operands = put_place (place_in (whole_of var)) on in
+    leads_then code (stand own first.after (put_value (Int first.number) placed_on)) (stand own (first.after - 1) (put_number first.number placed_on))
+    (stand own (first.after - 1 - 1) (put_place (place_in (record { var = var; index = Some first.number })) on))
+    (to_number_leads code own to_number first.after first.number placed_on at_first is_first) (at_leads code own item var (first.after - 1) first.number on at_item is_item)
+
+-- a number after a variable that becomes the index of its item
+follows_indexes : (code : Code) (own : List (Option Own)) (var address : ℕ) (first index : Found) → Follows code own (whole_of var) address first → Indexes code first index → (on : Operands)
+    → LeadsTo code (stand own address (put_place (place_in (whole_of var)) on)) (stand own index.after (put_place (place_in (record { var = var; index = Some index.number })) on))
+follows_indexes code own var address first index follows indexes = λ on.
+    leads_then code (stand own address (put_place (place_in (whole_of var)) on)) (stand own first.after (put_value (Int first.number) (put_place (place_in (whole_of var)) on)))
+    (stand own index.after (put_place (place_in (record { var = var; index = Some index.number })) on)) (follows on) (indexes own var on)
+
+pub item_loads : (code : Code) (own : List (Option Own)) (var address : ℕ) (first index found : Found) → Puts code own address first → Indexes code first index
+    → Loads code own (record { var = var; index = Some index.number }) index.after found → Loads code own (whole_of var) address found
+item_loads code own var address first index found puts indexes loads = λ on.
+    leads_then code (stand own address (put_place (place_in (whole_of var)) on)) (stand own index.after (put_place (place_in (record { var = var; index = Some index.number })) on))
+    (stand own found.after (put_value (Int found.number) on)) (follows_indexes code own var address first index (number_follows code own (whole_of var) address first puts) indexes on) (loads on)
 
 pub two_replace : (code : Code) (own : List (Option Own)) (first second : Found) (coded : Coded) (op : Operator) (n : ℤ) → Puts code own first.after second
     → coded_at code.items second.after ≡ Some coded → coded.instruction ≡ Operate op → value_of op (Int first.number) (Int second.number) ≡ Ok (Int n)
@@ -178,16 +218,51 @@ two_decide code own first second coded op truth to puts at is gives jumps = λ o
     (leads_then code (stand own second.after (put_value (Int second.number) (put_value (Int first.number) on))) (stand own (second.after - 1) (put_value (truth_value truth) on)) (stand own to on)
     (operate_leads code own coded op first.number second.number (truth_value truth) second.after on at is gives) (jumps on))
 
-pub replaced_follows : (code : Code) (own : List (Option Own)) (var address : ℕ) (first found : Found) → Follows code own var address first → Replaces code own first found → Follows code own var address found
-replaced_follows code own var address first found follows replaces = λ on.
-    leads_then code (stand own address (put_place (whole (an_own var)) on)) (stand own first.after (put_value (Int first.number) (put_place (whole (an_own var)) on)))
-    (stand own found.after (put_value (Int found.number) (put_place (whole (an_own var)) on))) (follows on) (replaces (put_place (whole (an_own var)) on))
+pub replaced_follows : (code : Code) (own : List (Option Own)) (part : Part) (address : ℕ) (first found : Found) → Follows code own part address first → Replaces code own first found → Follows code own part address found
+replaced_follows code own part address first found follows replaces = λ on.
+    leads_then code (stand own address (put_place (place_in part) on)) (stand own first.after (put_value (Int first.number) (put_place (place_in part) on)))
+    (stand own found.after (put_value (Int found.number) (put_place (place_in part) on))) (follows on) (replaces (put_place (place_in part) on))
 
-pub spot_then_stores : (code : Code) (own : List (Option Own)) (spot store : Coded) (var address : ℕ) (found : Found) → coded_at code.items address ≡ Some spot → spot.instruction ≡ spot_instruction (own_root var)
-    → Follows code own var (address - 1) found → coded_at code.items found.after ≡ Some store → store.instruction ≡ Store
-    → Assigns code own address (record { var = var; found = record { number = found.number; after = found.after - 1 } })
-spot_then_stores code own spot store var address found at is follows at_store is_store = λ stored fits on.
-    let placed_on : Operands = put_place (whole (an_own var)) on in
-    leads_then code (stand own address on) (stand own (address - 1) placed_on) (stand stored (found.after - 1) on) (spot_leads code own spot address var on at is)
-    (leads_then code (stand own (address - 1) placed_on) (stand own found.after (put_value (Int found.number) placed_on)) (stand stored (found.after - 1) on)
-    (follows on) (store_leads code own stored store var found.after found.number on at_store is_store fits))
+-- ---- whole stretches
+
+pub then_stores : (code : Code) (own : List (Option Own)) (store : Coded) (part : Part) (address : ℕ) (found : Found) → Follows code own part address found → coded_at code.items found.after ≡ Some store → store.instruction ≡ Store
+    → Does code own (put_place (place_in part)) address (stores_number (record { part = part; found = record { number = found.number; after = found.after - 1 } }))
+then_stores code own store part address found follows at is = λ stored fits on.
+    leads_then code (stand own address (put_place (place_in part) on)) (stand own found.after (put_value (Int found.number) (put_place (place_in part) on))) (stand stored (found.after - 1) on)
+    (follows on) (store_leads code own stored store part found.after found.number on at is fits)
+
+-- what leads to the beginning of a stretch, and the stretch
+pub then_does : (code : Code) (own : List (Option Own)) (before after : Operands → Operands) (from to : ℕ) (stretch : Stretch) → ((on : Operands) → LeadsTo code (stand own from (before on)) (stand own to (after on)))
+    → Does code own after to stretch → Does code own before from stretch
+then_does code own before after from to (puts_number found) leads does = λ on.
+    leads_then code (stand own from (before on)) (stand own to (after on)) (stand own found.after (put_value (Int found.number) on)) (leads on) (does on)
+then_does code own before after from to (stores_number assigned) leads does = λ stored fits on.
+    leads_then code (stand own from (before on)) (stand own to (after on)) (stand stored assigned.found.after on) (leads on) (does stored fits on)
+
+pub item_does : (code : Code) (own : List (Option Own)) (var address : ℕ) (number index : Found) (stretch : Stretch) → Follows code own (whole_of var) address number → Indexes code number index
+    → Does code own (put_place (place_in (record { var = var; index = Some index.number }))) index.after stretch → Does code own (put_place (place_in (whole_of var))) address stretch
+item_does code own var address number index stretch follows indexes does =
+    then_does code own (put_place (place_in (whole_of var))) (put_place (place_in (record { var = var; index = Some index.number }))) address index.after stretch
+    (follows_indexes code own var address number index follows indexes) does
+
+pub spot_does : (code : Code) (own : List (Option Own)) (coded : Coded) (address var : ℕ) (stretch : Stretch) → coded_at code.items address ≡ Some coded → coded.instruction ≡ spot_instruction (own_root var)
+    → Does code own (put_place (place_in (whole_of var))) (address - 1) stretch → Does code own (λ on. on) address stretch
+spot_does code own coded address var stretch at is does =
+    then_does code own (λ on. on) (put_place (place_in (whole_of var))) address (address - 1) stretch (λ on. spot_leads code own coded address var on at is) does
+
+-- ---- single instructions that go on
+
+pub jump_carries : (program : Program) (p : Process) (coded : Coded) (to : ℕ) → Runs p → coded_at program.code.items p.address ≡ Some coded → coded.instruction ≡ Jump to
+    → Carries program (Ok true) p (record p { address = min to (p.address - 1) })
+jump_carries program p coded to runs at is =
+    carried_by program p (record p { address = min to (p.address - 1) }) coded p.frame (Goes (min to (p.address - 1))) runs at
+    (ap (λ (i : Instruction). begun program.core.names i (here_in p coded.place) (p.address - 1) p.frame.operands p.frame) is) refl
+
+ticking_left : (ticks left to : ℕ) (frame : Frame) → ticks ≡ suc left → ticking ticks (λ f. went to frame.operands f) frame ≡ Went to (record frame { ticks = left })
+ticking_left ticks left to frame is = ap (λ (n : ℕ). ticking n (λ f. went to frame.operands f) frame) is
+
+pub tick_carries : (program : Program) (p : Process) (coded : Coded) (left to : ℕ) → Runs p → coded_at program.code.items p.address ≡ Some coded → TicksTo coded.instruction (p.address - 1) to
+    → p.frame.ticks ≡ suc left → Carries program (Ok true) p (record p { address = to; frame = record p.frame { ticks = left } })
+tick_carries program p coded left to runs at ticks is =
+    carried_by program p (record p { address = to; frame = record p.frame { ticks = left } }) coded (record p.frame { ticks = left }) (Goes to) runs at
+    (ticks program.core.names (here_in p coded.place) p.frame ∙ ticking_left p.frame.ticks left to p.frame is) refl

@@ -1,20 +1,22 @@
-ghost use Rattle.std.specs.Prelude.{◌≡◌, ◌≢◌, ◌<◌, ◌∷◌, ◌++◌, [], IfOk, IsSome, IsErr, List, None, Ok, OnErr, OnOk, Some, ℕ, option_copied};
+ghost use Rattle.std.specs.Prelude.{◌≡◌, ◌≢◌, ◌<◌, ◌-◌, ◌∷◌, ◌++◌, [], IfOk, IsSome, IsErr, List, None, Ok, OnErr, OnOk, Some, ℕ, option_copied};
 ghost use Rattle.sr_ask.specs.declared.answer.Answer.{Answer as an_answer};
 ghost use Rattle.sr_ask.specs.declared.start.Start.{Start as a_start};
 ghost use Rattle.sr_code.specs.Runs.{code_ask};
 ghost use Rattle.sr_code.specs.declared.code.Program.{Program as a_program};
 ghost use Rattle.sr_process.specs.declared.process.Phase.TheVariants.{New as new_phase, Waiting as waiting_phase};
 ghost use Rattle.sr_process.specs.Processes.{Carries, Failed, Ready, Runs, Hears, ReadyIn, SameAsks, StandsFor, asked_by, asks_after, asking, coded_at, left, me_of, stepped};
-ghost use Rattle.sr_process.specs.Together.{Assigns, Puts};
+ghost use Rattle.sr_process.specs.Together.{Does, Puts, TicksTo};
 
 use crate::entry::{entry_address, entry_place, first_frame, no_frame};
 use crate::operands::copy_frame;
-use crate::together::{Assigned, Found, assignment_at, decided, instruction_at, number_at};
+use crate::together::{
+    Assigned, Found, Stretch, decided, instruction_at, store_number, stretch_at,
+};
 use sr_ask::{Answer, Ask, Asks, Request, Start};
 use sr_code::{Coded, Instruction, Program};
-use sr_core::{Me, Root};
+use sr_core::Me;
 use sr_execute::{Carried, Frame, Step, execute, execute_quickly, resume};
-use sr_frame::{Scene, own_stored, results_now};
+use sr_frame::{Scene, results_now};
 use sr_value::{Duplicate, NoMemory, Place, Value};
 use std::alloc::Global;
 
@@ -197,18 +199,13 @@ impl Process {
         Ok(true)
     }
 
-    /// Stores a number in an own variable, and whether it fits there.
+    /// Stores a number in an own variable or an item of one, and whether it fits there.
     fn assign(&mut self, program: &Program, assigned: Assigned) -> bool
         requires runs { Runs self.old }
-        requires assigns { Assigns program.now.code self.old.frame.own self.old.address assigned }
+        requires assigns { Does program.now.code self.old.frame.own (λ on. on) self.old.address (Stretch.Stores assigned) }
         ensures { Carries program.now (Ok result) self.old self.new }
     {
-        match own_stored(
-            &mut self.frame.own,
-            assigned.var,
-            &[],
-            Value::Int(assigned.found.number),
-        ) {
+        match store_number(&mut self.frame.own, assigned.part, assigned.found.number) {
             Ok(()) => {
                 self.address = assigned.found.after;
                 true
@@ -218,21 +215,49 @@ impl Process {
     }
 
     /// Instructions on numbers that are carried out together, and whether there were any.
-    fn carry_out_together(&mut self, program: &Program, coded: &Coded) -> Result<bool, NoMemory>
+    fn carry_out_together(&mut self, program: &Program) -> Result<bool, NoMemory>
         requires { Runs self.old }
         ensures { Carries program.now result self.old self.new }
     {
-        match coded.instruction {
-            Instruction::Spot(Root::Own(_)) => {}
-            Instruction::Constant(Value::Int(_)) => {}
-            _ => return Ok(false),
-        }
-        if let Some(found) = number_at(&program.code, &self.frame.own, self.address) {
-            return self.put_found(program, found);
-        }
-        match assignment_at(&program.code, &self.frame.own, self.address) {
-            Some(assigned) => Ok(self.assign(program, assigned)),
+        match stretch_at(&program.code, &self.frame.own, self.address) {
+            Some(Stretch::Puts(found)) => self.put_found(program, found),
+            Some(Stretch::Stores(assigned)) => Ok(self.assign(program, assigned)),
             None => Ok(false),
+        }
+    }
+
+    /// Takes a tick and goes on there, and whether a tick was left.
+    fn tick(&mut self, program: &Program, coded: &Coded, to: usize) -> bool
+        requires runs { Runs self.old }
+        requires at { coded_at program.now.code.items self.old.address ≡ Some coded.now }
+        requires ticks { TicksTo coded.now.instruction (self.old.address - 1) to }
+        ensures { Carries program.now (Ok result) self.old self.new }
+    {
+        match self.frame.ticks.checked_sub(1) {
+            Some(left) => {
+                self.frame.ticks = left;
+                self.address = to;
+                true
+            }
+            None => false,
+        }
+    }
+
+    /// A jump, or a statement that begins, and whether it was one of these.
+    fn go_on(&mut self, program: &Program, coded: &Coded) -> bool
+        requires runs { Runs self.old }
+        requires at { coded_at program.now.code.items self.old.address ≡ Some coded.now }
+        ensures { Carries program.now (Ok result) self.old self.new }
+    {
+        let next = self.address - 1;
+        match coded.instruction {
+            Instruction::Tick => self.tick(program, coded, next),
+            Instruction::Again { to } => self.tick(program, coded, to),
+            Instruction::Jump { to } => {
+                self.address = to.min(next);
+                true
+            }
+            _ => false,
         }
     }
 
@@ -323,7 +348,10 @@ impl Process {
     {
         match instruction_at(&program.code, self.address) {
             Some(coded) => {
-                if self.carry_out_together(program, coded)? {
+                if self.go_on(program, coded) {
+                    return Ok(());
+                }
+                if self.carry_out_together(program)? {
                     return Ok(());
                 }
                 if self.carry_out_quickly(program, coded)? {

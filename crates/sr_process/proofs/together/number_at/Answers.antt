@@ -20,6 +20,6 @@ returns-in_ok-number_of-in-Constant c =
 
 pub returns-in_ok-own_of-in-Spot : goal.returns-in_ok-own_of-in-Spot
 returns-in_ok-own_of-in-Spot c =
-    IfSome_then c.loaded.result c.loaded.ensures (λ found loads.
+    IfSome_then c.part_loaded.result c.part_loaded.ensures (λ found loads.
     spot_then_loads c.args.code.now c.args.own.now c.in_ok-value.field-0.now c.args.address c.in_ok-own_of-in-Spot.field-0 found (sym c.in_ok-value.ensures)
     (c.in-Spot.is ∙ ap (λ (root : Root). spot_instruction root) c.in_ok-own_of-in-Spot.ensures) loads)
