@@ -1,4 +1,4 @@
-ghost use Rattle.std.specs.Prelude.{◌≡◌, ◌<◌, ℕ, IfNone, IfOk, IfSome, OnOk, false, true};
+ghost use Rattle.std.specs.Prelude.{◌≡◌, ◌<◌, ℕ, IfNone, IfOk, IfSome, IsTrue, OnOk, false, true};
 ghost use Rattle.std.specs.BTreeSet.{btree_set_len, contains};
 ghost use Rattle.std.specs.Ordering.{nat_cmp};
 ghost use Rattle.sr_plain.specs.Waiting.{HaveJoined, IsJoined, IsMadeReady, IsNext, IsTakenOut, IsWokenAt, WaitsAlso, WaitsThere, is_ready};
@@ -181,10 +181,23 @@ impl Waiters {
         ensures least { IfSome result (λ process. (other : ℕ) → last < other → other < process → is_ready self.now other ≡ false) }
         ensures none { IfNone result ((other : ℕ) → last < other → is_ready self.now other ≡ false) }
     {
+        if self.none_after(last) {
+            return None;
+        }
         self.ready
             .range((Bound::Excluded(last), Bound::Unbounded))
             .next()
             .copied()
+    }
+
+    /// Whether none is ready after it, which takes less time than to look for the first.
+    fn none_after(&self, last: u32) -> bool
+        ensures { IsTrue result → (other : ℕ) → last < other → is_ready self.now other ≡ false }
+    {
+        match self.ready.last() {
+            Some(greatest) => *greatest <= last,
+            None => true,
+        }
     }
 
     fn first(&self) -> Option<u32>
