@@ -1,13 +1,13 @@
 -- Statements that wait service operations of one owner, which have no procs.
 use Rattle.std.proofs.Common.{◌≡◌, ℕ, zero, suc, Bool, true, false, true≢false, ◌&&◌, List, [], ◌∷◌, Option, Some, None, flat_map, get_or, position, is_some, slice_get, refl, sym, ap, ◌∙◌, subst, arith}
 use Rattle.std.specs.Prelude.{All, Contains, IsTrue, ◌==◌}
-use Rattle.std.specs.List.{IsDistinct, enumerate_from, list_all}
+use Rattle.std.specs.List.{AllByRecursion, AllZip, IsDistinct, enumerate_from, list_all}
 use Rattle.std.proofs.lemmas.Bool.{and_from, eq-eqb}
-use Rattle.std.proofs.lemmas.List.Elements.{recursion_from_All}
+use Rattle.std.proofs.lemmas.List.Elements.{All-from_recursion, recursion_from_All}
 use Rattle.std.proofs.lemmas.List.Quantifiers.{position-Some}
 use Rattle.sr_check.specs.Owners.{Declared, component_at}
 use Rattle.sr_check.specs.Procs.{proc_of}
-use Rattle.sr_check.specs.Servicing.{AllServiceOwn, AreWaited, Served, ServesShared, ServicesOwn, Waited, component_procedures, component_served as component_meant, component_waits, item_procedures, item_served as item_meant, meant_at}
+use Rattle.sr_check.specs.Servicing.{AllServiceOwn, AreWaited, Served, ServesShared, ServicesOwn, Together, Waited, component_procedures, component_served as component_meant, component_waits, item_procedures, item_served as item_meant, meant_at}
 use Rattle.sr_check_expr.specs.declared.facts.Facts.{Facts}
 use Rattle.sr_core.specs.declared.component.Core.{Core}
 use Rattle.sr_core.specs.declared.component.Operation.{Operation}
@@ -17,6 +17,7 @@ use Rattle.sr_core.specs.declared.statement.Scope.{Scope}
 use Rattle.sr_core.specs.declared.statement.Scope.TheVariants.{Own as own_scope, Shared as shared_scope}
 use Rattle.sr_core.specs.Serving.{arm_ok, arms_ok, names_formals, scope_eq}
 use Rattle.sr_core.specs.Tests.{same_there, with_operation}
+use Rattle.sr_lower_expr.specs.Places.{scope_in}
 use Rattle.sr_desugar.specs.Core.{LoweredComponent, standing, whole_of}
 use Rattle.sr_names.specs.declared.meaning.Decl.{Decl}
 use Rattle.sr_names.specs.declared.spot.Spot.{Spot}
@@ -33,13 +34,15 @@ use Rattle.sr_tree.specs.declared.component.Item.{Item}
 use Rattle.sr_tree.specs.declared.component.Item.TheVariants as item
 use Rattle.sr_tree.specs.Parts.{body_of}
 use Rattle.sr_value.specs.declared.place.Span.{Span}
+use Rattle.sr_core.specs.Sites.{has_scope, is_of}
+use Rattle.sr_front.specs.Sites.{IsListed}
 use Rattle.sr_front.proofs.Serviced.{IsClear, arm_effect_free, arm_serves, arms_serve, component_calls, sites_effect_free, sites_serve}
 use Rattle.sr_front.proofs.Declared.{Apart, Entered, one_component, scope_of}
 use Rattle.sr_front.proofs.Numbered.{each_once_apart}
 use Rattle.sr_front.proofs.Members.{Among, all_at, among_parts, at_made, at_read, contained, every_at, numbered_at, part_of, passed, passes_at, zip_at}
 use Rattle.sr_front.proofs.Operations.{components, core, imports, served, table, tables, wholes}
 use Rattle.sr_front.proofs.Services.{meant_is, put, serves_own, services_own}
-use Rattle.sr_front.proofs.Waiting.{ArmServes, SiteServes}
+use Rattle.sr_front.proofs.Waiting.{ArmServes, FirstScope, SiteServes}
 use Rattle.sr_front.proofs.WaitingCode.{sites_good}
 
 -- ---- arms of one owner
@@ -76,6 +79,25 @@ module _ (core : Core) (component : ℕ) (scope : Scope) where
       let first = serving 0 arm refl in
       with_there core arm.op first.operation (λ one. list_all (arm_serves core one) (arm ∷ arms)) first.there
       (passed (arm_serves core first.operation) (arm ∷ arms) (λ place one h. arm_is_served first.operation one first.whose first.whole (serving place one h)))
+
+  -- its operation is of the owner
+  arm_is_own : (arm : CoreArm) → ArmOf core component scope arm → IsTrue (with_operation core arm.op (λ operation. operation.component == component))
+  arm_is_own arm serving = with_there core arm.op serving.operation (λ operation. operation.component == component) serving.there (eq-eqb _ _ serving.whose)
+
+  arm_has_scope : (other : Scope) (arm : CoreArm) → other ≡ scope → ArmOf core component scope arm → IsTrue (with_operation core arm.op (λ operation. scope_eq operation.scope other))
+  arm_has_scope other arm same serving =
+      with_there core arm.op serving.operation (λ operation. scope_eq operation.scope other) serving.there (same_scope serving.operation.scope other scope serving.whole same)
+
+-- A site services operations without procs of one owner, which is of this component and as the site says.
+pub record SiteFits (core : Core) (component : ℕ) (site : Site) : Type 0 where
+  pub served : IsTrue (arms_serve core site.arms)
+  pub own : IsTrue (is_of core component site)
+  pub scoped : IsTrue (has_scope core site)
+  pub lists : IsListed site
+
+each_listed : (sites : List Site) → ((place : ℕ) (site : Site) → At sites place site → IsListed site) → AllByRecursion IsListed sites
+each_listed [] each = tt
+each_listed (site ∷ sites) each = (each 0 site refl, each_listed sites (λ place. each (suc place)))
 
 -- ---- what is waited for has no proc
 
@@ -185,23 +207,45 @@ module _ (files : List File) (known facts : Facts) (services : AllServiceOwn fac
         names = served_by.names entry.operation entry.found;
       }
 
-  site_served : (number : ℕ) (component : Component) (site : Site) → At all number component → (own : ServicesOwn uses files known component)
-      → SiteServes (AreWaited files known (component_at component) own.procs) (table files facts) site → IsTrue (arms_serve (core files facts) site.arms)
-  site_served number component site there own serving =
-      arms_are_served (core files facts) number (scope_of serving.holds.0) site.arms (λ place arm h. by place arm (zip_at (ArmServes (table files facts)) site.arms serving.together place arm serving.arms h))
+  -- the scope of a site is that of its first operation
+  scope_is : (number : ℕ) (component : Component) (is_local : Bool) (scope : Scope) (arms : List CoreArm) (together : Together) → At all number component → (own : ServicesOwn uses files known component)
+      → All (Waited files known (component_at component) own.procs is_local) together → AllZip (ArmServes (table files facts)) arms together → FirstScope (table files facts) scope together
+      → (place : ℕ) (arm : CoreArm) → At arms place arm → scope ≡ scope_of is_local
+  scope_is number component is_local scope [] [] there own waited zip first place arm h = absurd h
+  scope_is number component is_local scope [] (meant ∷ together) there own waited zip first place arm h = absurd zip
+  scope_is number component is_local scope (one ∷ arms) [] there own waited zip first place arm h = absurd zip
+  scope_is number component is_local scope (one ∷ arms) (meant ∷ together) there own waited zip first place arm h =
+      let head = all_at (Waited files known (component_at component) own.procs is_local) (meant ∷ together) 0 meant waited refl in
+      let entry = put files facts apart head.own.decl.spot (component_at component) is_local head.own.declared in
+      first head.own.decl head.own.means ∙ ap scope_in entry.found ∙ entry.scope
+
+  site_fits : (number : ℕ) (component : Component) (site : Site) → At all number component → (own : ServicesOwn uses files known component)
+      → SiteServes (AreWaited files known (component_at component) own.procs) (table files facts) site → SiteFits (core files facts) number site
+  site_fits number component site there own serving = record {
+    served = arms_are_served (core files facts) number (scope_of serving.holds.0) site.arms each;
+    own = passed (λ arm. with_operation (core files facts) arm.op (λ operation. operation.component == number)) site.arms
+        (λ place arm h. arm_is_own (core files facts) number (scope_of serving.holds.0) arm (each place arm h));
+    scoped = passed (λ arm. with_operation (core files facts) arm.op (λ operation. scope_eq operation.scope site.scope)) site.arms
+        (λ place arm h. arm_has_scope (core files facts) number (scope_of serving.holds.0) site.scope arm
+        (scope_is number component serving.holds.0 site.scope site.arms serving.together there own serving.holds.1 serving.arms serving.scope place arm h) (each place arm h));
+    lists = serving.lists;
+  }
     where
       by : (place : ℕ) (arm : CoreArm) → (meant : Option Decl) × At serving.together place meant × ArmServes (table files facts) arm meant → ArmOf (core files facts) number (scope_of serving.holds.0) arm
       by place arm zipped =
           arm_of number component serving.holds.0 arm zipped.0 there own
           (all_at (Waited files known (component_at component) own.procs serving.holds.0) serving.together place zipped.0 serving.holds.1 zipped.1) zipped.2
 
+      each : (place : ℕ) (arm : CoreArm) → At site.arms place arm → ArmOf (core files facts) number (scope_of serving.holds.0) arm
+      each place arm h = by place arm (zip_at (ArmServes (table files facts)) site.arms serving.together place arm serving.arms h)
+
   module _ (clear : All (λ component. All (IsClear (standing facts component)) (component_calls component)) (components_in files)) where
     component_sites : (number place : ℕ) (component : Component) (site : Site) → At all number component
-        → At (whole_of facts (tables files facts) (imports files facts) (number, component)).sites place site → IsTrue (arms_serve (core files facts) site.arms)
+        → At (whole_of facts (tables files facts) (imports files facts) (number, component)).sites place site → SiteFits (core files facts) number site
     component_sites number place component site there h =
         let own = services_own uses files known facts refl services number component there in
         let P = AreWaited files known (component_at component) own.procs in
-        site_served number component site there own
+        site_fits number component site there own
         (every_at (SiteServes P (table files facts)) (whole_of facts (tables files facts) (imports files facts) (number, component)).sites place site
         (sites_good P facts (tables files facts) (imports files facts) number component
         (recursion_from_All P (component_waits uses component) own.by_statements)
@@ -209,15 +253,35 @@ module _ (files : List File) (known facts : Facts) (services : AllServiceOwn fac
         (all_at (λ one. All (IsClear (standing facts one)) (component_calls one)) all number component clear there)))
         h)
 
-    -- clause `sites` of `IsWellFormed`, but for guards
-    pub sites_are_served : IsTrue (sites_serve (core files facts))
-    sites_are_served = passed (λ site. arms_serve (core files facts) site.arms) (core files facts).sites (λ place site h.
+    -- the sites of a component name its own operations
+    pub sites_are_own : (number : ℕ) (component : Component) → At all number component
+        → IsTrue (list_all (is_of (core files facts) number) (whole_of facts (tables files facts) (imports files facts) (number, component)).sites)
+    sites_are_own number component there =
+        passed (is_of (core files facts) number) (whole_of facts (tables files facts) (imports files facts) (number, component)).sites
+        (λ place site h. (component_sites number place component site there h).own)
+
+    every_site : (place : ℕ) (site : Site) → At (core files facts).sites place site → (number : ℕ) × SiteFits (core files facts) number site
+    every_site place site h =
         let part = part_of (λ (whole : LoweredComponent). whole.sites) (wholes files facts) place site h in
         let made = at_made (whole_of facts (tables files facts) (imports files facts)) (enumerate_from 0 all) part.0 part.1 part.2 in
         let there = numbered_at 0 all part.0 made.0 made.1 in
-        let number : made.0.0 ≡ part.0 = omega (arith, there.0) in
-        component_sites made.0.0 part.3.0 made.0.1 site (subst (λ at. At all at made.0.1) (sym number) there.1)
-        (subst (λ (one : LoweredComponent). At one.sites part.3.0 site) (sym made.2) part.3.1))
+        let number : made.0.0 ≡ part.0 = omega (arith, there.0) in (
+          made.0.0,
+          component_sites made.0.0 part.3.0 made.0.1 site (subst (λ at. At all at made.0.1) (sym number) there.1)
+              (subst (λ (one : LoweredComponent). At one.sites part.3.0 site) (sym made.2) part.3.1),
+        )
+
+    -- clause `sites` of `IsWellFormed`, but for guards
+    pub sites_are_served : IsTrue (sites_serve (core files facts))
+    sites_are_served = passed (λ site. arms_serve (core files facts) site.arms) (core files facts).sites (λ place site h. (every_site place site h).1.served)
+
+    -- clause `scopes` of `HasSites`
+    pub sites_have_scopes : IsTrue (list_all (has_scope (core files facts)) (core files facts).sites)
+    sites_have_scopes = passed (has_scope (core files facts)) (core files facts).sites (λ place site h. (every_site place site h).1.scoped)
+
+    -- clause `lists` of `HasSites`
+    pub sites_are_listed : All IsListed (core files facts).sites
+    sites_are_listed = All-from_recursion IsListed (core files facts).sites (each_listed (core files facts).sites (λ place site h. (every_site place site h).1.lists))
 
 -- ---- guards
 

@@ -1,5 +1,5 @@
 -- Each statement that waits is a site of the core that services what the statement means.
-use Rattle.std.proofs.Common.{◌≡◌, Bool, true, false, List, [], ◌∷◌, ◌++◌, Option, Some, None, map, refl, sym, subst}
+use Rattle.std.proofs.Common.{◌≡◌, Bool, true, false, List, [], ◌∷◌, ◌++◌, Option, Some, None, map, refl, sym, ap, subst}
 use Rattle.std.specs.List.{AllByRecursion, AllZip}
 use Rattle.sr_check.specs.Servicing.{ArmWaits, Together, Waits, arm_step, arm_waits, arms_meant, arms_waits, block_item_waits, branch_step, branch_waits, call_waits, co_arm_step, co_arm_waits, item_step, joined, meant_at, statement_step, statement_waits}
 use Rattle.sr_core.specs.declared.component.Operation.{Operation}
@@ -7,6 +7,7 @@ use Rattle.sr_core.specs.declared.site.Arm.{Arm as CoreArm}
 use Rattle.sr_core.specs.declared.site.Site.{Site}
 use Rattle.sr_core.specs.declared.statement.CoArm.{CoArm as CoreCoArm}
 use Rattle.sr_core.specs.declared.statement.Guarded.{Guarded}
+use Rattle.sr_core.specs.declared.statement.Scope.{Scope}
 use Rattle.sr_core.specs.declared.statement.Statement.{Statement as CoreStatement}
 use Rattle.sr_names.specs.declared.meaning.Decl.{Decl}
 use Rattle.sr_names.specs.declared.spot.Spot.{Spot}
@@ -15,6 +16,7 @@ use Rattle.sr_check_expr.specs.Meanings.{function_called, meant_by}
 use Rattle.sr_outline.specs.Numbers.{is_p, receive_returned, returned_names, wait_operation}
 use Rattle.sr_tables.specs.Lists.{lists}
 use Rattle.sr_tables.specs.Parts.{spot_named}
+use Rattle.sr_tables.specs.Tables.{found_at}
 use Rattle.sr_tree.specs.declared.expr.Expr.{Expr}
 use Rattle.sr_tree.specs.declared.expr.Invocation.{Invocation}
 use Rattle.sr_tree.specs.declared.statement.Arm.{Arm, roll-Arm}
@@ -27,7 +29,9 @@ use Rattle.sr_tree.specs.declared.statement.Statement.{Statement, roll-Statement
 use Rattle.sr_tree.specs.Expressions.{expr_span}
 use Rattle.sr_value.specs.declared.place.Span.{Span}
 use Rattle.sr_lower_expr.specs.declared.scene.Scene.{Scene}
-use Rattle.sr_desugar.specs.Statements.{LoweredArm, Block, WithSites, all_sites, arm_made, arms_of, branch_made, call_made, co_arm_made, core_arm, core_block_item, core_branch, core_co_arm, core_statement, item_made, receive_made, statement_made}
+use Rattle.sr_lower_expr.specs.Places.{scope_in}
+use Rattle.sr_desugar.specs.Statements.{LoweredArm, Block, WithSites, all_sites, arm_made, arms_of, branch_made, call_made, co_arm_made, core_arm, core_block_item, core_branch, core_co_arm, core_statement, item_made, receive_made, scope_of_arms, statement_made}
+use Rattle.sr_front.specs.Sites.{IsListed}
 use Rattle.sr_front.proofs.Serviced.{Called, IsClear, WaitsFor, arm_calls, block_item_calls, branch_calls, co_arm_calls, statement_calls, item_step as item_called, statement_step as statement_called, arm_step as arm_called, branch_step as branch_called, co_arm_step as co_arm_called}
 use Rattle.sr_front.proofs.Procs.{Serves, serves}
 use Rattle.sr_front.proofs.Services.{meant_is}
@@ -56,12 +60,23 @@ module _ {A : Type 0} (Q : A → Type 0) where
 abbrev pub ArmServes : List (Spot × Operation) → CoreArm → Option Decl → Type 0
 ArmServes table arm meant = (decl : Decl) → meant ≡ Some decl → Serves table arm.op arm.formals arm.returned decl.spot
 
+-- and its scope is that of the operation
+abbrev pub ScopeServes : List (Spot × Operation) → Scope → Option Decl → Type 0
+ScopeServes table scope meant = (decl : Decl) → meant ≡ Some decl → scope ≡ scope_in (found_at table decl.spot)
+
+-- the scope of a site is that of the first
+abbrev pub FirstScope : List (Spot × Operation) → Scope → Together → Type 0
+FirstScope table scope [] = Unit {0}
+FirstScope table scope (meant ∷ more) = ScopeServes table scope meant
+
 module _ (P : Together → Type 0) where
   -- a site services what is meant together
   pub record SiteServes (table : List (Spot × Operation)) (site : Site) : Type 0 where
     pub together : Together
     pub holds : P together
     pub arms : AllZip (ArmServes table) site.arms together
+    pub scope : FirstScope table site.scope together
+    pub lists : IsListed site
 
   -- each site of what is made services what is meant, and calls are clear
   abbrev pub Good : Scene → List Site → Waits → List Called → Type 0
@@ -76,7 +91,8 @@ module _ (P : Together → Type 0) where
   StatementGood tree = (scene : Scene) → Good scene (core_statement scene tree).sites (statement_waits scene.facts.uses tree) (statement_calls tree)
 
   abbrev ArmParts : Scene → WithSites LoweredArm → ArmWaits → List Called → Type 0
-  ArmParts scene made waits calls = ArmServes scene.tables.operations made.made.arm waits.0 × Good scene made.sites waits.1 calls
+  ArmParts scene made waits calls =
+      (ArmServes scene.tables.operations made.made.arm waits.0 × ScopeServes scene.tables.operations made.made.scope waits.0) × Good scene made.sites waits.1 calls
 
   abbrev ArmGood : Arm → Type 0
   ArmGood tree = (scene : Scene) → ArmParts scene (core_arm scene tree) (arm_waits scene.facts.uses tree) (arm_calls tree)
@@ -150,7 +166,12 @@ module _ (P : Together → Type 0) where
   arms_serve : (scene : Scene) (arms : List A)
       → AllZip (ArmServes scene.tables.operations) (arms_of (map (core_arm scene) (map (λ e. e.0) arms))) (arms_meant (map (arm_waits scene.facts.uses) (map (λ e. e.0) arms)))
   arms_serve scene [] = tt
-  arms_serve scene (arm ∷ arms) = ((arm.1 scene).0, arms_serve scene arms)
+  arms_serve scene (arm ∷ arms) = ((arm.1 scene).0.0, arms_serve scene arms)
+
+  first_scope : (scene : Scene) (arms : List A)
+      → FirstScope scene.tables.operations (scope_of_arms (map (core_arm scene) (map (λ e. e.0) arms))) (arms_meant (map (arm_waits scene.facts.uses) (map (λ e. e.0) arms)))
+  first_scope scene [] = tt
+  first_scope scene (arm ∷ arms) = (arm.1 scene).0.1
 
   -- ---- `receive` and `P`
 
@@ -161,6 +182,8 @@ module _ (P : Together → Type 0) where
       together = meant ∷ [];
       holds = holds;
       arms = (λ decl is. subst (Serves scene.tables.operations _ _ _) (same decl is) (serves scene (map (λ place. spot_of (expr_span place)) places) (receive_returned scene.facts span operation) operation), tt);
+      scope = λ decl is. ap (λ spot. scope_in (found_at scene.tables.operations spot)) (same decl is);
+      lists = refl;
     },
     tt,
   )
@@ -223,9 +246,9 @@ module _ (P : Together → Type 0) where
   statement_good (Statement-F.Do span branches (Some otherwise)) scene = good_append scene _ _ _ _ _ _ (branches_good scene branches) (items_good scene otherwise)
   statement_good (Statement-F.ForAll span quantifiers block) scene = items_good scene block
   statement_good (Statement-F.In span arms None) scene = λ hold clear.
-      (record { together = _; holds = hold.0; arms = arms_serve scene arms }, with_none scene _ _ _ (arms_good scene arms) hold.1 clear)
+      (record { together = _; holds = hold.0; arms = arms_serve scene arms; scope = first_scope scene arms; lists = refl }, with_none scene _ _ _ (arms_good scene arms) hold.1 clear)
   statement_good (Statement-F.In span arms (Some otherwise)) scene = λ hold clear.
-      (record { together = _; holds = hold.0; arms = arms_serve scene arms }, good_append scene _ _ _ _ _ _ (arms_good scene arms) (items_good scene otherwise) hold.1 clear)
+      (record { together = _; holds = hold.0; arms = arms_serve scene arms; scope = first_scope scene arms; lists = refl }, good_append scene _ _ _ _ _ _ (arms_good scene arms) (items_good scene otherwise) hold.1 clear)
   statement_good (Statement-F.Co span arms) scene = co_arms_good scene arms
   statement_good _ scene = λ hold clear. tt
 
@@ -274,9 +297,12 @@ module _ (P : Together → Type 0) where
   arm_good : (y : Arm-F I S A B C) (scene : Scene)
       → ArmParts scene (arm_made scene (made_arm scene (bare_arm y))) (arm_step scene.facts.uses (waits_arm scene (bare_arm y))) (arm_called (calls_arm (bare_arm y)))
   arm_good y scene = (
-    (λ decl means.
-        subst (Serves scene.tables.operations _ _ _) (meant_is scene.facts.uses scene.facts y.operation decl refl means)
-        (serves scene (map spot_named y.formals) (returned_names y.returned) (meant_by scene.facts y.operation))),
+    (
+      (λ decl means.
+          subst (Serves scene.tables.operations _ _ _) (meant_is scene.facts.uses scene.facts y.operation decl refl means)
+          (serves scene (map spot_named y.formals) (returned_names y.returned) (meant_by scene.facts y.operation))),
+      λ decl means. ap (λ spot. scope_in (found_at scene.tables.operations spot)) (meant_is scene.facts.uses scene.facts y.operation decl refl means),
+    ),
     items_good scene y.block,
   )
 

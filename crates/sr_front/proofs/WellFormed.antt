@@ -19,21 +19,29 @@ use Rattle.sr_scope.proofs.FoundFiles.{one_meaning}
 use Rattle.sr_tables.specs.Parts.{components_in}
 use Rattle.sr_tree.specs.declared.component.File.{File}
 use Rattle.sr_desugar.specs.Core.{core_of}
+use Rattle.sr_desugar.specs.Laws.{WaitApart}
 use Rattle.sr_desugar.proofs.CoreNumbers.{codes, procs}
 use Rattle.sr_desugar.proofs.WaitsCode.{core_waits}
 use Rattle.sr_front.specs.declared.program.Checked.{Checked}
+use Rattle.sr_front.specs.Formals.{HasFormals}
+use Rattle.sr_front.specs.Imports.{HasImports}
+use Rattle.sr_front.specs.Invocations.{HasInvocations}
 use Rattle.sr_front.specs.Program.{IsAccepted}
+use Rattle.sr_front.specs.Sites.{HasSites}
 use Rattle.sr_front.proofs.AllowedCode.{accepted_allowed}
 use Rattle.sr_front.proofs.Clear.{all_clear}
 use Rattle.sr_front.proofs.Declared.{Apart, all_component_keys}
 use Rattle.sr_front.proofs.Findings.{has_main}
 use Rattle.sr_front.proofs.CoreComponents.{main_is}
+use Rattle.sr_front.proofs.Makes.{made_ok}
 use Rattle.sr_front.proofs.Operations.{operations_ok}
+use Rattle.sr_front.proofs.OwnProcs.{procs_own}
 use Rattle.sr_front.proofs.ProcNumbers.{numbers_are_ok}
 use Rattle.sr_front.proofs.EffectFreeCore.{accepted_effect_free}
 use Rattle.sr_front.proofs.ServedApart.{all_serve_shared, served_apart}
 use Rattle.sr_front.proofs.Services.{procs_serve_own}
-use Rattle.sr_front.proofs.Sites.{sites_are_served, sites_well}
+use Rattle.sr_front.proofs.Sites.{sites_are_listed, sites_are_own, sites_are_served, sites_have_scopes, sites_well}
+use Rattle.sr_front.proofs.SiteCode.{arms_own_ok, code_imported_ok, guards_ok, imported_ok, otherwise_ok, own_ok}
 use Rattle.sr_front.proofs.Spelled.{no_final_in_globals}
 use Rattle.sr_front.proofs.SpotsApart.{spots-apart}
 use Rattle.sr_front.proofs.WaitApart.{waits_apart}
@@ -79,6 +87,10 @@ module _ (contents : List (List ℕ)) (accepted : Checked) (is : IsAccepted cont
   own_services : AllServiceOwn facts.uses trees known
   own_services = subst (λ meanings. AllServiceOwn meanings trees known) (sym kept) services
 
+  -- statements that wait stand at different spots
+  wait_apart : WaitApart trees facts
+  wait_apart = waits_apart trees facts (spots-apart statement_spans statements-picked contents trees is.read)
+
   pub accepted_well_formed : IsWellFormed (core_of trees facts)
   accepted_well_formed = record {
     main = main_is trees facts (has_main trees is.names is.named);
@@ -92,5 +104,32 @@ module _ (contents : List (List ℕ)) (accepted : Checked) (is : IsAccepted cont
         (accepted_effect_free uses is.names.specs contents trees facts is.read is.checked);
     numbers = numbers_are_ok uses trees known facts kept services apart (codes trees facts) (procs trees facts);
     allowed = accepted_allowed uses is.names.specs trees facts none;
-    waits = core_waits trees facts (waits_apart trees facts (spots-apart statement_spans statements-picked contents trees is.read));
+    waits = core_waits trees facts wait_apart;
+  }
+
+  -- what each site says fits its operations, and where its `in` stands
+  pub accepted_sites : HasSites (core_of trees facts)
+  accepted_sites = record {
+    otherwise = otherwise_ok uses trees known facts kept services apart wait_apart;
+    own = own_ok uses trees known facts kept services apart wait_apart (sites_are_own trees known facts own_services apart once shared (all_clear facts (components_in trees)));
+    scopes = sites_have_scopes trees known facts own_services apart once shared (all_clear facts (components_in trees));
+    guards = guards_ok uses trees known facts kept services apart wait_apart;
+    lists = sites_are_listed trees known facts own_services apart once shared (all_clear facts (components_in trees));
+  }
+
+  -- the variables that stand for formals are own ones, where there are own variables
+  pub accepted_formals : HasFormals (core_of trees facts)
+  accepted_formals = record { arms = arms_own_ok uses trees known facts kept services apart wait_apart; procs = procs_own trees facts }
+
+  -- the imported globals that code and sites name are imported
+  pub accepted_imports : HasImports (core_of trees facts)
+  accepted_imports = record {
+    code = code_imported_ok uses trees known facts kept services apart wait_apart;
+    sites = imported_ok uses trees known facts kept services apart wait_apart;
+  }
+
+  -- what its code makes may be made
+  pub accepted_invocations : HasInvocations (core_of trees facts)
+  accepted_invocations = record {
+    made = made_ok is.names.specs trees facts is.names is.named kept services apart (subst (IsDistinct same_spot) (all_component_keys trees) apart.components) none;
   }

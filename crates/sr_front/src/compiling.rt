@@ -2,8 +2,12 @@ ghost use Rattle.std.specs.Prelude.{◌≡◌, ◌≤◌, length, IfOk, IfErr};
 ghost use Rattle.sr_core.specs.WellFormed.{IsWellFormed};
 ghost use Rattle.sr_compiled.specs.Agreement.{AsksTheSame};
 ghost use Rattle.sr_front.specs.Cores.{IsCoreOf};
+ghost use Rattle.sr_front.specs.Formals.{HasFormals};
+ghost use Rattle.sr_front.specs.Imports.{HasImports};
+ghost use Rattle.sr_front.specs.Invocations.{HasInvocations};
 ghost use Rattle.sr_front.specs.Program.{IsRefused};
 ghost use Rattle.sr_front.specs.Reading.{IsRefusal, contents_of};
+ghost use Rattle.sr_front.specs.Sites.{HasSites};
 
 use crate::cores::core_of;
 use sr_code::Program;
@@ -19,6 +23,10 @@ pub fn compile(alloc: Global, files: &[(Text, Text)]) -> Result<Program, FrontFa
     requires few { length files.now ≤ 64 }
     ensures core { IfOk result (λ program. IsCoreOf (contents_of files.now) (program.core, program.classes)) }
     ensures well_formed { IfOk result (λ program. IsWellFormed program.core) }
+    ensures sites { IfOk result (λ program. HasSites program.core) }
+    ensures imports { IfOk result (λ program. HasImports program.core) }
+    ensures formals { IfOk result (λ program. HasFormals program.core) }
+    ensures invocations { IfOk result (λ program. HasInvocations program.core) }
     ensures code { IfOk result (λ program. AsksTheSame program.core program.code) }
     ensures refused { IfErr result (IsRefusal (IsRefused (contents_of files.now))) }
 {

@@ -1,8 +1,12 @@
 ghost use Rattle.std.specs.Prelude.{◌≡◌, ◌≤◌, length, IfOk, IfErr};
 ghost use Rattle.sr_core.specs.WellFormed.{IsWellFormed};
 ghost use Rattle.sr_front.specs.Cores.{IsCoreOf, IsWrittenOut};
+ghost use Rattle.sr_front.specs.Formals.{HasFormals};
+ghost use Rattle.sr_front.specs.Imports.{HasImports};
+ghost use Rattle.sr_front.specs.Invocations.{HasInvocations};
 ghost use Rattle.sr_front.specs.Program.{IsRefused};
 ghost use Rattle.sr_front.specs.Reading.{IsRefusal, contents_of};
+ghost use Rattle.sr_front.specs.Sites.{HasSites};
 
 use crate::program::{Checked, accept};
 use sr_classes::partition;
@@ -19,6 +23,10 @@ pub fn core_of(alloc: Global, files: &[(Text, Text)]) -> Result<(Core, Classes),
     requires few { length files.now ≤ 64 }
     ensures core { IfOk result (IsCoreOf (contents_of files.now)) }
     ensures well_formed { IfOk result (λ made. IsWellFormed made.0) }
+    ensures sites { IfOk result (λ made. HasSites made.0) }
+    ensures imports { IfOk result (λ made. HasImports made.0) }
+    ensures formals { IfOk result (λ made. HasFormals made.0) }
+    ensures invocations { IfOk result (λ made. HasInvocations made.0) }
     ensures refused { IfErr result (IsRefusal (IsRefused (contents_of files.now))) }
 {
     let accepted = accept(alloc, files)?;

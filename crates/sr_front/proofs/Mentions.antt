@@ -1,0 +1,403 @@
+-- What is mentioned by what an expression is in the core passes a test that the scene passes.
+use Rattle.std.proofs.Common.{◌≡◌, ℕ, negsuc, Bool, true, false, List, [], ◌∷◌, Option, Some, None, Result, Ok, Err, IsTrue, map, position, if◌then◌else◌, zip, refl, sym, ap, ◌∙◌, subst}
+use Rattle.std.proofs.lemmas.Bool.{and_from}
+use Rattle.std.specs.List.{list_all}
+use Rattle.sr_check_expr.specs.declared.typed_expr.Named.{Named}
+use Rattle.sr_check_expr.specs.declared.typed_expr.Named.TheVariants as named
+use Rattle.sr_check_expr.specs.Exprs.{prefix_of}
+use Rattle.sr_check_expr.specs.LiteralTypes.{literal_typed}
+use Rattle.sr_core.specs.declared.component.Operation.{Operation}
+use Rattle.sr_core.specs.declared.expression.Expr.{Expr}
+use Rattle.sr_core.specs.declared.expression.Expr.TheVariants as core
+use Rattle.sr_core.specs.declared.expression.Function.{Function}
+use Rattle.sr_core.specs.declared.expression.Function.TheVariants as function
+use Rattle.sr_core.specs.declared.expression.Leaf.TheVariants as leaf
+use Rattle.sr_core.specs.declared.expression.Part.{Part}
+use Rattle.sr_core.specs.declared.expression.Readable.{Readable}
+use Rattle.sr_core.specs.declared.expression.Step.TheVariants as step
+use Rattle.sr_core.specs.declared.expression.Step.{Step}
+use Rattle.sr_core.specs.declared.owner.Root.{Root}
+use Rattle.sr_core.specs.declared.statement.Scope.{Scope}
+use Rattle.sr_tables.specs.declared.sites.Mention.{Mention}
+use Rattle.sr_tables.specs.declared.sites.Mention.TheVariants as mention
+use Rattle.sr_names.specs.declared.meaning.Meaning.{Meaning}
+use Rattle.sr_names.specs.declared.meaning.Meaning.TheVariants.{Predefined as MeansPredefined, Declared}
+use Rattle.sr_names.specs.declared.predefined.Predefined.{Predefined}
+use Rattle.sr_names.specs.declared.predefined.Predefined.TheVariants.{Read, Eof, Abs, Min, Max, Low, High, Lb, Ub, Length, Pred, Succ, MyResource, MyVm}
+use Rattle.sr_names.specs.declared.spot.Spot.{Spot}
+use Rattle.sr_names.specs.Spots.{same_spot, spot_of}
+use Rattle.sr_names.specs.Uses.{meaning_at}
+use Rattle.sr_tree.specs.declared.expr.BinaryOperator.{BinaryOperator}
+use Rattle.sr_tree.specs.declared.expr.BinaryOperator.TheVariants as binary
+use Rattle.sr_tree.specs.declared.expr.Create.{Create, roll-Create}
+use Rattle.sr_tree.specs.declared.expr.Create.TheFolds.{fold-roll-Create, fold-roll-Expr, fold-roll-Invocation, fold-roll-Part, ind-Create, ind-Expr, map-Create, map-Expr, map-Invocation, map-Part}
+use Rattle.sr_tree.specs.declared.expr.Create.TheOpen.{Create-F, Expr-F, Invocation-F, Part-F}
+use Rattle.sr_tree.specs.declared.expr.Expr.{Expr as Tree, roll-Expr}
+use Rattle.sr_tree.specs.declared.expr.Invocation.{Invocation, out-Invocation, roll-Invocation}
+use Rattle.sr_tree.specs.declared.expr.Part.{Part as PartTree, roll-Part}
+use Rattle.sr_tree.specs.declared.name.Name.{Name}
+use Rattle.sr_types.specs.declared.signature.Mode.{Mode}
+use Rattle.sr_types.specs.declared.signature.Mode.TheVariants.{Val, Var, Res}
+use Rattle.sr_types.specs.declared.signature.Param.{Param}
+use Rattle.sr_types.specs.declared.ty.Ty.{Ty, out-Ty}
+use Rattle.sr_types.specs.declared.ty.Ty.TheOpen.{Ty-F}
+use Rattle.sr_value.specs.declared.fault.Fault.{Fault}
+use Rattle.sr_value.specs.declared.place.Span.{Span}
+use Rattle.sr_value.specs.declared.value.Value.{Value}
+use Rattle.sr_value.specs.declared.value.Value.TheVariants as value
+use Rattle.sr_check_expr.specs.Meanings.{typed_expr, known, constant_at, type_of, params_of, meant_by}
+use Rattle.sr_lower_expr.specs.Operators.{binary_core, conversion_function}
+use Rattle.sr_lower_expr.specs.Shapes.{shape_of_type}
+use Rattle.sr_tables.specs.Parts.{deciding}
+use Rattle.sr_lower_expr.specs.declared.scene.Lowered.{Lowered}
+use Rattle.sr_lower_expr.specs.declared.scene.Scene.{Scene}
+use Rattle.sr_lower_expr.specs.Expressions.{LoweredTree, LoweredInvocation, argument_core, arguments_by, call_core, call_of, call_returns, constant_or_nothing, core_create, core_expr, core_place, core_sending, core_value, lowered_of, create_core, create_lowered, end_or_nothing, end_value, ends_core, expr_core, expr_lowered, field_core, field_number, function_core, instance_core, invocation_lowered, is_second, layer_member, literals_in, meaning_core, name_core, named_core, named_types, part_lowered, reading_core, readable_of, readings_core, sent_arguments, spec_operation, told, trees_of, values, with_core, without_number}
+use Rattle.sr_lower_expr.specs.Places.{naming, nothing, nowhere, operation_at, operation_expr, operation_number, own_place, own_root, part_of, place_at, place_of, root_of, value_of, whose_by}
+use Rattle.sr_lower_expr.proofs.Each.{one_taken, turned_passes, zip_passes}
+use Rattle.sr_front.proofs.MentionRules.{and_rule, apply_rule, argument_passes, array_rule, at2_rule, at_rule, binary_rule, call_rule, create_rule, expr_passes, field_rule, further_rule, leaf_rule, load_rule, member_rule, of_rule, one_rule, or_rule, part_passes, place_passes, place_rule, read_rule, reading_passes, reading_rule, repeated_rule, res_rule, step_passes, unary_rule, val_rule, var_rule}
+use Rattle.sr_lower_expr.specs.declared.scene.Lowered.TheVariants as lowered
+use Rattle.sr_lower_expr.proofs.Trees.{of_create, of_invocation, of_part}
+
+-- What a scene names passes a test of what is mentioned.
+pub record Means (scene : Scene) (test : Mention → Bool) : Type 0 where
+  pub variables : (spot : Spot) → IsTrue (test (mention.Variable (root_of scene spot)))
+  pub own : (spot : Spot) → IsTrue (test (mention.Variable (own_root scene spot)))
+  pub nowhere : IsTrue (test (mention.Variable nowhere))
+  pub operations : (scope : Scope) (component : ℕ) → IsTrue (test (mention.Operation (whose_by scene scope component)))
+  pub machine : IsTrue (test mention.Machine)
+  pub counts : (spot : Spot) (operation : Operation) → operation_at scene spot ≡ Some operation → IsTrue (test (mention.Count (operation_number scene spot)))
+
+abbrev operation_found : Scene → Spot → (Operation → ℕ → Expr) → Option Operation → Expr
+operation_found scene spot made None = nothing
+operation_found scene spot made (Some operation) = made operation (operation_number scene spot)
+
+module _ (scene : Scene) (test : Mention → Bool) (means : Means scene test) where
+  abbrev pub lowered_passes : Lowered → Bool
+  lowered_passes (lowered.Place place) = place_passes test place
+  lowered_passes (lowered.Value value) = expr_passes test value
+
+  -- ---- expressions that are places
+
+  pub nothing_passes : IsTrue (expr_passes test nothing)
+  nothing_passes = leaf_rule test (leaf.Constant (value.Bool false)) refl
+
+  place_at_passes : (one : Root) → IsTrue (test (mention.Variable one)) → IsTrue (place_passes test (place_at one))
+  place_at_passes one ok = place_rule test one [] ok refl
+
+  pub value_of_passes : (one : Lowered) → IsTrue (lowered_passes one) → IsTrue (expr_passes test (value_of one))
+  value_of_passes (lowered.Place place) ok = load_rule test place ok
+  value_of_passes (lowered.Value value) ok = ok
+
+  place_of_passes : (one : Lowered) → IsTrue (lowered_passes one) → IsTrue (place_passes test (place_of one))
+  place_of_passes (lowered.Place place) ok = ok
+  place_of_passes (lowered.Value value) ok = place_at_passes nowhere means.nowhere
+
+  part_of_passes : (one : Lowered) (step : Step) → IsTrue (lowered_passes one) → IsTrue (step_passes test step) → IsTrue (lowered_passes (part_of one step))
+  part_of_passes (lowered.Place place) step ok ok_step = further_rule test place step ok ok_step
+  part_of_passes (lowered.Value value) step ok ok_step = of_rule test value step ok ok_step
+
+  pub own_place_passes : (spot : Spot) → IsTrue (place_passes test (own_place scene spot))
+  own_place_passes spot = place_at_passes (own_root scene spot) (means.own spot)
+
+  naming_passes : (spot : Spot) (made : Operation → ℕ → Expr) → ((operation : Operation) → operation_at scene spot ≡ Some operation → IsTrue (expr_passes test (made operation (operation_number scene spot))))
+      → IsTrue (expr_passes test (naming scene spot made))
+  naming_passes spot made ok = by (operation_at scene spot) refl
+    where
+      by : (found : Option Operation) → operation_at scene spot ≡ found → IsTrue (expr_passes test (operation_found scene spot made found))
+      by None is = nothing_passes
+      by (Some operation) is = ok operation is
+
+  pub operation_expr_passes : (spot : Spot) → IsTrue (expr_passes test (operation_expr scene spot))
+  operation_expr_passes spot =
+      naming_passes spot (λ operation number. core.Leaf (leaf.Operation (whose_by scene operation.scope operation.component) number))
+      (λ operation is. leaf_rule test (leaf.Operation (whose_by scene operation.scope operation.component) (operation_number scene spot)) (and_from _ _ (means.operations operation.scope operation.component) refl))
+
+  abbrev Good : Lowered → Type 0
+  Good one = IsTrue (lowered_passes one)
+
+  abbrev AllGood : List Lowered → Type 0
+  AllGood all = IsTrue (list_all lowered_passes all)
+
+  -- ---- constants and names
+
+  constant_passes : (written : Option Value) → IsTrue (expr_passes test (constant_or_nothing written))
+  constant_passes None = nothing_passes
+  constant_passes (Some written) = leaf_rule test (leaf.Constant written) refl
+
+  named_passes : (spot : Spot) (written : Option Value) (operation : Option Operation) → Good (named_core scene spot written operation)
+  named_passes spot (Some written) operation = leaf_rule test (leaf.Constant written) refl
+  named_passes spot None (Some operation) = operation_expr_passes spot
+  named_passes spot None None = place_at_passes (root_of scene spot) (means.variables spot)
+
+  meaning_passes : (meaning : Option Meaning) → Good (meaning_core scene meaning)
+  meaning_passes (Some (Declared decl)) = named_passes decl.spot (constant_at scene.facts decl.spot) (operation_at scene decl.spot)
+  meaning_passes (Some (MeansPredefined Eof)) = leaf_rule test (leaf.Constant (value.Int (negsuc 0))) refl
+  meaning_passes _ = nothing_passes
+
+  name_passes : (span : Span) → Good (name_core scene span)
+  name_passes span = meaning_passes (meaning_at scene.facts.uses (spot_of span))
+
+  -- ---- parts of values
+
+  layer_passes : {A : Type 0} (owner : Lowered) (name : List ℕ) (layer : Ty-F A) → Good owner → Good (layer_member scene owner name layer)
+  layer_passes owner name (Ty-F.Rec spot) ok = part_of_passes owner (step.Field (field_number scene.facts spot name)) ok (field_rule test (field_number scene.facts spot name))
+  layer_passes owner name (Ty-F.Resource spot) ok =
+      naming_passes (spec_operation scene.facts spot name) (λ operation number. core.Member (value_of owner) number)
+      (λ operation is. member_rule test (value_of owner) (operation_number scene (spec_operation scene.facts spot name)) (value_of_passes owner ok))
+  layer_passes owner name _ ok = nothing_passes
+
+  field_passes : (owner : LoweredTree) (field : Name) (what : Named) → Good owner.1 → Good (field_core scene owner field what)
+  field_passes owner field (named.Component decl) ok = name_passes field.span
+  field_passes owner field _ ok = layer_passes owner.1 field.text (out-Ty (type_of scene.facts owner.0)) ok
+
+  -- ---- predefined functions
+
+  values_passes : (all : List Lowered) → AllGood all → IsTrue (list_all (expr_passes test) (values all))
+  values_passes = turned_passes (expr_passes test) lowered_passes value_of (value_of_passes)
+
+  applied : (called : Function) (all : List Lowered) → AllGood all → IsTrue (expr_passes test (core.Apply called (values all)))
+  applied called all ok = apply_rule test called (values all) (values_passes all ok)
+
+  ended : (end : Result Value Fault) → IsTrue (expr_passes test (end_or_nothing end))
+  ended (Ok end) = leaf_rule test (leaf.Constant end) refl
+  ended (Err fault) = nothing_passes
+
+  ends_passes : (is_high : Bool) (types : List Ty) → IsTrue (expr_passes test (ends_core scene is_high types))
+  ends_passes is_high [] = nothing_passes
+  ends_passes is_high (ty ∷ types) = ended (end_value is_high (shape_of_type scene.tables.shapes ty))
+
+  without_passes : (trees : List Tree) (all : List Lowered) → AllGood all → AllGood (without_number trees all)
+  without_passes (array ∷ number ∷ []) all ok = one_taken lowered_passes all ok
+  without_passes trees all ok = ok
+
+  bound_passes : (one two : Function) (trees : List Tree) (all : List Lowered) → AllGood all
+      → IsTrue (expr_passes test (core.Apply (if is_second scene.facts trees then two else one) (values (without_number trees all))))
+  bound_passes one two trees all ok = applied (if is_second scene.facts trees then two else one) (without_number trees all) (without_passes trees all ok)
+
+  readings_passes : (trees : List Tree) (all : List Lowered) → AllGood all → IsTrue (list_all (reading_passes test) (readings_core scene.facts trees all))
+  readings_passes trees all ok =
+      turned_passes (reading_passes test) (λ (pair : Readable × Lowered). lowered_passes pair.1) reading_core
+      (λ pair good. reading_rule test pair.0 (place_of pair.1) (place_of_passes pair.1 good))
+      (zip (map (λ tree. readable_of (type_of scene.facts tree)) trees) all)
+      (zip_passes lowered_passes (map (λ tree. readable_of (type_of scene.facts tree)) trees) all ok)
+
+  function_passes : (name : Predefined) (trees : List Tree) (all : List Lowered) → AllGood all → IsTrue (expr_passes test (function_core scene name trees all))
+  function_passes Abs trees all ok = applied function.Abs all ok
+  function_passes Min trees all ok = applied function.Min all ok
+  function_passes Max trees all ok = applied function.Max all ok
+  function_passes Low trees all ok = ends_passes false (named_types scene.facts trees)
+  function_passes High trees all ok = ends_passes true (named_types scene.facts trees)
+  function_passes Lb trees all ok = bound_passes function.LowBound function.LowBound2 trees all ok
+  function_passes Ub trees all ok = bound_passes function.HighBound function.HighBound2 trees all ok
+  function_passes Length trees all ok = applied function.Length all ok
+  function_passes Pred trees all ok = applied function.Pred all ok
+  function_passes Succ trees all ok = applied (function.Succ (literals_in scene.facts trees)) all ok
+  function_passes MyResource trees all ok = leaf_rule test leaf.MyResource refl
+  function_passes MyVm trees all ok = leaf_rule test leaf.MyMachine (and_from _ _ means.machine refl)
+  function_passes Read trees all ok = read_rule test (readings_core scene.facts trees all) (readings_passes trees all ok)
+  function_passes _ trees all ok = nothing_passes
+
+  -- ---- invocations
+
+  argument_made : (mode : Mode) (one : Lowered) → Good one → IsTrue (argument_passes test (argument_core mode one))
+  argument_made Val one ok = val_rule test (value_of one) (value_of_passes one ok)
+  argument_made Var one ok = var_rule test (place_of one) (place_of_passes one ok)
+  argument_made Res one ok = res_rule test (place_of one) (place_of_passes one ok)
+
+  arguments_passes : (params : List Param) (all : List Lowered) → AllGood all → IsTrue (list_all (argument_passes test) (arguments_by params all))
+  arguments_passes params all ok =
+      turned_passes (argument_passes test) (λ (pair : Param × Lowered). lowered_passes pair.1) (λ pair. argument_core pair.0.mode pair.1)
+      (λ pair good. argument_made pair.0.mode pair.1 good)
+      (zip params all) (zip_passes lowered_passes params all ok)
+
+  -- the parts of an invocation
+  abbrev pub SendingGood : LoweredInvocation → Type 0
+  SendingGood sending = IsTrue (lowered_passes sending.callee.1) × IsTrue (list_all lowered_passes (lowered_of sending.arguments))
+
+  pub sent_passes : (sending : LoweredInvocation) → SendingGood sending → IsTrue (list_all (argument_passes test) (sent_arguments scene.facts sending))
+  sent_passes sending ok = arguments_passes (params_of scene.facts (type_of scene.facts sending.callee.0)) (lowered_of sending.arguments) ok.1
+
+  called_passes : (sending : LoweredInvocation) (what : Named) → SendingGood sending → IsTrue (expr_passes test (call_core scene sending what))
+  called_passes sending (named.Predefined name) ok = function_passes name (trees_of sending.arguments) (lowered_of sending.arguments) ok.1
+  called_passes sending (named.«Type» ty) ok = applied function.Record (lowered_of sending.arguments) ok.1
+  called_passes sending _ ok =
+      call_rule test (value_of sending.callee.1) (sent_arguments scene.facts sending) (call_returns scene sending)
+      (value_of_passes sending.callee.1 ok.0) (sent_passes sending ok)
+
+  pub call_passes : (sending : LoweredInvocation) → SendingGood sending → IsTrue (expr_passes test (call_of scene sending))
+  call_passes sending ok = called_passes sending (typed_expr scene.facts sending.callee.0).named ok
+
+  -- ---- create
+
+  abbrev instance_found : List Expr → Expr → Option ℕ → Expr
+  instance_found args machine None = nothing
+  instance_found args machine (Some component) = core.Create component args machine
+
+  instance_passes : (spot : Spot) (args : List Expr) (machine : Expr)
+      → IsTrue (list_all (expr_passes test) args) → IsTrue (expr_passes test machine) → IsTrue (expr_passes test (instance_core scene spot args machine))
+  instance_passes spot args machine ok_args ok_machine = by (position (same_spot spot) scene.tables.components) refl
+    where
+      by : (found : Option ℕ) → position (same_spot spot) scene.tables.components ≡ found → IsTrue (expr_passes test (instance_found args machine found))
+      by None is = nothing_passes
+      by (Some component) is =
+          create_rule test component args machine ok_args ok_machine
+
+  -- ---- operators
+
+  binary_passes : (operator : BinaryOperator) (left right : Expr) → IsTrue (expr_passes test left) → IsTrue (expr_passes test right) → IsTrue (expr_passes test (binary_core operator left right))
+  binary_passes binary.And left right ok_left ok_right = and_rule test left right ok_left ok_right
+  binary_passes binary.Or left right ok_left ok_right = or_rule test left right ok_left ok_right
+  binary_passes operator left right ok_left ok_right = binary_rule test _ left right ok_left ok_right
+
+  -- ---- each tree, when its parts are so
+
+  abbrev CreateGood : Create → Type 0
+  CreateGood tree = IsTrue (expr_passes test (of_create scene tree).1)
+
+  abbrev TreeGood : Tree → Type 0
+  TreeGood tree = Good (told scene tree).1
+
+  abbrev InvocationGood : Invocation → Type 0
+  InvocationGood tree = SendingGood (of_invocation scene tree)
+
+  abbrev PartGood : PartTree → Type 0
+  PartGood tree = IsTrue (part_passes test (of_part scene tree).1)
+
+  abbrev C : Type 0
+  C = (tree : Create) × CreateGood tree
+
+  abbrev T : Type 0
+  T = (tree : Tree) × TreeGood tree
+
+  abbrev I : Type 0
+  I = (tree : Invocation) × InvocationGood tree
+
+  abbrev P : Type 0
+  P = (tree : PartTree) × PartGood tree
+
+  abbrev first_create : Create-F C T I P → Create-F Create Tree Invocation PartTree
+  first_create = map-Create C T I P Create Tree Invocation PartTree (λ c. c.0) (λ e. e.0) (λ s. s.0) (λ p. p.0)
+
+  abbrev first_expr : Expr-F C T I P → Expr-F Create Tree Invocation PartTree
+  first_expr = map-Expr C T I P Create Tree Invocation PartTree (λ c. c.0) (λ e. e.0) (λ s. s.0) (λ p. p.0)
+
+  abbrev first_invocation : Invocation-F C T I P → Invocation-F Create Tree Invocation PartTree
+  first_invocation = map-Invocation C T I P Create Tree Invocation PartTree (λ c. c.0) (λ e. e.0) (λ s. s.0) (λ p. p.0)
+
+  abbrev first_part : Part-F C T I P → Part-F Create Tree Invocation PartTree
+  first_part = map-Part C T I P Create Tree Invocation PartTree (λ c. c.0) (λ e. e.0) (λ s. s.0) (λ p. p.0)
+
+  abbrev lowered_create : Create-F Create Tree Invocation PartTree → Create-F (Create × Expr) LoweredTree LoweredInvocation (PartTree × Part)
+  lowered_create = map-Create Create Tree Invocation PartTree (Create × Expr) LoweredTree LoweredInvocation (PartTree × Part) (of_create scene) (told scene) (of_invocation scene) (of_part scene)
+
+  abbrev lowered_expr : Expr-F Create Tree Invocation PartTree → Expr-F (Create × Expr) LoweredTree LoweredInvocation (PartTree × Part)
+  lowered_expr = map-Expr Create Tree Invocation PartTree (Create × Expr) LoweredTree LoweredInvocation (PartTree × Part) (of_create scene) (told scene) (of_invocation scene) (of_part scene)
+
+  abbrev lowered_invocation : Invocation-F Create Tree Invocation PartTree → Invocation-F (Create × Expr) LoweredTree LoweredInvocation (PartTree × Part)
+  lowered_invocation =
+      map-Invocation Create Tree Invocation PartTree (Create × Expr) LoweredTree LoweredInvocation (PartTree × Part) (of_create scene) (told scene) (of_invocation scene) (of_part scene)
+
+  abbrev lowered_part : Part-F Create Tree Invocation PartTree → Part-F (Create × Expr) LoweredTree LoweredInvocation (PartTree × Part)
+  lowered_part = map-Part Create Tree Invocation PartTree (Create × Expr) LoweredTree LoweredInvocation (PartTree × Part) (of_create scene) (told scene) (of_invocation scene) (of_part scene)
+
+  all_good : (trees : List T) → AllGood (map (λ (one : LoweredTree). one.1) (map (told scene) (map (λ (tree : T). tree.0) trees)))
+  all_good [] = refl
+  all_good (tree ∷ trees) = and_from _ _ tree.1 (all_good trees)
+
+  parts_good : (parts : List P) → IsTrue (list_all (part_passes test) (map (λ (part : PartTree × Part). part.1) (map (of_part scene) (map (λ (part : P). part.0) parts))))
+  parts_good [] = refl
+  parts_good (part ∷ parts) = and_from _ _ part.1 (parts_good parts)
+
+  create_good : (y : Create-F C T I P) → IsTrue (expr_passes test (create_core scene (lowered_create (first_create y))))
+  create_good (Create-F.Resource span resource arguments None) =
+      instance_passes (meant_by scene.facts (deciding resource)) _ _ (values_passes _ (all_good arguments)) (leaf_rule test leaf.MyMachine (and_from _ _ means.machine refl))
+  create_good (Create-F.Resource span resource arguments (Some machine)) =
+      instance_passes (meant_by scene.facts (deciding resource)) _ _ (values_passes _ (all_good arguments)) (value_of_passes (core_expr scene machine.0) machine.1)
+  create_good (Create-F.Machine span) = leaf_rule test leaf.MakeMachine refl
+
+  expr_good : (y : Expr-F C T I P) → Good (expr_core scene (lowered_expr (first_expr y)))
+  expr_good (Expr-F.Literal span literal) = constant_passes (known (literal_typed literal).value)
+  expr_good (Expr-F.Name name) = name_passes name.span
+  expr_good (Expr-F.BasicType span basic) = nothing_passes
+  expr_good (Expr-F.Conversion span conversion value) =
+      apply_rule test (conversion_function conversion) (core_value scene value.0 ∷ []) (and_from _ _ (value_of_passes (core_expr scene value.0) value.1) refl)
+  expr_good (Expr-F.Group span inner) = value_of_passes (core_expr scene inner.0) inner.1
+  expr_good (Expr-F.Parts span parts) = array_rule test _ (parts_good parts)
+  expr_good (Expr-F.Field span owner field) = field_passes (told scene owner.0) field (typed_expr scene.facts (told scene owner.0).0).named owner.1
+  expr_good (Expr-F.Index span array first None) =
+      part_of_passes (core_expr scene array.0) (step.At (core_value scene first.0)) array.1
+      (at_rule test (core_value scene first.0) (value_of_passes (core_expr scene first.0) first.1))
+  expr_good (Expr-F.Index span array first (Some second)) =
+      part_of_passes (core_expr scene array.0) (step.At2 (core_value scene first.0) (core_value scene second.0)) array.1
+      (at2_rule test (core_value scene first.0) (core_value scene second.0)
+      (value_of_passes (core_expr scene first.0) first.1) (value_of_passes (core_expr scene second.0) second.1))
+  expr_good (Expr-F.Call invocation) = call_passes (of_invocation scene invocation.0) invocation.1
+  expr_good (Expr-F.Create create) = create.1
+  expr_good (Expr-F.Unary span operator operand) =
+      unary_rule test (prefix_of operator) (core_value scene operand.0) (value_of_passes (core_expr scene operand.0) operand.1)
+  expr_good (Expr-F.Pending span operation) =
+      naming_passes (meant_by scene.facts operation) (λ found number. core.Leaf (leaf.Count number))
+      (λ found is. leaf_rule test (leaf.Count (operation_number scene (meant_by scene.facts operation))) (and_from _ _ (means.counts (meant_by scene.facts operation) found is) refl))
+  expr_good (Expr-F.Binary span left operator right) =
+      binary_passes operator (core_value scene left.0) (core_value scene right.0)
+      (value_of_passes (core_expr scene left.0) left.1) (value_of_passes (core_expr scene right.0) right.1)
+
+  invocation_good : (y : Invocation-F C T I P) → SendingGood (invocation_lowered (lowered_invocation (first_invocation y)))
+  invocation_good y = (y.callee.1, all_good y.arguments)
+
+  parts_of_good : (span : Span) (count : Option T) (value : T)
+      → IsTrue (part_passes test (part_lowered (lowered_part (first_part (record { span = span; count = count; value = value })))).1)
+  parts_of_good span None value = one_rule test (core_value scene value.0) (value_of_passes (core_expr scene value.0) value.1)
+  parts_of_good span (Some count) value =
+      repeated_rule test (core_value scene count.0) (core_value scene value.0)
+      (value_of_passes (core_expr scene count.0) count.1) (value_of_passes (core_expr scene value.0) value.1)
+
+  part_good : (y : Part-F C T I P) → IsTrue (part_passes test (part_lowered (lowered_part (first_part y))).1)
+  part_good y = parts_of_good y.span y.count y.value
+
+  -- ---- all trees
+
+  create_step : (x : Create-F Create Tree Invocation PartTree) (y : Create-F C T I P) → first_create y ≡ x → CreateGood (roll-Create x)
+  create_step x y is =
+      ap (λ (one : Create × Expr). expr_passes test one.1) (fold-roll-Create (Create × Expr) LoweredTree LoweredInvocation (PartTree × Part) (create_lowered scene) (expr_lowered scene) invocation_lowered part_lowered x)
+      ∙ subst (λ z. IsTrue (expr_passes test (create_core scene (lowered_create z)))) is (create_good y)
+
+  expr_step : (x : Expr-F Create Tree Invocation PartTree) (y : Expr-F C T I P) → first_expr y ≡ x → TreeGood (roll-Expr x)
+  expr_step x y is =
+      ap (λ (one : LoweredTree). lowered_passes one.1) (fold-roll-Expr (Create × Expr) LoweredTree LoweredInvocation (PartTree × Part) (create_lowered scene) (expr_lowered scene) invocation_lowered part_lowered x)
+      ∙ subst (λ z. Good (expr_core scene (lowered_expr z))) is (expr_good y)
+
+  invocation_step : (x : Invocation-F Create Tree Invocation PartTree) (y : Invocation-F C T I P) → first_invocation y ≡ x → InvocationGood (roll-Invocation x)
+  invocation_step x y is =
+      subst SendingGood
+      (sym (fold-roll-Invocation (Create × Expr) LoweredTree LoweredInvocation (PartTree × Part) (create_lowered scene) (expr_lowered scene) invocation_lowered part_lowered x))
+      (subst (λ z. SendingGood (invocation_lowered (lowered_invocation z))) is (invocation_good y))
+
+  part_step : (x : Part-F Create Tree Invocation PartTree) (y : Part-F C T I P) → first_part y ≡ x → PartGood (roll-Part x)
+  part_step x y is =
+      ap (λ (one : PartTree × Part). part_passes test one.1) (fold-roll-Part (Create × Expr) LoweredTree LoweredInvocation (PartTree × Part) (create_lowered scene) (expr_lowered scene) invocation_lowered part_lowered x)
+      ∙ subst (λ z. IsTrue (part_passes test (part_lowered (lowered_part z)).1)) is (part_good y)
+
+  pub tree_passes : (tree : Tree) → IsTrue (lowered_passes (core_expr scene tree))
+  tree_passes = ind-Expr CreateGood TreeGood InvocationGood PartGood create_step expr_step invocation_step part_step
+
+  pub create_passes : (tree : Create) → IsTrue (expr_passes test (core_create scene tree))
+  create_passes = ind-Create CreateGood TreeGood InvocationGood PartGood create_step expr_step invocation_step part_step
+
+  pub core_value_passes : (tree : Tree) → IsTrue (expr_passes test (core_value scene tree))
+  core_value_passes tree = value_of_passes (core_expr scene tree) (tree_passes tree)
+
+  pub core_place_passes : (tree : Tree) → IsTrue (place_passes test (core_place scene tree))
+  core_place_passes tree = place_of_passes (core_expr scene tree) (tree_passes tree)
+
+  -- ---- the parts of invocations
+
+  trees_passes : (trees : List Tree) → AllGood (map (λ (one : LoweredTree). one.1) (map (with_core scene) trees))
+  trees_passes [] = refl
+  trees_passes (tree ∷ trees) = and_from _ _ (tree_passes tree) (trees_passes trees)
+
+  pub sending_passes : (tree : Invocation) → SendingGood (core_sending scene tree)
+  sending_passes tree = (tree_passes (out-Invocation tree).callee, trees_passes (out-Invocation tree).arguments)
+
+  pub all_told_passes : (sending : LoweredInvocation) → SendingGood sending → IsTrue (list_all (expr_passes test) (values (lowered_of sending.arguments)))
+  all_told_passes sending ok = values_passes (lowered_of sending.arguments) ok.1

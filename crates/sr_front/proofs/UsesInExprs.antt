@@ -1,0 +1,491 @@
+-- A fact of each name that is used, by what it means: names, expressions and types.
+use Rattle.std.proofs.Common.{◌≡◌, ◌⊎◌, ℕ, Bool, true, false, List, [], ◌∷◌, ◌++◌, Option, Some, None, map, refl, sym, subst, inl, inr}
+use Rattle.std.specs.Prelude.{fold}
+use Rattle.sr_value.specs.declared.place.Span.{Span}
+use Rattle.sr_names.specs.declared.finding.Finding.{Finding}
+use Rattle.sr_names.specs.declared.finding.Finding.TheVariants.{Use, Broken}
+use Rattle.sr_names.specs.declared.meaning.Decl.{Decl}
+use Rattle.sr_names.specs.declared.meaning.Meaning.{Meaning}
+use Rattle.sr_names.specs.declared.meaning.Meaning.TheVariants.{Predefined as MeansPredefined, Declared}
+use Rattle.sr_names.specs.declared.meaning.Sort.{Sort}
+use Rattle.sr_names.specs.declared.meaning.Sort.TheVariants.{Constant, Variable, Operation, Quantifier as quantifier_sort}
+use Rattle.sr_names.specs.declared.place.Blocks.{Blocks}
+use Rattle.sr_names.specs.declared.place.Place.{Place}
+use Rattle.sr_names.specs.declared.spot.Spot.{Spot}
+use Rattle.sr_names.specs.Entries.{Entries}
+use Rattle.sr_names.specs.Readings.{declaration, reading, twice_unless}
+use Rattle.sr_names.specs.Scopes.{denotes, in_blocks, member, no_blocks, opened, or_else, outside}
+use Rattle.sr_names.specs.Spots.{spot_of}
+use Rattle.sr_names.specs.Tables.{declared_as}
+use Rattle.sr_tree.specs.declared.expr.Create.{Create, roll-Create}
+use Rattle.sr_tree.specs.declared.expr.Create.TheFolds.{fold-roll-Create, fold-roll-Expr, fold-roll-Invocation, fold-roll-Part, ind-Create, ind-Expr, ind-Invocation, map-Create, map-Expr, map-Invocation, map-Part}
+use Rattle.sr_tree.specs.declared.expr.Create.TheOpen.{Create-F, Expr-F, Invocation-F, Part-F}
+use Rattle.sr_tree.specs.declared.expr.Expr.{Expr, roll-Expr}
+use Rattle.sr_tree.specs.declared.expr.Invocation.{Invocation, roll-Invocation}
+use Rattle.sr_tree.specs.declared.expr.Part.{Part, roll-Part}
+use Rattle.sr_tree.specs.declared.name.Name.{Name}
+use Rattle.sr_tree.specs.declared.name.QualifiedName.{QualifiedName}
+use Rattle.sr_tree.specs.declared.types.Decl.{Decl as DeclTree}
+use Rattle.sr_tree.specs.declared.types.DimsTree.{DimsTree}
+use Rattle.sr_tree.specs.declared.types.Formal.{Formal, roll-Formal}
+use Rattle.sr_tree.specs.declared.types.RangeTree.{RangeTree}
+use Rattle.sr_tree.specs.declared.types.RangeTree.TheVariants as range
+use Rattle.sr_tree.specs.declared.types.Returned.{Returned, roll-Returned}
+use Rattle.sr_tree.specs.declared.types.Signature.{Signature, roll-Signature}
+use Rattle.sr_tree.specs.declared.types.TypeTree.{TypeTree, roll-TypeTree}
+use Rattle.sr_tree.specs.declared.types.TypeTree.TheFolds.{fold-roll-TypeTree, fold-roll-Formal, fold-roll-Returned, fold-roll-Signature, ind-TypeTree, ind-Formal, ind-Signature, map-TypeTree, map-Formal, map-Returned, map-Signature}
+use Rattle.sr_tree.specs.declared.types.TypeTree.TheOpen.{TypeTree-F, Formal-F, Returned-F, Signature-F}
+use Rattle.sr_scope.specs.Declarations.{exprs_found, with_inner}
+use Rattle.sr_scope.specs.Declares.{name_twice, names_twice, name_declared, names_declared, returned_declared, returned_twice}
+use Rattle.sr_scope.specs.Exprs.{Finds, Reads, all_found, create_found, create_step, expr_reads, expr_step, invocation_found, invocation_step, part_found, part_step, reads_found}
+use Rattle.sr_scope.specs.Names.{component_named, field_found, name_found, qualified_found, second_found, spec_name_found}
+use Rattle.sr_scope.specs.Types.{Formals, Signed, decls_found, dims_found, expr_found, formal_read, formal_step, formals_declared, formals_found, formals_twice, maybe_declared, maybe_dims_found, maybe_expr_found, maybe_found, maybe_range_found, maybe_twice, maybe_type_found, range_found, returned_read, returned_step, signature_read, signature_step, signed_declared, signed_found, signed_twice, type_found, type_step}
+use Rattle.sr_scope.proofs.Tables.{declared_before}
+use Rattle.sr_check.proofs.Each.{Each, each-append}
+
+-- what may be declared in a block
+abbrev pub is_inner : Sort → Bool
+is_inner Constant = true
+is_inner Variable = true
+is_inner Operation = true
+is_inner quantifier_sort = true
+is_inner _ = false
+
+-- what a name means, by what the blocks around it declare it as
+abbrev blocks_meaning : Place → List ℕ → Spot → Option Decl → Option Meaning
+blocks_meaning place text at (Some decl) = Some (Declared decl)
+blocks_meaning place text at None = outside place text at
+
+-- `P at decl`: a name at this spot may mean this declaration
+module _ (P : Spot → Decl → Type 0) (inner : (at : Spot) (sort : Sort) (span : Span) → is_inner sort ≡ true → P at (declaration sort span)) where
+  abbrev pub Fits : Spot → Option Meaning → Type 0
+  Fits at None = Unit {0}
+  Fits at (Some (MeansPredefined name)) = Unit {0}
+  Fits at (Some (Declared decl)) = P at decl
+
+  abbrev FindingFits : Finding → Type 0
+  FindingFits (Use spot meaning) = Fits spot (Some meaning)
+  FindingFits (Broken diagnostic) = Unit {0}
+
+  abbrev pub AllFit : List Finding → Type 0
+  AllFit = Each FindingFits
+
+  pub both : (f g : List Finding) → AllFit f → AllFit g → AllFit (f ++ g)
+  both f g a b = each-append FindingFits f g a b
+
+  -- ---- scopes
+
+  abbrev pub FoundFits : Option Decl → Type 0
+  FoundFits None = Unit {0}
+  FoundFits (Some decl) = (at : Spot) → P at decl
+
+  abbrev pub TableFits : Entries → Type 0
+  TableFits table = (text : List ℕ) → FoundFits (declared_as table text)
+
+  -- what is declared in blocks
+  pub record BlocksFit (blocks : Blocks) : Type 0 where
+    pub innermost : TableFits blocks.inner
+    pub outer : Each TableFits blocks.outer
+
+  -- what is declared outside of blocks, and in specs
+  pub record PlaceFits (place : Place) : Type 0 where
+    pub names : (text : List ℕ) (at : Spot) → Fits at (denotes place no_blocks text at)
+    pub members : (component : Decl) (text : List ℕ) (at : Spot) → Fits at (member place component text at)
+
+  pub none_fit : TableFits []
+  none_fit text = tt
+
+  pub name_table : (sort : Sort) (name : Name) → ((at : Spot) → P at (declaration sort name.span)) → (table : Entries) → TableFits table → TableFits (name_declared sort name table)
+  name_table sort name may table fits text = by (declared_as (name_declared sort name table) text) refl
+    where
+      last : (d : Decl) → (declared_as table text ≡ Some d) ⊎ ((text ≡ name.text) × (declaration sort name.span ≡ d)) → FoundFits (Some d)
+      last d (inl e) = subst FoundFits e (fits text)
+      last d (inr h) = λ at. subst (P at) h.1 (may at)
+
+      by : (found : Option Decl) → declared_as (name_declared sort name table) text ≡ found → FoundFits found
+      by None is = tt
+      by (Some d) is = last d (declared_before table name.text text (declaration sort name.span) d is)
+
+  pub names_table : (sort : Sort) → ((at : Spot) (span : Span) → P at (declaration sort span)) → (names : List Name) (table : Entries) → TableFits table → TableFits (names_declared sort names table)
+  names_table sort may [] table fits = fits
+  names_table sort may (name ∷ names) table fits = names_table sort may names (name_declared sort name table) (name_table sort name (λ at. may at name.span) table fits)
+
+  pub inner_table : (sort : Sort) → is_inner sort ≡ true → (names : List Name) (table : Entries) → TableFits table → TableFits (names_declared sort names table)
+  inner_table sort is names table fits = names_table sort (λ at span. inner at sort span is) names table fits
+
+  pub inner_name : (sort : Sort) → is_inner sort ≡ true → (name : Name) (table : Entries) → TableFits table → TableFits (name_declared sort name table)
+  inner_name sort is name table fits = name_table sort name (λ at. inner at sort name.span is) table fits
+
+  pub returned_table : (returned : Option Name) (table : Entries) → TableFits table → TableFits (returned_declared returned table)
+  returned_table None table fits = fits
+  returned_table (Some name) table fits = inner_name Variable refl name table fits
+
+  pub blocks_opened : (blocks : Blocks) → BlocksFit blocks → BlocksFit (opened blocks)
+  blocks_opened blocks fit = record { innermost = none_fit; outer = each-append TableFits blocks.outer (blocks.inner ∷ []) fit.outer (fit.innermost, tt) }
+
+  pub blocks_with : (blocks : Blocks) (table : Entries) → BlocksFit blocks → TableFits table → BlocksFit (with_inner blocks table)
+  blocks_with blocks table fit fits = record { innermost = fits; outer = fit.outer }
+
+  either_found : (first second : Option Decl) → FoundFits first → FoundFits second → FoundFits (or_else first second)
+  either_found None second a b = b
+  either_found (Some decl) second a b = a
+
+  outer_found : (text : List ℕ) (tables : List Entries) (found : Option Decl) → Each TableFits tables → FoundFits found
+      → FoundFits (fold (λ found table. or_else (declared_as table text) found) found tables)
+  outer_found text [] found fit fits = fits
+  outer_found text (table ∷ tables) found fit fits =
+      outer_found text tables (or_else (declared_as table text) found) fit.1 (either_found (declared_as table text) found (fit.0 text) fits)
+
+  blocks_found : (blocks : Blocks) → BlocksFit blocks → (text : List ℕ) → FoundFits (in_blocks blocks text)
+  blocks_found blocks fit text =
+      either_found (declared_as blocks.inner text) (fold (λ found table. or_else (declared_as table text) found) None blocks.outer) (fit.innermost text)
+      (outer_found text blocks.outer None fit.outer tt)
+
+  -- ---- what no use is
+
+  unless_fits : (is_new : Bool) (span : Span) → AllFit (twice_unless is_new span)
+  unless_fits true span = tt
+  unless_fits false span = (tt, tt)
+
+  pub twice_fits : (sort : Sort) (name : Name) (table : Entries) → AllFit (name_twice sort name table)
+  twice_fits sort name table = unless_fits _ name.span
+
+  pub names_twice_fit : (sort : Sort) (names : List Name) (table : Entries) → AllFit (names_twice sort names table)
+  names_twice_fit sort [] table = tt
+  names_twice_fit sort (name ∷ names) table = both (name_twice sort name table) _ (twice_fits sort name table) (names_twice_fit sort names (name_declared sort name table))
+
+  pub returned_twice_fit : (name : Option Name) (table : Entries) → AllFit (returned_twice name table)
+  returned_twice_fit None table = tt
+  returned_twice_fit (Some name) table = twice_fits Variable name table
+
+  pub formals_twice_fit : (formals : List Formals) (table : Entries) → AllFit (formals_twice formals table)
+  formals_twice_fit [] table = tt
+  formals_twice_fit (formal ∷ formals) table =
+      both (names_twice Variable formal.names table) _ (names_twice_fit Variable formal.names table) (formals_twice_fit formals (names_declared Variable formal.names table))
+
+  maybe_twice_fit : (formals : Option Formals) (table : Entries) → AllFit (maybe_twice formals table)
+  maybe_twice_fit None table = tt
+  maybe_twice_fit (Some formals) table = names_twice_fit Variable formals.names table
+
+  pub signed_twice_fit : (signed : Signed) (table : Entries) → AllFit (signed_twice signed table)
+  signed_twice_fit signed table = both (formals_twice signed.formals table) _ (formals_twice_fit signed.formals table) (maybe_twice_fit signed.returned (formals_declared signed.formals table))
+
+  formals_table : (formals : List Formals) (table : Entries) → TableFits table → TableFits (formals_declared formals table)
+  formals_table [] table fits = fits
+  formals_table (formal ∷ formals) table fits = formals_table formals _ (inner_table Variable refl formal.names table fits)
+
+  maybe_table : (formals : Option Formals) (table : Entries) → TableFits table → TableFits (maybe_declared formals table)
+  maybe_table None table fits = fits
+  maybe_table (Some formals) table fits = inner_table Variable refl formals.names table fits
+
+  pub signed_table : (signed : Signed) (table : Entries) → TableFits table → TableFits (signed_declared signed table)
+  signed_table signed table fits = maybe_table signed.returned (formals_declared signed.formals table) (formals_table signed.formals table fits)
+
+  -- ---- names
+
+  pub reading_fits : (meaning : Option Meaning) (span : Span) → Fits (spot_of span) meaning → AllFit (reading meaning span ∷ [])
+  reading_fits None span fits = (tt, tt)
+  reading_fits (Some meaning) span fits = (fits, tt)
+
+  module _ (place : Place) (outer : PlaceFits place) where
+    meaning_fits : (blocks : Blocks) → BlocksFit blocks → (text : List ℕ) (at : Spot) → Fits at (denotes place blocks text at)
+    meaning_fits blocks fit text at = by (in_blocks blocks text) (blocks_found blocks fit text)
+      where
+        by : (found : Option Decl) → FoundFits found → Fits at (blocks_meaning place text at found)
+        by None fits = outer.names text at
+        by (Some decl) fits = fits at
+
+    pub name_fits : (blocks : Blocks) → BlocksFit blocks → (name : Name) → AllFit (name_found place blocks name)
+    name_fits blocks fit name = reading_fits (denotes place blocks name.text (spot_of name.span)) name.span (meaning_fits blocks fit name.text (spot_of name.span))
+
+    field_fits : (component : Option Decl) (name : Name) → AllFit (field_found place component name)
+    field_fits None name = tt
+    field_fits (Some component) name = reading_fits (member place component name.text (spot_of name.span)) name.span (outer.members component name.text (spot_of name.span))
+
+    spec_name_fits : (component : Option Decl) (name : Name) → AllFit (spec_name_found place component name)
+    spec_name_fits None name = (tt, tt)
+    spec_name_fits (Some component) name = reading_fits (member place component name.text (spot_of name.span)) name.span (outer.members component name.text (spot_of name.span))
+
+    second_fits : (component : Option Decl) (second : Option Name) → AllFit (second_found place component second)
+    second_fits component None = tt
+    second_fits component (Some name) = spec_name_fits component name
+
+    pub qualified_fits : (blocks : Blocks) → BlocksFit blocks → (name : QualifiedName) → AllFit (qualified_found place blocks name)
+    qualified_fits blocks fit name =
+        both (name_found place blocks name.first) _ (name_fits blocks fit name.first) (second_fits (component_named place blocks name.first) name.second)
+
+    -- ---- expressions with what is known of them
+
+    abbrev CreateGood : Create → Type 0
+    CreateGood tree = (blocks : Blocks) → BlocksFit blocks → AllFit (create_found tree place blocks)
+
+    abbrev Good : Expr → Type 0
+    Good tree = (blocks : Blocks) → BlocksFit blocks → AllFit (expr_found tree place blocks)
+
+    abbrev InvocationGood : Invocation → Type 0
+    InvocationGood tree = (blocks : Blocks) → BlocksFit blocks → AllFit (invocation_found tree place blocks)
+
+    abbrev PartGood : Part → Type 0
+    PartGood tree = (blocks : Blocks) → BlocksFit blocks → AllFit (part_found tree place blocks)
+
+    abbrev C : Type 0
+    C = (tree : Create) × CreateGood tree
+
+    abbrev T : Type 0
+    T = (tree : Expr) × Good tree
+
+    abbrev I : Type 0
+    I = (tree : Invocation) × InvocationGood tree
+
+    abbrev U : Type 0
+    U = (tree : Part) × PartGood tree
+
+    all_good : (blocks : Blocks) → BlocksFit blocks → (trees : List T) → AllFit (reads_found (map expr_reads (map (λ tree. tree.0) trees)) place blocks)
+    all_good blocks fit [] = tt
+    all_good blocks fit (tree ∷ trees) = both (expr_found tree.0 place blocks) _ (tree.1 blocks fit) (all_good blocks fit trees)
+
+    parts_good : (blocks : Blocks) → BlocksFit blocks → (trees : List U) → AllFit (all_found (map part_found (map (λ tree. tree.0) trees)) place blocks)
+    parts_good blocks fit [] = tt
+    parts_good blocks fit (tree ∷ trees) = both (part_found tree.0 place blocks) _ (tree.1 blocks fit) (parts_good blocks fit trees)
+
+    abbrev bare_create : Create-F C T I U → Create-F Create Expr Invocation Part
+    bare_create = map-Create C T I U Create Expr Invocation Part (λ e. e.0) (λ e. e.0) (λ e. e.0) (λ e. e.0)
+
+    abbrev bare_expr : Expr-F C T I U → Expr-F Create Expr Invocation Part
+    bare_expr = map-Expr C T I U Create Expr Invocation Part (λ e. e.0) (λ e. e.0) (λ e. e.0) (λ e. e.0)
+
+    abbrev bare_invocation : Invocation-F C T I U → Invocation-F Create Expr Invocation Part
+    bare_invocation = map-Invocation C T I U Create Expr Invocation Part (λ e. e.0) (λ e. e.0) (λ e. e.0) (λ e. e.0)
+
+    abbrev bare_part : Part-F C T I U → Part-F Create Expr Invocation Part
+    bare_part = map-Part C T I U Create Expr Invocation Part (λ e. e.0) (λ e. e.0) (λ e. e.0) (λ e. e.0)
+
+    abbrev create_of : Create-F Create Expr Invocation Part → Finds
+    create_of x = create_step (map-Create Create Expr Invocation Part Finds Reads Finds Finds create_found expr_reads invocation_found part_found x)
+
+    abbrev expr_of : Expr-F Create Expr Invocation Part → Reads
+    expr_of x = expr_step (map-Expr Create Expr Invocation Part Finds Reads Finds Finds create_found expr_reads invocation_found part_found x)
+
+    abbrev invocation_of : Invocation-F Create Expr Invocation Part → Finds
+    invocation_of x = invocation_step (map-Invocation Create Expr Invocation Part Finds Reads Finds Finds create_found expr_reads invocation_found part_found x)
+
+    abbrev part_of : Part-F Create Expr Invocation Part → Finds
+    part_of x = part_step (map-Part Create Expr Invocation Part Finds Reads Finds Finds create_found expr_reads invocation_found part_found x)
+
+    -- ---- each kind of expression from its parts
+
+    create_good : (y : Create-F C T I U) (blocks : Blocks) → BlocksFit blocks → AllFit (create_of (bare_create y) place blocks)
+    create_good (Create-F.Resource span resource arguments None) blocks fit =
+        both (qualified_found place blocks resource) _ (qualified_fits blocks fit resource) (both (reads_found (map expr_reads (map (λ (tree : T). tree.0) arguments)) place blocks) [] (all_good blocks fit arguments) tt)
+    create_good (Create-F.Resource span resource arguments (Some machine)) blocks fit =
+        both (qualified_found place blocks resource) _ (qualified_fits blocks fit resource)
+        (both (reads_found (map expr_reads (map (λ (tree : T). tree.0) arguments)) place blocks) _ (all_good blocks fit arguments) (machine.1 blocks fit))
+    create_good (Create-F.Machine span) blocks fit = tt
+
+    expr_good : (y : Expr-F C T I U) (blocks : Blocks) → BlocksFit blocks → AllFit (expr_of (bare_expr y) place blocks).found
+    expr_good (Expr-F.Literal span literal) blocks fit = tt
+    expr_good (Expr-F.Name name) blocks fit = name_fits blocks fit name
+    expr_good (Expr-F.BasicType span basic) blocks fit = tt
+    expr_good (Expr-F.Conversion span conversion value) blocks fit = value.1 blocks fit
+    expr_good (Expr-F.Group span inner) blocks fit = inner.1 blocks fit
+    expr_good (Expr-F.Parts span parts) blocks fit = parts_good blocks fit parts
+    expr_good (Expr-F.Field span owner field) blocks fit =
+        both (expr_found owner.0 place blocks) _ (owner.1 blocks fit) (field_fits (expr_reads owner.0 place blocks).component field)
+    expr_good (Expr-F.Index span array first None) blocks fit =
+        both (expr_found array.0 place blocks) _ (array.1 blocks fit) (both (expr_found first.0 place blocks) [] (first.1 blocks fit) tt)
+    expr_good (Expr-F.Index span array first (Some second)) blocks fit =
+        both (expr_found array.0 place blocks) _ (array.1 blocks fit) (both (expr_found first.0 place blocks) _ (first.1 blocks fit) (second.1 blocks fit))
+    expr_good (Expr-F.Call invocation) blocks fit = invocation.1 blocks fit
+    expr_good (Expr-F.Create create) blocks fit = create.1 blocks fit
+    expr_good (Expr-F.Unary span operator operand) blocks fit = operand.1 blocks fit
+    expr_good (Expr-F.Pending span operation) blocks fit = name_fits blocks fit operation
+    expr_good (Expr-F.Binary span left operator right) blocks fit = both (expr_found left.0 place blocks) _ (left.1 blocks fit) (right.1 blocks fit)
+
+    invocation_good : (y : Invocation-F C T I U) (blocks : Blocks) → BlocksFit blocks → AllFit (invocation_of (bare_invocation y) place blocks)
+    invocation_good y blocks fit = both (expr_found y.callee.0 place blocks) _ (y.callee.1 blocks fit) (all_good blocks fit y.arguments)
+
+    part_by : (span : Span) (count : Option T) (value : T) (blocks : Blocks) → BlocksFit blocks → AllFit (part_of (bare_part (record { span = span; count = count; value = value })) place blocks)
+    part_by span None value blocks fit = value.1 blocks fit
+    part_by span (Some count) value blocks fit = both (expr_found count.0 place blocks) _ (count.1 blocks fit) (value.1 blocks fit)
+
+    part_good : (y : Part-F C T I U) (blocks : Blocks) → BlocksFit blocks → AllFit (part_of (bare_part y) place blocks)
+    part_good y = part_by y.span y.count y.value
+
+    -- ---- all expressions
+
+    step_create : (x : Create-F Create Expr Invocation Part) (y : Create-F C T I U) → bare_create y ≡ x → CreateGood (roll-Create x)
+    step_create x y is = subst (λ z. CreateGood (roll-Create z)) is (λ blocks fit.
+        subst (λ (finds : Finds). AllFit (finds place blocks)) (sym (fold-roll-Create Finds Reads Finds Finds create_step expr_step invocation_step part_step (bare_create y))) (create_good y blocks fit))
+
+    step_expr : (x : Expr-F Create Expr Invocation Part) (y : Expr-F C T I U) → bare_expr y ≡ x → Good (roll-Expr x)
+    step_expr x y is = subst (λ z. Good (roll-Expr z)) is (λ blocks fit.
+        subst (λ (reads : Reads). AllFit (reads place blocks).found) (sym (fold-roll-Expr Finds Reads Finds Finds create_step expr_step invocation_step part_step (bare_expr y))) (expr_good y blocks fit))
+
+    step_invocation : (x : Invocation-F Create Expr Invocation Part) (y : Invocation-F C T I U) → bare_invocation y ≡ x → InvocationGood (roll-Invocation x)
+    step_invocation x y is = subst (λ z. InvocationGood (roll-Invocation z)) is (λ blocks fit.
+        subst (λ (finds : Finds). AllFit (finds place blocks)) (sym (fold-roll-Invocation Finds Reads Finds Finds create_step expr_step invocation_step part_step (bare_invocation y))) (invocation_good y blocks fit))
+
+    step_part : (x : Part-F Create Expr Invocation Part) (y : Part-F C T I U) → bare_part y ≡ x → PartGood (roll-Part x)
+    step_part x y is = subst (λ z. PartGood (roll-Part z)) is (λ blocks fit.
+        subst (λ (finds : Finds). AllFit (finds place blocks)) (sym (fold-roll-Part Finds Reads Finds Finds create_step expr_step invocation_step part_step (bare_part y))) (part_good y blocks fit))
+
+    pub expr_fits : (tree : Expr) → Good tree
+    expr_fits = ind-Expr CreateGood Good InvocationGood PartGood step_create step_expr step_invocation step_part
+
+    pub create_fits : (tree : Create) → CreateGood tree
+    create_fits = ind-Create CreateGood Good InvocationGood PartGood step_create step_expr step_invocation step_part
+
+    pub invocation_fits : (tree : Invocation) → InvocationGood tree
+    invocation_fits = ind-Invocation CreateGood Good InvocationGood PartGood step_create step_expr step_invocation step_part
+
+    pub maybe_expr_fits : (tree : Option Expr) (blocks : Blocks) → BlocksFit blocks → AllFit (maybe_expr_found tree place blocks)
+    maybe_expr_fits None blocks fit = tt
+    maybe_expr_fits (Some tree) blocks fit = expr_fits tree blocks fit
+
+    pub exprs_fit : (trees : List Expr) (blocks : Blocks) → BlocksFit blocks → AllFit (exprs_found trees place blocks)
+    exprs_fit [] blocks fit = tt
+    exprs_fit (tree ∷ trees) blocks fit = both (expr_found tree place blocks) _ (expr_fits tree blocks fit) (exprs_fit trees blocks fit)
+
+    -- ---- bounds
+
+    range_fits : (tree : RangeTree) (blocks : Blocks) → BlocksFit blocks → AllFit (range_found tree place blocks)
+    range_fits (range.Length span length) blocks fit = expr_fits length blocks fit
+    range_fits (range.Bounds span low high) blocks fit = both (expr_found low place blocks) _ (expr_fits low blocks fit) (expr_fits high blocks fit)
+    range_fits (range.From span low) blocks fit = expr_fits low blocks fit
+    range_fits (range.Any span) blocks fit = tt
+
+    maybe_range_fits : (tree : Option RangeTree) (blocks : Blocks) → BlocksFit blocks → AllFit (maybe_range_found tree place blocks)
+    maybe_range_fits None blocks fit = tt
+    maybe_range_fits (Some tree) blocks fit = range_fits tree blocks fit
+
+    dims_fit : (dims : DimsTree) (blocks : Blocks) → BlocksFit blocks → AllFit (dims_found dims place blocks)
+    dims_fit dims blocks fit = both (range_found dims.first place blocks) _ (range_fits dims.first blocks fit) (maybe_range_fits dims.second blocks fit)
+
+    maybe_dims_fit : (dims : Option DimsTree) (blocks : Blocks) → BlocksFit blocks → AllFit (maybe_dims_found dims place blocks)
+    maybe_dims_fit None blocks fit = tt
+    maybe_dims_fit (Some dims) blocks fit = dims_fit dims blocks fit
+
+    pub decls_fit : (decls : List DeclTree) (blocks : Blocks) → BlocksFit blocks → AllFit (decls_found decls place blocks)
+    decls_fit [] blocks fit = tt
+    decls_fit (decl ∷ decls) blocks fit = both (maybe_dims_found decl.dims place blocks) _ (maybe_dims_fit decl.dims blocks fit) (decls_fit decls blocks fit)
+
+    -- ---- types with what is known of them
+
+    abbrev TypeGood : TypeTree → Type 0
+    TypeGood tree = (blocks : Blocks) → BlocksFit blocks → AllFit (type_found tree place blocks)
+
+    abbrev FormalGood : Formal → Type 0
+    FormalGood tree = (blocks : Blocks) → BlocksFit blocks → AllFit ((formal_read tree).found place blocks)
+
+    abbrev ReturnedGood : Returned → Type 0
+    ReturnedGood tree = (blocks : Blocks) → BlocksFit blocks → AllFit ((returned_read tree).found place blocks)
+
+    abbrev SignatureGood : Signature → Type 0
+    SignatureGood tree = (blocks : Blocks) → BlocksFit blocks → AllFit (signed_found (signature_read tree) place blocks)
+
+    abbrev Y : Type 0
+    Y = (tree : TypeTree) × TypeGood tree
+
+    abbrev F : Type 0
+    F = (tree : Formal) × FormalGood tree
+
+    abbrev R : Type 0
+    R = (tree : Returned) × ReturnedGood tree
+
+    abbrev G : Type 0
+    G = (tree : Signature) × SignatureGood tree
+
+    formals_good : (blocks : Blocks) → BlocksFit blocks → (trees : List F) → AllFit (formals_found (map formal_read (map (λ tree. tree.0) trees)) place blocks)
+    formals_good blocks fit [] = tt
+    formals_good blocks fit (tree ∷ trees) = both ((formal_read tree.0).found place blocks) _ (tree.1 blocks fit) (formals_good blocks fit trees)
+
+    abbrev bare_type : TypeTree-F Y F R G → TypeTree-F TypeTree Formal Returned Signature
+    bare_type = map-TypeTree Y F R G TypeTree Formal Returned Signature (λ e. e.0) (λ e. e.0) (λ e. e.0) (λ e. e.0)
+
+    abbrev bare_formal : Formal-F Y F R G → Formal-F TypeTree Formal Returned Signature
+    bare_formal = map-Formal Y F R G TypeTree Formal Returned Signature (λ e. e.0) (λ e. e.0) (λ e. e.0) (λ e. e.0)
+
+    abbrev bare_returned : Returned-F Y F R G → Returned-F TypeTree Formal Returned Signature
+    bare_returned = map-Returned Y F R G TypeTree Formal Returned Signature (λ e. e.0) (λ e. e.0) (λ e. e.0) (λ e. e.0)
+
+    abbrev bare_signature : Signature-F Y F R G → Signature-F TypeTree Formal Returned Signature
+    bare_signature = map-Signature Y F R G TypeTree Formal Returned Signature (λ e. e.0) (λ e. e.0) (λ e. e.0) (λ e. e.0)
+
+    abbrev type_of : TypeTree-F TypeTree Formal Returned Signature → Finds
+    type_of x = type_step (map-TypeTree TypeTree Formal Returned Signature Finds Formals Formals Signed type_found formal_read returned_read signature_read x)
+
+    abbrev formal_of : Formal-F TypeTree Formal Returned Signature → Formals
+    formal_of x = formal_step (map-Formal TypeTree Formal Returned Signature Finds Formals Formals Signed type_found formal_read returned_read signature_read x)
+
+    abbrev returned_of : Returned-F TypeTree Formal Returned Signature → Formals
+    returned_of x = returned_step (map-Returned TypeTree Formal Returned Signature Finds Formals Formals Signed type_found formal_read returned_read signature_read x)
+
+    abbrev signature_of : Signature-F TypeTree Formal Returned Signature → Signed
+    signature_of x = signature_step (map-Signature TypeTree Formal Returned Signature Finds Formals Formals Signed type_found formal_read returned_read signature_read x)
+
+    -- ---- each kind of type from its parts
+
+    type_good : (y : TypeTree-F Y F R G) (blocks : Blocks) → BlocksFit blocks → AllFit (type_of (bare_type y) place blocks)
+    type_good (TypeTree-F.Int span) blocks fit = tt
+    type_good (TypeTree-F.Bool span) blocks fit = tt
+    type_good (TypeTree-F.Char span) blocks fit = tt
+    type_good (TypeTree-F.Str span length) blocks fit = maybe_expr_fits length blocks fit
+    type_good (TypeTree-F.Enum span literals) blocks fit = tt
+    type_good (TypeTree-F.Rec span fields) blocks fit =
+        both (formals_twice (map formal_read (map (λ (tree : F). tree.0) fields)) []) _ (formals_twice_fit (map formal_read (map (λ (tree : F). tree.0) fields)) []) (formals_good blocks fit fields)
+    type_good (TypeTree-F.CapOf span name) blocks fit = qualified_fits blocks fit name
+    type_good (TypeTree-F.CapMachine span) blocks fit = tt
+    type_good (TypeTree-F.CapOperation span signature) blocks fit = signature.1 blocks fit
+    type_good (TypeTree-F.Array span dims item) blocks fit = both (dims_found dims place blocks) _ (dims_fit dims blocks fit) (item.1 blocks fit)
+    type_good (TypeTree-F.Named span name) blocks fit = qualified_fits blocks fit name
+
+    formal_good : (y : Formal-F Y F R G) (blocks : Blocks) → BlocksFit blocks → AllFit ((formal_of (bare_formal y)).found place blocks)
+    formal_good y blocks fit = both (decls_found y.decls place blocks) _ (decls_fit y.decls blocks fit) (y.ty.1 blocks fit)
+
+    returned_good : (y : Returned-F Y F R G) (blocks : Blocks) → BlocksFit blocks → AllFit ((returned_of (bare_returned y)).found place blocks)
+    returned_good y blocks fit = both (maybe_dims_found y.decl.dims place blocks) _ (maybe_dims_fit y.decl.dims blocks fit) (y.ty.1 blocks fit)
+
+    signature_good : (y : Signature-F Y F R G) (blocks : Blocks) → BlocksFit blocks → AllFit (signed_found (signature_of (bare_signature y)) place blocks)
+    signature_good y blocks fit =
+        both (signed_twice (signature_of (bare_signature y)) []) _ (signed_twice_fit (signature_of (bare_signature y)) []) (by y.returned)
+      where
+        by : (returned : Option R)
+            → AllFit (formals_found (signature_of (bare_signature (record y { returned = returned }))).formals place blocks
+            ++ maybe_found (signature_of (bare_signature (record y { returned = returned }))).returned place blocks)
+        by None = both (formals_found (map formal_read (map (λ (tree : F). tree.0) y.formals)) place blocks) [] (formals_good blocks fit y.formals) tt
+        by (Some returned) = both (formals_found (map formal_read (map (λ (tree : F). tree.0) y.formals)) place blocks) _ (formals_good blocks fit y.formals) (returned.1 blocks fit)
+
+    -- ---- all types
+
+    step_type : (x : TypeTree-F TypeTree Formal Returned Signature) (y : TypeTree-F Y F R G) → bare_type y ≡ x → TypeGood (roll-TypeTree x)
+    step_type x y is = subst (λ z. TypeGood (roll-TypeTree z)) is (λ blocks fit.
+        subst (λ (finds : Finds). AllFit (finds place blocks)) (sym (fold-roll-TypeTree Finds Formals Formals Signed type_step formal_step returned_step signature_step (bare_type y))) (type_good y blocks fit))
+
+    step_formal : (x : Formal-F TypeTree Formal Returned Signature) (y : Formal-F Y F R G) → bare_formal y ≡ x → FormalGood (roll-Formal x)
+    step_formal x y is = subst (λ z. FormalGood (roll-Formal z)) is (λ blocks fit.
+        subst (λ (read : Formals). AllFit (read.found place blocks)) (sym (fold-roll-Formal Finds Formals Formals Signed type_step formal_step returned_step signature_step (bare_formal y))) (formal_good y blocks fit))
+
+    step_returned : (x : Returned-F TypeTree Formal Returned Signature) (y : Returned-F Y F R G) → bare_returned y ≡ x → ReturnedGood (roll-Returned x)
+    step_returned x y is = subst (λ z. ReturnedGood (roll-Returned z)) is (λ blocks fit.
+        subst (λ (read : Formals). AllFit (read.found place blocks)) (sym (fold-roll-Returned Finds Formals Formals Signed type_step formal_step returned_step signature_step (bare_returned y))) (returned_good y blocks fit))
+
+    step_signature : (x : Signature-F TypeTree Formal Returned Signature) (y : Signature-F Y F R G) → bare_signature y ≡ x → SignatureGood (roll-Signature x)
+    step_signature x y is = subst (λ z. SignatureGood (roll-Signature z)) is (λ blocks fit.
+        subst (λ (signed : Signed). AllFit (signed_found signed place blocks)) (sym (fold-roll-Signature Finds Formals Formals Signed type_step formal_step returned_step signature_step (bare_signature y))) (signature_good y blocks fit))
+
+    pub type_fits : (tree : TypeTree) → TypeGood tree
+    type_fits = ind-TypeTree TypeGood FormalGood ReturnedGood SignatureGood step_type step_formal step_returned step_signature
+
+    formal_fits : (tree : Formal) → FormalGood tree
+    formal_fits = ind-Formal TypeGood FormalGood ReturnedGood SignatureGood step_type step_formal step_returned step_signature
+
+    pub signature_fits : (tree : Signature) → SignatureGood tree
+    signature_fits = ind-Signature TypeGood FormalGood ReturnedGood SignatureGood step_type step_formal step_returned step_signature
+
+    pub formals_fit : (formals : List Formal) (blocks : Blocks) → BlocksFit blocks → AllFit (formals_found (map formal_read formals) place blocks)
+    formals_fit [] blocks fit = tt
+    formals_fit (formal ∷ formals) blocks fit = both ((formal_read formal).found place blocks) _ (formal_fits formal blocks fit) (formals_fit formals blocks fit)
+
+    pub maybe_type_fits : (tree : Option TypeTree) (blocks : Blocks) → BlocksFit blocks → AllFit (maybe_type_found tree place blocks)
+    maybe_type_fits None blocks fit = tt
+    maybe_type_fits (Some tree) blocks fit = type_fits tree blocks fit
