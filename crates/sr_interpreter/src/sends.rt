@@ -1,4 +1,3 @@
-ghost use Rattle.std.specs.Prelude.{◌≡◌};
 ghost use Rattle.sr_core.specs.declared.statement.Statement.TheOpen.{Statement-F};
 ghost use Rattle.sr_meaning.specs.Statements.{sends, statement_meaning};
 ghost use Rattle.sr_interpreter_expr.specs.Interpreters.{Agrees, here_of, stage_of};

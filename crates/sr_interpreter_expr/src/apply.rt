@@ -1,6 +1,5 @@
-ghost use Rattle.std.specs.Prelude.{◌≡◌, ◌≢◌, List, [], ◌∷◌};
+ghost use Rattle.std.specs.Prelude.{◌≢◌, [], ◌∷◌};
 ghost use Rattle.sr_value.specs.Operators.{Answers};
-ghost use Rattle.sr_value.specs.Parts.{part_of};
 ghost use Rattle.sr_core.specs.Applied.{applied};
 ghost use Rattle.sr_meaning.specs.Here.{settle};
 ghost use Rattle.sr_interpreter_expr.specs.Interpreters.{Agrees, here_of, stage_of};

@@ -1,4 +1,4 @@
-ghost use Rattle.std.specs.Prelude.{◌≡◌, map};
+ghost use Rattle.std.specs.Prelude.{map};
 ghost use Rattle.sr_meaning.specs.Expressions.{argument_of, expr_meaning, in_order, part_of_expr, place_of_expr, reading_of, step_of_expr};
 ghost use Rattle.sr_interpreter_expr.specs.Interpreters.{Agrees, after_and, after_operand, after_or, after_resource, after_target, after_values, after_whole, here_of, stage_of};
 

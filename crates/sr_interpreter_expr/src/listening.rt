@@ -1,4 +1,4 @@
-ghost use Rattle.std.specs.Prelude.{◌≡◌, ℕ, Option, List};
+ghost use Rattle.std.specs.Prelude.{◌≡◌, Option};
 ghost use Rattle.sr_ask.specs.declared.answer.Answer.{Answer};
 ghost use Rattle.sr_ask.specs.Asking.{done, got, made, ready, number, moment, as_moment, read_item, took};
 ghost use Rattle.sr_ask.specs.Behaviors.{asking};

@@ -1,5 +1,4 @@
-ghost use Rattle.std.specs.Prelude.{◌≡◌, map, List};
-ghost use Rattle.sr_value.specs.Operators.{Answers, value_of, value_of_one};
+ghost use Rattle.sr_value.specs.Operators.{value_of, value_of_one};
 ghost use Rattle.sr_meaning.specs.Here.{fail, settle};
 ghost use Rattle.sr_core.specs.Values.{truth_of, number_of, cap_of, member_of, count_of};
 ghost use Rattle.sr_interpreter_expr.specs.Interpreters.{Agrees, here_of, stage_of};

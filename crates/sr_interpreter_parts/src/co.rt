@@ -1,6 +1,5 @@
 ghost use Rattle.std.specs.Prelude.{◌≡◌, ◌<◌, ◌==◌, IfOk, OnOk, map, length, option_map, slice_get};
 ghost use Rattle.std.specs.List.{position};
-ghost use Rattle.std.specs.Option.{option_copied};
 ghost use Rattle.sr_ask.specs.Behaviors.{Came};
 ghost use Rattle.sr_meaning.specs.Statements.{drop_out, optional_place, own_number, set_turn, start_call, store_value, turn_now};
 ghost use Rattle.sr_interpreter_parts.specs.StatementParts.{IsFirstOut, call_part, take_place, took_place};
@@ -11,8 +10,8 @@ use crate::values::int_own;
 use sr_ask::{Answer, Located, Out, Request};
 use sr_core::{CoCall, PlaceExpr, Quantifier};
 use sr_interpreter_expr::{
-    Interpreter, IsMade, Scene, Stop, Takes, ask, cap_of, evaluate_arguments, give_back, locate,
-    places_in, put_own, store, values_in,
+    Interpreter, IsMade, Scene, Stop, Takes, ask, cap_of, evaluate_arguments, locate, places_in,
+    put_own, store, values_in,
 };
 use sr_meaning::Ending;
 use sr_value::{Duplicate, NoMemory, Row, Value};

@@ -1,4 +1,3 @@
-ghost use Rattle.std.specs.Prelude.{◌≡◌};
 ghost use Rattle.sr_ask.specs.Asking.{none_takes};
 ghost use Rattle.sr_meaning.specs.Here.{request as ask_by};
 ghost use Rattle.sr_interpreter_expr.specs.Interpreters.{Agrees, here_of, stage_of};

@@ -1,5 +1,5 @@
-ghost use Rattle.std.specs.Prelude.{◌≡◌, map, IfOk, unwrap_or, slice_get};
-ghost use Rattle.std.specs.Option.{option_copied, option_and_then};
+ghost use Rattle.std.specs.Prelude.{◌≡◌, map, IfOk, slice_get};
+ghost use Rattle.std.specs.Option.{option_copied};
 ghost use Rattle.sr_ask.specs.Asking.{selected};
 ghost use Rattle.sr_ask.specs.Behaviors.{Came};
 ghost use Rattle.sr_meaning.specs.Expressions.{in_order};

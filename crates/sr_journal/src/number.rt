@@ -1,4 +1,4 @@
-ghost use Rattle.std.specs.Prelude.{◌≡◌, ◌≤◌, List, ℕ, Some, IfOk};
+ghost use Rattle.std.specs.Prelude.{◌≤◌, Some, IfOk};
 ghost use Rattle.sr_journal.specs.Reading.{Tells, with_capped, limit_of, word_at, digits_at, number_at};
 
 use crate::fail::JournalFail;

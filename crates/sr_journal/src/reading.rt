@@ -1,4 +1,4 @@
-ghost use Rattle.std.specs.Prelude.{◌≡◌, ◌≢◌, ◌↔◌, ◌≤◌, List, ℕ, Ok, Err, IsTrue, IfOk};
+ghost use Rattle.std.specs.Prelude.{◌≡◌, ◌≢◌, ◌↔◌, List, Ok, Err, IsTrue, IfOk};
 ghost use Rattle.sr_ask.specs.declared.item.Item.{Item as item};
 ghost use Rattle.sr_journal.specs.declared.header.Header.{Header as header};
 ghost use Rattle.sr_journal.specs.declared.fail.JournalFail.TheVariants.{NotJournal as not_journal, Truncated as truncated, Version as other_version, NoMemory as out_of_memory};

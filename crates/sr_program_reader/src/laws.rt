@@ -1,4 +1,4 @@
-ghost use Rattle.std.specs.Prelude.{◌≡◌, ℕ, ◌-◌, ◌<◌, ◌≤◌, suc, List, length, Ok, Err};
+ghost use Rattle.std.specs.Prelude.{ℕ, ◌-◌, ◌<◌, ◌≤◌, suc, List, length, Ok, Err};
 ghost use Rattle.sr_reader.specs.Pieces.{HasOneTree, IsDead};
 ghost use Rattle.sr_tree.specs.declared.component.File.{File};
 ghost use Rattle.sr_tree.specs.declared.token.Token.{Token};
