@@ -1,4 +1,4 @@
-ghost use Rattle.std.specs.Prelude.{◌≡◌, ◌↔◌, IsTrue, IfOk};
+ghost use Rattle.std.specs.Prelude.{◌≡◌, IfOk};
 
 use sr_value::{Cap, Compare, Duplicate, Fault, NoMemory, Row, Sel, Shape, Text, Value};
 use std::alloc::Global;

@@ -1,7 +1,6 @@
-ghost use Rattle.std.specs.Prelude.{◌≡◌, IfOk, OnOk, option_copied};
+ghost use Rattle.std.specs.Prelude.{◌≡◌, IfOk, OnOk};
 ghost use Rattle.sr_names.specs.Diagnostics.{all_noted};
-ghost use Rattle.sr_types.specs.Outcomes.{computed};
-ghost use Rattle.sr_check_expr.specs.Arguments.{as_many, all_valued, arguments_found, fields_found, invoked_found, takes_as_many, returned_by, returned_if, may_call, may_send, is_callable, is_sendable, returned_outcome, invoked_outcome};
+ghost use Rattle.sr_check_expr.specs.Arguments.{as_many, all_valued, arguments_found, fields_found, invoked_found, takes_as_many, returned_by, returned_if, is_callable, is_sendable, returned_outcome, invoked_outcome};
 
 use crate::info::FieldInfo;
 use crate::literals::known;

@@ -1,6 +1,6 @@
 ghost use Rattle.std.specs.Prelude.{◌≡◌, IfOk, OnOk, Some, option_copied};
 ghost use Rattle.sr_names.specs.Diagnostics.{all_noted};
-ghost use Rattle.sr_check_expr.specs.Creating.{component_type, resource_type, resource_named, instance_type, machine_valued, made_of, formals_found, made_found, instance_typing, machine_typing};
+ghost use Rattle.sr_check_expr.specs.Creating.{component_type, resource_type, resource_named, instance_type, machine_valued, made_of, formals_found, instance_typing, machine_typing};
 
 use crate::arguments::{note_invoked, note_values, takes_as_many};
 use crate::facts::Facts;
@@ -16,7 +16,6 @@ use sr_names::{Decl, Diagnostics, Rule, Sort, Spot};
 use sr_tree::QualifiedName;
 use sr_types::{Outcome, Static, Ty, own_machine};
 use sr_value::{Boxed, NoMemory, Span};
-use std::alloc::Global;
 
 /// The declaration that is named in a `create`.
 pub(crate) fn resource_named(facts: &Facts, qualified: &QualifiedName) -> Option<Decl>

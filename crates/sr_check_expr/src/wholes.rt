@@ -3,7 +3,7 @@ ghost use Rattle.sr_names.specs.Diagnostics.{all_noted};
 ghost use Rattle.sr_types.specs.Aggregates.{bracketed_rule};
 ghost use Rattle.sr_types.specs.Operators.{unary_rule};
 ghost use Rattle.sr_check_expr.specs.Typings.{value_at, settled_typed, is_met, broken_unless};
-ghost use Rattle.sr_check_expr.specs.Exprs.{around, operator_of, prefix_of, conversion_outcome, between, indexed, index_outcome, grouped, second_valued, field_typing, value_field, operation_component, pending_found, pending_outcome, pending_counted, pending_typing, part_valued, inferred_repeated};
+ghost use Rattle.sr_check_expr.specs.Exprs.{around, operator_of, prefix_of, conversion_outcome, between, indexed, index_outcome, grouped, second_valued, field_typing, value_field, operation_component, pending_found, pending_outcome, pending_typing, part_valued, inferred_repeated};
 
 use crate::facts::{Facts, Here};
 use crate::info::Info;

@@ -1,5 +1,5 @@
 //! A forest of operations: each has a parent before it, or is its own parent and the first of its class.
-ghost use Rattle.std.specs.Prelude.{◌≡◌, ◌<◌, ◌^◌, ℕ, length};
+ghost use Rattle.std.specs.Prelude.{◌≡◌, ◌<◌, ℕ, length};
 ghost use Rattle.sr_classes.specs.Joins.{IsForest, Stands, StandsOn, joined};
 
 use sr_value::Row;

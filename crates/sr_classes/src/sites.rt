@@ -1,7 +1,7 @@
 //! The classes that the `in` statements of a program make.
 ghost use Rattle.std.specs.Prelude.{◌≡◌, ◌<◌, ◌^◌, ℕ, All, fold, map, length, IfOk, OnOk, slice_index_or};
 ghost use Rattle.sr_classes.specs.Classes.{AreClasses, groups_of, named_by};
-ghost use Rattle.sr_classes.specs.Joins.{IsForest, Stands, StandsOn, all_joined, group_joined};
+ghost use Rattle.sr_classes.specs.Joins.{IsForest, Stands, StandsOn, group_joined};
 
 use crate::forest::{first_of, join};
 use sr_core::{Arm, Classes, Core, Site};

@@ -1,4 +1,4 @@
-ghost use Rattle.std.specs.Prelude.{◌≡◌, ◌∷◌, [], ◌-◌, ◌*◌, ◌<◌, ◌-ℤ◌, IsTrue, MatchOption, MatchResult};
+ghost use Rattle.std.specs.Prelude.{◌≡◌, ◌∷◌, [], ◌-◌, ◌<◌, ◌-ℤ◌, IsTrue, MatchOption, MatchResult};
 ghost use Rattle.sr_core.specs.Values.{steps_within, values_by, values_of};
 ghost use Rattle.sr_code.specs.Numbers.{number_from};
 ghost use Rattle.sr_value.specs.Operators.{is_int};

@@ -1,5 +1,5 @@
 ghost use Rattle.std.specs.Prelude.{OnOk, map};
-ghost use Rattle.sr_code.specs.Operands.{join_piece, join_sel, join_target, join_value, put_list, put_place, put_value};
+ghost use Rattle.sr_code.specs.Operands.{join_piece, join_sel, join_target, put_list, put_place, put_value};
 ghost use Rattle.sr_core.specs.declared.expression.Argument.TheOpen.{Expr-F};
 ghost use Rattle.sr_meaning.specs.Expressions.{argument_of, expr_meaning, in_order, node_meaning, part_of_expr, place_of_expr, reading_of, step_of_expr};
 ghost use Rattle.sr_gen_expr.specs.Emitting.{Gives, Takes, and_meaning, call_meaning, join_all, join_sent, operand_meaning, or_meaning, part_meaning_of, put_only};

@@ -1,5 +1,4 @@
-ghost use Rattle.std.specs.Prelude.{◌≡◌, ◌+◌, ◌-◌, ◌^◌, ◌<◌, ◌≤◌, [], ◌∷◌, ◌++◌, OnOk, None, false};
-ghost use Rattle.sr_lexer.specs.Roles.{may_end_line};
+ghost use Rattle.std.specs.Prelude.{◌≡◌, ◌+◌, ◌-◌, ◌^◌, ◌<◌, [], ◌++◌, OnOk, None, false};
 ghost use Rattle.sr_lexer.specs.Separators.{open_after, separators_where};
 ghost use Rattle.sr_lexer.specs.Reading.{after_token, after_newline, after_piece};
 ghost use Rattle.sr_lexer.specs.declared.piece.PieceKind.TheVariants as pieces;

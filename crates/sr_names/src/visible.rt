@@ -1,4 +1,4 @@
-ghost use Rattle.std.specs.Prelude.{◌≡◌, [], length, map, slice_get, OnOk};
+ghost use Rattle.std.specs.Prelude.{◌≡◌, [], length, slice_get, OnOk};
 ghost use Rattle.std.specs.List.{IsDistinct};
 ghost use Rattle.sr_names.specs.Spots.{same_spot};
 ghost use Rattle.sr_names.specs.Visible.{component_at, with_component, spots_of};

@@ -14,7 +14,7 @@ use sr_names::Spot;
 use sr_tables::{SharedVariable, SpotMap, Spots, number_of, spot_named};
 use sr_tree::{
     Arm, BlockItem, Branch, CoArm, Component, ConstDecl, Expr, Formal, Invocation, Item, Name,
-    ProcItem, Quantifier, Semaphore, Signature, SpecItem, Statement, VarDecl,
+    ProcItem, Quantifier, Signature, SpecItem, Statement, VarDecl,
 };
 use sr_value::{NoMemory, Row, Span};
 use std::alloc::Global;

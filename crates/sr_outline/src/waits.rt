@@ -1,7 +1,7 @@
 //! The procs and the statements that wait for invocations, by their numbers.
 #![tactic(auto, using(sr_tables::proofs::Appends::spots_append))]
 
-ghost use Rattle.std.specs.Prelude.{◌≡◌, [], ◌∷◌, IfOk, OnOk, flat_map, if◌then◌else◌, map};
+ghost use Rattle.std.specs.Prelude.{◌≡◌, [], ◌∷◌, OnOk, flat_map, if◌then◌else◌, map};
 ghost use Rattle.sr_outline.specs.Numbers as numbers;
 ghost use Rattle.sr_tables.specs.Tables.{with_spots};
 ghost use Rattle.sr_tables.specs.Lists.{lists};

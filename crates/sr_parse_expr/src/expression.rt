@@ -1,4 +1,4 @@
-ghost use Rattle.std.specs.Prelude.{◌≡◌, ◌<◌, ◌≤◌, length, IfOk};
+ghost use Rattle.std.specs.Prelude.{◌<◌, ◌≤◌, length, IfOk};
 ghost use Rattle.sr_parse_expr.specs.Reads.{ReadsBelow, ReadsUpTo};
 ghost use Rattle.sr_expr_reader.specs.Readers.{arguments_at, array_at, bracketed_at, call_at, converted_at, create_at, enclosed_at, factor_at, index_at, more_arguments_at, more_parts_at, next_argument_at, next_part_at, on_at, operand_at, operation_at, operators_at, part_at, primary_at, repeated_part_at, second_at, signed_at, start_at, suffix_at, suffixes_at};
 ghost use Rattle.sr_tree.specs.Tables.{right_level};

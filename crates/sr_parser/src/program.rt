@@ -1,4 +1,4 @@
-ghost use Rattle.std.specs.Prelude.{◌≡◌, IfOk, IfErr};
+ghost use Rattle.std.specs.Prelude.{IfOk, IfErr};
 ghost use Rattle.sr_parse_expr.specs.Refused.{IsRefusedIn};
 ghost use Rattle.sr_parser.specs.Programs.{SpellsNoFile};
 ghost use Rattle.sr_program_reader.specs.Files.{SpellsFile};

@@ -1,4 +1,4 @@
-ghost use Rattle.std.specs.Prelude.{◌≡◌, ◌<◌, ◌≤◌, length, IfOk};
+ghost use Rattle.std.specs.Prelude.{◌<◌, ◌≤◌, length, IfOk};
 ghost use Rattle.sr_parse_expr.specs.Reads.{ReadsUpTo};
 ghost use Rattle.sr_program_reader.specs.StatementReaders.{enclosed_quantifiers_at, more_quantifiers_at, next_quantifier_at, optional_quantifiers_at, quantifier_at, quantifiers_at};
 

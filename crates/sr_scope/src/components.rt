@@ -13,7 +13,7 @@ use sr_names::{
     Blocks, Decl, Diagnostic, Diagnostics, Finding, Import, Link, Meaning, Members, Place, Rule,
     Sort, Spot, Table, Visible,
 };
-use sr_tree::{Component, File, Formal, Item, Name, SpecItem};
+use sr_tree::{Component, File, Item, Name, SpecItem};
 use sr_value::{Duplicate, NoMemory, Row, Span};
 use std::alloc::Global;
 

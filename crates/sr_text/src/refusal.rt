@@ -1,4 +1,4 @@
-ghost use Rattle.std.specs.Prelude.{◌≡◌, codes};
+ghost use Rattle.std.specs.Prelude.{◌≡◌};
 ghost use Rattle.sr_text.specs.declared.refusal.FrontFail.TheVariants.{NoMemory as out_of_memory, Refused as refused};
 ghost use Rattle.sr_text.specs.Labels.{kind_label};
 

@@ -1,4 +1,4 @@
-ghost use Rattle.std.specs.Prelude.{◌≡◌, ◌↔◌, ◌⊎◌, IsTrue};
+ghost use Rattle.std.specs.Prelude.{◌≡◌, ◌↔◌, IsTrue};
 ghost use Rattle.sr_types.specs.Types.{is_cap_type, is_null_type, is_of_nulls, is_no_type, are_nulls, fits_type, FitsType};
 
 use crate::ty::{Ty, same};

@@ -1,4 +1,4 @@
-ghost use Rattle.std.specs.Prelude.{◌≡◌, map};
+ghost use Rattle.std.specs.Prelude.{map};
 ghost use Rattle.sr_value.specs.Operators.{Answers};
 ghost use Rattle.sr_value.specs.Parts.{all_fit, each_fits, fitted_in, same_extents, same_length};
 
