@@ -1,4 +1,4 @@
--- Entering the signatures of a declaration keeps what doesn't look at signatures.
+-- Entering the signatures of a declaration keeps what one more signature keeps.
 use Rattle.std.proofs.Common.{◌≡◌, Bool, true, false, List, [], ◌∷◌, Option, Some, None, sym, subst, map, if◌then◌else◌}
 use Rattle.sr_tree.specs.declared.declaration.OpItem.{OpItem}
 use Rattle.sr_tree.specs.declared.declaration.OpItem.TheVariants.{Signed as OfSignature, Typed as OfType}
@@ -16,7 +16,7 @@ use Rattle.sr_check_decl.specs.declared.kind.Signed.{Signed}
 use Rattle.sr_check_decl.specs.Entering.{Entered, EntersType, EntersFormals, EntersReturned, EntersSignature, after_formals, entered, signed_entered, in_turn, maybe_returned, formal_step, returned_step, signature_step, type_step, type_read_in, formal_read_in, returned_read_in, signature_read_in, type_entered, written_entered, formals_entered, signature_entered, op_entered, ops_entered}
 use Rattle.sr_check_decl.specs.TypeTrees.{forms_of, is_refused, whole_signature}
 
-module _ (Q : Facts → Type 0) (q : (facts : Facts) (signatures : List Signature) → Q facts → Q (record facts { signatures = signatures })) where
+module _ (Q : Facts → Type 0) (q : (facts : Facts) (signature : Signature) → Q facts → Q (entered signature facts)) where
   abbrev Keeps : {A : Type 0} → (Facts → Entered A) → Type 0
   Keeps reads = (facts : Facts) → Q facts → Q (reads facts).facts
 

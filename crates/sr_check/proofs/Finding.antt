@@ -26,6 +26,7 @@ use Rattle.sr_tree.specs.declared.statement.BlockItem.TheOpen.{BlockItem-F, Stat
 use Rattle.sr_tree.specs.declared.statement.Branch.{Branch, roll-Branch}
 use Rattle.sr_tree.specs.declared.statement.CoArm.{CoArm, roll-CoArm}
 use Rattle.sr_tree.specs.declared.statement.Statement.{Statement, roll-Statement}
+use Rattle.sr_types.specs.declared.signature.Signature.{Signature}
 use Rattle.sr_types.specs.declared.ty.Ty.{Ty}
 use Rattle.sr_check_expr.specs.declared.facts.Facts.{Facts}
 use Rattle.sr_check_expr.specs.declared.info.Info.TheVariants as info
@@ -50,7 +51,7 @@ use Rattle.sr_check.proofs.Each.{Each, each-append}
 use Rattle.sr_check.specs.ErrorFree.{ErrorFree}
 use Rattle.sr_check.proofs.ErrorFree.{rule_met, same_error_free, error_free_first, error_free_second}
 use Rattle.sr_check.proofs.Named.{Meant, meant_by, by_expr}
-use Rattle.sr_check.proofs.Owners.{Sound}
+use Rattle.sr_check.proofs.Owners.{Meets, Sound, known_now}
 use Rattle.sr_check.proofs.Reading.{read_item, read_statement, read_arm, read_branch, read_co_arm, keeps_service, keeps_quantifiers, keeps_block_item, keeps_branch, keeps_arm, keeps_co_arm}
 
 -- ---- what is found where a rule is broken
@@ -63,7 +64,11 @@ either_false : (a b : Bool) → (a || b) ≡ false → (a ≡ false) × (b ≡ f
 either_false true b e = absurd (true≢false e)
 either_false false b e = (refl, e)
 
-module _ (P : Spot → Ty → Spot → Bool → Type 0) (uses : Meanings) (component : Spot) (procs : Procs) where
+-- what other facts know at a spot, whatever signatures are known
+abbrev IsAt : Facts → Meets
+IsAt start signatures spot ty owner is_local = info_at start.infos spot ≡ Some (info.Operation ty owner is_local)
+
+module _ (P : Meets) (uses : Meanings) (component : Spot) (procs : Procs) where
   abbrev Holds : Facts → Type 0
   Holds = Sound P uses component
 
@@ -80,14 +85,22 @@ module _ (P : Spot → Ty → Spot → Bool → Type 0) (uses : Meanings) (compo
     pub decl : Decl
     pub means : meant ≡ Some decl
     pub ty : Ty
-    pub meets : P decl.spot ty component is_local
+    pub signatures : List Signature
+    pub meets : P signatures decl.spot ty component is_local
     pub unserved : proc_of procs decl.spot ≡ None
 
   abbrev pub Right : Together → Type 0
   Right together = (is_local : Bool) × Each (Waiting is_local) together
 
   waiting : (facts : Facts) (is_local : Bool) (meant : Option Decl) → Holds facts → At facts is_local meant → Waiting is_local meant
-  waiting facts is_local meant h at = record { decl = at.decl; means = at.means; ty = at.ty; meets = h.1.1 at.decl.spot at.ty component is_local at.is; unserved = at.unserved }
+  waiting facts is_local meant h at = record {
+    decl = at.decl;
+    means = at.means;
+    ty = at.ty;
+    signatures = facts.signatures;
+    meets = known_now P facts h.1.1 at.decl.spot at.ty component is_local at.is;
+    unserved = at.unserved;
+  }
 
   -- what is serviced is the component's own, and has no proc
   pub at_by : (facts : Facts) (span : Span) (meant : Option Decl) (operation : Operation) → Holds facts → Meant facts meant operation → ErrorFree (service_found facts procs span operation)
@@ -124,11 +137,11 @@ module _ (P : Spot → Ty → Spot → Bool → Type 0) (uses : Meanings) (compo
 
   -- operations that other facts know are those of these facts
   abbrev Since : Facts → Facts → Type 0
-  Since start = Sound (λ spot ty owner is_local. info_at start.infos spot ≡ Some (info.Operation ty owner is_local)) uses component
+  Since start = Sound (IsAt start) uses component
 
   at_start : (start facts : Facts) (is_local : Bool) (meant : Option Decl) → Since start facts → At facts is_local meant → At start is_local meant
   at_start start facts is_local meant since at =
-      record { decl = at.decl; means = at.means; ty = at.ty; is = since.1.1 at.decl.spot at.ty component is_local at.is; unserved = at.unserved }
+      record { decl = at.decl; means = at.means; ty = at.ty; is = known_now (IsAt start) facts since.1.1 at.decl.spot at.ty component is_local at.is; unserved = at.unserved }
 
   local_is : (facts : Facts) (name : Name) (is_local : Bool) → At facts is_local (decl_named facts name) → is_local_name facts name ≡ is_local
   local_is facts name is_local at = ap (λ d. is_local_info (decl_info facts.infos d)) at.means ∙ ap is_local_info at.is
@@ -199,7 +212,7 @@ module _ (P : Spot → Ty → Spot → Bool → Type 0) (uses : Meanings) (compo
       let rest = in_order (arms_at span (map arm_read (map (λ x. x.0) xs))) next in
       let here = x.1.1 span context of h (error_free_first first.found rest.found nothing) in
       let more = finds_arms start span xs next of (keeps_arm P uses component x.0 span context h)
-      (keeps_arm (λ spot ty owner is_local. info_at start.infos spot ≡ Some (info.Operation ty owner is_local)) uses component x.0 span context since)
+      (keeps_arm (IsAt start) uses component x.0 span context since)
       (error_free_second first.found rest.found nothing) in (
         ((here.0.0, at_start start context.facts here.0.0 (arm_waits uses x.0).0 since here.0.1), more.0),
         each-append Right (arm_waits uses x.0).1 (arms_waits (map (arm_waits uses) (map (λ x. x.0) xs))) here.1 more.1,
@@ -277,7 +290,7 @@ module _ (P : Spot → Ty → Spot → Bool → Type 0) (uses : Meanings) (compo
       let next = with_facts context first.facts in
       let unmixed = error_free_first (mixture_found context.facts span arms) (first.found ++ (otherwise next).found) nothing in
       let rest = error_free_second (mixture_found context.facts span arms) (first.found ++ (otherwise next).found) nothing in
-      let found = finds_arms context.facts span xs context of h (h.0, (h.1.0, λ spot type owner is_local is. is)) (error_free_first first.found (otherwise next).found rest) in (
+      let found = finds_arms context.facts span xs context of h (h.0, (h.1.0, λ spot type owner is_local is more keeps. is)) (error_free_first first.found (otherwise next).found rest) in (
         of_one_sort context.facts span xs h unmixed found.0,
         each-append Right (arms_waits (map (arm_waits uses) (map (λ x. x.0) xs))) more found.1
             (finds next of (keeps_arm_trees span (map (λ x. x.0) xs) context h) (error_free_second first.found (otherwise next).found rest)),

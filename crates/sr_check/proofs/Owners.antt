@@ -26,7 +26,10 @@ use Rattle.sr_tree.specs.declared.types.TypeTree.{TypeTree, out-TypeTree}
 use Rattle.sr_tree.specs.declared.types.TypeTree.TheOpen.{TypeTree-F}
 use Rattle.sr_tree.specs.Nested.{types_within}
 use Rattle.sr_tree.specs.Parts.{name_of, spec_of, formals_of, body_of}
+use Rattle.sr_types.proofs.Places.{insert_key-keeps}
 use Rattle.sr_types.specs.declared.signature.Signature.{Signature}
+use Rattle.sr_types.specs.Equality.{equal_signatures}
+use Rattle.sr_types.specs.Signatures.{KeepsNumbers}
 use Rattle.sr_types.specs.declared.ty.Ty.{Ty}
 use Rattle.sr_types.specs.declared.ty.Ty.TheVariants as ty
 use Rattle.sr_types.specs.declared.typed.Typed.{Typed}
@@ -47,33 +50,46 @@ use Rattle.sr_check.specs.Owners.{Owned, ops_owned, sems_owned, spec_item_owned,
 use Rattle.sr_check.proofs.Each.{Each, each-left, each-right, each-parts}
 use Rattle.sr_check.proofs.Entered.{keeps_signed, keeps_type, keeps_signature, keeps_written, keeps_formals, keeps_ops}
 
--- what an operation has to meet that is entered at a spot: its type, its component, and whether it is declared in a
--- block of a proc
-module _ (P : Spot → Ty → Spot → Bool → Type 0) where
-  abbrev pub Fits : Spot → Info → Type 0
-  Fits spot (info.Operation ty component is_local) = P spot ty component is_local
-  Fits spot _ = Unit {0}
+-- what an operation has to meet that is entered at a spot: by the signatures that are known, its type, its component,
+-- and whether it is declared in a block of a proc
+abbrev pub Meets : Type 1
+Meets = List Signature → Spot → Ty → Spot → Bool → Type 0
+
+module _ (P : Meets) where
+  -- it meets it by the signatures that are known, and by all that keep their numbers
+  abbrev pub Stays : Meets
+  Stays signatures spot ty component is_local = (more : List Signature) → KeepsNumbers signatures more → P more spot ty component is_local
+
+  abbrev pub Fits : List Signature → Spot → Info → Type 0
+  Fits signatures spot (info.Operation ty component is_local) = Stays signatures spot ty component is_local
+  Fits signatures spot _ = Unit {0}
 
   -- each operation that facts know meets it
   abbrev pub KnownBy : Facts → Type 0
   KnownBy facts =
-      (spot : Spot) (ty : Ty) (component : Spot) (is_local : Bool) → info_at facts.infos spot ≡ Some (info.Operation ty component is_local) → P spot ty component is_local
+      (spot : Spot) (ty : Ty) (component : Spot) (is_local : Bool) → info_at facts.infos spot ≡ Some (info.Operation ty component is_local)
+      → Stays facts.signatures spot ty component is_local
 
   -- an operation that is declared may be entered, whatever its type
   abbrev pub Allows : Owned → Type 0
-  Allows operation = (ty : Ty) → P operation.0 ty operation.1.0 operation.1.1
+  Allows operation = (signatures : List Signature) (ty : Ty) → P signatures operation.0 ty operation.1.0 operation.1.1
+
+  -- what facts know is so by their own signatures
+  pub known_now : (facts : Facts) → KnownBy facts → (spot : Spot) (ty : Ty) (component : Spot) (is_local : Bool) → info_at facts.infos spot ≡ Some (info.Operation ty component is_local)
+      → P facts.signatures spot ty component is_local
+  known_now facts known spot ty component is_local is = known spot ty component is_local is facts.signatures (λ number signature at. at)
 
   some_info : (a b : Info) → Some a ≡ Some b → a ≡ b
   some_info a b e = cc
 
   -- what is entered fits, and all others are as before
-  pub known_with : (facts : Facts) (spot : Spot) (info : Info) → KnownBy facts → Fits spot info → KnownBy (declare facts spot info)
+  pub known_with : (facts : Facts) (spot : Spot) (info : Info) → KnownBy facts → Fits facts.signatures spot info → KnownBy (declare facts spot info)
   known_with facts spot info known fits other ty component is_local is = by (same_spot-cases other spot)
     where
-      by : (other ≡ spot) ⊎ (same_spot other spot ≡ false) → P other ty component is_local
+      by : (other ≡ spot) ⊎ (same_spot other spot ≡ false) → Stays facts.signatures other ty component is_local
       by (inl same) =
           let entry = sym (entry-same facts.infos spot info) ∙ ap (λ s. info_at (declare facts spot info).infos s) (sym same) ∙ is in
-          subst (λ s. P s ty component is_local) (sym same) (subst (λ i. Fits spot i) (some_info info _ entry) fits)
+          subst (λ s. Stays facts.signatures s ty component is_local) (sym same) (subst (λ i. Fits facts.signatures spot i) (some_info info _ entry) fits)
       by (inr apart) = known other ty component is_local (sym (entry-other facts.infos spot info other apart) ∙ is)
 
   module _ (uses : Meanings) where
@@ -85,18 +101,22 @@ module _ (P : Spot → Ty → Spot → Bool → Type 0) where
     abbrev pub Sound : Spot → Facts → Type 0
     Sound component facts = (facts.here.component.spot ≡ component) × Plain facts
 
-    pub plain_with : (facts : Facts) (spot : Spot) (info : Info) → Plain facts → Fits spot info → Plain (declare facts spot info)
+    pub plain_with : (facts : Facts) (spot : Spot) (info : Info) → Plain facts → Fits facts.signatures spot info → Plain (declare facts spot info)
     plain_with facts spot info h fits = (h.0, known_with facts spot info h.1 fits)
 
-    plain_signatures : (facts : Facts) (signatures : List Signature) → Plain facts → Plain (record facts { signatures = signatures })
-    plain_signatures facts signatures h = h
+    plain_signatures : (facts : Facts) (signature : Signature) → Plain facts → Plain (entered signature facts)
+    plain_signatures facts signature h = (
+      h.0,
+      λ spot ty component is_local is more keeps. h.1 spot ty component is_local is more
+          (λ number kept at. keeps number kept (insert_key-keeps equal_signatures facts.signatures signature number kept at)),
+    )
 
     module _ (component : Spot) where
-      pub sound_with : (facts : Facts) (spot : Spot) (info : Info) → Sound component facts → Fits spot info → Sound component (declare facts spot info)
+      pub sound_with : (facts : Facts) (spot : Spot) (info : Info) → Sound component facts → Fits facts.signatures spot info → Sound component (declare facts spot info)
       sound_with facts spot info h fits = (h.0, plain_with facts spot info h.1 fits)
 
-      pub sound_signatures : (facts : Facts) (signatures : List Signature) → Sound component facts → Sound component (record facts { signatures = signatures })
-      sound_signatures facts signatures h = h
+      pub sound_signatures : (facts : Facts) (signature : Signature) → Sound component facts → Sound component (entered signature facts)
+      sound_signatures facts signature h = (h.0, plain_signatures facts signature h.1)
 
       -- ---- constants, variables and types
 
@@ -147,7 +167,7 @@ module _ (P : Spot → Ty → Spot → Bool → Type 0) where
       sound_operation : (facts : Facts) (is_local : Bool) (name : Name) (type : Ty) → Sound component facts → Allows (spot_of name.span, (component, is_local))
           → Sound component (declare_name facts name (info.Operation type facts.here.component.spot is_local))
       sound_operation facts is_local name type h allowed =
-          sound_with facts (spot_of name.span) _ h (subst (λ s. P (spot_of name.span) type s is_local) (sym h.0) (allowed type))
+          sound_with facts (spot_of name.span) _ h (λ more keeps. subst (λ s. P more (spot_of name.span) type s is_local) (sym h.0) (allowed more type))
 
       pub sound_ops : (is_local : Bool) (ops : List OpItem) (facts : Facts) → Each Allows (ops_owned component is_local ops) → Sound component facts → Sound component (ops_declared is_local ops facts)
       sound_ops is_local [] facts allowed h = h
@@ -157,7 +177,7 @@ module _ (P : Spot → Ty → Spot → Bool → Type 0) where
           → Sound component (sems_declared is_local semaphores facts)
       sound_sems is_local [] facts allowed h = h
       sound_sems is_local (semaphore ∷ more) facts allowed h =
-          sound_sems is_local more _ allowed.1 (sound_operation (entered semaphore_signature facts) is_local semaphore.name _ h allowed.0)
+          sound_sems is_local more _ allowed.1 (sound_operation (entered semaphore_signature facts) is_local semaphore.name _ (sound_signatures facts semaphore_signature h) allowed.0)
 
       -- ---- items
 
@@ -177,7 +197,7 @@ module _ (P : Spot → Ty → Spot → Bool → Type 0) where
       sound_item (item.Spec inner) tally allowed h = sound_spec_item false inner tally allowed h
       sound_item (item.Procedure procedure) tally allowed h =
           sound_operation (signature_entered procedure.signature tally.facts) false procedure.name _ (keeps_signature (Sound component) sound_signatures procedure.signature tally.facts h) allowed.0
-      sound_item (item.Process process) tally allowed h = sound_operation (entered (process_signature process.quantifiers) tally.facts) false process.name _ h allowed.0
+      sound_item (item.Process process) tally allowed h = sound_operation (entered (process_signature process.quantifiers) tally.facts) false process.name _ (sound_signatures tally.facts (process_signature process.quantifiers) h) allowed.0
       sound_item (item.Proc proc) tally allowed h = h
       sound_item (item.Final final) tally allowed h = h
       sound_item (item.Statement statement) tally allowed h = h
@@ -247,13 +267,13 @@ module _ (P : Spot → Ty → Spot → Bool → Type 0) where
 
     -- ---- types that are inferred
 
-    fits_by : (spot : Spot) (is_constant in_spec : Bool) (value : Typed) → Fits spot (info_by is_constant in_spec value)
-    fits_by spot true in_spec value = tt
-    fits_by spot false in_spec value = tt
+    fits_by : (signatures : List Signature) (spot : Spot) (is_constant in_spec : Bool) (value : Typed) → Fits signatures spot (info_by is_constant in_spec value)
+    fits_by signatures spot true in_spec value = tt
+    fits_by signatures spot false in_spec value = tt
 
     plain_settled : (waiting : List Waiting) (facts : Facts) → Plain facts → Plain (all_settled waiting facts)
     plain_settled [] facts h = h
-    plain_settled (w ∷ more) facts h = plain_settled more _ (plain_with facts w.spot _ h (fits_by w.spot w.is_constant w.in_spec _))
+    plain_settled (w ∷ more) facts h = plain_settled more _ (plain_with facts w.spot _ h (fits_by facts.signatures w.spot w.is_constant w.in_spec _))
 
     plain_waves : (n : ℕ) (waiting : List Waiting) (facts : Facts) → Plain facts → Plain (waves n waiting facts)
     plain_waves zero waiting facts h = h

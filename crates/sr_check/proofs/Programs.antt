@@ -21,6 +21,7 @@ use Rattle.sr_tree.specs.declared.component.ProcItem.TheVariants as inner
 use Rattle.sr_tree.specs.declared.declaration.OpItem.{OpItem}
 use Rattle.sr_tree.specs.declared.declaration.Semaphore.{Semaphore}
 use Rattle.sr_tree.specs.Parts.{spec_of, body_of}
+use Rattle.sr_types.specs.declared.signature.Signature.{Signature}
 use Rattle.sr_types.specs.declared.ty.Ty.{Ty}
 use Rattle.sr_check_expr.specs.declared.facts.Facts.{Facts}
 use Rattle.sr_check_expr.specs.declared.info.Info.TheVariants as info
@@ -44,12 +45,12 @@ use Rattle.sr_check.specs.ErrorFree.{ErrorFree}
 use Rattle.sr_check.proofs.ErrorFree.{rule_met, error_free_first, error_free_second}
 use Rattle.sr_check.proofs.Finding.{Finds, Right, Waiting, finds_statement}
 use Rattle.sr_check.proofs.Named.{meant_by}
-use Rattle.sr_check.proofs.Owners.{Allows, Plain, Sound, plain_program, standing_sound}
+use Rattle.sr_check.proofs.Owners.{Allows, Meets, Plain, Sound, known_now, plain_program, standing_sound}
 use Rattle.sr_check.proofs.Reading.{keeps_block, keeps_formal_quantifiers, keeps_inner, keeps_quantifiers, keeps_service, keeps_signed_declared, keeps_statement}
 
 -- ---- one component
 
-module _ (P : Spot → Ty → Spot → Bool → Type 0) (uses : Meanings) (component : Spot) (procs : Procs) where
+module _ (P : Meets) (uses : Meanings) (component : Spot) (procs : Procs) where
   abbrev Holds : Facts → Type 0
   Holds = Sound P uses component
 
@@ -68,7 +69,8 @@ module _ (P : Spot → Ty → Spot → Bool → Type 0) (uses : Meanings) (compo
     pub means : meant ≡ Some decl
     pub ty : Ty
     pub is_local : Bool
-    pub meets : P decl.spot ty component is_local
+    pub signatures : List Signature
+    pub meets : P signatures decl.spot ty component is_local
 
   -- ---- blocks
 
@@ -124,7 +126,8 @@ module _ (P : Spot → Ty → Spot → Bool → Type 0) (uses : Meanings) (compo
         means = m.means;
         ty = operation.ty;
         is_local = operation.is_local;
-        meets = subst (λ c. P m.decl.spot operation.ty c operation.is_local) whose (h.1.1 m.decl.spot operation.ty operation.component operation.is_local m.is);
+        signatures = facts.signatures;
+        meets = subst (λ c. P facts.signatures m.decl.spot operation.ty c operation.is_local) whose (known_now P facts h.1.1 m.decl.spot operation.ty operation.component operation.is_local m.is);
       }
 
   finds_item : (inner : Item) (facts : Facts) → AllowsInner inner → Holds facts → ErrorFree ((item_read procs inner facts).found)
@@ -228,12 +231,12 @@ module _ (facts : Facts) where
 
 module _ (uses : Meanings) (files : List File) (known : Facts) where
   -- what the operations meet that a program knows: they are declared, and those of components are known before any statement is looked at
-  abbrev pub Meets : Spot → Ty → Spot → Bool → Type 0
-  Meets spot ty component is_local = Declared files spot component is_local × (is_local ≡ false → info_at known.infos spot ≡ Some (info.Operation ty component false))
+  abbrev pub AtFirst : Meets
+  AtFirst signatures spot ty component is_local = Declared files spot component is_local × (is_local ≡ false → info_at known.infos spot ≡ Some (info.Operation ty component false))
 
   -- and where a component is looked at they are known before
-  abbrev Within : Facts → Spot → Ty → Spot → Bool → Type 0
-  Within start spot ty component is_local = Meets spot ty component is_local × (is_local ≡ false → info_at start.infos spot ≡ Some (info.Operation ty component false))
+  abbrev Within : Facts → Meets
+  Within start signatures spot ty component is_local = AtFirst signatures spot ty component is_local × (is_local ≡ false → info_at start.infos spot ≡ Some (info.Operation ty component false))
 
   abbrev IsDeclared : Owned → Type 0
   IsDeclared operation = Declared files operation.0 operation.1.0 operation.1.1
@@ -241,7 +244,7 @@ module _ (uses : Meanings) (files : List File) (known : Facts) where
   module _ (start : Facts) (component : Spot) where
     -- what is declared in a block of a proc may be entered
     local_allowed : (spot : Spot) → Declared files spot component true → Allows (Within start) (spot, (component, true))
-    local_allowed spot declared ty = ((declared, λ e. absurd (true≢false e)), λ e. absurd (true≢false e))
+    local_allowed spot declared signatures ty = ((declared, λ e. absurd (true≢false e)), λ e. absurd (true≢false e))
 
     ops_allowed : (ops : List OpItem) → Each IsDeclared (ops_owned component true ops) → Each (Allows (Within start)) (ops_owned component true ops)
     ops_allowed [] declared = tt
@@ -274,12 +277,12 @@ module _ (uses : Meanings) (files : List File) (known : Facts) where
     item_allowed (item.Statement statement) declared = tt
 
   abbrev pub Sure : Facts → Type 0
-  Sure = Plain Meets uses
+  Sure = Plain AtFirst uses
 
   -- what is known where a component begins
-  begins : (facts : Facts) (component : Spot) → Sound Meets uses component facts → Sound (Within facts) uses component facts
+  begins : (facts : Facts) (component : Spot) → Sound AtFirst uses component facts → Sound (Within facts) uses component facts
   begins facts component h =
-      (h.0, (h.1.0, λ spot ty owner is_local is. (h.1.1 spot ty owner is_local is, λ e. is ∙ ap (λ l. Some (info.Operation ty owner l)) e)))
+      (h.0, (h.1.0, λ spot ty owner is_local is more keeps. (h.1.1 spot ty owner is_local is more keeps, λ e. is ∙ ap (λ l. Some (info.Operation ty owner l)) e)))
 
   module _ (tree : Component) (before : Facts) (declared : Each IsDeclared (component_owned tree)) (h : Sure before) where
     abbrev spot : Spot
@@ -292,7 +295,7 @@ module _ (uses : Meanings) (files : List File) (known : Facts) where
     procs = items_procs start (body_of tree) []
 
     sound : Sound (Within start) uses spot start
-    sound = begins start spot (standing_sound Meets uses before tree h)
+    sound = begins start spot (standing_sound AtFirst uses before tree h)
 
     allowed : Each (AllowsInner (Within start) uses spot procs) (body_of tree)
     allowed =
@@ -302,13 +305,13 @@ module _ (uses : Meanings) (files : List File) (known : Facts) where
     pub keeps_component : Sure (component_read tree before).facts
     keeps_component =
         let after = keeps_items (Within start) uses spot procs (body_of tree) start allowed sound in
-        (after.1.0, λ at ty owner is_local is. (after.1.1 at ty owner is_local is).0)
+        (after.1.0, λ at ty owner is_local is more keeps. (after.1.1 at ty owner is_local is more keeps).0)
 
-    abbrev own_of : (meant : Option Decl) (decl : Decl) (is_local : Bool) (ty : Ty) → meant ≡ Some decl → Within start decl.spot ty spot is_local → Own files known spot is_local meant
-    own_of meant decl is_local ty means within = record { decl = decl; means = means; declared = within.0.0; shared = λ e. (ty, within.0.1 e) }
+    abbrev own_of : (meant : Option Decl) (decl : Decl) (is_local : Bool) (ty : Ty) (signatures : List Signature) → meant ≡ Some decl → Within start signatures decl.spot ty spot is_local → Own files known spot is_local meant
+    own_of meant decl is_local ty signatures means within = record { decl = decl; means = means; declared = within.0.0; shared = λ e. (ty, within.0.1 e) }
 
     waited : (is_local : Bool) (meant : Option Decl) → Waiting (Within start) uses spot procs is_local meant → Waited files known spot procs is_local meant
-    waited is_local meant w = record { own = own_of meant w.decl is_local w.ty w.means w.meets; has_none = w.unserved }
+    waited is_local meant w = record { own = own_of meant w.decl is_local w.ty w.signatures w.means w.meets; has_none = w.unserved }
 
     right : (together : Together) → Right (Within start) uses spot procs together → AreWaited files known spot procs together
     right together r = (r.0, all_of (Waited files known spot procs r.0) together (each-weaker (Waiting (Within start) uses spot procs r.0) (Waited files known spot procs r.0) (waited r.0) together r.1))
@@ -320,7 +323,7 @@ module _ (uses : Meanings) (files : List File) (known : Facts) where
         (ap (λ d. operation_at start d) s.means ∙ ap (λ i. operation_by s.decl.spot i) (s.meets.1 e))
 
     served : (meant : Option Decl) → Serving (Within start) uses spot procs meant → IsEntered start procs meant → Served files known spot procs meant
-    served meant s entered = record { is_local = s.is_local; own = own_of meant s.decl s.is_local s.ty s.means s.meets; has_one = has_one meant s entered }
+    served meant s entered = record { is_local = s.is_local; own = own_of meant s.decl s.is_local s.ty s.signatures s.means s.meets; has_one = has_one meant s entered }
 
     all_served : (meants : Together) → Each (Serving (Within start) uses spot procs) meants → Each (IsEntered start procs) meants → Each (Served files known spot procs) meants
     all_served [] servings entered = tt
@@ -373,13 +376,17 @@ module _ (uses : Meanings) (files : List File) (known : Facts) where
 pub all_declared : (files : List File) → Each (Contains (declared_operations files)) (declared_operations files)
 all_declared files = each (Contains (declared_operations files)) (declared_operations files) (All-contains_itself (declared_operations files))
 
+-- an operation is declared, whatever signatures are known
+abbrev pub IsDeclaredIn : List File → Meets
+IsDeclaredIn files signatures spot ty component is_local = Declared files spot component is_local
+
 -- what is known before any statement is looked at is declared
-pub program_plain : (uses : Meanings) (specs : Specs) (files : List File) → Plain (λ spot ty component is_local. Declared files spot component is_local) uses (program_known uses specs files)
+pub program_plain : (uses : Meanings) (specs : Specs) (files : List File) → Plain (IsDeclaredIn files) uses (program_known uses specs files)
 program_plain uses specs files =
-    let P : Spot → Ty → Spot → Bool → Type 0 = λ spot ty component is_local. Declared files spot component is_local in
-    plain_program P uses specs files (each-weaker (Contains (declared_operations files)) (Allows P) (λ operation h ty. h) (declared_operations files) (all_declared files))
+    plain_program (IsDeclaredIn files) uses specs files
+    (each-weaker (Contains (declared_operations files)) (Allows (IsDeclaredIn files)) (λ operation h signatures ty. h) (declared_operations files) (all_declared files))
 
 pub program_sure : (uses : Meanings) (specs : Specs) (files : List File) → Sure uses files (program_known uses specs files) (program_known uses specs files)
 program_sure uses specs files =
     let plain = program_plain uses specs files in
-    (plain.0, λ spot ty component is_local is. (plain.1 spot ty component is_local is, λ e. is ∙ ap (λ l. Some (info.Operation ty component l)) e))
+    (plain.0, λ spot ty component is_local is more keeps. (plain.1 spot ty component is_local is more keeps, λ e. is ∙ ap (λ l. Some (info.Operation ty component l)) e))

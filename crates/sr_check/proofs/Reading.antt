@@ -38,7 +38,7 @@ use Rattle.sr_check.specs.Services.{operation_named, type_of, names_bound, param
 use Rattle.sr_check.specs.Statements.{ArmSteps, CoArmSteps, arm_context, arms_at, co_arms_at, item_step, statement_step, arm_step, branch_step, co_arm_step, statement_read, block_item_read, arm_read, branch_read, co_arm_read, const_read, var_read}
 use Rattle.sr_check.proofs.Each.{Each, each-parts}
 use Rattle.sr_check.proofs.Entered.{keeps_written, keeps_ops}
-use Rattle.sr_check.proofs.Owners.{Allows, Sound, sound_with, sound_signatures, sound_vars, sound_ops, sound_sems, sound_params}
+use Rattle.sr_check.proofs.Owners.{Allows, Meets, Sound, sound_with, sound_signatures, sound_vars, sound_ops, sound_sems, sound_params}
 
 -- the parts of trees as they are read
 abbrev pub read_item : BlockItem-F BlockItem Statement Arm Branch CoArm → BlockItem-F Steps Steps ArmSteps Steps CoArmSteps
@@ -56,7 +56,7 @@ read_branch = map-Branch BlockItem Statement Arm Branch CoArm Steps Steps ArmSte
 abbrev pub read_co_arm : CoArm-F BlockItem Statement Arm Branch CoArm → CoArm-F Steps Steps ArmSteps Steps CoArmSteps
 read_co_arm = map-CoArm BlockItem Statement Arm Branch CoArm Steps Steps ArmSteps Steps CoArmSteps block_item_read statement_read arm_read branch_read co_arm_read
 
-module _ (P : Spot → Ty → Spot → Bool → Type 0) (uses : Meanings) (component : Spot) where
+module _ (P : Meets) (uses : Meanings) (component : Spot) where
   abbrev pub Holds : Facts → Type 0
   Holds = Sound P uses component
 

@@ -1,8 +1,8 @@
-ghost use Rattle.std.specs.Prelude.{◌≡◌, ◌++◌, [], false, OnOk, IfOk, map};
+ghost use Rattle.std.specs.Prelude.{◌≡◌, ◌++◌, false, OnOk, map};
 ghost use Rattle.sr_names.specs.Diagnostics.{all_noted};
 ghost use Rattle.sr_check_decl.specs.Declarations.{spec_items_found};
 ghost use Rattle.sr_check_decl.specs.TypeTrees.{formal_read, formals_at, formals_found};
-ghost use Rattle.sr_check.specs.Components.{item_read, items_read, proc_entered, item_procs, items_procs, component_within, component_read, components_read, files_read};
+ghost use Rattle.sr_check.specs.Components.{item_read, items_read, proc_entered, item_procs, items_procs, component_read, components_read, files_read};
 
 use crate::enclosing::Procs;
 use crate::operation::Operation;

@@ -1,8 +1,6 @@
 ghost use Rattle.std.specs.Prelude.{◌≡◌, ◌++◌, [], true, IfOk, OnOk};
-ghost use Rattle.std.specs.Option.{option_copied};
 ghost use Rattle.sr_names.specs.Diagnostics.{all_noted};
 ghost use Rattle.sr_check_expr.specs.Arguments.{is_callable, returned_by};
-ghost use Rattle.sr_check_expr.specs.Calls.{parts_found};
 ghost use Rattle.sr_check_expr.specs.Exprs.{infer_invocation};
 ghost use Rattle.sr_check_expr.specs.Typings.{broken_unless, value_found};
 ghost use Rattle.sr_check.specs.Contexts.{context_of};

@@ -1,4 +1,4 @@
-ghost use Rattle.std.specs.Prelude.{◌≡◌, false, OnOk, IfOk, is_some};
+ghost use Rattle.std.specs.Prelude.{◌≡◌, false, OnOk, is_some};
 ghost use Rattle.sr_names.specs.Diagnostics.{all_noted};
 ghost use Rattle.sr_check_decl.specs.TypeTrees.{signature_read};
 ghost use Rattle.sr_check.specs.Contexts.{context_of};
@@ -12,7 +12,8 @@ use crate::serving::Serving;
 use crate::statements::{local_const, local_var, statement};
 use sr_check_decl::{
     NamedParam, Signed, declare, declare_name, declare_operations, declare_params,
-    declare_semaphores, enter_operations, note_operations, note_semaphores, signature, variable,
+    declare_semaphores, enter_operations, note_local_operations, note_semaphore_heads,
+    note_semaphores, signature, variable,
 };
 use sr_check_expr::{Facts, note_unless};
 use sr_names::{Diagnostics, Rule, Spot};
@@ -37,12 +38,14 @@ fn proc_item(
         ProcItem::Var(tree) => local_var(alloc, facts, diagnostics, tree),
         ProcItem::Op(tree) => {
             enter_operations(alloc, facts, tree.items.as_slice())?;
-            note_operations(alloc, facts, diagnostics, tree.items.as_slice())?;
-            declare_operations(alloc, facts, true, tree.items.as_slice())
+            declare_operations(alloc, facts, true, tree.items.as_slice())?;
+            note_local_operations(alloc, facts, diagnostics, tree.items.as_slice())
         }
         ProcItem::Sem(tree) => {
-            note_semaphores(alloc, facts, diagnostics, tree.semaphores.as_slice())?;
-            declare_semaphores(alloc, facts, true, tree.semaphores.as_slice())
+            let semaphores = tree.semaphores.as_slice();
+            note_semaphores(alloc, facts, diagnostics, semaphores)?;
+            declare_semaphores(alloc, facts, true, semaphores)?;
+            note_semaphore_heads(alloc, facts, diagnostics, semaphores)
         }
         ProcItem::Statement(inner) => statement(alloc, inner, enclosing, facts, diagnostics),
     }

@@ -1,4 +1,4 @@
-ghost use Rattle.std.specs.Prelude.{◌≡◌, ◌++◌, OnOk};
+ghost use Rattle.std.specs.Prelude.{◌≡◌, OnOk};
 ghost use Rattle.sr_names.specs.Diagnostics.{all_noted};
 ghost use Rattle.sr_check.specs.Uses.{condition_rule, number_rule};
 ghost use Rattle.sr_check.specs.Quantifying.{expr_with, maybe_with, quantified, bounds_found, quantifier_found, quantifiers_found, quantifiers_known};

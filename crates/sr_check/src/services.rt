@@ -1,7 +1,7 @@
-ghost use Rattle.std.specs.Prelude.{◌≡◌, ◌++◌, IfOk, OnOk, is_some};
+ghost use Rattle.std.specs.Prelude.{◌≡◌, IfOk, OnOk, is_some};
 ghost use Rattle.std.specs.Option.{option_copied};
 ghost use Rattle.sr_names.specs.Diagnostics.{all_noted};
-ghost use Rattle.sr_check.specs.Services.{operation_by, operation_at, decl_named, operation_named, is_local_info, is_shared_info, is_local_name, is_shared_name, params_of, both_or_none, head_rule, is_own, later_of, proc_found, service_found, head_found, names_bound, returned_bound, service_bound, type_of, spot_or, returns_of, type_or_none};
+ghost use Rattle.sr_check.specs.Services.{operation_by, operation_at, decl_named, operation_named, is_local_info, is_shared_info, is_local_name, is_shared_name, params_of, head_rule, is_own, later_of, proc_found, service_found, head_found, names_bound, returned_bound, service_bound, type_of, spot_or, returns_of, type_or_none};
 
 use crate::enclosing::Procs;
 use crate::operation::Operation;

@@ -1,12 +1,11 @@
 ghost use Rattle.std.specs.Prelude.{◌≡◌, true, false, OnOk, map, is_some};
 ghost use Rattle.std.specs.List.{list_any};
 ghost use Rattle.sr_names.specs.Diagnostics.{all_noted};
-ghost use Rattle.sr_names.specs.Spots.{spot_of};
-ghost use Rattle.sr_check.specs.Contexts.{context_of, in_order, looping, with_facts};
+ghost use Rattle.sr_check.specs.Contexts.{context_of, in_order, looping};
 ghost use Rattle.sr_check.specs.Uses.{choice_rule};
 ghost use Rattle.sr_check.specs.Quantifying.{maybe_with};
 ghost use Rattle.sr_check.specs.Services.{operation_named, is_local_name, is_shared_name};
-ghost use Rattle.sr_check.specs.Statements.{const_read, var_read, guards_found, condition_found, arm_context, arm_inner, is_mixture, mixture_found, arms_at, co_arms_at, store_found, plain_found, statement_read, block_item_read, arm_read, branch_read, co_arm_read, guarding};
+ghost use Rattle.sr_check.specs.Statements.{const_read, var_read, guards_found, condition_found, mixture_found, arms_at, co_arms_at, store_found, plain_found, statement_read, block_item_read, arm_read, branch_read, co_arm_read};
 
 use crate::enclosing::Enclosing;
 use crate::invoking::{may_reply, note_call, note_forward, note_send, note_started};

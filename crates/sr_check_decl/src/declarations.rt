@@ -3,7 +3,7 @@ ghost use Rattle.sr_names.specs.Diagnostics.{all_noted};
 ghost use Rattle.sr_check_expr.specs.Exprs.{infer_expr};
 ghost use Rattle.sr_check_expr.specs.Typings.{broken_unless, value_found};
 ghost use Rattle.sr_check_decl.specs.Bounds.{int_rule};
-ghost use Rattle.sr_check_decl.specs.Declarations.{op_found, ops_found, count_found, initial_found, sems_found, spec_item_found, spec_items_found};
+ghost use Rattle.sr_check_decl.specs.Declarations.{ops_found, count_found, initial_found, sems_found, spec_item_found, spec_items_found};
 
 use crate::bounds::may_be_bound;
 use crate::constants::constant;
@@ -17,7 +17,7 @@ use sr_value::NoMemory;
 use std::alloc::Global;
 
 /// Notes what is found in the declarations of operations.
-pub fn note_operations(
+fn note_operations(
     alloc: Global,
     facts: &Facts,
     diagnostics: &mut Diagnostics,

@@ -1,10 +1,10 @@
-ghost use Rattle.std.specs.Prelude.{◌≡◌, [], None, IfOk, OnOk, map, flat_map};
+ghost use Rattle.std.specs.Prelude.{◌≡◌, None, IfOk, OnOk, map, flat_map};
 ghost use Rattle.sr_names.specs.Spots.{spot_of};
 ghost use Rattle.sr_tree.specs.Nested.{types_within, formal_types, written_types, signature_types};
 ghost use Rattle.sr_check_decl.specs.Variables.{declare};
 ghost use Rattle.sr_check_decl.specs.TypeTrees.{type_kinding, fixed_bounds};
 ghost use Rattle.sr_check_decl.specs.Entering.{formals_entered, signed_entered};
-ghost use Rattle.sr_check_decl.specs.Declaring.{declared_if, const_declared, untyped_vars_declared, var_declared, literal_info, literals_declared, enumeration_declared, field_info, fields_of, types_declared, type_declared, spec_item_declared, item_declared, spec_items_declared, items_declared, params_declared, making, component_typed, component_formals, with_formals, after_spec, component_declared, components_declared, files_declared, components_named, files_named, no_facts, program_declared, declare_name, at_facts, nowhere};
+ghost use Rattle.sr_check_decl.specs.Declaring.{declared_if, const_declared, var_declared, literal_info, literals_declared, enumeration_declared, field_info, fields_of, types_declared, type_declared, spec_item_declared, item_declared, spec_items_declared, items_declared, params_declared, making, component_typed, component_formals, with_formals, component_declared, components_declared, files_declared, components_named, files_named, no_facts, program_declared, declare_name, at_facts};
 
 use crate::constants::{constant, is_static};
 use crate::entering::{enter_formals, enter_operations, enter_signed, enter_type, enter_written};
@@ -309,7 +309,7 @@ pub fn declare_params(
 }
 
 /// What makes an instance takes arguments like an operation of these formals.
-fn making(params: Row<NamedParam>) -> Signed
+pub(crate) fn making(params: Row<NamedParam>) -> Signed
     ensures { result ≡ making params }
 {
     Signed {
@@ -357,7 +357,7 @@ fn with_formals(
     declare_made(alloc, facts, name, &making(params))
 }
 
-fn component_formals(
+pub(crate) fn component_formals(
     alloc: Global,
     facts: &Facts,
     trees: &[Formal],

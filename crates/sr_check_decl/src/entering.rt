@@ -1,4 +1,4 @@
-ghost use Rattle.std.specs.Prelude.{◌≡◌, ◌++◌, IfOk, OnOk, map};
+ghost use Rattle.std.specs.Prelude.{◌≡◌, IfOk, OnOk};
 ghost use Rattle.std.specs.Option.{option_map};
 ghost use Rattle.sr_check_decl.specs.TypeTrees.{operation_type, capability_kinding, named_kinding};
 ghost use Rattle.sr_check_decl.specs.Entering.{entered, signed_entered, type_read_in, formal_read_in, returned_read_in, signature_read_in, formals_read_in, maybe_returned, written_entered, op_entered, ops_entered};

@@ -1,4 +1,4 @@
-ghost use Rattle.std.specs.Prelude.{◌≡◌, [], None, IfOk, OnOk};
+ghost use Rattle.std.specs.Prelude.{◌≡◌, None, IfOk, OnOk};
 ghost use Rattle.std.specs.Option.{option_copied};
 ghost use Rattle.sr_names.specs.Diagnostics.{all_noted};
 ghost use Rattle.sr_check_decl.specs.Declarations.{op_found};
@@ -15,7 +15,7 @@ use sr_check_expr::{Facts, Info, decl_info, note_unless};
 use sr_names::{Diagnostics, Rule};
 use sr_tree::{Name, OpItem, OpTypeDecl, Process, Quantifier, Semaphore, Signature};
 use sr_types::{Forms, Mode, Param, Ty};
-use sr_value::{Duplicate, NoMemory, Row, Span};
+use sr_value::{Duplicate, NoMemory, Row};
 use std::alloc::Global;
 
 /// What an operation of this type is declared as where something stands.
@@ -85,7 +85,7 @@ pub(crate) fn op_type(
     }
 }
 
-fn op_item_name(item: &OpItem) -> &Name
+pub(crate) fn op_item_name(item: &OpItem) -> &Name
     ensures { result.now ≡ op_item_name item.now }
 {
     match item {
@@ -137,7 +137,7 @@ fn declare_entered(
 }
 
 /// The signature of a semaphore: it has no formals, and may be sent to alone.
-fn semaphore_signature(alloc: Global) -> sr_types::Signature
+pub(crate) fn semaphore_signature(alloc: Global) -> sr_types::Signature
     ensures { result ≡ semaphore_signature }
 {
     sr_types::Signature {
@@ -189,7 +189,7 @@ fn process_params(alloc: Global, quantifiers: &[Quantifier]) -> Result<Row<Param
 }
 
 /// The signature of the operation of a process: it may be sent to alone.
-fn process_signature(
+pub(crate) fn process_signature(
     alloc: Global,
     quantifiers: &[Quantifier],
 ) -> Result<sr_types::Signature, NoMemory>

@@ -1,4 +1,4 @@
-ghost use Rattle.std.specs.Prelude.{◌≡◌, IfOk, map, not};
+ghost use Rattle.std.specs.Prelude.{◌≡◌, IfOk, not};
 ghost use Rattle.std.specs.List.{list_any};
 ghost use Rattle.std.specs.Option.{option_map};
 ghost use Rattle.sr_check_decl.specs.TypeTrees.{mode_of, formal_bounds, param_of, formals_of, is_call, forms_by, forms_of, is_refused_return, are_refused, params_of, whole_signature, numbered_type, operation_type, is_refused, signature_type};
@@ -166,7 +166,7 @@ fn numbered_type(number: Option<usize>) -> Ty
 }
 
 /// The type of the capabilities for operations of a signature, which keeps its number.
-fn operation_type(facts: &Facts, signature: &Signature) -> Ty
+pub(crate) fn operation_type(facts: &Facts, signature: &Signature) -> Ty
     ensures { result ≡ operation_type facts.now signature.now }
 {
     numbered_type(facts.signatures.number(signature))

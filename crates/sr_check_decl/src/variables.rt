@@ -10,7 +10,7 @@ use crate::types::{decl_type, note_decls};
 use crate::written::{FREE, type_kind};
 use sr_check_expr::{Facts, TypedExpr, all, as_many, note_unless, note_values};
 use sr_names::{Diagnostics, Rule};
-use sr_tree::{Decl, DimsTree, Expr, TypeTree, VarDecl};
+use sr_tree::{Decl, DimsTree, Expr, VarDecl};
 use sr_types::{Ty, fits};
 use sr_value::{Duplicate, NoMemory, Span};
 use std::alloc::Global;

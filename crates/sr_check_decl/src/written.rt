@@ -1,4 +1,4 @@
-ghost use Rattle.std.specs.Prelude.{◌≡◌, ◌++◌, IfOk, OnOk, map};
+ghost use Rattle.std.specs.Prelude.{◌≡◌, IfOk, OnOk, map};
 ghost use Rattle.std.specs.Option.{option_map};
 ghost use Rattle.sr_names.specs.Diagnostics.{all_noted};
 ghost use Rattle.sr_check_decl.specs.TypeTrees.{type_kinding, formal_read, returned_read, signature_read, formals_at, returns_at, formals_found, all_params, returns_found, returned_param, array_type, array_found, decls_found, formals_of, decl_found, param_of, fixed_bounds};
