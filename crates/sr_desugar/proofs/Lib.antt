@@ -14,3 +14,4 @@ pub mod StatementNumbers
 pub mod StatementRules
 pub mod Waits
 pub mod WaitsCode
+pub mod WaitsEach

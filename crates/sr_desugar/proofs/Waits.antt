@@ -1,5 +1,5 @@
--- What statements and their parts make in the core has a block for each arm of each of its sites.
-use Rattle.std.proofs.Common.{◌≡◌, refl, sym, ap, subst, ◌∙◌, ℕ, suc, Bool, true, false, true≢false, ◌==◌, ◌&&◌, List, [], ◌∷◌, ◌++◌, length, Option, Some, None, unwrap_or, map}
+-- Each `in` that statements and their parts are in the core finds its own site, with a block for each arm of it.
+use Rattle.std.proofs.Common.{◌≡◌, refl, sym, ap, subst, ◌∙◌, ℕ, suc, Bool, true, false, true≢false, ◌&&◌, List, [], ◌∷◌, ◌++◌, length, Option, Some, None, unwrap_or, map}
 use Rattle.std.specs.Prelude.{IsTrue, if◌then◌else◌}
 use Rattle.std.specs.List.{list_all}
 use Rattle.std.proofs.lemmas.Bool.{eq-eqb}
@@ -17,8 +17,6 @@ use Rattle.sr_core.specs.declared.statement.Statement.{Statement as CoreStatemen
 use Rattle.sr_core.specs.declared.statement.Statement.TheFolds.{fold-Statement as fold_core, fold-CoArm as fold_core_arm, fold-Guarded, fold-roll-Statement as fold_roll_core, fold-roll-CoArm as fold_roll_core_arm, fold-roll-Guarded, map-CoArm as map_core_arm}
 use Rattle.sr_core.specs.declared.statement.Statement.TheOpen.{Statement-F as Core-F, CoArm-F as CoreArm-F}
 use Rattle.sr_core.specs.declared.statement.Statement.TheVariants as core
-use Rattle.sr_core.specs.Blocks.{block_waits, co_arm_waits, guarded_waits, site_ok, statement_waits}
-use Rattle.sr_core.specs.Tests.{all_true}
 use Rattle.sr_names.specs.declared.predefined.Predefined.{Predefined}
 use Rattle.sr_names.specs.declared.spot.Spot.{Spot}
 use Rattle.sr_names.specs.Spots.{spot_of}
@@ -49,6 +47,10 @@ use Rattle.sr_lower_expr.specs.declared.scene.Scene.{Scene}
 use Rattle.sr_desugar.specs.Declarations.{after_first, const_core, declare, first_of, typed, typed_vars, untyped, untyped_vars, var_core}
 use Rattle.sr_lower_expr.specs.Places.{scope_of_operation, site_number}
 use Rattle.sr_desugar.specs.Statements.{LoweredArm, Block, WithSites, all_made, all_sites, alone, arm_made, arms_of, block_made, blocks_of, branch_made, call_action, call_made, co_arm_made, core_arm, core_block_item, core_branch, core_co_arm, core_statement, item_made, quantifiers_core, receive_arm, receive_assign, receive_made, scope_of_arms, statement_made}
+use Rattle.sr_core.specs.Tests.{all_true}
+use Rattle.sr_core.specs.Blocks.{co_arm_waits, guarded_waits}
+use Rattle.sr_core.specs.Sites.{has_blocks}
+use Rattle.sr_core.specs.Waiting.{SiteTest, block_waits, is_filled, site_found, site_passes, statement_waits}
 use Rattle.sr_desugar.proofs.Numbered.{At, Waits, none_waits, waits_both, waits_by}
 
 -- ---- lists of tests
@@ -63,389 +65,400 @@ both false b first second = absurd (never first)
 pub all_appended : {A : Type 0} (test : A → Bool) (xs ys : List A) → IsTrue (list_all test xs) → IsTrue (list_all test ys) → IsTrue (list_all test (xs ++ ys))
 all_appended test xs ys first second = subst IsTrue (sym (list_all-append test xs ys)) (both (list_all test xs) (list_all test ys) first second)
 
--- two tests that both fit
-pub waits_and : {table : List Spot} {spots : List Spot} {made : List Site} {more : List Spot} {rest : List Site} (test other : List Site → Bool)
-    → Waits table (λ sites. IsTrue (test sites)) spots made → Waits table (λ sites. IsTrue (other sites)) more rest
-    → Waits table (λ sites. IsTrue (test sites && other sites)) (spots ++ more) (made ++ rest)
-waits_and test other first second = waits_by (λ sites fits. both (test sites) (other sites) fits.0 fits.1) (waits_both first second)
+-- what is asked of a site that is made, and what of each `in` that finds it
+abbrev pub Enough : (Site → Bool) → SiteTest → Type 0
+Enough okay test = (site : Site) (blocks : ℕ) (other : Bool) → IsTrue (okay site) → IsTrue (has_blocks site blocks other) → IsTrue (test site blocks other)
 
--- what isn't written waits nowhere
-nothing_waits : (table : List Spot) → Waits table (λ sites. IsTrue true) [] []
-nothing_waits table = none_waits (λ sites. refl)
+module _ (okay : Site → Bool) (test : SiteTest) (enough : Enough okay test) where
+  -- two tests that both fit
+  pub waits_and : {table : List Spot} {spots : List Spot} {made : List Site} {more : List Spot} {rest : List Site} (test other : List Site → Bool)
+      → Waits okay table (λ sites. IsTrue (test sites)) spots made → Waits okay table (λ sites. IsTrue (other sites)) more rest
+      → Waits okay table (λ sites. IsTrue (test sites && other sites)) (spots ++ more) (made ++ rest)
+  waits_and test other first second = waits_by (λ sites fits. both (test sites) (other sites) fits.0 fits.1) (waits_both first second)
 
--- ---- the core
+  -- what isn't written waits nowhere
+  nothing_waits : (table : List Spot) → Waits okay table (λ sites. IsTrue true) [] []
+  nothing_waits table = none_waits (λ sites. refl)
 
-abbrev pub waits : List Site → CoreStatement → Bool
-waits sites = fold_core Bool Bool Bool (statement_waits sites) co_arm_waits guarded_waits
+  -- ---- the core
 
-abbrev arm_fits : List Site → CoreCoArm → Bool
-arm_fits sites = fold_core_arm Bool Bool Bool (statement_waits sites) co_arm_waits guarded_waits
+  abbrev pub waits : List Site → CoreStatement → Bool
+  waits sites = fold_core Bool Bool Bool (statement_waits test sites) co_arm_waits guarded_waits
 
-abbrev guarded_fits : List Site → Guarded → Bool
-guarded_fits sites = fold-Guarded Bool Bool Bool (statement_waits sites) co_arm_waits guarded_waits
+  abbrev arm_fits : List Site → CoreCoArm → Bool
+  arm_fits sites = fold_core_arm Bool Bool Bool (statement_waits test sites) co_arm_waits guarded_waits
 
-abbrev pub opened : List Site → Core-F CoreStatement CoreCoArm Guarded → Core-F Bool Bool Bool
-opened sites = map_core CoreStatement CoreCoArm Guarded Bool Bool Bool (waits sites) (arm_fits sites) (guarded_fits sites)
+  abbrev guarded_fits : List Site → Guarded → Bool
+  guarded_fits sites = fold-Guarded Bool Bool Bool (statement_waits test sites) co_arm_waits guarded_waits
 
-abbrev opened_arm : List Site → CoreArm-F CoreStatement CoreCoArm Guarded → CoreArm-F Bool Bool Bool
-opened_arm sites = map_core_arm CoreStatement CoreCoArm Guarded Bool Bool Bool (waits sites) (arm_fits sites) (guarded_fits sites)
+  abbrev pub opened : List Site → Core-F CoreStatement CoreCoArm Guarded → Core-F Bool Bool Bool
+  opened sites = map_core CoreStatement CoreCoArm Guarded Bool Bool Bool (waits sites) (arm_fits sites) (guarded_fits sites)
 
--- a statement fits, part by part
-pub rolled : (sites : List Site) (made : CoreStatement) (parts : Core-F CoreStatement CoreCoArm Guarded) → roll_core parts ≡ made
-    → IsTrue (statement_waits sites (opened sites parts)) → IsTrue (waits sites made)
-rolled sites made parts is fits =
-    subst (λ one. IsTrue (waits sites one)) is
-    (subst IsTrue (sym (fold_roll_core Bool Bool Bool (statement_waits sites) co_arm_waits guarded_waits parts)) fits)
+  abbrev opened_arm : List Site → CoreArm-F CoreStatement CoreCoArm Guarded → CoreArm-F Bool Bool Bool
+  opened_arm sites = map_core_arm CoreStatement CoreCoArm Guarded Bool Bool Bool (waits sites) (arm_fits sites) (guarded_fits sites)
 
--- what does something has no sites
-pub act_fits : (sites : List Site) (place : Place) (action : Action) → IsTrue (waits sites (core.Act place action))
-act_fits sites place action = rolled sites (core.Act place action) (Core-F.Act place action) (core.rolls-Act place action) refl
+  -- a statement fits, part by part
+  pub rolled : (sites : List Site) (made : CoreStatement) (parts : Core-F CoreStatement CoreCoArm Guarded) → roll_core parts ≡ made
+      → IsTrue (statement_waits test sites (opened sites parts)) → IsTrue (waits sites made)
+  rolled sites made parts is fits =
+      subst (λ one. IsTrue (waits sites one)) is
+      (subst IsTrue (sym (fold_roll_core Bool Bool Bool (statement_waits test sites) co_arm_waits guarded_waits parts)) fits)
 
--- and so have the sends of a semaphore
-pub sends_fit : (sites : List Site) (place : Place) (target count : CoreExpr) → IsTrue (waits sites (core.Sends place target count))
-sends_fit sites place target count = rolled sites _ (Core-F.Sends place target count) (core.rolls-Sends _ _ _) refl
+  -- what does something has no sites
+  pub act_fits : (sites : List Site) (place : Place) (action : Action) → IsTrue (waits sites (core.Act place action))
+  act_fits sites place action = rolled sites (core.Act place action) (Core-F.Act place action) (core.rolls-Act place action) refl
 
-pub block_appended : (sites : List Site) (a b : List CoreStatement) → IsTrue (block_waits sites a) → IsTrue (block_waits sites b) → IsTrue (block_waits sites (a ++ b))
-block_appended sites a b first second =
-    subst (λ tests. IsTrue (all_true tests)) (sym (map-append (waits sites) a b)) (all_appended (λ one. one) (map (waits sites) a) (map (waits sites) b) first second)
+  -- and so have the sends of a semaphore
+  pub sends_fit : (sites : List Site) (place : Place) (target count : CoreExpr) → IsTrue (waits sites (core.Sends place target count))
+  sends_fit sites place target count = rolled sites _ (Core-F.Sends place target count) (core.rolls-Sends _ _ _) refl
 
--- ---- a site has an arm for each block
+  pub block_appended : (sites : List Site) (a b : List CoreStatement) → IsTrue (block_waits test sites a) → IsTrue (block_waits test sites b) → IsTrue (block_waits test sites (a ++ b))
+  block_appended sites a b first second =
+      subst (λ tests. IsTrue (all_true tests)) (sym (map-append (waits sites) a b)) (all_appended (λ one. one) (map (waits sites) a) (map (waits sites) b) first second)
 
-abbrev site_has : ℕ → Option Site → Bool
-site_has arms None = false
-site_has arms (Some found) = length found.arms == arms
+  -- ---- an `in` finds its site
 
-site_there : (table : List Spot) (sites : List Site) (spot : Spot) (site : Site) (arms : ℕ) → length site.arms ≡ arms → At table sites spot site → IsTrue (site_ok sites (number_in table spot) arms)
-site_there table sites spot site arms is there =
-    ap (λ found. site_ok sites (unwrap_or found 0) arms) there.1 ∙ ap (site_has arms) there.2 ∙ eq-eqb (length site.arms) arms is
+  site_there : (table : List Spot) (sites : List Site) (spot : Spot) (site : Site) (blocks : ℕ) (other : Bool) → IsTrue (has_blocks site blocks other)
+      → At okay table sites spot site → IsTrue (site_passes test sites (number_in table spot) blocks other)
+  site_there table sites spot site blocks other has there =
+      ap (λ found. site_passes test sites (unwrap_or found 0) blocks other) there.1 ∙ ap (site_found test blocks other) there.2 ∙ enough site blocks other there.3 has
 
--- the site of an `in` stands before those in its parts
-in_waits : {table : List Spot} {Fits : List Site → Type 0} {spots : List Spot} {made : List Site} (spot : Spot) (site : Site) (arms : ℕ) → length site.arms ≡ arms → Waits table Fits spots made
-    → Waits table (λ sites. IsTrue (site_ok sites (number_in table spot) arms) × Fits sites) (spot ∷ spots) (site ∷ made)
-in_waits {table} spot site arms is waits = record {
-  as_many = waits.as_many;
-  fits = λ sites numbered. (site_there table sites spot site arms is numbered.0, waits.fits sites numbered.1);
-}
+  -- the site of an `in` stands before those in its parts
+  in_waits : {table : List Spot} {Fits : List Site → Type 0} {spots : List Spot} {made : List Site} (spot : Spot) (site : Site) (blocks : ℕ) (other : Bool)
+      → IsTrue (has_blocks site blocks other) → Waits okay table Fits spots made
+      → Waits okay table (λ sites. IsTrue (site_passes test sites (number_in table spot) blocks other) × Fits sites) (spot ∷ spots) (site ∷ made)
+  in_waits {table} spot site blocks other has waits = record {
+    as_many = waits.as_many;
+    fits = λ sites numbered. (site_there table sites spot site blocks other has numbered.0, waits.fits sites numbered.1);
+  }
 
--- an arm has one block
-one_block_each : {A : Type 0} (test : Block → A) (arms : List (WithSites LoweredArm)) → length (arms_of arms) ≡ length (map test (blocks_of arms))
-one_block_each test [] = refl
-one_block_each test (arm ∷ arms) = ap suc (one_block_each test arms)
+  -- an arm has one block
+  one_block_each : {A : Type 0} (test : Block → A) (arms : List (WithSites LoweredArm)) → length (arms_of arms) ≡ length (map test (blocks_of arms))
+  one_block_each test [] = refl
+  one_block_each test (arm ∷ arms) = ap suc (one_block_each test arms)
 
--- ---- declarations
+  -- and a test of each statement leaves as many
+  filled_each : {A B : Type 0} (make : A → B) (things : List A) → is_filled things ≡ is_filled (map make things)
+  filled_each make [] = refl
+  filled_each make (thing ∷ things) = refl
 
-declared_fits : (sites : List Site) (scope : Scope) (place : Place) (scene : Scene) (spot : Spot) (setup : Setup) → IsTrue (waits sites (declare scene scope place spot setup))
-declared_fits sites scope place scene spot setup = rolled sites _ (Core-F.Declare _ _) (core.rolls-Declare _ _) refl
+  -- ---- declarations
 
-typed_fit : (sites : List Site) (scene : Scene) (scope : Scope) (place : Place) (ty : TypeTree) (decls : List Decl) (values : List Expr)
-    → IsTrue (block_waits sites (typed_vars scene scope place ty decls values))
-typed_fit sites scene scope place ty [] values = refl
-typed_fit sites scene scope place ty (decl ∷ decls) values =
-    both (waits sites (declare scene scope place (spot_named decl.name) (typed scene decl ty (first_of values)))) _
-    (declared_fits sites scope place scene _ _)
-    (typed_fit sites scene scope place ty decls (after_first values))
+  declared_fits : (sites : List Site) (scope : Scope) (place : Place) (scene : Scene) (spot : Spot) (setup : Setup) → IsTrue (waits sites (declare scene scope place spot setup))
+  declared_fits sites scope place scene spot setup = rolled sites _ (Core-F.Declare _ _) (core.rolls-Declare _ _) refl
 
-untyped_fit : (sites : List Site) (scene : Scene) (scope : Scope) (place : Place) (decls : List Decl) (values : List Expr)
-    → IsTrue (block_waits sites (untyped_vars scene scope place decls values))
-untyped_fit sites scene scope place [] values = refl
-untyped_fit sites scene scope place (decl ∷ decls) [] = refl
-untyped_fit sites scene scope place (decl ∷ decls) (value ∷ values) =
-    both (waits sites (declare scene scope place (spot_named decl.name) (untyped scene (spot_named decl.name) value))) _
-    (declared_fits sites scope place scene _ _)
-    (untyped_fit sites scene scope place decls values)
+  typed_fit : (sites : List Site) (scene : Scene) (scope : Scope) (place : Place) (ty : TypeTree) (decls : List Decl) (values : List Expr)
+      → IsTrue (block_waits test sites (typed_vars scene scope place ty decls values))
+  typed_fit sites scene scope place ty [] values = refl
+  typed_fit sites scene scope place ty (decl ∷ decls) values =
+      both (waits sites (declare scene scope place (spot_named decl.name) (typed scene decl ty (first_of values)))) _
+      (declared_fits sites scope place scene _ _)
+      (typed_fit sites scene scope place ty decls (after_first values))
 
-pub const_fits : (sites : List Site) (scene : Scene) (scope : Scope) (constant : ConstDecl) → IsTrue (block_waits sites (const_core scene scope constant))
-const_fits sites scene scope constant = by (is_constant scene.facts (spot_named constant.name))
-  where
-    by : (static : Bool)
-        → IsTrue (block_waits sites (if static then [] else (declare scene scope (line_of constant.span) (spot_named constant.name) (untyped scene (spot_named constant.name) constant.value) ∷ [])))
-    by true = refl
-    by false = both _ true (declared_fits sites scope (line_of constant.span) scene _ _) refl
+  untyped_fit : (sites : List Site) (scene : Scene) (scope : Scope) (place : Place) (decls : List Decl) (values : List Expr)
+      → IsTrue (block_waits test sites (untyped_vars scene scope place decls values))
+  untyped_fit sites scene scope place [] values = refl
+  untyped_fit sites scene scope place (decl ∷ decls) [] = refl
+  untyped_fit sites scene scope place (decl ∷ decls) (value ∷ values) =
+      both (waits sites (declare scene scope place (spot_named decl.name) (untyped scene (spot_named decl.name) value))) _
+      (declared_fits sites scope place scene _ _)
+      (untyped_fit sites scene scope place decls values)
 
-pub var_fits : (sites : List Site) (scene : Scene) (scope : Scope) (variables : VarDecl) → IsTrue (block_waits sites (var_core scene scope variables))
-var_fits sites scene scope variables = by variables.ty
-  where
-    by : (ty : Option TypeTree) → IsTrue (block_waits sites (var_core scene scope (record variables { ty = ty })))
-    by None = untyped_fit sites scene scope (line_of variables.span) variables.decls variables.values
-    by (Some ty) = typed_fit sites scene scope (line_of variables.span) ty variables.decls variables.values
+  pub const_fits : (sites : List Site) (scene : Scene) (scope : Scope) (constant : ConstDecl) → IsTrue (block_waits test sites (const_core scene scope constant))
+  const_fits sites scene scope constant = by (is_constant scene.facts (spot_named constant.name))
+    where
+      by : (static : Bool)
+          → IsTrue (block_waits test sites (if static then [] else (declare scene scope (line_of constant.span) (spot_named constant.name) (untyped scene (spot_named constant.name) constant.value) ∷ [])))
+      by true = refl
+      by false = both _ true (declared_fits sites scope (line_of constant.span) scene _ _) refl
 
--- ---- `receive` and `P`
+  pub var_fits : (sites : List Site) (scene : Scene) (scope : Scope) (variables : VarDecl) → IsTrue (block_waits test sites (var_core scene scope variables))
+  var_fits sites scene scope variables = by variables.ty
+    where
+      by : (ty : Option TypeTree) → IsTrue (block_waits test sites (var_core scene scope (record variables { ty = ty })))
+      by None = untyped_fit sites scene scope (line_of variables.span) variables.decls variables.values
+      by (Some ty) = typed_fit sites scene scope (line_of variables.span) ty variables.decls variables.values
 
-assigns_fit : (sites : List Site) (scene : Scene) (span : Span) (places : List Expr) → IsTrue (block_waits sites (map (receive_assign scene span) places))
-assigns_fit sites scene span [] = refl
-assigns_fit sites scene span (place ∷ places) =
-    both (waits sites (receive_assign scene span place)) (block_waits sites (map (receive_assign scene span) places)) (act_fits sites _ _) (assigns_fit sites scene span places)
+  -- ---- `receive` and `P`
 
-receive_waits : (scene : Scene) (span : Span) (operation : Spot) (places : List Expr)
-    → Waits scene.tables.sites (λ sites. IsTrue (waits sites (receive_made scene span operation places).made)) (spot_of span ∷ []) (receive_made scene span operation places).sites
-receive_waits scene span operation places =
-    waits_by
-    (λ sites fits.
-    rolled sites _ (Core-F.In (line_of span) (site_number scene (spot_of span)) (map (receive_assign scene span) places ∷ []) []) (core.rolls-In _ _ _ _)
-    (both (site_ok sites (site_number scene (spot_of span)) 1) _ fits.0 (both _ true (both (block_waits sites (map (receive_assign scene span) places)) true fits.1 refl) refl)))
-    (in_waits (spot_of span) (site_of (scope_of_operation scene operation) (receive_arm scene span operation places ∷ []) false) 1 refl (none_waits (λ sites. assigns_fit sites scene span places)))
+  assigns_fit : (sites : List Site) (scene : Scene) (span : Span) (places : List Expr) → IsTrue (block_waits test sites (map (receive_assign scene span) places))
+  assigns_fit sites scene span [] = refl
+  assigns_fit sites scene span (place ∷ places) =
+      both (waits sites (receive_assign scene span place)) (block_waits test sites (map (receive_assign scene span) places)) (act_fits sites _ _) (assigns_fit sites scene span places)
 
--- it waits where it calls `P`
-call_waits : (scene : Scene) (span : Span) (invocation : Invocation) (function : Option Predefined) (wait : Bool) → is_p function ≡ wait
-    → Waits scene.tables.sites (λ sites. IsTrue (waits sites (call_made scene span invocation function).made)) (if wait then spot_of span ∷ [] else []) (call_made scene span invocation function).sites
-call_waits scene span invocation function wait is =
-    subst (λ test. Waits scene.tables.sites (λ sites. IsTrue (waits sites (made test).made)) (if wait then spot_of span ∷ [] else []) (made test).sites) (sym is) (by wait)
-  where
-    made : Bool → WithSites CoreStatement
-    made test = if test then receive_made scene span (wait_operation scene.facts span invocation) [] else alone (core.Act (line_of span) (call_action scene invocation function))
-
-    by : (wait : Bool) → Waits scene.tables.sites (λ sites. IsTrue (waits sites (made wait).made)) (if wait then spot_of span ∷ [] else []) (made wait).sites
-    by true = receive_waits scene span (wait_operation scene.facts span invocation) []
-    by false = none_waits (λ sites. act_fits sites (line_of span) (call_action scene invocation function))
-
--- ---- trees
-
-module _ (facts : Facts) (scene : Scene) (agree : (invocation : Invocation) → is_wait scene.facts invocation ≡ is_wait facts invocation) where
-  abbrev table : List Spot
-  table = scene.tables.sites
-
-  abbrev ItemGood : BlockItem → Type 0
-  ItemGood item = Waits table (λ sites. IsTrue (block_waits sites (core_block_item scene item).made)) (block_item_in_sites facts item) (core_block_item scene item).sites
-
-  abbrev StatementGood : Statement → Type 0
-  StatementGood tree = Waits table (λ sites. IsTrue (waits sites (core_statement scene tree).made)) (sites_in facts tree) (core_statement scene tree).sites
-
-  abbrev ArmGood : Arm → Type 0
-  ArmGood arm = Waits table (λ sites. IsTrue (block_waits sites (core_arm scene arm).made.block)) (arm_sites facts arm) (core_arm scene arm).sites
-
-  abbrev BranchGood : Branch → Type 0
-  BranchGood branch = Waits table (λ sites. IsTrue (guarded_fits sites (core_branch scene branch).made)) (branch_sites facts branch) (core_branch scene branch).sites
-
-  abbrev CoArmGood : CoArm → Type 0
-  CoArmGood arm = Waits table (λ sites. IsTrue (arm_fits sites (core_co_arm scene arm).made)) (co_arm_sites facts arm) (core_co_arm scene arm).sites
-
-  -- trees with what is known of them
-  abbrev I : Type 0
-  I = (tree : BlockItem) × ItemGood tree
-
-  abbrev S : Type 0
-  S = (tree : Statement) × StatementGood tree
-
-  abbrev A : Type 0
-  A = (tree : Arm) × ArmGood tree
-
-  abbrev B : Type 0
-  B = (tree : Branch) × BranchGood tree
-
-  abbrev C : Type 0
-  C = (tree : CoArm) × CoArmGood tree
-
-  -- lists of parts in the core
-  abbrev items_core : List I → WithSites Block
-  items_core items = block_made (map (core_block_item scene) (map (λ e. e.0) items))
-
-  abbrev branches_core : List B → List (WithSites Guarded)
-  branches_core branches = map (core_branch scene) (map (λ e. e.0) branches)
-
-  abbrev arms_core : List A → List (WithSites LoweredArm)
-  arms_core arms = map (core_arm scene) (map (λ e. e.0) arms)
-
-  abbrev co_arms_core : List C → List (WithSites CoreCoArm)
-  co_arms_core arms = map (core_co_arm scene) (map (λ e. e.0) arms)
-
-  items_good : (items : List I)
-      → Waits table (λ sites. IsTrue (block_waits sites (items_core items).made)) (lists (map (block_item_in_sites facts) (map (λ e. e.0) items))) (items_core items).sites
-  items_good [] = none_waits (λ sites. refl)
-  items_good (item ∷ items) = waits_by (λ sites fits. block_appended sites (core_block_item scene item.0).made (items_core items).made fits.0 fits.1) (waits_both item.1 (items_good items))
-
-  branches_good : (branches : List B)
-      → Waits table (λ sites. IsTrue (all_true (map (guarded_fits sites) (all_made (branches_core branches))))) (lists (map (branch_sites facts) (map (λ e. e.0) branches))) (all_sites (branches_core branches))
-  branches_good [] = none_waits (λ sites. refl)
-  branches_good (branch ∷ branches) = waits_and (λ sites. guarded_fits sites (core_branch scene branch.0).made) (λ sites. all_true (map (guarded_fits sites) (all_made (branches_core branches)))) branch.1 (branches_good branches)
-
-  co_arms_good : (arms : List C)
-      → Waits table (λ sites. IsTrue (all_true (map (arm_fits sites) (all_made (co_arms_core arms))))) (lists (map (co_arm_sites facts) (map (λ e. e.0) arms))) (all_sites (co_arms_core arms))
-  co_arms_good [] = none_waits (λ sites. refl)
-  co_arms_good (arm ∷ arms) = waits_and (λ sites. arm_fits sites (core_co_arm scene arm.0).made) (λ sites. all_true (map (arm_fits sites) (all_made (co_arms_core arms)))) arm.1 (co_arms_good arms)
-
-  arms_good : (arms : List A)
-      → Waits table (λ sites. IsTrue (list_all all_true (map (map (waits sites)) (blocks_of (arms_core arms))))) (lists (map (arm_sites facts) (map (λ e. e.0) arms))) (all_sites (arms_core arms))
-  arms_good [] = none_waits (λ sites. refl)
-  arms_good (arm ∷ arms) = waits_and (λ sites. block_waits sites (core_arm scene arm.0).made.block) (λ sites. list_all all_true (map (map (waits sites)) (blocks_of (arms_core arms)))) arm.1 (arms_good arms)
-
-  -- ---- the open trees
-
-  abbrev spots_statement : Statement-F BlockItem Statement Arm Branch CoArm → Statement-F (List Spot) (List Spot) (List Spot) (List Spot) (List Spot)
-  spots_statement =
-      map-Statement BlockItem Statement Arm Branch CoArm (List Spot) (List Spot) (List Spot) (List Spot) (List Spot)
-      (block_item_in_sites facts) (sites_in facts) (arm_sites facts) (branch_sites facts) (co_arm_sites facts)
-
-  abbrev made_statement : Statement-F BlockItem Statement Arm Branch CoArm → Statement-F (WithSites Block) (WithSites CoreStatement) (WithSites LoweredArm) (WithSites Guarded) (WithSites CoreCoArm)
-  made_statement =
-      map-Statement BlockItem Statement Arm Branch CoArm (WithSites Block) (WithSites CoreStatement) (WithSites LoweredArm) (WithSites Guarded) (WithSites CoreCoArm)
-      (core_block_item scene) (core_statement scene) (core_arm scene) (core_branch scene) (core_co_arm scene)
-
-  abbrev bare : Statement-F I S A B C → Statement-F BlockItem Statement Arm Branch CoArm
-  bare = map-Statement I S A B C BlockItem Statement Arm Branch CoArm (λ e. e.0) (λ e. e.0) (λ e. e.0) (λ e. e.0) (λ e. e.0)
-
-  statement_good : (y : Statement-F I S A B C)
-      → Waits table (λ sites. IsTrue (waits sites (statement_made scene (made_statement (bare y))).made)) (statement_sites facts (spots_statement (bare y))) (statement_made scene (made_statement (bare y))).sites
-  statement_good (Statement-F.Skip span) = none_waits (λ sites. act_fits sites _ _)
-  statement_good (Statement-F.Exit span) = none_waits (λ sites. act_fits sites _ _)
-  statement_good (Statement-F.Next span) = none_waits (λ sites. act_fits sites _ _)
-  statement_good (Statement-F.Return span) = none_waits (λ sites. act_fits sites _ _)
-  statement_good (Statement-F.Reply span) = none_waits (λ sites. act_fits sites _ _)
-  statement_good (Statement-F.Stop span status) = none_waits (λ sites. act_fits sites _ _)
-  statement_good (Statement-F.Call span with_call invocation) = call_waits scene span invocation (function_called scene.facts invocation) (is_wait facts invocation) (agree invocation)
-  statement_good (Statement-F.Send span invocation) = none_waits (λ sites. act_fits sites _ _)
-  statement_good (Statement-F.Forward span invocation) = none_waits (λ sites. act_fits sites _ _)
-  statement_good (Statement-F.Receive span operation places) = receive_waits scene span (meant_by scene.facts operation) places
-  statement_good (Statement-F.Assign span target value) = none_waits (λ sites. act_fits sites _ _)
-  statement_good (Statement-F.Exchange span left right) = none_waits (λ sites. act_fits sites _ _)
-  statement_good (Statement-F.Increment span target) = none_waits (λ sites. act_fits sites _ _)
-  statement_good (Statement-F.Decrement span target) = none_waits (λ sites. act_fits sites _ _)
-  statement_good (Statement-F.If span branches None) =
-      waits_by
-      (λ sites fits. rolled sites _ (Core-F.If (line_of span) (all_made (branches_core branches)) []) (core.rolls-If _ _ _) (both _ true fits.0 refl))
-      (waits_both (branches_good branches) (nothing_waits table))
-  statement_good (Statement-F.If span branches (Some otherwise)) =
-      waits_by
-      (λ sites fits. rolled sites _ (Core-F.If (line_of span) (all_made (branches_core branches)) (items_core otherwise).made) (core.rolls-If _ _ _) (both _ _ fits.0 fits.1))
-      (waits_both (branches_good branches) (items_good otherwise))
-  statement_good (Statement-F.Do span branches None) =
-      waits_by
-      (λ sites fits. rolled sites _ (Core-F.Do (line_of span) (all_made (branches_core branches)) None) (core.rolls-Do _ _ _) (both _ true fits.0 refl))
-      (waits_both (branches_good branches) (nothing_waits table))
-  statement_good (Statement-F.Do span branches (Some otherwise)) =
-      waits_by
-      (λ sites fits. rolled sites _ (Core-F.Do (line_of span) (all_made (branches_core branches)) (Some (items_core otherwise).made)) (core.rolls-Do _ _ _) (both _ _ fits.0 fits.1))
-      (waits_both (branches_good branches) (items_good otherwise))
-  statement_good (Statement-F.ForAll span quantifiers block) =
-      waits_by (λ sites fits. rolled sites _ (Core-F.Fa (line_of span) (quantifiers_core scene quantifiers) (items_core block).made) (core.rolls-Fa _ _ _) fits) (items_good block)
-  statement_good (Statement-F.In span arms None) =
+  receive_waits : (scene : Scene) (span : Span) (operation : Spot) (places : List Expr)
+      → Waits okay scene.tables.sites (λ sites. IsTrue (waits sites (receive_made scene span operation places).made)) (spot_of span ∷ []) (receive_made scene span operation places).sites
+  receive_waits scene span operation places =
       waits_by
       (λ sites fits.
-      rolled sites _ (Core-F.In (line_of span) (site_number scene (spot_of span)) (blocks_of (arms_core arms)) []) (core.rolls-In _ _ _ _)
-      (both _ _ (subst (λ count. IsTrue (site_ok sites (site_number scene (spot_of span)) count)) (one_block_each (map (waits sites)) (arms_core arms)) fits.0) (both _ true fits.1.0 refl)))
-      (in_waits (spot_of span) (site_of (scope_of_arms (arms_core arms)) (arms_of (arms_core arms)) false) (length (arms_of (arms_core arms))) refl (waits_both (arms_good arms) (nothing_waits table)))
-  statement_good (Statement-F.In span arms (Some otherwise)) =
-      waits_by
-      (λ sites fits.
-      rolled sites _ (Core-F.In (line_of span) (site_number scene (spot_of span)) (blocks_of (arms_core arms)) (items_core otherwise).made) (core.rolls-In _ _ _ _)
-      (both _ _ (subst (λ count. IsTrue (site_ok sites (site_number scene (spot_of span)) count)) (one_block_each (map (waits sites)) (arms_core arms)) fits.0) (both _ _ fits.1.0 fits.1.1)))
-      (in_waits (spot_of span) (site_of (scope_of_arms (arms_core arms)) (arms_of (arms_core arms)) true) (length (arms_of (arms_core arms))) refl (waits_both (arms_good arms) (items_good otherwise)))
-  statement_good (Statement-F.Co span arms) =
-      waits_by (λ sites fits. rolled sites _ (Core-F.Co (line_of span) (all_made (co_arms_core arms))) (core.rolls-Co _ _) fits) (co_arms_good arms)
-  statement_good (Statement-F.Destroy span target) = none_waits (λ sites. act_fits sites _ _)
-  statement_good (Statement-F.Create span create) = none_waits (λ sites. act_fits sites _ _)
+      rolled sites _ (Core-F.In (line_of span) (site_number scene (spot_of span)) (map (receive_assign scene span) places ∷ []) []) (core.rolls-In _ _ _ _)
+      (both (site_passes test sites (site_number scene (spot_of span)) 1 false) _ fits.0 (both _ true (both (block_waits test sites (map (receive_assign scene span) places)) true fits.1 refl) refl)))
+      (in_waits (spot_of span) (site_of (scope_of_operation scene operation) (receive_arm scene span operation places ∷ []) false) 1 false refl (none_waits (λ sites. assigns_fit sites scene span places)))
 
-  -- ---- arms, branches and items
+  -- it waits where it calls `P`
+  call_waits : (scene : Scene) (span : Span) (invocation : Invocation) (function : Option Predefined) (wait : Bool) → is_p function ≡ wait
+      → Waits okay scene.tables.sites (λ sites. IsTrue (waits sites (call_made scene span invocation function).made)) (if wait then spot_of span ∷ [] else []) (call_made scene span invocation function).sites
+  call_waits scene span invocation function wait is =
+      subst (λ test. Waits okay scene.tables.sites (λ sites. IsTrue (waits sites (made test).made)) (if wait then spot_of span ∷ [] else []) (made test).sites) (sym is) (by wait)
+    where
+      made : Bool → WithSites CoreStatement
+      made test = if test then receive_made scene span (wait_operation scene.facts span invocation) [] else alone (core.Act (line_of span) (call_action scene invocation function))
 
-  abbrev spots_item : BlockItem-F BlockItem Statement Arm Branch CoArm → BlockItem-F (List Spot) (List Spot) (List Spot) (List Spot) (List Spot)
-  spots_item =
-      map-BlockItem BlockItem Statement Arm Branch CoArm (List Spot) (List Spot) (List Spot) (List Spot) (List Spot)
-      (block_item_in_sites facts) (sites_in facts) (arm_sites facts) (branch_sites facts) (co_arm_sites facts)
+      by : (wait : Bool) → Waits okay scene.tables.sites (λ sites. IsTrue (waits sites (made wait).made)) (if wait then spot_of span ∷ [] else []) (made wait).sites
+      by true = receive_waits scene span (wait_operation scene.facts span invocation) []
+      by false = none_waits (λ sites. act_fits sites (line_of span) (call_action scene invocation function))
 
-  abbrev made_item : BlockItem-F BlockItem Statement Arm Branch CoArm → BlockItem-F (WithSites Block) (WithSites CoreStatement) (WithSites LoweredArm) (WithSites Guarded) (WithSites CoreCoArm)
-  made_item =
-      map-BlockItem BlockItem Statement Arm Branch CoArm (WithSites Block) (WithSites CoreStatement) (WithSites LoweredArm) (WithSites Guarded) (WithSites CoreCoArm)
-      (core_block_item scene) (core_statement scene) (core_arm scene) (core_branch scene) (core_co_arm scene)
+  -- ---- trees
 
-  abbrev bare_item : BlockItem-F I S A B C → BlockItem-F BlockItem Statement Arm Branch CoArm
-  bare_item = map-BlockItem I S A B C BlockItem Statement Arm Branch CoArm (λ e. e.0) (λ e. e.0) (λ e. e.0) (λ e. e.0) (λ e. e.0)
+  module _ (facts : Facts) (scene : Scene) (agree : (invocation : Invocation) → is_wait scene.facts invocation ≡ is_wait facts invocation) where
+    abbrev table : List Spot
+    table = scene.tables.sites
 
-  item_good : (y : BlockItem-F I S A B C)
-      → Waits table (λ sites. IsTrue (block_waits sites (item_made scene (made_item (bare_item y))).made)) (block_item_sites (spots_item (bare_item y))) (item_made scene (made_item (bare_item y))).sites
-  item_good (BlockItem-F.Const constant) = none_waits (λ sites. const_fits sites scene Own constant)
-  item_good (BlockItem-F.Var variables) = none_waits (λ sites. var_fits sites scene Own variables)
-  item_good (BlockItem-F.Statement statement) = waits_by (λ sites fits. both (waits sites (core_statement scene statement.0).made) true fits refl) statement.1
+    abbrev ItemGood : BlockItem → Type 0
+    ItemGood item = Waits okay table (λ sites. IsTrue (block_waits test sites (core_block_item scene item).made)) (block_item_in_sites facts item) (core_block_item scene item).sites
 
-  abbrev made_arm : Arm-F BlockItem Statement Arm Branch CoArm → Arm-F (WithSites Block) (WithSites CoreStatement) (WithSites LoweredArm) (WithSites Guarded) (WithSites CoreCoArm)
-  made_arm =
-      map-Arm BlockItem Statement Arm Branch CoArm (WithSites Block) (WithSites CoreStatement) (WithSites LoweredArm) (WithSites Guarded) (WithSites CoreCoArm)
-      (core_block_item scene) (core_statement scene) (core_arm scene) (core_branch scene) (core_co_arm scene)
+    abbrev StatementGood : Statement → Type 0
+    StatementGood tree = Waits okay table (λ sites. IsTrue (waits sites (core_statement scene tree).made)) (sites_in facts tree) (core_statement scene tree).sites
 
-  abbrev bare_arm : Arm-F I S A B C → Arm-F BlockItem Statement Arm Branch CoArm
-  bare_arm = map-Arm I S A B C BlockItem Statement Arm Branch CoArm (λ e. e.0) (λ e. e.0) (λ e. e.0) (λ e. e.0) (λ e. e.0)
+    abbrev ArmGood : Arm → Type 0
+    ArmGood arm = Waits okay table (λ sites. IsTrue (block_waits test sites (core_arm scene arm).made.block)) (arm_sites facts arm) (core_arm scene arm).sites
 
-  abbrev made_branch : Branch-F BlockItem Statement Arm Branch CoArm → Branch-F (WithSites Block) (WithSites CoreStatement) (WithSites LoweredArm) (WithSites Guarded) (WithSites CoreCoArm)
-  made_branch =
-      map-Branch BlockItem Statement Arm Branch CoArm (WithSites Block) (WithSites CoreStatement) (WithSites LoweredArm) (WithSites Guarded) (WithSites CoreCoArm)
-      (core_block_item scene) (core_statement scene) (core_arm scene) (core_branch scene) (core_co_arm scene)
+    abbrev BranchGood : Branch → Type 0
+    BranchGood branch = Waits okay table (λ sites. IsTrue (guarded_fits sites (core_branch scene branch).made)) (branch_sites facts branch) (core_branch scene branch).sites
 
-  abbrev bare_branch : Branch-F I S A B C → Branch-F BlockItem Statement Arm Branch CoArm
-  bare_branch = map-Branch I S A B C BlockItem Statement Arm Branch CoArm (λ e. e.0) (λ e. e.0) (λ e. e.0) (λ e. e.0) (λ e. e.0)
+    abbrev CoArmGood : CoArm → Type 0
+    CoArmGood arm = Waits okay table (λ sites. IsTrue (arm_fits sites (core_co_arm scene arm).made)) (co_arm_sites facts arm) (core_co_arm scene arm).sites
 
-  branch_good : (y : Branch-F I S A B C)
-      → Waits table (λ sites. IsTrue (guarded_fits sites (branch_made scene (made_branch (bare_branch y))).made)) (lists (map (block_item_in_sites facts) (map (λ e. e.0) y.block))) (items_core y.block).sites
-  branch_good y =
-      waits_by (λ sites fits. subst IsTrue (sym (fold-roll-Guarded Bool Bool Bool (statement_waits sites) co_arm_waits guarded_waits _)) fits) (items_good y.block)
+    -- trees with what is known of them
+    abbrev I : Type 0
+    I = (tree : BlockItem) × ItemGood tree
 
-  abbrev made_co_arm : CoArm-F BlockItem Statement Arm Branch CoArm → CoArm-F (WithSites Block) (WithSites CoreStatement) (WithSites LoweredArm) (WithSites Guarded) (WithSites CoreCoArm)
-  made_co_arm =
-      map-CoArm BlockItem Statement Arm Branch CoArm (WithSites Block) (WithSites CoreStatement) (WithSites LoweredArm) (WithSites Guarded) (WithSites CoreCoArm)
-      (core_block_item scene) (core_statement scene) (core_arm scene) (core_branch scene) (core_co_arm scene)
+    abbrev S : Type 0
+    S = (tree : Statement) × StatementGood tree
 
-  abbrev bare_co_arm : CoArm-F I S A B C → CoArm-F BlockItem Statement Arm Branch CoArm
-  bare_co_arm = map-CoArm I S A B C BlockItem Statement Arm Branch CoArm (λ e. e.0) (λ e. e.0) (λ e. e.0) (λ e. e.0) (λ e. e.0)
+    abbrev A : Type 0
+    A = (tree : Arm) × ArmGood tree
 
-  abbrev spots_co_arm : CoArm-F BlockItem Statement Arm Branch CoArm → CoArm-F (List Spot) (List Spot) (List Spot) (List Spot) (List Spot)
-  spots_co_arm =
-      map-CoArm BlockItem Statement Arm Branch CoArm (List Spot) (List Spot) (List Spot) (List Spot) (List Spot)
-      (block_item_in_sites facts) (sites_in facts) (arm_sites facts) (branch_sites facts) (co_arm_sites facts)
+    abbrev B : Type 0
+    B = (tree : Branch) × BranchGood tree
 
-  abbrev CoArmFits : CoArm-F I S A B C → Type 0
-  CoArmFits y =
-      Waits table (λ sites. IsTrue (co_arm_waits (opened_arm sites (out-CoArm (co_arm_made scene (made_co_arm (bare_co_arm y))).made))))
-      (maybe_lists (spots_co_arm (bare_co_arm y)).block) (co_arm_made scene (made_co_arm (bare_co_arm y))).sites
+    abbrev C : Type 0
+    C = (tree : CoArm) × CoArmGood tree
 
-  co_arm_parts_good : (span : Span) (quantifiers : List Quantifier) (target : Option Expr) (with_call : Bool) (invocation : Invocation) (block : Option (List I))
-      → CoArmFits (record { span = span; quantifiers = quantifiers; target = target; with_call = with_call; invocation = invocation; block = block })
-  co_arm_parts_good span quantifiers target with_call invocation None = none_waits (λ sites. refl)
-  co_arm_parts_good span quantifiers target with_call invocation (Some items) = items_good items
+    -- lists of parts in the core
+    abbrev items_core : List I → WithSites Block
+    items_core items = block_made (map (core_block_item scene) (map (λ e. e.0) items))
 
-  co_arm_good : (y : CoArm-F I S A B C)
-      → Waits table (λ sites. IsTrue (arm_fits sites (co_arm_made scene (made_co_arm (bare_co_arm y))).made)) (maybe_lists (spots_co_arm (bare_co_arm y)).block) (co_arm_made scene (made_co_arm (bare_co_arm y))).sites
-  co_arm_good y =
-      waits_by (λ sites fits. subst IsTrue (sym (fold_roll_core_arm Bool Bool Bool (statement_waits sites) co_arm_waits guarded_waits _)) fits)
-      (co_arm_parts_good y.span y.quantifiers y.target y.with_call y.invocation y.block)
+    abbrev branches_core : List B → List (WithSites Guarded)
+    branches_core branches = map (core_branch scene) (map (λ e. e.0) branches)
 
-  -- ---- all trees
+    abbrev arms_core : List A → List (WithSites LoweredArm)
+    arms_core arms = map (core_arm scene) (map (λ e. e.0) arms)
 
-  step_item : (x : BlockItem-F BlockItem Statement Arm Branch CoArm) (y : BlockItem-F I S A B C) → bare_item y ≡ x → ItemGood (roll-BlockItem x)
-  step_item x y is = subst (λ z. ItemGood (roll-BlockItem z)) is
-      (subst (λ spots. Waits table (λ sites. IsTrue (block_waits sites (core_block_item scene (roll-BlockItem (bare_item y))).made)) spots (core_block_item scene (roll-BlockItem (bare_item y))).sites)
-      (sym (fold-roll-BlockItem (List Spot) (List Spot) (List Spot) (List Spot) (List Spot) block_item_sites (statement_sites facts) (λ arm. lists arm.block) (λ branch. lists branch.block) (λ arm. maybe_lists arm.block) (bare_item y)))
-      (subst (λ made. Waits table (λ sites. IsTrue (block_waits sites made.made)) (block_item_sites (spots_item (bare_item y))) made.sites)
-      (sym (fold-roll-BlockItem (WithSites Block) (WithSites CoreStatement) (WithSites LoweredArm) (WithSites Guarded) (WithSites CoreCoArm) (item_made scene) (statement_made scene) (arm_made scene) (branch_made scene) (co_arm_made scene) (bare_item y)))
-      (item_good y)))
+    abbrev co_arms_core : List C → List (WithSites CoreCoArm)
+    co_arms_core arms = map (core_co_arm scene) (map (λ e. e.0) arms)
 
-  step_statement : (x : Statement-F BlockItem Statement Arm Branch CoArm) (y : Statement-F I S A B C) → bare y ≡ x → StatementGood (roll-Statement x)
-  step_statement x y is = subst (λ z. StatementGood (roll-Statement z)) is
-      (subst (λ spots. Waits table (λ sites. IsTrue (waits sites (core_statement scene (roll-Statement (bare y))).made)) spots (core_statement scene (roll-Statement (bare y))).sites)
-      (sym (fold-roll-Statement (List Spot) (List Spot) (List Spot) (List Spot) (List Spot) block_item_sites (statement_sites facts) (λ arm. lists arm.block) (λ branch. lists branch.block) (λ arm. maybe_lists arm.block) (bare y)))
-      (subst (λ made. Waits table (λ sites. IsTrue (waits sites made.made)) (statement_sites facts (spots_statement (bare y))) made.sites)
-      (sym (fold-roll-Statement (WithSites Block) (WithSites CoreStatement) (WithSites LoweredArm) (WithSites Guarded) (WithSites CoreCoArm) (item_made scene) (statement_made scene) (arm_made scene) (branch_made scene) (co_arm_made scene) (bare y)))
-      (statement_good y)))
+    items_good : (items : List I)
+        → Waits okay table (λ sites. IsTrue (block_waits test sites (items_core items).made)) (lists (map (block_item_in_sites facts) (map (λ e. e.0) items))) (items_core items).sites
+    items_good [] = none_waits (λ sites. refl)
+    items_good (item ∷ items) = waits_by (λ sites fits. block_appended sites (core_block_item scene item.0).made (items_core items).made fits.0 fits.1) (waits_both item.1 (items_good items))
 
-  step_arm : (x : Arm-F BlockItem Statement Arm Branch CoArm) (y : Arm-F I S A B C) → bare_arm y ≡ x → ArmGood (roll-Arm x)
-  step_arm x y is = subst (λ z. ArmGood (roll-Arm z)) is
-      (subst (λ spots. Waits table (λ sites. IsTrue (block_waits sites (core_arm scene (roll-Arm (bare_arm y))).made.block)) spots (core_arm scene (roll-Arm (bare_arm y))).sites)
-      (sym (fold-roll-Arm (List Spot) (List Spot) (List Spot) (List Spot) (List Spot) block_item_sites (statement_sites facts) (λ arm. lists arm.block) (λ branch. lists branch.block) (λ arm. maybe_lists arm.block) (bare_arm y)))
-      (subst (λ made. Waits table (λ sites. IsTrue (block_waits sites made.made.block)) (lists (map (block_item_in_sites facts) (map (λ e. e.0) y.block))) made.sites)
-      (sym (fold-roll-Arm (WithSites Block) (WithSites CoreStatement) (WithSites LoweredArm) (WithSites Guarded) (WithSites CoreCoArm) (item_made scene) (statement_made scene) (arm_made scene) (branch_made scene) (co_arm_made scene) (bare_arm y)))
-      (items_good y.block)))
+    branches_good : (branches : List B)
+        → Waits okay table (λ sites. IsTrue (all_true (map (guarded_fits sites) (all_made (branches_core branches))))) (lists (map (branch_sites facts) (map (λ e. e.0) branches))) (all_sites (branches_core branches))
+    branches_good [] = none_waits (λ sites. refl)
+    branches_good (branch ∷ branches) = waits_and (λ sites. guarded_fits sites (core_branch scene branch.0).made) (λ sites. all_true (map (guarded_fits sites) (all_made (branches_core branches)))) branch.1 (branches_good branches)
 
-  step_branch : (x : Branch-F BlockItem Statement Arm Branch CoArm) (y : Branch-F I S A B C) → bare_branch y ≡ x → BranchGood (roll-Branch x)
-  step_branch x y is = subst (λ z. BranchGood (roll-Branch z)) is
-      (subst (λ spots. Waits table (λ sites. IsTrue (guarded_fits sites (core_branch scene (roll-Branch (bare_branch y))).made)) spots (core_branch scene (roll-Branch (bare_branch y))).sites)
-      (sym (fold-roll-Branch (List Spot) (List Spot) (List Spot) (List Spot) (List Spot) block_item_sites (statement_sites facts) (λ arm. lists arm.block) (λ branch. lists branch.block) (λ arm. maybe_lists arm.block) (bare_branch y)))
-      (subst (λ made. Waits table (λ sites. IsTrue (guarded_fits sites made.made)) (lists (map (block_item_in_sites facts) (map (λ e. e.0) y.block))) made.sites)
-      (sym (fold-roll-Branch (WithSites Block) (WithSites CoreStatement) (WithSites LoweredArm) (WithSites Guarded) (WithSites CoreCoArm) (item_made scene) (statement_made scene) (arm_made scene) (branch_made scene) (co_arm_made scene) (bare_branch y)))
-      (branch_good y)))
+    co_arms_good : (arms : List C)
+        → Waits okay table (λ sites. IsTrue (all_true (map (arm_fits sites) (all_made (co_arms_core arms))))) (lists (map (co_arm_sites facts) (map (λ e. e.0) arms))) (all_sites (co_arms_core arms))
+    co_arms_good [] = none_waits (λ sites. refl)
+    co_arms_good (arm ∷ arms) = waits_and (λ sites. arm_fits sites (core_co_arm scene arm.0).made) (λ sites. all_true (map (arm_fits sites) (all_made (co_arms_core arms)))) arm.1 (co_arms_good arms)
 
-  step_co_arm : (x : CoArm-F BlockItem Statement Arm Branch CoArm) (y : CoArm-F I S A B C) → bare_co_arm y ≡ x → CoArmGood (roll-CoArm x)
-  step_co_arm x y is = subst (λ z. CoArmGood (roll-CoArm z)) is
-      (subst (λ spots. Waits table (λ sites. IsTrue (arm_fits sites (core_co_arm scene (roll-CoArm (bare_co_arm y))).made)) spots (core_co_arm scene (roll-CoArm (bare_co_arm y))).sites)
-      (sym (fold-roll-CoArm (List Spot) (List Spot) (List Spot) (List Spot) (List Spot) block_item_sites (statement_sites facts) (λ arm. lists arm.block) (λ branch. lists branch.block) (λ arm. maybe_lists arm.block) (bare_co_arm y)))
-      (subst (λ made. Waits table (λ sites. IsTrue (arm_fits sites made.made)) (maybe_lists (spots_co_arm (bare_co_arm y)).block) made.sites)
-      (sym (fold-roll-CoArm (WithSites Block) (WithSites CoreStatement) (WithSites LoweredArm) (WithSites Guarded) (WithSites CoreCoArm) (item_made scene) (statement_made scene) (arm_made scene) (branch_made scene) (co_arm_made scene) (bare_co_arm y)))
-      (co_arm_good y)))
+    arms_good : (arms : List A)
+        → Waits okay table (λ sites. IsTrue (list_all all_true (map (map (waits sites)) (blocks_of (arms_core arms))))) (lists (map (arm_sites facts) (map (λ e. e.0) arms))) (all_sites (arms_core arms))
+    arms_good [] = none_waits (λ sites. refl)
+    arms_good (arm ∷ arms) = waits_and (λ sites. block_waits test sites (core_arm scene arm.0).made.block) (λ sites. list_all all_true (map (map (waits sites)) (blocks_of (arms_core arms)))) arm.1 (arms_good arms)
 
-  pub statement_fits : (tree : Statement) → StatementGood tree
-  statement_fits = ind-Statement ItemGood StatementGood ArmGood BranchGood CoArmGood step_item step_statement step_arm step_branch step_co_arm
+    -- ---- the open trees
+
+    abbrev spots_statement : Statement-F BlockItem Statement Arm Branch CoArm → Statement-F (List Spot) (List Spot) (List Spot) (List Spot) (List Spot)
+    spots_statement =
+        map-Statement BlockItem Statement Arm Branch CoArm (List Spot) (List Spot) (List Spot) (List Spot) (List Spot)
+        (block_item_in_sites facts) (sites_in facts) (arm_sites facts) (branch_sites facts) (co_arm_sites facts)
+
+    abbrev made_statement : Statement-F BlockItem Statement Arm Branch CoArm → Statement-F (WithSites Block) (WithSites CoreStatement) (WithSites LoweredArm) (WithSites Guarded) (WithSites CoreCoArm)
+    made_statement =
+        map-Statement BlockItem Statement Arm Branch CoArm (WithSites Block) (WithSites CoreStatement) (WithSites LoweredArm) (WithSites Guarded) (WithSites CoreCoArm)
+        (core_block_item scene) (core_statement scene) (core_arm scene) (core_branch scene) (core_co_arm scene)
+
+    abbrev bare : Statement-F I S A B C → Statement-F BlockItem Statement Arm Branch CoArm
+    bare = map-Statement I S A B C BlockItem Statement Arm Branch CoArm (λ e. e.0) (λ e. e.0) (λ e. e.0) (λ e. e.0) (λ e. e.0)
+
+    statement_good : (y : Statement-F I S A B C)
+        → Waits okay table (λ sites. IsTrue (waits sites (statement_made scene (made_statement (bare y))).made)) (statement_sites facts (spots_statement (bare y))) (statement_made scene (made_statement (bare y))).sites
+    statement_good (Statement-F.Skip span) = none_waits (λ sites. act_fits sites _ _)
+    statement_good (Statement-F.Exit span) = none_waits (λ sites. act_fits sites _ _)
+    statement_good (Statement-F.Next span) = none_waits (λ sites. act_fits sites _ _)
+    statement_good (Statement-F.Return span) = none_waits (λ sites. act_fits sites _ _)
+    statement_good (Statement-F.Reply span) = none_waits (λ sites. act_fits sites _ _)
+    statement_good (Statement-F.Stop span status) = none_waits (λ sites. act_fits sites _ _)
+    statement_good (Statement-F.Call span with_call invocation) = call_waits scene span invocation (function_called scene.facts invocation) (is_wait facts invocation) (agree invocation)
+    statement_good (Statement-F.Send span invocation) = none_waits (λ sites. act_fits sites _ _)
+    statement_good (Statement-F.Forward span invocation) = none_waits (λ sites. act_fits sites _ _)
+    statement_good (Statement-F.Receive span operation places) = receive_waits scene span (meant_by scene.facts operation) places
+    statement_good (Statement-F.Assign span target value) = none_waits (λ sites. act_fits sites _ _)
+    statement_good (Statement-F.Exchange span left right) = none_waits (λ sites. act_fits sites _ _)
+    statement_good (Statement-F.Increment span target) = none_waits (λ sites. act_fits sites _ _)
+    statement_good (Statement-F.Decrement span target) = none_waits (λ sites. act_fits sites _ _)
+    statement_good (Statement-F.If span branches None) =
+        waits_by
+        (λ sites fits. rolled sites _ (Core-F.If (line_of span) (all_made (branches_core branches)) []) (core.rolls-If _ _ _) (both _ true fits.0 refl))
+        (waits_both (branches_good branches) (nothing_waits table))
+    statement_good (Statement-F.If span branches (Some otherwise)) =
+        waits_by
+        (λ sites fits. rolled sites _ (Core-F.If (line_of span) (all_made (branches_core branches)) (items_core otherwise).made) (core.rolls-If _ _ _) (both _ _ fits.0 fits.1))
+        (waits_both (branches_good branches) (items_good otherwise))
+    statement_good (Statement-F.Do span branches None) =
+        waits_by
+        (λ sites fits. rolled sites _ (Core-F.Do (line_of span) (all_made (branches_core branches)) None) (core.rolls-Do _ _ _) (both _ true fits.0 refl))
+        (waits_both (branches_good branches) (nothing_waits table))
+    statement_good (Statement-F.Do span branches (Some otherwise)) =
+        waits_by
+        (λ sites fits. rolled sites _ (Core-F.Do (line_of span) (all_made (branches_core branches)) (Some (items_core otherwise).made)) (core.rolls-Do _ _ _) (both _ _ fits.0 fits.1))
+        (waits_both (branches_good branches) (items_good otherwise))
+    statement_good (Statement-F.ForAll span quantifiers block) =
+        waits_by (λ sites fits. rolled sites _ (Core-F.Fa (line_of span) (quantifiers_core scene quantifiers) (items_core block).made) (core.rolls-Fa _ _ _) fits) (items_good block)
+    statement_good (Statement-F.In span arms None) =
+        waits_by
+        (λ sites fits.
+        rolled sites _ (Core-F.In (line_of span) (site_number scene (spot_of span)) (blocks_of (arms_core arms)) []) (core.rolls-In _ _ _ _)
+        (both _ _ (subst (λ count. IsTrue (site_passes test sites (site_number scene (spot_of span)) count false)) (one_block_each (map (waits sites)) (arms_core arms)) fits.0) (both _ true fits.1.0 refl)))
+        (in_waits (spot_of span) (site_of (scope_of_arms (arms_core arms)) (arms_of (arms_core arms)) false) (length (arms_of (arms_core arms))) false (both _ true (eq-eqb (length (arms_of (arms_core arms))) (length (arms_of (arms_core arms))) refl) refl) (waits_both (arms_good arms) (nothing_waits table)))
+    statement_good (Statement-F.In span arms (Some otherwise)) =
+        waits_by
+        (λ sites fits.
+        rolled sites _ (Core-F.In (line_of span) (site_number scene (spot_of span)) (blocks_of (arms_core arms)) (items_core otherwise).made) (core.rolls-In _ _ _ _)
+        (both _ _
+        (subst (λ filled. IsTrue (site_passes test sites (site_number scene (spot_of span)) (length (map (map (waits sites)) (blocks_of (arms_core arms)))) filled)) (filled_each (waits sites) (items_core otherwise).made)
+        (subst (λ count. IsTrue (site_passes test sites (site_number scene (spot_of span)) count (is_filled (items_core otherwise).made))) (one_block_each (map (waits sites)) (arms_core arms)) fits.0))
+        (both _ _ fits.1.0 fits.1.1)))
+        (in_waits (spot_of span) (site_of (scope_of_arms (arms_core arms)) (arms_of (arms_core arms)) true) (length (arms_of (arms_core arms))) (is_filled (items_core otherwise).made) (both _ true (eq-eqb (length (arms_of (arms_core arms))) (length (arms_of (arms_core arms))) refl) refl) (waits_both (arms_good arms) (items_good otherwise)))
+    statement_good (Statement-F.Co span arms) =
+        waits_by (λ sites fits. rolled sites _ (Core-F.Co (line_of span) (all_made (co_arms_core arms))) (core.rolls-Co _ _) fits) (co_arms_good arms)
+    statement_good (Statement-F.Destroy span target) = none_waits (λ sites. act_fits sites _ _)
+    statement_good (Statement-F.Create span create) = none_waits (λ sites. act_fits sites _ _)
+
+    -- ---- arms, branches and items
+
+    abbrev spots_item : BlockItem-F BlockItem Statement Arm Branch CoArm → BlockItem-F (List Spot) (List Spot) (List Spot) (List Spot) (List Spot)
+    spots_item =
+        map-BlockItem BlockItem Statement Arm Branch CoArm (List Spot) (List Spot) (List Spot) (List Spot) (List Spot)
+        (block_item_in_sites facts) (sites_in facts) (arm_sites facts) (branch_sites facts) (co_arm_sites facts)
+
+    abbrev made_item : BlockItem-F BlockItem Statement Arm Branch CoArm → BlockItem-F (WithSites Block) (WithSites CoreStatement) (WithSites LoweredArm) (WithSites Guarded) (WithSites CoreCoArm)
+    made_item =
+        map-BlockItem BlockItem Statement Arm Branch CoArm (WithSites Block) (WithSites CoreStatement) (WithSites LoweredArm) (WithSites Guarded) (WithSites CoreCoArm)
+        (core_block_item scene) (core_statement scene) (core_arm scene) (core_branch scene) (core_co_arm scene)
+
+    abbrev bare_item : BlockItem-F I S A B C → BlockItem-F BlockItem Statement Arm Branch CoArm
+    bare_item = map-BlockItem I S A B C BlockItem Statement Arm Branch CoArm (λ e. e.0) (λ e. e.0) (λ e. e.0) (λ e. e.0) (λ e. e.0)
+
+    item_good : (y : BlockItem-F I S A B C)
+        → Waits okay table (λ sites. IsTrue (block_waits test sites (item_made scene (made_item (bare_item y))).made)) (block_item_sites (spots_item (bare_item y))) (item_made scene (made_item (bare_item y))).sites
+    item_good (BlockItem-F.Const constant) = none_waits (λ sites. const_fits sites scene Own constant)
+    item_good (BlockItem-F.Var variables) = none_waits (λ sites. var_fits sites scene Own variables)
+    item_good (BlockItem-F.Statement statement) = waits_by (λ sites fits. both (waits sites (core_statement scene statement.0).made) true fits refl) statement.1
+
+    abbrev made_arm : Arm-F BlockItem Statement Arm Branch CoArm → Arm-F (WithSites Block) (WithSites CoreStatement) (WithSites LoweredArm) (WithSites Guarded) (WithSites CoreCoArm)
+    made_arm =
+        map-Arm BlockItem Statement Arm Branch CoArm (WithSites Block) (WithSites CoreStatement) (WithSites LoweredArm) (WithSites Guarded) (WithSites CoreCoArm)
+        (core_block_item scene) (core_statement scene) (core_arm scene) (core_branch scene) (core_co_arm scene)
+
+    abbrev bare_arm : Arm-F I S A B C → Arm-F BlockItem Statement Arm Branch CoArm
+    bare_arm = map-Arm I S A B C BlockItem Statement Arm Branch CoArm (λ e. e.0) (λ e. e.0) (λ e. e.0) (λ e. e.0) (λ e. e.0)
+
+    abbrev made_branch : Branch-F BlockItem Statement Arm Branch CoArm → Branch-F (WithSites Block) (WithSites CoreStatement) (WithSites LoweredArm) (WithSites Guarded) (WithSites CoreCoArm)
+    made_branch =
+        map-Branch BlockItem Statement Arm Branch CoArm (WithSites Block) (WithSites CoreStatement) (WithSites LoweredArm) (WithSites Guarded) (WithSites CoreCoArm)
+        (core_block_item scene) (core_statement scene) (core_arm scene) (core_branch scene) (core_co_arm scene)
+
+    abbrev bare_branch : Branch-F I S A B C → Branch-F BlockItem Statement Arm Branch CoArm
+    bare_branch = map-Branch I S A B C BlockItem Statement Arm Branch CoArm (λ e. e.0) (λ e. e.0) (λ e. e.0) (λ e. e.0) (λ e. e.0)
+
+    branch_good : (y : Branch-F I S A B C)
+        → Waits okay table (λ sites. IsTrue (guarded_fits sites (branch_made scene (made_branch (bare_branch y))).made)) (lists (map (block_item_in_sites facts) (map (λ e. e.0) y.block))) (items_core y.block).sites
+    branch_good y =
+        waits_by (λ sites fits. subst IsTrue (sym (fold-roll-Guarded Bool Bool Bool (statement_waits test sites) co_arm_waits guarded_waits _)) fits) (items_good y.block)
+
+    abbrev made_co_arm : CoArm-F BlockItem Statement Arm Branch CoArm → CoArm-F (WithSites Block) (WithSites CoreStatement) (WithSites LoweredArm) (WithSites Guarded) (WithSites CoreCoArm)
+    made_co_arm =
+        map-CoArm BlockItem Statement Arm Branch CoArm (WithSites Block) (WithSites CoreStatement) (WithSites LoweredArm) (WithSites Guarded) (WithSites CoreCoArm)
+        (core_block_item scene) (core_statement scene) (core_arm scene) (core_branch scene) (core_co_arm scene)
+
+    abbrev bare_co_arm : CoArm-F I S A B C → CoArm-F BlockItem Statement Arm Branch CoArm
+    bare_co_arm = map-CoArm I S A B C BlockItem Statement Arm Branch CoArm (λ e. e.0) (λ e. e.0) (λ e. e.0) (λ e. e.0) (λ e. e.0)
+
+    abbrev spots_co_arm : CoArm-F BlockItem Statement Arm Branch CoArm → CoArm-F (List Spot) (List Spot) (List Spot) (List Spot) (List Spot)
+    spots_co_arm =
+        map-CoArm BlockItem Statement Arm Branch CoArm (List Spot) (List Spot) (List Spot) (List Spot) (List Spot)
+        (block_item_in_sites facts) (sites_in facts) (arm_sites facts) (branch_sites facts) (co_arm_sites facts)
+
+    abbrev CoArmFits : CoArm-F I S A B C → Type 0
+    CoArmFits y =
+        Waits okay table (λ sites. IsTrue (co_arm_waits (opened_arm sites (out-CoArm (co_arm_made scene (made_co_arm (bare_co_arm y))).made))))
+        (maybe_lists (spots_co_arm (bare_co_arm y)).block) (co_arm_made scene (made_co_arm (bare_co_arm y))).sites
+
+    co_arm_parts_good : (span : Span) (quantifiers : List Quantifier) (target : Option Expr) (with_call : Bool) (invocation : Invocation) (block : Option (List I))
+        → CoArmFits (record { span = span; quantifiers = quantifiers; target = target; with_call = with_call; invocation = invocation; block = block })
+    co_arm_parts_good span quantifiers target with_call invocation None = none_waits (λ sites. refl)
+    co_arm_parts_good span quantifiers target with_call invocation (Some items) = items_good items
+
+    co_arm_good : (y : CoArm-F I S A B C)
+        → Waits okay table (λ sites. IsTrue (arm_fits sites (co_arm_made scene (made_co_arm (bare_co_arm y))).made)) (maybe_lists (spots_co_arm (bare_co_arm y)).block) (co_arm_made scene (made_co_arm (bare_co_arm y))).sites
+    co_arm_good y =
+        waits_by (λ sites fits. subst IsTrue (sym (fold_roll_core_arm Bool Bool Bool (statement_waits test sites) co_arm_waits guarded_waits _)) fits)
+        (co_arm_parts_good y.span y.quantifiers y.target y.with_call y.invocation y.block)
+
+    -- ---- all trees
+
+    step_item : (x : BlockItem-F BlockItem Statement Arm Branch CoArm) (y : BlockItem-F I S A B C) → bare_item y ≡ x → ItemGood (roll-BlockItem x)
+    step_item x y is = subst (λ z. ItemGood (roll-BlockItem z)) is
+        (subst (λ spots. Waits okay table (λ sites. IsTrue (block_waits test sites (core_block_item scene (roll-BlockItem (bare_item y))).made)) spots (core_block_item scene (roll-BlockItem (bare_item y))).sites)
+        (sym (fold-roll-BlockItem (List Spot) (List Spot) (List Spot) (List Spot) (List Spot) block_item_sites (statement_sites facts) (λ arm. lists arm.block) (λ branch. lists branch.block) (λ arm. maybe_lists arm.block) (bare_item y)))
+        (subst (λ made. Waits okay table (λ sites. IsTrue (block_waits test sites made.made)) (block_item_sites (spots_item (bare_item y))) made.sites)
+        (sym (fold-roll-BlockItem (WithSites Block) (WithSites CoreStatement) (WithSites LoweredArm) (WithSites Guarded) (WithSites CoreCoArm) (item_made scene) (statement_made scene) (arm_made scene) (branch_made scene) (co_arm_made scene) (bare_item y)))
+        (item_good y)))
+
+    step_statement : (x : Statement-F BlockItem Statement Arm Branch CoArm) (y : Statement-F I S A B C) → bare y ≡ x → StatementGood (roll-Statement x)
+    step_statement x y is = subst (λ z. StatementGood (roll-Statement z)) is
+        (subst (λ spots. Waits okay table (λ sites. IsTrue (waits sites (core_statement scene (roll-Statement (bare y))).made)) spots (core_statement scene (roll-Statement (bare y))).sites)
+        (sym (fold-roll-Statement (List Spot) (List Spot) (List Spot) (List Spot) (List Spot) block_item_sites (statement_sites facts) (λ arm. lists arm.block) (λ branch. lists branch.block) (λ arm. maybe_lists arm.block) (bare y)))
+        (subst (λ made. Waits okay table (λ sites. IsTrue (waits sites made.made)) (statement_sites facts (spots_statement (bare y))) made.sites)
+        (sym (fold-roll-Statement (WithSites Block) (WithSites CoreStatement) (WithSites LoweredArm) (WithSites Guarded) (WithSites CoreCoArm) (item_made scene) (statement_made scene) (arm_made scene) (branch_made scene) (co_arm_made scene) (bare y)))
+        (statement_good y)))
+
+    step_arm : (x : Arm-F BlockItem Statement Arm Branch CoArm) (y : Arm-F I S A B C) → bare_arm y ≡ x → ArmGood (roll-Arm x)
+    step_arm x y is = subst (λ z. ArmGood (roll-Arm z)) is
+        (subst (λ spots. Waits okay table (λ sites. IsTrue (block_waits test sites (core_arm scene (roll-Arm (bare_arm y))).made.block)) spots (core_arm scene (roll-Arm (bare_arm y))).sites)
+        (sym (fold-roll-Arm (List Spot) (List Spot) (List Spot) (List Spot) (List Spot) block_item_sites (statement_sites facts) (λ arm. lists arm.block) (λ branch. lists branch.block) (λ arm. maybe_lists arm.block) (bare_arm y)))
+        (subst (λ made. Waits okay table (λ sites. IsTrue (block_waits test sites made.made.block)) (lists (map (block_item_in_sites facts) (map (λ e. e.0) y.block))) made.sites)
+        (sym (fold-roll-Arm (WithSites Block) (WithSites CoreStatement) (WithSites LoweredArm) (WithSites Guarded) (WithSites CoreCoArm) (item_made scene) (statement_made scene) (arm_made scene) (branch_made scene) (co_arm_made scene) (bare_arm y)))
+        (items_good y.block)))
+
+    step_branch : (x : Branch-F BlockItem Statement Arm Branch CoArm) (y : Branch-F I S A B C) → bare_branch y ≡ x → BranchGood (roll-Branch x)
+    step_branch x y is = subst (λ z. BranchGood (roll-Branch z)) is
+        (subst (λ spots. Waits okay table (λ sites. IsTrue (guarded_fits sites (core_branch scene (roll-Branch (bare_branch y))).made)) spots (core_branch scene (roll-Branch (bare_branch y))).sites)
+        (sym (fold-roll-Branch (List Spot) (List Spot) (List Spot) (List Spot) (List Spot) block_item_sites (statement_sites facts) (λ arm. lists arm.block) (λ branch. lists branch.block) (λ arm. maybe_lists arm.block) (bare_branch y)))
+        (subst (λ made. Waits okay table (λ sites. IsTrue (guarded_fits sites made.made)) (lists (map (block_item_in_sites facts) (map (λ e. e.0) y.block))) made.sites)
+        (sym (fold-roll-Branch (WithSites Block) (WithSites CoreStatement) (WithSites LoweredArm) (WithSites Guarded) (WithSites CoreCoArm) (item_made scene) (statement_made scene) (arm_made scene) (branch_made scene) (co_arm_made scene) (bare_branch y)))
+        (branch_good y)))
+
+    step_co_arm : (x : CoArm-F BlockItem Statement Arm Branch CoArm) (y : CoArm-F I S A B C) → bare_co_arm y ≡ x → CoArmGood (roll-CoArm x)
+    step_co_arm x y is = subst (λ z. CoArmGood (roll-CoArm z)) is
+        (subst (λ spots. Waits okay table (λ sites. IsTrue (arm_fits sites (core_co_arm scene (roll-CoArm (bare_co_arm y))).made)) spots (core_co_arm scene (roll-CoArm (bare_co_arm y))).sites)
+        (sym (fold-roll-CoArm (List Spot) (List Spot) (List Spot) (List Spot) (List Spot) block_item_sites (statement_sites facts) (λ arm. lists arm.block) (λ branch. lists branch.block) (λ arm. maybe_lists arm.block) (bare_co_arm y)))
+        (subst (λ made. Waits okay table (λ sites. IsTrue (arm_fits sites made.made)) (maybe_lists (spots_co_arm (bare_co_arm y)).block) made.sites)
+        (sym (fold-roll-CoArm (WithSites Block) (WithSites CoreStatement) (WithSites LoweredArm) (WithSites Guarded) (WithSites CoreCoArm) (item_made scene) (statement_made scene) (arm_made scene) (branch_made scene) (co_arm_made scene) (bare_co_arm y)))
+        (co_arm_good y)))
+
+    pub statement_fits : (tree : Statement) → StatementGood tree
+    statement_fits = ind-Statement ItemGood StatementGood ArmGood BranchGood CoArmGood step_item step_statement step_arm step_branch step_co_arm
