@@ -1,28 +1,23 @@
 -- Where no rule is broken nothing stands in the core where it has nothing to leave or to answer.
-use Rattle.std.proofs.Common.{◌≡◌, refl, sym, ap, subst, Bool, true, false, true≢false, ◌&&◌, List, [], ◌∷◌, ◌++◌, Option, Some, None, map, flat_map}
+use Rattle.std.proofs.Common.{◌≡◌, refl, sym, subst, Bool, true, false, true≢false, List, [], ◌∷◌, ◌++◌, Option, Some, None, map}
 use Rattle.std.specs.Prelude.{IsTrue, is_some, if◌then◌else◌}
 use Rattle.std.specs.List.{list_all}
-use Rattle.std.specs.Option.{option_map}
-use Rattle.std.proofs.lemmas.List.Folds.{list_all-append}
 use Rattle.std.proofs.lemmas.List.{map-append}
 use Rattle.sr_core.specs.declared.expression.Expr.{Expr as CoreExpr}
-use Rattle.sr_core.specs.declared.site.Site.{Site}
 use Rattle.sr_core.specs.declared.statement.Action.{Action}
 use Rattle.sr_core.specs.declared.statement.CoArm.{CoArm as CoreCoArm, out-CoArm}
 use Rattle.sr_core.specs.declared.statement.Guarded.{Guarded}
 use Rattle.sr_core.specs.declared.statement.Statement.{Statement as CoreStatement, roll-Statement as roll_core, map-Statement as map_core}
 use Rattle.sr_core.specs.declared.statement.Statement.TheFolds.{fold-Statement as fold_core, fold-CoArm as fold_core_arm, fold-Guarded, fold-roll-Statement as fold_roll_core, fold-roll-CoArm as fold_roll_core_arm, fold-roll-Guarded, map-CoArm as map_core_arm}
-use Rattle.sr_core.specs.declared.statement.Statement.TheOpen.{Statement-F as Core-F, CoArm-F as CoreArm-F, Guarded-F}
+use Rattle.sr_core.specs.declared.statement.Statement.TheOpen.{Statement-F as Core-F, CoArm-F as CoreArm-F}
 use Rattle.sr_core.specs.declared.statement.Statement.TheVariants as core
-use Rattle.sr_core.specs.Leaving.{Enclosing, Rule, all_allowed, block_allowed, within_arm, within_loop, action_allowed, co_arm_allowed, guarded_allowed, statement_allowed}
-use Rattle.sr_core.specs.Tests.{if_some}
-use Rattle.sr_check.specs.Contexts.{Context, Steps, in_order, with_facts, looping, with_more}
+use Rattle.sr_core.specs.Leaving.{Enclosing, Rule, all_allowed, block_allowed, within_arm, action_allowed, co_arm_allowed, guarded_allowed, statement_allowed}
+use Rattle.sr_check.specs.Contexts.{Context, Steps, in_order, with_facts, looping}
 use Rattle.sr_check.specs.Invoking.{invoked_found, is_serving, may_reply, started_found}
 use Rattle.sr_check.specs.Quantifying.{expr_with, quantifiers_found, quantifiers_known}
 use Rattle.sr_check.specs.Services.{head_found, operation_named}
 use Rattle.sr_check.specs.Uses.{condition_rule}
-use Rattle.sr_check.specs.Statements.{ArmSteps, CoArmSteps, arm_context, arms_at, arm_read, arm_step, block_item_read, branch_read, branch_step, co_arms_at, co_arm_inner, co_arm_read, co_arm_step, guards_found, item_step, maybe_block, mixture_found, statement_read, statement_step}
-use Rattle.sr_names.specs.declared.finding.Finding.{Finding}
+use Rattle.sr_check.specs.Statements.{ArmSteps, CoArmSteps, arm_context, arms_at, arm_read, arm_step, block_item_read, branch_read, branch_step, co_arms_at, co_arm_read, co_arm_step, guards_found, item_step, mixture_found, statement_read, statement_step}
 use Rattle.sr_names.specs.declared.predefined.Predefined.{Predefined}
 use Rattle.sr_names.specs.declared.predefined.Predefined.TheVariants as predefined
 use Rattle.sr_names.specs.declared.spot.Spot.{Spot}
@@ -47,7 +42,7 @@ use Rattle.sr_tree.specs.declared.expr.Expr.{Expr}
 use Rattle.sr_tree.specs.declared.expr.Invocation.{Invocation}
 use Rattle.sr_tree.specs.declared.statement.Arm.{Arm, roll-Arm}
 use Rattle.sr_tree.specs.declared.statement.BlockItem.{BlockItem, roll-BlockItem}
-use Rattle.sr_tree.specs.declared.statement.BlockItem.TheFolds.{fold-roll-Arm, fold-roll-BlockItem, fold-roll-Branch, fold-roll-CoArm, fold-roll-Statement, ind-Arm, ind-BlockItem, ind-Statement, map-Arm, map-BlockItem, map-Branch, map-CoArm, map-Statement}
+use Rattle.sr_tree.specs.declared.statement.BlockItem.TheFolds.{fold-roll-Arm, fold-roll-BlockItem, fold-roll-Branch, fold-roll-CoArm, fold-roll-Statement, ind-Statement, map-Arm, map-BlockItem, map-Branch, map-CoArm, map-Statement}
 use Rattle.sr_tree.specs.declared.statement.BlockItem.TheOpen.{Arm-F, BlockItem-F, Branch-F, CoArm-F, Statement-F}
 use Rattle.sr_tree.specs.declared.statement.Branch.{Branch, roll-Branch}
 use Rattle.sr_tree.specs.declared.statement.CoArm.{CoArm, roll-CoArm}
@@ -56,7 +51,7 @@ use Rattle.sr_tree.specs.declared.statement.Statement.{Statement, roll-Statement
 use Rattle.sr_value.specs.declared.place.Place.{Place}
 use Rattle.sr_value.specs.declared.place.Span.{Span}
 use Rattle.sr_lower_expr.specs.declared.scene.Scene.{Scene}
-use Rattle.sr_desugar.specs.Statements.{LoweredArm, Block, WithSites, all_made, arm_made, block_made, blocks_of, branch_made, call_action, call_made, co_arm_made, core_arm, core_block_item, core_branch, core_co_arm, core_statement, item_made, maybe_made, named_action, quantifiers_core, receive_assign, receive_made, statement_made}
+use Rattle.sr_desugar.specs.Statements.{LoweredArm, Block, WithSites, all_made, arm_made, block_made, blocks_of, branch_made, call_action, call_made, co_arm_made, core_arm, core_block_item, core_branch, core_co_arm, core_statement, item_made, named_action, quantifiers_core, receive_assign, receive_made, statement_made}
 use Rattle.sr_desugar.proofs.Waits.{all_appended, both}
 use Rattle.sr_check.specs.ErrorFree.{ErrorFree}
 use Rattle.sr_check.proofs.ErrorFree.{rule_met, error_free_first, error_free_second}

@@ -53,7 +53,8 @@ use Rattle.sr_desugar.specs.Statements.{block_made, semaphore_sends, semaphores_
 use Rattle.sr_desugar.proofs.Waits.{all_appended, both}
 use Rattle.sr_front.proofs.Allowed.{act_allowed, allowed, enclosing_of, block_appended, const_allowed, never, rolled, sends_allowed, statement_is_allowed, var_allowed}
 use Rattle.sr_check.specs.ErrorFree.{ErrorFree}
-use Rattle.sr_check.proofs.ErrorFree.{error_free, error_free_both, error_free_first, error_free_second}
+use Rattle.sr_check.proofs.Kept.{none_found}
+use Rattle.sr_check.proofs.ErrorFree.{error_free_both, error_free_first, error_free_second}
 
 -- ---- blocks
 
@@ -233,4 +234,4 @@ core_allowed uses specs files facts whole =
 
 -- where no rule of kinds is broken nothing is misplaced
 pub accepted_allowed : (uses : Meanings) (specs : Specs) (files : List File) (facts : Facts) → first_refused uses specs files ≡ None → IsTrue (all_allowed_in (core_of files facts))
-accepted_allowed uses specs files facts none = core_allowed uses specs files facts (error_free (checked uses specs files).found none)
+accepted_allowed uses specs files facts none = core_allowed uses specs files facts (none_found uses specs files none)

@@ -1,21 +1,20 @@
 -- A call that waits by the facts of a program waits by what its names mean.
-use Rattle.std.proofs.Common.{◌≡◌, refl, ap, sym, ◌∙◌, true, false, Bool, List, [], ◌∷◌, Option, Some, None, unwrap_or}
+use Rattle.std.proofs.Common.{◌≡◌, refl, ap, ◌∙◌, true, List, [], ◌∷◌, Option, Some, None, unwrap_or}
 use Rattle.std.specs.Prelude.{All}
 use Rattle.std.specs.Option.{option_map}
 use Rattle.std.proofs.lemmas.Bool.{false≢true}
 use Rattle.std.proofs.lemmas.List.Elements.{All-cons, All-nil}
-use Rattle.sr_check.specs.Servicing.{call_waits, expr_meant, first_meant, layer_meant, layer_waits, waits_by}
+use Rattle.sr_check.specs.Servicing.{first_meant, layer_meant, layer_waits, waits_by}
 use Rattle.sr_check_expr.specs.declared.facts.Facts.{Facts}
 use Rattle.sr_names.specs.declared.meaning.Decl.{Decl}
 use Rattle.sr_names.specs.declared.meaning.Meaning.{Meaning}
 use Rattle.sr_names.specs.declared.meaning.Meaning.TheVariants.{Predefined as MeansPredefined, Declared}
-use Rattle.sr_names.specs.declared.predefined.Predefined.{Predefined}
 use Rattle.sr_names.specs.declared.predefined.Predefined.TheVariants as predefined
 use Rattle.sr_names.specs.declared.spot.Spot.{Spot}
 use Rattle.sr_names.specs.Spots.{spot_of}
 use Rattle.sr_names.specs.Uses.{meaning_at}
-use Rattle.sr_check_expr.specs.Meanings.{layer_function, layer_operation, operation_meant, predefined_in}
-use Rattle.sr_outline.specs.Numbers.{is_p, is_wait, wait_operation, waited_by}
+use Rattle.sr_check_expr.specs.Meanings.{layer_function, layer_operation, predefined_in}
+use Rattle.sr_outline.specs.Numbers.{is_p, waited_by}
 use Rattle.sr_tree.specs.declared.expr.Create.{Create}
 use Rattle.sr_tree.specs.declared.expr.Create.TheOpen.{Expr-F}
 use Rattle.sr_tree.specs.declared.expr.Expr.{Expr, out-Expr}
@@ -24,7 +23,7 @@ use Rattle.sr_tree.specs.declared.expr.Part.{Part}
 use Rattle.sr_value.specs.declared.place.Span.{Span}
 use Rattle.sr_tree.specs.declared.component.Component.{Component}
 use Rattle.sr_desugar.specs.Core.{standing}
-use Rattle.sr_front.proofs.Serviced.{Called, IsClear, WaitsFor, component_calls}
+use Rattle.sr_front.proofs.Serviced.{Called, IsClear, component_calls}
 
 -- the operation that an expression names is what it means
 layer_same : (facts : Facts) (layer : Expr-F Create Expr Invocation Part) → layer_operation facts layer ≡ option_map (λ decl. decl.spot) (layer_meant facts.uses layer)
@@ -32,7 +31,7 @@ layer_same facts (Expr-F.Name name) = refl
 layer_same facts (Expr-F.Field span owner field) = refl
 layer_same facts _ = refl
 
-waits_for : (facts : Facts) (span : Span) (arguments : List Expr) (decl : Decl) → first_meant facts.uses arguments ≡ Some decl → waited_by facts span arguments ≡ decl.spot
+pub waits_for : (facts : Facts) (span : Span) (arguments : List Expr) (decl : Decl) → first_meant facts.uses arguments ≡ Some decl → waited_by facts span arguments ≡ decl.spot
 waits_for facts span [] decl is = absurd (none_some decl is)
   where
     none_some : (d : Decl) → None ≡ Some d → ⊥

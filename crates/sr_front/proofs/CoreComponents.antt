@@ -1,9 +1,9 @@
 -- The components of the core of a program.
-use Rattle.std.proofs.Common.{◌≡◌, ◌⊎◌, ℕ, zero, suc, ◌+◌, ◌-◌, ◌<◌, ◌≤◌, Bool, true, false, not, ◌&&◌, ◌||◌, cond, eqb, List, [], ◌∷◌, ◌++◌, Option, None, Some, refl, ap, sym, ◌∙◌, subst, inl, inr, length, map, unwrap_or, arith, sum_by}
-use Rattle.std.specs.Prelude.{fold, flat_map, slice_get}
-use Rattle.std.specs.List.{IsDistinct, list_any, list_all, enumerate_from}
-use Rattle.std.specs.Option.{option_map, option_and_then, option_to_list}
-use Rattle.std.proofs.lemmas.Bool.{true≢false, false≢true, or_cases, and_from, and_parts, eqb-true, eq-eqb, not_from_false, or_right, or_left}
+use Rattle.std.proofs.Common.{◌≡◌, ℕ, zero, suc, ◌+◌, ◌-◌, ◌<◌, Bool, true, false, not, ◌&&◌, ◌||◌, eqb, List, [], ◌∷◌, ◌++◌, Option, None, Some, refl, ap, sym, ◌∙◌, subst, length, map, arith}
+use Rattle.std.specs.Prelude.{slice_get}
+use Rattle.std.specs.List.{list_all, enumerate_from}
+use Rattle.std.specs.Option.{option_map, option_and_then}
+use Rattle.std.proofs.lemmas.Bool.{false≢true, and_from, and_parts, eqb-true, eq-eqb, not_from_false, or_right, or_left}
 use Rattle.std.proofs.lemmas.List.{append-nil, length-map}
 use Rattle.std.proofs.lemmas.List.FromFn.{length-enumerate_from}
 use Rattle.std.proofs.lemmas.List.Folds.{list_all-map}
@@ -14,7 +14,7 @@ use Rattle.sr_core.specs.declared.component.Component.{Component as CoreComponen
 use Rattle.sr_core.specs.declared.component.Core.{Core}
 use Rattle.sr_core.specs.Tests as tests
 use Rattle.sr_core.specs.WellFormed as wf
-use Rattle.sr_desugar.specs.Core.{LoweredComponent, core_of, whole_of, wholes_of, wholes_from, all_components, component_formals, component_codes, scene_of}
+use Rattle.sr_desugar.specs.Core.{LoweredComponent, core_of, whole_of, wholes_of, wholes_from, all_components, component_codes, scene_of}
 use Rattle.sr_outline.specs.Outline.{tables_of, imports_of as numbers_of, imports_at, needs_of, member}
 use Rattle.sr_scope.specs.Components.{can_be_main, last_component, last_of, is_none_of, sort_of}
 use Rattle.sr_tables.specs.Parts.{components_in, kind_of}

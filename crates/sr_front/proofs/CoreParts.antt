@@ -1,28 +1,20 @@
 -- The core of a program whose names have their meanings has its components as they must be.
-use Rattle.std.proofs.Common.{◌≡◌, ℕ, true, List, map, refl, sym, ap, ◌∙◌, subst, Ok}
-use Rattle.std.specs.List.{IsDistinct, list_all}
+use Rattle.std.proofs.Common.{◌≡◌, true, List, map, sym, ap, ◌∙◌, subst, Ok}
+use Rattle.std.specs.List.{list_all}
 use Rattle.sr_check_expr.specs.declared.facts.Facts.{Facts}
 use Rattle.sr_core.specs.WellFormed as wf
 use Rattle.sr_desugar.specs.Core.{core_of}
-use Rattle.sr_names.specs.declared.meaning.Decl.{Decl}
-use Rattle.sr_names.specs.declared.meaning.Meaning.TheVariants.{Declared}
-use Rattle.sr_names.specs.declared.spot.Spot.{Spot}
-use Rattle.sr_names.specs.Spots.{same_spot, spot_of}
-use Rattle.sr_names.specs.Tables.{declared_as}
+use Rattle.sr_names.specs.Spots.{spot_of}
 use Rattle.sr_names.specs.Uses.{meaning_at}
-use Rattle.sr_outline.specs.Outline.{member, imports_at, imports_of as numbers_of, tables_of}
-use Rattle.sr_outline.specs.Numbers.{component_spots}
+use Rattle.sr_outline.specs.Outline.{imports_of as numbers_of}
 use Rattle.sr_scope.specs.declared.program.Names.{Names}
-use Rattle.sr_scope.specs.Components.{imports_of}
-use Rattle.sr_scope.specs.Resolved.{resolved, findings, program}
+use Rattle.sr_scope.specs.Resolved.{resolved, findings}
 use Rattle.sr_tables.specs.Parts.{components_in, component_spot}
-use Rattle.sr_tree.specs.declared.component.Component.{Component}
 use Rattle.sr_tree.specs.declared.component.File.{File}
-use Rattle.sr_tree.specs.declared.name.Name.{Name}
-use Rattle.sr_scope.specs.Uses.{IsIn, OneMeaning}
+use Rattle.sr_scope.specs.Uses.{OneMeaning}
 use Rattle.sr_front.proofs.ComponentsApart.{ComponentsApart}
 use Rattle.sr_front.proofs.Findings.{import_means, no_import_back}
-use Rattle.sr_front.proofs.Globals.{Imports, MeansDeclared, imports_from, no_cycle_in}
+use Rattle.sr_front.proofs.Globals.{MeansDeclared, imports_from, no_cycle_in}
 use Rattle.sr_front.proofs.CoreComponents.{NoFinalInGlobals, GlobalsCanBeMade, components_are}
 use Rattle.sr_front.proofs.Numbered.{each_once_apart}
 

@@ -34,7 +34,7 @@ use Rattle.sr_front.proofs.Distinct.{entries_apart, found_there, number_is, one_
 
 -- ---- operations of a component
 
-abbrev is_own : Scope → Bool
+abbrev pub is_own : Scope → Bool
 is_own Own = true
 is_own Shared = false
 
@@ -47,7 +47,7 @@ own_scope Own is_local e = ap scope_of e
 own_scope Shared is_local e = ap scope_of e
 
 -- where an operation is declared, and whose it is
-abbrev owned_by : Spot → DeclaredOperation → Owned
+abbrev pub owned_by : Spot → DeclaredOperation → Owned
 owned_by at opened = (spot_named opened.name, (at, is_own opened.scope))
 
 abbrev span_of : DeclaredOperation → Span
@@ -68,7 +68,7 @@ module _ (facts : Facts) (shapes : Shapes) (heads : Heads) (at : Spot) where
   spec_owned_is (spec.Sem semaphores) = sems_owned_is Shared semaphores.semaphores
   spec_owned_is _ = refl
 
-  inner_owned_is : (one : ProcItem) → map (owned_by at) (inner_opened facts shapes heads one) ≡ inner_owned at one
+  pub inner_owned_is : (one : ProcItem) → map (owned_by at) (inner_opened facts shapes heads one) ≡ inner_owned at one
   inner_owned_is (inner.Op operations) = ops_owned_is Own operations.items
   inner_owned_is (inner.Sem semaphores) = sems_owned_is Own semaphores.semaphores
   inner_owned_is _ = refl
@@ -170,6 +170,15 @@ pub record Entered (components : List Component) (procs : List Spot) (table : Li
   pub owner : operation.component ≡ whose.number
   pub proc : operation.proc ≡ position (same_spot spot) procs
 
+-- what is declared of an operation, in a component of the program
+pub record Opened (facts : Facts) (shapes : Shapes) (heads : Heads) (components : List Component) (spot component : Spot) (is_local : Bool) : Type 0 where
+  pub number : ℕ
+  pub tree : Component
+  pub there : At components number tree
+  pub opened : DeclaredOperation
+  pub among : Among (component_opened facts shapes heads tree) opened
+  pub same : owned_by (component_at tree) opened ≡ (spot, (component, is_local))
+
 component_keys : (components : List Component) → map spot_of (map component_span components) ≡ map component_at components
 component_keys [] = refl
 component_keys (component ∷ components) = ap (λ more. component_at component ∷ more) (component_keys components)
@@ -190,28 +199,28 @@ one_component files a b one other apart p q same =
     (subst (At (map component_at components) b) (sym same) (at_map component_at components b other q))
 
 module _ (facts : Facts) (shapes : Shapes) (heads : Heads) (procs : List Spot) (files : List File) (apart : Apart files) where
-  abbrev components : List Component
+  abbrev pub components : List Component
   components = components_in files
 
-  abbrev entries : List (Spot × Operation)
+  abbrev pub entries : List (Spot × Operation)
   entries = flat_map (component_entries facts shapes heads procs) (enumerate_from 0 components)
 
-  all_keys : keys_of entries ≡ map spot_of (flat_map operation_spans files)
+  pub all_keys : keys_of entries ≡ map spot_of (flat_map operation_spans files)
   all_keys =
       entries_keys facts shapes heads procs 0 components
       ∙ ap (map spot_of) (parts_of_parts (λ (file : File). file.components) component_operations files)
 
-  keys_apart : IsDistinct same_spot (keys_of entries)
+  pub keys_apart : IsDistinct same_spot (keys_of entries)
   keys_apart = subst (IsDistinct same_spot) (sym all_keys) apart.operations
 
   -- the table of operations is what is declared
   pub table_is : operations_of facts shapes heads procs components ≡ entries
   table_is = entries_apart entries keys_apart
 
-  abbrev Put : List (Spot × Operation) → Spot → Spot → Bool → Type 0
+  abbrev pub Put : List (Spot × Operation) → Spot → Spot → Bool → Type 0
   Put table spot component is_local = Entered components procs table spot component is_local
 
-  put_opened : (number : ℕ) (tree : Component) (opened : DeclaredOperation) (spot component : Spot) (is_local : Bool)
+  pub put_opened : (number : ℕ) (tree : Component) (opened : DeclaredOperation) (spot component : Spot) (is_local : Bool)
       → At components number tree → Among (component_opened facts shapes heads tree) opened → owned_by (component_at tree) opened ≡ (spot, (component, is_local))
       → Put entries spot component is_local
   put_opened number tree opened spot component is_local there among same =
@@ -237,19 +246,31 @@ module _ (facts : Facts) (shapes : Shapes) (heads : Heads) (procs : List Spot) (
         proc = ap (λ at. position (same_spot at) procs) name;
       }
 
-  put_owned : (number : ℕ) (tree : Component) (spot component : Spot) (is_local : Bool)
-      → At components number tree → Among (component_owned tree) (spot, (component, is_local)) → Put entries spot component is_local
-  put_owned number tree spot component is_local there among =
+  -- the table has it as it is declared
+  pub put_operation : (number : ℕ) (tree : Component) (opened : DeclaredOperation) (spot component : Spot) (is_local : Bool)
+      (there : At components number tree) (among : Among (component_opened facts shapes heads tree) opened) (same : owned_by (component_at tree) opened ≡ (spot, (component, is_local)))
+      → operation_of procs number opened ≡ (put_opened number tree opened spot component is_local there among same).operation
+  unfolding put_opened
+  put_operation number tree opened spot component is_local there among same = refl
+
+  opened_in : (number : ℕ) (tree : Component) (spot component : Spot) (is_local : Bool)
+      → At components number tree → Among (component_owned tree) (spot, (component, is_local)) → Opened facts shapes heads components spot component is_local
+  opened_in number tree spot component is_local there among =
       let opened = component_opened facts shapes heads tree in
       let made = at_made (owned_by (component_at tree)) opened among.0 (spot, (component, is_local))
       (subst (λ all. At all among.0 (spot, (component, is_local))) (sym (component_owned_is facts shapes heads tree)) among.1) in
-      put_opened number tree made.0 spot component is_local there (among.0, made.1) made.2
+      record { number = number; tree = tree; there = there; opened = made.0; among = (among.0, made.1); same = made.2 }
+
+  pub opened_of : (spot component : Spot) (is_local : Bool) → Declared files spot component is_local → Opened facts shapes heads components spot component is_local
+  opened_of spot component is_local declared =
+      let all : declared_operations files ≡ flat_map component_owned components = sym (parts_of_parts (λ (file : File). file.components) component_owned files) in
+      let among : Among (declared_operations files) (spot, (component, is_local)) = at_contained (declared_operations files) (spot, (component, is_local)) declared in
+      let part = part_of component_owned components among.0 (spot, (component, is_local)) (subst (λ list. At list among.0 (spot, (component, is_local))) all among.1) in
+      opened_in part.0 part.1 spot component is_local part.2 part.3
 
   -- an operation that is declared is in the table
   pub entered : (spot component : Spot) (is_local : Bool) → Declared files spot component is_local
       → Entered components procs (operations_of facts shapes heads procs components) spot component is_local
   entered spot component is_local declared =
-      let all : declared_operations files ≡ flat_map component_owned components = sym (parts_of_parts (λ (file : File). file.components) component_owned files) in
-      let among : Among (declared_operations files) (spot, (component, is_local)) = at_contained (declared_operations files) (spot, (component, is_local)) declared in
-      let part = part_of component_owned components among.0 (spot, (component, is_local)) (subst (λ list. At list among.0 (spot, (component, is_local))) all among.1) in
-      subst (λ table. Put table spot component is_local) (sym table_is) (put_owned part.0 part.1 spot component is_local part.2 part.3)
+      let one = opened_of spot component is_local declared in
+      subst (λ table. Put table spot component is_local) (sym table_is) (put_opened one.number one.tree one.opened spot component is_local one.there one.among one.same)

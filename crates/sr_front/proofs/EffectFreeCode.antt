@@ -31,7 +31,6 @@ use Rattle.sr_tree.specs.declared.component.Component.{Component}
 use Rattle.sr_tree.specs.declared.component.File.{File}
 use Rattle.sr_tree.specs.declared.component.Item.{Item}
 use Rattle.sr_tree.specs.declared.component.Item.TheVariants as item
-use Rattle.sr_tree.specs.declared.component.Process.{Process}
 use Rattle.sr_tree.specs.declared.component.ProcItem.{ProcItem}
 use Rattle.sr_tree.specs.declared.component.ProcItem.TheVariants as inner
 use Rattle.sr_tree.specs.declared.types.Decl.{Decl}
@@ -230,7 +229,7 @@ components_appended [] ys facts = refl
 components_appended (x ∷ xs) ys facts = components_appended xs ys (component_read x facts).facts
 
 -- the components of files one after another
-files_facts : (files : List File) (facts : Facts) → (files_read files facts).facts ≡ (components_read (components_in files) facts).facts
+pub files_facts : (files : List File) (facts : Facts) → (files_read files facts).facts ≡ (components_read (components_in files) facts).facts
 files_facts [] facts = refl
 files_facts (file ∷ files) facts = files_facts files (components_read file.components facts).facts ∙ sym (components_appended file.components (components_in files) facts)
 

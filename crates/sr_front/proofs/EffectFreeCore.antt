@@ -18,24 +18,25 @@ use Rattle.sr_front.proofs.Serviced.{sites_effect_free}
 use Rattle.sr_front.specs.Reading.{AreRead}
 use Rattle.sr_check.proofs.Each.{Each, each-weaker}
 use Rattle.sr_front.proofs.EffectFreeCode.{component_code, core_effect_free}
+use Rattle.sr_front.proofs.PlainNames.{component_plain}
 use Rattle.sr_front.proofs.Shares.{files_share, shares_apart}
 use Rattle.sr_front.proofs.SpotsApart.{spots-apart}
 use Rattle.sr_front.proofs.Staying.{AllFree, Free}
-use Rattle.sr_front.proofs.TypeSpots.{Elsewhere, component_types, free_known}
-use Rattle.sr_check.proofs.ErrorFree.{error_free}
+use Rattle.sr_front.proofs.TypeSpots.{Elsewhere, free_known}
+use Rattle.sr_check.proofs.Kept.{none_found}
 
 -- no type and no component has its name where a name of a proc or a statement stands
-code_free : (uses : Meanings) (specs : Specs) (files : List File) → IsDistinct same_spot (map spot_of (flat_map file_names files))
+pub code_free : (uses : Meanings) (specs : Specs) (files : List File) → IsDistinct same_spot (map spot_of (flat_map file_names files))
     → AllFree (program_known uses specs files) (flat_map component_code (components_in files))
 code_free uses specs files distinct =
-    each-weaker (λ one. Each (Elsewhere (spot_of one)) (flat_map component_types (components_in files))) (Free (program_known uses specs files))
+    each-weaker (λ one. Each (Elsewhere (spot_of one)) (flat_map component_plain (components_in files))) (Free (program_known uses specs files))
     (λ one apart. free_known (spot_of one) uses specs files apart)
     (flat_map component_code (components_in files)) (shares_apart (files_share files) distinct)
 
 -- where no rule of kinds is broken all guards are side-effect-free
 effect_free_with : (uses : Meanings) (specs : Specs) (files : List File) → IsDistinct same_spot (map spot_of (flat_map file_names files)) → first_refused uses specs files ≡ None
     → IsTrue (sites_effect_free (core_of files (checked uses specs files).facts))
-effect_free_with uses specs files distinct none = core_effect_free uses specs files (code_free uses specs files distinct) (error_free (checked uses specs files).found none)
+effect_free_with uses specs files distinct none = core_effect_free uses specs files (code_free uses specs files distinct) (none_found uses specs files none)
 
 -- files that are read, of which none is refused
 pub accepted_effect_free : (uses : Meanings) (specs : Specs) (contents : List (List ℕ)) (trees : List File) (facts : Facts) → AreRead contents trees → verdict uses specs trees ≡ Ok facts

@@ -60,6 +60,7 @@ use Rattle.sr_lower_expr.specs.Expressions.{LoweredTree, LoweredInvocation, call
 use Rattle.sr_lower_expr.specs.Places.{operation_at, root_of, value_of, whose_by}
 use Rattle.sr_lower_expr.proofs.Each.{one_taken, turned_passes}
 use Rattle.sr_lower_expr.proofs.Trees.{of_create, of_invocation, of_part, told_is}
+use Rattle.sr_front.proofs.ExprParts.{inferred_create, inferred_expr, inferred_invocation, inferred_part, lowered_create, lowered_expr, lowered_invocation, lowered_part}
 use Rattle.sr_front.proofs.EffectFreeRules.{and_rule, apply_rule, array_rule, at2_rule, at_rule, binary_rule, lowered_is_effect_free, field_rule, leaf_rule, member_rule, naming_effect_free, nothing_effect_free, one_rule, or_rule, part_is_effect_free, part_of_effect_free, place_at_effect_free, repeated_rule, unary_rule, value_of_effect_free}
 use Rattle.sr_check.specs.ErrorFree.{ErrorFree}
 use Rattle.sr_check.proofs.ErrorFree.{rule_met, error_free_first, error_free_second}
@@ -89,7 +90,7 @@ StaysNamed (named.Component decl) later = later ≡ named.Component decl
 StaysNamed (named.Predefined name) later = later ≡ named.Predefined name
 StaysNamed _ later = Unit {0}
 
-stays_itself : (what : Named) → StaysNamed what what
+pub stays_itself : (what : Named) → StaysNamed what what
 stays_itself (named.«Type» ty) = refl
 stays_itself (named.Component decl) = refl
 stays_itself (named.Predefined name) = refl
@@ -117,12 +118,12 @@ module _ (known : Facts) (later : Facts) (stay : Stay known later) where
   meaning_stays span span2 (Some (MeansPredefined name)) = predefined_stays span span2 name
   meaning_stays span span2 (Some (Declared decl)) = declared_stays span span2 decl (info_at known.infos decl.spot) (info_at later.infos decl.spot) (stay.infos decl.spot)
 
-  name_stays : (span span2 used : Span) → StaysNamed (name_typing known span used).typed_expr.named (name_typing later span2 used).typed_expr.named
+  pub name_stays : (span span2 used : Span) → StaysNamed (name_typing known span used).typed_expr.named (name_typing later span2 used).typed_expr.named
   name_stays span span2 used =
       subst (λ uses. StaysNamed (name_typing known span used).typed_expr.named (meaning_typing later.infos span2 (meaning_at uses (spot_of used))).typed_expr.named) stay.uses
       (meaning_stays span span2 (meaning_at known.uses (spot_of used)))
 
-  field_stays : (span : Span) (owner other : TypedExpr) (field : Name) (before after : Named) → StaysNamed before after
+  pub field_stays : (span : Span) (owner other : TypedExpr) (field : Name) (before after : Named) → StaysNamed before after
       → StaysNamed (field_typing known span owner field before).typed_expr.named (field_typing later span other field after).typed_expr.named
   field_stays span owner other field (named.Component decl) after is =
       subst (λ one. StaysNamed (name_typing known span field.span).typed_expr.named (field_typing later span other field one).typed_expr.named) (sym is) (name_stays span span field.span)
@@ -293,30 +294,6 @@ module _ (scene : Scene) (known : Facts) (guard : known.here.in_guard ≡ true) 
   abbrev first_part : Part-F C T I P → Part-F Create Tree Invocation PartTree
   first_part = map-Part C T I P Create Tree Invocation PartTree (λ c. c.0) (λ e. e.0) (λ s. s.0) (λ p. p.0)
 
-  abbrev lowered_create : Create-F Create Tree Invocation PartTree → Create-F (Create × Expr) LoweredTree LoweredInvocation (PartTree × Part)
-  lowered_create = map-Create Create Tree Invocation PartTree (Create × Expr) LoweredTree LoweredInvocation (PartTree × Part) (of_create scene) (told scene) (of_invocation scene) (of_part scene)
-
-  abbrev lowered_expr : Expr-F Create Tree Invocation PartTree → Expr-F (Create × Expr) LoweredTree LoweredInvocation (PartTree × Part)
-  lowered_expr = map-Expr Create Tree Invocation PartTree (Create × Expr) LoweredTree LoweredInvocation (PartTree × Part) (of_create scene) (told scene) (of_invocation scene) (of_part scene)
-
-  abbrev lowered_invocation : Invocation-F Create Tree Invocation PartTree → Invocation-F (Create × Expr) LoweredTree LoweredInvocation (PartTree × Part)
-  lowered_invocation = map-Invocation Create Tree Invocation PartTree (Create × Expr) LoweredTree LoweredInvocation (PartTree × Part) (of_create scene) (told scene) (of_invocation scene) (of_part scene)
-
-  abbrev lowered_part : Part-F Create Tree Invocation PartTree → Part-F (Create × Expr) LoweredTree LoweredInvocation (PartTree × Part)
-  lowered_part = map-Part Create Tree Invocation PartTree (Create × Expr) LoweredTree LoweredInvocation (PartTree × Part) (of_create scene) (told scene) (of_invocation scene) (of_part scene)
-
-  abbrev inferred_create : Create-F Create Tree Invocation PartTree → Create-F Inferrer Inferrer CalledInferrer PartInferrer
-  inferred_create = map-Create Create Tree Invocation PartTree Inferrer Inferrer CalledInferrer PartInferrer infer_create infer_expr infer_invocation infer_part
-
-  abbrev inferred_expr : Expr-F Create Tree Invocation PartTree → Expr-F Inferrer Inferrer CalledInferrer PartInferrer
-  inferred_expr = map-Expr Create Tree Invocation PartTree Inferrer Inferrer CalledInferrer PartInferrer infer_create infer_expr infer_invocation infer_part
-
-  abbrev inferred_invocation : Invocation-F Create Tree Invocation PartTree → Invocation-F Inferrer Inferrer CalledInferrer PartInferrer
-  inferred_invocation = map-Invocation Create Tree Invocation PartTree Inferrer Inferrer CalledInferrer PartInferrer infer_create infer_expr infer_invocation infer_part
-
-  abbrev inferred_part : Part-F Create Tree Invocation PartTree → Part-F Inferrer Inferrer CalledInferrer PartInferrer
-  inferred_part = map-Part Create Tree Invocation PartTree Inferrer Inferrer CalledInferrer PartInferrer infer_create infer_expr infer_invocation infer_part
-
   all_good : (trees : List T) → ErrorFree (all_found (map (λ (infer : Inferrer). infer known) (map infer_expr (map (λ (tree : T). tree.0) trees))))
       → AllEffectFree scene (map (λ (one : LoweredTree). one.1) (map (told scene) (map (λ (tree : T). tree.0) trees)))
   all_good [] whole = refl
@@ -330,7 +307,7 @@ module _ (scene : Scene) (known : Facts) (guard : known.here.in_guard ≡ true) 
       and_from _ _ (part.1 (error_free_first (part_found (infer_part part.0 known)) _ whole)) (parts_good parts (error_free_second (part_found (infer_part part.0 known)) _ whole))
 
   create_good : (y : Create-F C T I P)
-      → Good (create_step (inferred_create (first_create y)) known) (create_step (inferred_create (first_create y)) scene.facts).typed_expr.named (is_effect_free (create_core scene (lowered_create (first_create y))))
+      → Good (create_step (inferred_create (first_create y)) known) (create_step (inferred_create (first_create y)) scene.facts).typed_expr.named (is_effect_free (create_core scene (lowered_create scene (first_create y))))
   create_good (Create-F.Resource span resource arguments None) = (
     tt,
     λ whole.
@@ -346,7 +323,7 @@ module _ (scene : Scene) (known : Facts) (guard : known.here.in_guard ≡ true) 
   create_good (Create-F.Machine span) = (tt, λ whole. absurd (guarded span whole))
 
   expr_good : (y : Expr-F C T I P)
-      → Good (expr_step (inferred_expr (first_expr y)) known) (expr_step (inferred_expr (first_expr y)) scene.facts).typed_expr.named (lowered_is_effect_free (expr_core scene (lowered_expr (first_expr y))))
+      → Good (expr_step (inferred_expr (first_expr y)) known) (expr_step (inferred_expr (first_expr y)) scene.facts).typed_expr.named (lowered_is_effect_free (expr_core scene (lowered_expr scene (first_expr y))))
   expr_good (Expr-F.Literal span literal) = (stays_itself (literal_named literal), λ whole. constant_effect_free scene (known_value (literal_typed literal).value))
   expr_good (Expr-F.Name name) = (name_stays known scene.facts stay name.span name.span name.span, λ whole. name_effect_free scene name.span)
   expr_good (Expr-F.BasicType span basic) = (refl, λ whole. nothing_effect_free)
@@ -405,10 +382,10 @@ module _ (scene : Scene) (known : Facts) (guard : known.here.in_guard ≡ true) 
   )
 
   invocation_good : (y : Invocation-F C T I P)
-      → ErrorFree (call_typing known (invocation_step (inferred_invocation (first_invocation y)) known)).found → IsTrue (is_effect_free (call_of scene (invocation_lowered (lowered_invocation (first_invocation y)))))
+      → ErrorFree (call_typing known (invocation_step (inferred_invocation (first_invocation y)) known)).found → IsTrue (is_effect_free (call_of scene (invocation_lowered (lowered_invocation scene (first_invocation y)))))
   invocation_good y whole =
       let called = invocation_step (inferred_invocation (first_invocation y)) known in
-      let sending = invocation_lowered (lowered_invocation (first_invocation y)) in
+      let sending = invocation_lowered (lowered_invocation scene (first_invocation y)) in
       let first = error_free_first (called_found called) _ whole in
       called_effect_free called.span called.callee.typed_expr (typed_exprs_of called.arguments) sending called.callee.typed_expr.named (typed_expr scene.facts sending.callee.0).named
       (subst (λ (one : LoweredTree). StaysNamed called.callee.typed_expr.named (typed_expr scene.facts one.0).named) (sym (told_is scene y.callee.0)) y.callee.1.0)
@@ -417,7 +394,7 @@ module _ (scene : Scene) (known : Facts) (guard : known.here.in_guard ≡ true) 
 
   parts_of_good : (span : Span) (count : Option T) (value : T)
       → ErrorFree (part_found (part_step (inferred_part (first_part (record { span = span; count = count; value = value }))) known))
-      → IsTrue (part_is_effect_free (part_lowered (lowered_part (first_part (record { span = span; count = count; value = value })))).1)
+      → IsTrue (part_is_effect_free (part_lowered (lowered_part scene (first_part (record { span = span; count = count; value = value })))).1)
   parts_of_good span None value whole =
       one_rule (core_value scene value.0) (value_of_effect_free (core_expr scene value.0) (value.1.1 (error_free_first (infer_expr value.0 known).found _ whole)))
   parts_of_good span (Some count) value whole =
@@ -426,7 +403,7 @@ module _ (scene : Scene) (known : Facts) (guard : known.here.in_guard ≡ true) 
       (value_of_effect_free (core_expr scene count.0) (count.1.1 (error_free_first (infer_expr count.0 known).found _ found)))
       (value_of_effect_free (core_expr scene value.0) (value.1.1 (error_free_second (infer_expr count.0 known).found _ found)))
 
-  part_good : (y : Part-F C T I P) → ErrorFree (part_found (part_step (inferred_part (first_part y)) known)) → IsTrue (part_is_effect_free (part_lowered (lowered_part (first_part y))).1)
+  part_good : (y : Part-F C T I P) → ErrorFree (part_found (part_step (inferred_part (first_part y)) known)) → IsTrue (part_is_effect_free (part_lowered (lowered_part scene (first_part y))).1)
   part_good y = parts_of_good y.span y.count y.value
 
   -- ---- all trees

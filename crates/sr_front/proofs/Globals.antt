@@ -1,11 +1,11 @@
 -- The globals that components import, by their numbers, are those that are found where names are looked up.
-use Rattle.std.proofs.Common.{◌≡◌, ◌⊎◌, ℕ, zero, suc, ◌+◌, ◌<◌, Bool, true, false, cond, eqb, is_some, List, [], ◌∷◌, ◌++◌, Option, None, Some, refl, ap, sym, ◌∙◌, subst, inl, inr, length, map, unwrap_or, if◌then◌else◌}
+use Rattle.std.proofs.Common.{◌≡◌, ◌⊎◌, ℕ, zero, suc, Bool, true, false, cond, eqb, is_some, List, [], ◌∷◌, ◌++◌, Option, None, Some, refl, ap, sym, ◌∙◌, subst, inl, inr, map, unwrap_or, if◌then◌else◌}
 use Rattle.std.specs.Prelude.{fold, flat_map, slice_get}
 use Rattle.std.specs.Map.{lookup}
-use Rattle.std.specs.List.{IsDistinct, list_any}
+use Rattle.std.specs.List.{IsDistinct}
 use Rattle.std.specs.Option.{option_map, option_and_then, option_to_list}
 use Rattle.std.specs.Str.{bytes_eq}
-use Rattle.std.proofs.lemmas.Bool.{true≢false, false≢true, or_cases, cases_Bool, eqb-true}
+use Rattle.std.proofs.lemmas.Bool.{true≢false, false≢true, or_cases, eqb-true}
 use Rattle.std.proofs.lemmas.List.Folds.{list_any-append}
 use Rattle.std.proofs.lemmas.Option.{slice_get-map}
 use Rattle.sr_check_expr.specs.declared.facts.Facts.{Facts}
@@ -13,7 +13,6 @@ use Rattle.sr_check_expr.specs.Naming.{decl_of as decl_meant}
 use Rattle.sr_names.specs.declared.cycles.Import.{Import}
 use Rattle.sr_names.specs.declared.links.Link.{Link}
 use Rattle.sr_names.specs.declared.meaning.Decl.{Decl}
-use Rattle.sr_names.specs.declared.meaning.Meaning.{Meaning}
 use Rattle.sr_names.specs.declared.meaning.Meaning.TheVariants.{Declared}
 use Rattle.sr_names.specs.declared.meaning.Sort.{Sort}
 use Rattle.sr_names.specs.declared.meaning.Sort.TheVariants as sort

@@ -1,5 +1,5 @@
 -- In the core of a program each number in the guards of the site of an `in`, and in its lists, names something where the `in`
--- stands, each global among its names is imported there, and the formals of its arms are own variables there.
+-- stands, and each global among its names is imported there.
 use Rattle.std.proofs.Common.{ℕ, ◌+◌, ◌≤◌, Bool, List, [], ◌∷◌, length, map, arith}
 use Rattle.std.proofs.lemmas.List.{length-map}
 use Rattle.std.proofs.lemmas.List.FromFn.{length-enumerate_from}
@@ -22,10 +22,9 @@ use Rattle.sr_lower_expr.proofs.PlaceNumbers.{Fits}
 use Rattle.sr_lower_expr.proofs.Within.{once_most}
 use Rattle.sr_desugar.specs.Core.{LoweredComponent, core_of, core_with, scene_of, whole_of, wholes_from, wholes_of}
 use Rattle.sr_desugar.specs.Laws.{WaitApart}
-use Rattle.sr_front.specs.Formals.{arms_own}
 use Rattle.sr_front.specs.Imports.{names_imported}
 use Rattle.sr_front.proofs.GuardSites.{item_guards, site_good}
-use Rattle.sr_front.proofs.SitesInCode.{ComponentsOkay, WholesFit, code_fits, every_item, sites_found}
+use Rattle.sr_desugar.proofs.WaitsCode.{ComponentsOkay, WholesFit, code_fits, every_item, sites_found}
 
 -- where there are so many imports and own variables
 abbrev pub guards_there : Core → ℕ → ℕ → ℕ → Site → Bool
@@ -36,9 +35,6 @@ guards_test core number count owns site blocks other = guards_exist (record { ow
 
 abbrev pub imports_test : ℕ → ℕ → ℕ → SiteTest
 imports_test number count owns site blocks other = names_imported count site
-
-abbrev pub formals_test : ℕ → ℕ → ℕ → SiteTest
-formals_test number count owns site blocks other = arms_own owns site
 
 module _ (facts : Facts) (tables : Tables) (imports : List (List ℕ)) (core : Core)
     (operations : length (things_in tables.operations) ≤ length core.operations) (components : length tables.components ≤ length core.components) where

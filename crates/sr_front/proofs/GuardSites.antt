@@ -1,5 +1,5 @@
--- Each number in the guards of a site, and in its lists, names something where its statement stands, each global among its
--- names is imported there, and the formals of its arms are own variables there.
+-- Each number in the guards of a site, and in its lists, names something where its statement stands, and each global among its
+-- names is imported there.
 use Rattle.std.proofs.Common.{◌≡◌, ℕ, ◌==◌, Bool, true, false, ◌&&◌, cond, List, [], ◌∷◌, ◌++◌, Option, Some, None, IsTrue, flat_map, length, map, if◌then◌else◌, refl, sym, subst, arith}
 use Rattle.std.specs.Prelude.{filter, fold}
 use Rattle.std.proofs.lemmas.Bool.{and_from, and_parts}
@@ -39,7 +39,7 @@ use Rattle.sr_tree.specs.declared.statement.Statement.{Statement as StatementTre
 use Rattle.sr_tree.specs.declared.types.Signature.{out-Signature}
 use Rattle.sr_value.specs.declared.place.Span.{Span}
 use Rattle.sr_check_expr.specs.Meanings.{function_called, meant_by}
-use Rattle.sr_outline.specs.Numbers.{formal_names, is_p, own_spots, place_spots, quantifier_names, receive_returned, returned_names, signature_returned, wait_operation}
+use Rattle.sr_outline.specs.Numbers.{formal_names, is_p, own_spots, quantifier_names, returned_names, signature_returned, wait_operation}
 use Rattle.sr_tables.specs.declared.sites.Mention.{Mention}
 use Rattle.sr_tables.specs.declared.sites.Mention.TheVariants as mention
 use Rattle.sr_tables.specs.Lists.{maybe, with_new}
@@ -52,12 +52,10 @@ use Rattle.sr_lower_expr.specs.Places.{scope_of_operation}
 use Rattle.sr_desugar.specs.Statements.{LoweredArm, Block, WithSites, act, all_sites, alone, arm_made, arms_of, branch_made, call_action, call_made, co_arm_made, condition_of, core_arm, core_block_item, core_branch, core_co_arm, core_statement, item_made, receive_arm, receive_made, scope_of_arms, statement_made}
 use Rattle.sr_lower_expr.proofs.Each.{both_pass}
 use Rattle.sr_lower_expr.proofs.ExprNumbers.{core_value_ok}
-use Rattle.sr_front.specs.Formals.{arms_own, formals_own}
 use Rattle.sr_front.specs.Imports.{name_imported, names_imported}
 use Rattle.sr_front.proofs.MentionsThere.{mention_exists, value_there}
 use Rattle.sr_lower_expr.proofs.PlaceNumbers.{Fits}
-use Rattle.sr_front.proofs.OwnFormals.{own_formals_pass}
-use Rattle.sr_front.proofs.SitesInCode.{ItemOkay}
+use Rattle.sr_desugar.proofs.WaitsCode.{ItemOkay}
 
 -- ---- the lists of a site
 
@@ -142,22 +140,16 @@ module _ (at : Where) where
 
   -- ---- what the guards of arms mention
 
-  -- the numbers of an arm name something, so does what it mentions, and its formals are own variables
+  -- the numbers of an arm name something, and so does what it mentions
   abbrev pub arm_good : Arm → Bool
-  arm_good arm = guard_exists arm at && (list_all there (arm_mentions arm) && formals_own at.owns arm.formals arm.returned)
+  arm_good arm = guard_exists arm at && list_all there (arm_mentions arm)
 
   -- the same of a site, and the globals among its names are imported
   abbrev pub site_good : Site → Bool
-  site_good site = guards_exist at site && (names_imported at.imports site && arms_own at.owns site)
+  site_good site = guards_exist at site && names_imported at.imports site
 
   mentions_good : (arm : Arm) → IsTrue (arm_good arm) → AllThere (arm_mentions arm)
-  mentions_good arm ok = (and_parts (list_all there (arm_mentions arm)) _ (and_parts (guard_exists arm at) _ ok).1).0
-
-  arms_are_own : (arms : List Arm) → IsTrue (list_all arm_good arms) → IsTrue (list_all (λ arm. formals_own at.owns arm.formals arm.returned) arms)
-  arms_are_own [] ok = refl
-  arms_are_own (arm ∷ arms) ok =
-      let parts = and_parts (arm_good arm) _ ok in
-      and_from _ _ (and_parts (list_all there (arm_mentions arm)) _ (and_parts (guard_exists arm at) _ parts.0).1).1 (arms_are_own arms parts.1)
+  mentions_good arm ok = (and_parts (guard_exists arm at) _ ok).1
 
   arms_exist : (arms : List Arm) → IsTrue (list_all arm_good arms) → IsTrue (list_all (λ arm. guard_exists arm at) arms)
   arms_exist [] ok = refl
@@ -195,7 +187,7 @@ module _ (at : Where) where
       (found there (λ read. read_exists read at) read_by read (flat_map arm_mentions arms) (arms_there arms ok)))
       (all_new (λ op. count_exists op at) (λ op other. op == other) [] (filter_map counted_by (flat_map arm_mentions arms)) refl
       (found there (λ op. count_exists op at) counted_by counted (flat_map arm_mentions arms) (arms_there arms ok))))))
-      (and_from _ _ (names_there (name_imported at.imports) imported arms ok) (arms_are_own arms ok))
+      (names_there (name_imported at.imports) imported arms ok)
 
 -- ---- trees
 
@@ -297,8 +289,7 @@ module _ (scene : Scene) (at : Where) (fits : Fits scene at) where
 
   receive_good : (span : Span) (operation : Spot) (places : List Expr) → AllGood (receive_made scene span operation places).sites
   receive_good span operation places =
-      let own = own_formals_pass scene at.owns fits.owns (place_spots places) (receive_returned scene.facts span operation) operation in
-      and_from _ _ (site_there at (scope_of_operation scene operation) (receive_arm scene span operation places ∷ []) false (and_from _ _ own refl)) refl
+      and_from _ _ (site_there at (scope_of_operation scene operation) (receive_arm scene span operation places ∷ []) false refl) refl
 
   call_good : (span : Span) (invocation : Invocation) (function : Option Predefined) → AllGood (call_made scene span invocation function).sites
   call_good span invocation function = by (is_p function)
@@ -352,9 +343,7 @@ module _ (scene : Scene) (at : Where) (fits : Fits scene at) where
       let condition = condition_good y.condition in
       let order = order_good y.order in (
         and_from _ _ (and_from _ _ condition.0 order.0)
-            (and_from _ _
-            (both_pass (there at) (maybe mentions_in (condition_of scene y.condition)) (maybe mentions_in (option_map (core_value scene) y.order)) condition.1 order.1)
-            (own_formals_pass scene at.owns fits.owns (map spot_named y.formals) (returned_names y.returned) (meant_by scene.facts y.operation))),
+            (both_pass (there at) (maybe mentions_in (condition_of scene y.condition)) (maybe mentions_in (option_map (core_value scene) y.order)) condition.1 order.1),
         items_good y.block,
       )
 

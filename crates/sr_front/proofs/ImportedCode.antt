@@ -38,7 +38,7 @@ use Rattle.sr_front.proofs.CodeMentions.{body_passes, initial_passes}
 use Rattle.sr_front.proofs.GuardCode.{as_many, enough, scene_fits}
 use Rattle.sr_front.proofs.Mentions.{Means}
 use Rattle.sr_front.proofs.MentionsThere.{mention_exists, scene_means}
-use Rattle.sr_front.proofs.SitesInCode.{component_procs}
+use Rattle.sr_desugar.proofs.WaitsCode.{component_procs}
 
 -- what is there is imported
 imported_of : (at : Where) (one : Mention) → IsTrue (mention_exists one at) → IsTrue (mention_imported at.imports one)

@@ -7,6 +7,7 @@ use Rattle.std.proofs.lemmas.List.Elements.{All-append, All-head, All-nil, All-t
 use Rattle.std.proofs.lemmas.List.Concat.{flat_map-append}
 use Rattle.std.proofs.lemmas.List.{map-append}
 use Rattle.sr_names.specs.Searches.{At}
+use Rattle.sr_check.proofs.Each.{Each}
 use Rattle.sr_names.proofs.Places.{at-either, at-left, at-right, at-within}
 
 -- something stands in a list
@@ -112,6 +113,21 @@ all_parts P parts [] all = All-nil P
 all_parts P parts (first ∷ items) all =
     All-append P (parts first) (flat_map parts items)
     (All-head (λ item. All P (parts item)) first items all) (all_parts P parts items (All-tail (λ item. All P (parts item)) first items all))
+
+among_more : {A : Type 0} (first : A) (all : List A) (things : List A) → Each (Among all) things → Each (Among (first ∷ all)) things
+among_more first all [] each = tt
+among_more first all (thing ∷ things) each = ((suc each.0.0, each.0.1), among_more first all things each.1)
+
+-- each thing of a list is among them
+pub all_among : {A : Type 0} (things : List A) → Each (Among things) things
+all_among [] = tt
+all_among (thing ∷ things) = ((zero, refl), among_more thing things things (all_among things))
+
+-- what holds of each thing holds of one of them
+pub among_each : {A : Type 0} (P : A → Type 0) (things : List A) (place : ℕ) (thing : A) → Each P things → At things place thing → P thing
+among_each P [] place thing each at = absurd at
+among_each P (first ∷ things) zero thing each at = subst P at each.0
+among_each P (first ∷ things) (suc place) thing each at = among_each P things place thing each.1 at
 
 -- ---- numbers of things
 

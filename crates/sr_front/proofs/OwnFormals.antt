@@ -1,5 +1,5 @@
--- The variables that stand for formals and for what is returned are own ones, where there are own variables.
-use Rattle.std.proofs.Common.{◌≡◌, ℕ, zero, suc, ◌<◌, ◌≤◌, Bool, true, false, true≢false, ◌||◌, ◌==◌, List, [], ◌∷◌, Option, Some, None, IsTrue, length, nat_lt, position, unwrap_or, refl, sym, arith}
+-- The variables that stand for formals and for what is returned are own ones, where there are own variables for them.
+use Rattle.std.proofs.Common.{◌≡◌, ℕ, ◌<◌, ◌≤◌, true, List, [], ◌∷◌, ◌++◌, Option, Some, None, IsTrue, is_some, length, position, unwrap_or, refl, arith, length-append}
 use Rattle.std.proofs.lemmas.Bool.{and_from, and_parts, lt-ltb}
 use Rattle.std.specs.List.{list_all}
 use Rattle.sr_core.specs.declared.component.Parameter.{Parameter}
@@ -14,48 +14,61 @@ use Rattle.sr_lower_expr.proofs.Each.{made_passes}
 use Rattle.sr_lower_expr.proofs.Within.{position_within}
 use Rattle.sr_front.specs.Formals.{formals_own, is_own}
 
-either : (a : Bool) → IsTrue (a || true)
-either true = refl
-either false = refl
+-- where there are such spots there are own variables
+abbrev pub Room : ℕ → List Spot → Type 0
+Room owns spots = 0 < length spots → 0 < owns
 
-first : (a b : Bool) → IsTrue a → IsTrue (a || b)
-first true b is = refl
-first false b is = absurd (true≢false (sym is))
+pub room_left : (owns : ℕ) (xs ys : List Spot) → Room owns (xs ++ ys) → Room owns xs
+room_left owns xs ys room some = room (omega (arith, some, length-append xs ys))
 
--- what is below the number of own variables is one of them
-below : (owns var : ℕ) → (0 < owns → var < owns) → IsTrue (is_own owns var)
-below zero var small = either (nat_lt var 0)
-below (suc n) var small = first (nat_lt var (suc n)) (suc n == 0) (lt-ltb var (suc n) (small (omega arith)))
+pub room_right : (owns : ℕ) (xs ys : List Spot) → Room owns (xs ++ ys) → Room owns ys
+room_right owns xs ys room some = room (omega (arith, some, length-append xs ys))
+
+-- where the operation has parameters, or returns, there are own variables
+pub record HasRoom (scene : Scene) (owns : ℕ) (operation : Spot) : Type 0 where
+  pub parameters : 0 < length (parameters_at scene operation) → 0 < owns
+  pub returns : is_some (returns_at scene operation) ≡ true → 0 < owns
 
 module _ (scene : Scene) (owns : ℕ) (some : length scene.own ≤ owns) where
-  number_own : (spot : Spot) → IsTrue (is_own owns (own_number scene spot))
-  number_own spot = below owns (own_number scene spot) (by (position (same_spot spot) scene.own) refl)
-    where
-      by : (found : Option ℕ) → position (same_spot spot) scene.own ≡ found → 0 < owns → unwrap_or found 0 < owns
-      by None is more = more
-      by (Some number) is more =
-          let within = position_within (same_spot spot) scene.own spot number is in
-          omega (arith, within, some)
+  module _ (more : 0 < owns) where
+    number_own : (spot : Spot) → IsTrue (is_own owns (own_number scene spot))
+    number_own spot = by (position (same_spot spot) scene.own) refl
+      where
+        by : (found : Option ℕ) → position (same_spot spot) scene.own ≡ found → IsTrue (is_own owns (unwrap_or found 0))
+        by None is = lt-ltb 0 owns more
+        by (Some number) is =
+            let within = position_within (same_spot spot) scene.own spot number is in
+            lt-ltb number owns (omega (arith, within, some))
 
-  numbers_own : (spots : List Spot) → IsTrue (list_all (is_own owns) (own_numbers scene spots))
-  numbers_own = made_passes (is_own owns) (own_number scene) number_own
+    numbers_own : (spots : List Spot) → IsTrue (list_all (is_own owns) (own_numbers scene spots))
+    numbers_own = made_passes (is_own owns) (own_number scene) number_own
 
-  first_own : (vars : List ℕ) → IsTrue (list_all (is_own owns) vars) → IsTrue (is_own owns (first_var vars))
-  first_own [] all = below owns 0 (λ more. more)
-  first_own (var ∷ vars) all = (and_parts (is_own owns var) _ all).0
+    first_own : (vars : List ℕ) → IsTrue (list_all (is_own owns) vars) → IsTrue (is_own owns (first_var vars))
+    first_own [] all = lt-ltb 0 owns more
+    first_own (var ∷ vars) all = (and_parts (is_own owns var) _ all).0
 
-  formals_pass : (vars : List ℕ) (parameters : List Parameter) → IsTrue (list_all (is_own owns) vars)
-      → IsTrue (list_all (λ (formal : Formal). is_own owns formal.var) (formals_of vars parameters))
-  formals_pass vars [] all = refl
-  formals_pass [] (parameter ∷ parameters) all = and_from _ _ (first_own [] refl) (formals_pass [] parameters refl)
-  formals_pass (var ∷ vars) (parameter ∷ parameters) all =
-      let parts = and_parts (is_own owns var) (list_all (is_own owns) vars) all in
-      and_from _ _ parts.0 (formals_pass vars parameters parts.1)
+    formals_pass : (vars : List ℕ) (parameters : List Parameter) → IsTrue (list_all (is_own owns) vars)
+        → IsTrue (list_all (λ (formal : Formal). is_own owns formal.var) (formals_of vars parameters))
+    formals_pass vars [] all = refl
+    formals_pass [] (parameter ∷ parameters) all = and_from _ _ (first_own [] refl) (formals_pass [] parameters refl)
+    formals_pass (var ∷ vars) (parameter ∷ parameters) all =
+        let parts = and_parts (is_own owns var) (list_all (is_own owns) vars) all in
+        and_from _ _ parts.0 (formals_pass vars parameters parts.1)
+
+  formals_good : (formals : List Spot) (parameters : List Parameter) → (0 < length parameters → 0 < owns)
+      → IsTrue (list_all (λ (formal : Formal). is_own owns formal.var) (formals_of (own_numbers scene formals) parameters))
+  formals_good formals [] room = refl
+  formals_good formals (parameter ∷ parameters) room =
+      let more = room (omega arith) in
+      formals_pass more (own_numbers scene formals) (parameter ∷ parameters) (numbers_own more formals)
+
+  returned_good : (returned : List Spot) (shape : Option Shape) → (is_some shape ≡ true → 0 < owns)
+      → IsTrue (if_some (λ name. is_own owns name.var) (returned_to (first_var (own_numbers scene returned)) shape))
+  returned_good returned None room = refl
+  returned_good returned (Some shape) room = first_own (room refl) (own_numbers scene returned) (numbers_own (room refl) returned)
 
   -- the formals of a service, and the name of what it returns
-  pub own_formals_pass : (formals returned : List Spot) (operation : Spot) → IsTrue (formals_own owns (own_formals scene formals operation) (own_returned scene returned operation))
-  own_formals_pass formals returned operation = and_from _ _ (formals_pass (own_numbers scene formals) (parameters_at scene operation) (numbers_own formals)) (by (returns_at scene operation))
-    where
-      by : (shape : Option Shape) → IsTrue (if_some (λ name. is_own owns name.var) (returned_to (first_var (own_numbers scene returned)) shape))
-      by None = refl
-      by (Some shape) = first_own (own_numbers scene returned) (numbers_own returned)
+  pub own_formals_pass : (formals returned : List Spot) (operation : Spot) → HasRoom scene owns operation
+      → IsTrue (formals_own owns (own_formals scene formals operation) (own_returned scene returned operation))
+  own_formals_pass formals returned operation room =
+      and_from _ _ (formals_good formals (parameters_at scene operation) room.parameters) (returned_good returned (returns_at scene operation) room.returns)

@@ -1,5 +1,6 @@
 -- Some elements of a list are in one list, others in another.
 use Rattle.std.proofs.Common.{List, [], ◌∷◌, ◌++◌}
+use Rattle.sr_check.proofs.Each.{Each}
 use Rattle.sr_value.specs.declared.place.Span.{Span}
 
 -- of the elements of a list some are in one list, others in another, and others in neither
@@ -22,3 +23,19 @@ all_left_out (x ∷ xs) = left_out x (all_left_out xs)
 pub all_second : (xs : List Span) → Shares xs [] xs
 all_second [] = none
 all_second (x ∷ xs) = in_second x (all_second xs)
+
+pub all_first : (xs : List Span) → Shares xs xs []
+all_first [] = none
+all_first (x ∷ xs) = in_first x (all_first xs)
+
+-- the same before nothing
+pub all_first_only : (xs : List Span) → Shares xs (xs ++ []) []
+all_first_only [] = none
+all_first_only (x ∷ xs) = in_first x (all_first_only xs)
+
+-- what holds of all holds of those in the first list
+pub first_each : {xs ys zs : List Span} (P : Span → Type 0) → Shares xs ys zs → Each P xs → Each P ys
+first_each P none all = tt
+first_each P (left_out x shares) all = first_each P shares all.1
+first_each P (in_first x shares) all = (all.0, first_each P shares all.1)
+first_each P (in_second x shares) all = first_each P shares all.1

@@ -11,12 +11,12 @@ use Rattle.sr_desugar.specs.Core.{LoweredComponent, scene_of, whole_of}
 use Rattle.sr_desugar.specs.Laws.{WaitApart}
 use Rattle.sr_core.specs.Sites.{all_else_ok, all_guards_ok, all_own, guards_exist, has_blocks, is_of}
 use Rattle.sr_core.specs.Waiting.{CodeTest, SiteTest}
-use Rattle.sr_front.specs.Formals.{all_arms_own}
-use Rattle.sr_front.specs.Imports.{all_imported, all_names_imported, names_imported}
-use Rattle.sr_front.proofs.GuardCode.{core_guards, formals_test, guards_test, imports_test}
+use Rattle.sr_front.specs.Formals.{all_arms_own, arms_own}
+use Rattle.sr_front.specs.Imports.{all_imported, all_names_imported}
+use Rattle.sr_front.proofs.GuardCode.{core_guards, guards_test, imports_test}
 use Rattle.sr_front.proofs.ImportedCode.{code_imported, core_imported}
-use Rattle.sr_front.proofs.SitesInCode.{ComponentsOkay, any_component, code_fits, component_procs, items_okay, sites_found}
-use Rattle.sr_front.proofs.SitesNumbered.{any_site}
+use Rattle.sr_desugar.proofs.WaitsCode.{ComponentsOkay, any_component, code_fits, component_procs, items_okay, sites_found}
+use Rattle.sr_desugar.proofs.Numbered.{any_site}
 use Rattle.sr_names.specs.Noted.{Meanings}
 use Rattle.sr_names.specs.Searches.{At}
 use Rattle.sr_tables.specs.declared.tables.Tables.{Tables}
@@ -47,6 +47,11 @@ from_zero : (test : CodeTest) (wholes : List LoweredComponent) → IsTrue (compo
 from_zero test wholes all number whole h =
     let same : 0 + number ≡ number = omega arith in
     subst (λ at. IsTrue (list_all (λ (proc : Proc). test at whole.component proc.body) whole.procs)) same (procs_at test 0 wholes number whole all h)
+
+-- ---- the formals of arms
+
+abbrev formals_test : ℕ → ℕ → ℕ → SiteTest
+formals_test number count owns site blocks other = arms_own owns site
 
 -- ---- whose operations sites name
 
@@ -111,17 +116,14 @@ module _ (uses : Meanings) (files : List File) (known facts : Facts) (same : fac
   pub imported_ok : IsTrue (all_names_imported (core files facts))
   imported_ok =
       let good = core_guards imports_test files facts
-      (λ number count owns site blocks other okay.
-      (and_parts (names_imported count site) _ (and_parts (guards_exist (record { owns = owns; imports = count; core = core files facts }) site) _ okay).1).0) distinct in
+      (λ number count owns site blocks other okay. (and_parts (guards_exist (record { owns = owns; imports = count; core = core files facts }) site) _ okay).1) distinct in
       all_code_ok uses files known facts same services apart (code_fits imports_test (core files facts).sites) good.codes_fit
       (from_zero (code_fits imports_test (core files facts).sites) (wholes files facts) good.procs_fit)
 
   -- clause `arms` of `HasFormals`
-  pub arms_own_ok : IsTrue (all_arms_own (core files facts))
-  arms_own_ok =
-      let good = core_guards formals_test files facts
-      (λ number count owns site blocks other okay.
-      (and_parts (names_imported count site) _ (and_parts (guards_exist (record { owns = owns; imports = count; core = core files facts }) site) _ okay).1).1) distinct in
+  pub arms_own_ok : ComponentsOkay (λ number count owns. arms_own owns) facts (tables files facts) (imports files facts) 0 (components files facts) → IsTrue (all_arms_own (core files facts))
+  arms_own_ok own =
+      let good = sites_found (λ number count owns. arms_own owns) formals_test (λ number count owns site blocks other okay has. okay) files facts distinct own in
       all_code_ok uses files known facts same services apart (code_fits formals_test (core files facts).sites) good.codes_fit
       (from_zero (code_fits formals_test (core files facts).sites) (wholes files facts) good.procs_fit)
 

@@ -1,11 +1,11 @@
 -- What the grammar says of the components of a program.
-use Rattle.std.proofs.Common.{◌≡◌, ◌⊎◌, ℕ, suc, Bool, true, false, List, [], ◌∷◌, ◌++◌, Option, None, Some, refl, sym, subst, inl, inr}
+use Rattle.std.proofs.Common.{◌≡◌, ◌⊎◌, ℕ, Bool, List, refl, subst, inl, inr}
 use Rattle.sr_core.specs.declared.component.Kind.TheVariants as kind
 use Rattle.sr_tables.specs.Parts.{components_in, kind_of}
 use Rattle.sr_tree.specs.declared.component.Component.{Component}
 use Rattle.sr_tree.specs.declared.component.File.{File}
 use Rattle.sr_tree.specs.declared.token.Token.{Token}
-use Rattle.sr_tree.specs.Components.{SpellsList, stop_here, separator, one, SpellsComponent, resource, split_resource, global, SpellsGlobalBody, no_body, body, Spells, file, final_count}
+use Rattle.sr_tree.specs.Components.{SpellsList, stop_here, separator, one, SpellsComponent, resource, split_resource, global, no_body, body, Spells, file, final_count}
 use Rattle.sr_tree.specs.Parts.{body_of}
 use Rattle.sr_scope.specs.Uses.{IsIn}
 use Rattle.sr_front.specs.Phases.{AllPass, none_left, one_more}

@@ -102,8 +102,8 @@ module _ (known : Facts) where
   abbrev pub AllFree : List Span → Type 0
   AllFree = Each Free
 
-  pub same_signatures : (facts : Facts) (signatures : List Signature) → Same known facts → Same known (record facts { signatures = signatures })
-  same_signatures facts signatures same = record {
+  pub same_signatures : (facts : Facts) (signature : Signature) → Same known facts → Same known (entered signature facts)
+  same_signatures facts signature same = record {
     forth = record { uses = same.forth.uses; infos = same.forth.infos };
     back = record { uses = same.back.uses; infos = same.back.infos };
   }
@@ -171,7 +171,7 @@ module _ (known : Facts) where
   same_sems_in (semaphore ∷ more) facts free same =
       let after = entered semaphore_signature facts in
       same_sems_in more _ free.1
-      (same_with after (spot_of semaphore.name.span) (operation after true (operation_type after semaphore_signature)) free.0.0 tt (same_signatures facts after.signatures same))
+      (same_with after (spot_of semaphore.name.span) (operation after true (operation_type after semaphore_signature)) free.0.0 tt (same_signatures facts semaphore_signature same))
 
   pub same_sems : (semaphores : List Semaphore) (facts : Facts) → AllFree (flat_map semaphore_names semaphores) → Same known facts → Same known (sems_declared true semaphores facts)
   same_sems semaphores facts free same = same_sems_in semaphores facts (each-parts Free semaphore_names semaphores free) same

@@ -27,8 +27,8 @@ use Rattle.sr_tree.specs.Parts.{body_of}
 use Rattle.sr_value.specs.declared.place.Span.{Span}
 use Rattle.sr_tables.specs.Lists.{lists, maybe_lists}
 use Rattle.sr_tables.specs.Parts.{components_in}
-use Rattle.sr_outline.specs.Numbers.{arm_sites, block_item_in_sites, block_item_sites, branch_sites, call_sites, co_arm_sites, component_sites, inner_sites, is_wait, item_sites, sites_in, statement_sites}
-use Rattle.sr_order.specs.Spans.{arm_spans, arm_step, block_item_spans, block_item_step, block_statements, branch_spans, branch_step, co_arm_spans, co_arm_step, component_statements, inner_statements, item_statements, joined, joined_where, spans_in, statement_spans, statement_step}
+use Rattle.sr_outline.specs.Numbers.{arm_sites, block_item_in_sites, block_item_sites, branch_sites, co_arm_sites, component_sites, inner_sites, is_wait, item_sites, sites_in, statement_sites}
+use Rattle.sr_order.specs.Spans.{arm_spans, arm_step, block_item_spans, block_item_step, block_statements, branch_spans, branch_step, co_arm_spans, co_arm_step, component_statements, inner_statements, item_statements, joined, spans_in, statement_spans, statement_step}
 
 -- ---- some of a list, in its order
 

@@ -1,8 +1,8 @@
 -- The core of a program that is accepted is well formed.
 use Rattle.std.proofs.Common.{◌≡◌, ℕ, List, map, None, sym, ap, ◌∙◌, subst}
-use Rattle.std.specs.Prelude.{All, flat_map}
-use Rattle.std.specs.List.{IsDistinct}
-use Rattle.sr_check.specs.Checked.{first_refused}
+use Rattle.std.specs.Prelude.{All, flat_map, IsTrue}
+use Rattle.std.specs.List.{IsDistinct, list_all}
+use Rattle.sr_check.specs.Checked.{checked, first_refused}
 use Rattle.sr_check.specs.Servicing.{AllServiceOwn, ServesShared}
 use Rattle.sr_check.proofs.Kept.{all_service_own, facts_known, none_refused, uses_kept}
 use Rattle.sr_check_decl.specs.Inferring.{program_known}
@@ -14,16 +14,16 @@ use Rattle.sr_order.specs.Names.{file_names}
 use Rattle.sr_order.specs.Spans.{statement_spans, operation_spans, component_spans}
 use Rattle.sr_order.proofs.FileNames.{names-picked}
 use Rattle.sr_order.proofs.Files.{statements-picked, operations-picked, components-picked}
-use Rattle.sr_outline.specs.Numbers.{component_served}
+use Rattle.sr_outline.specs.Numbers.{component_served, served_spots}
 use Rattle.sr_scope.proofs.FoundFiles.{one_meaning}
 use Rattle.sr_tables.specs.Parts.{components_in}
 use Rattle.sr_tree.specs.declared.component.File.{File}
 use Rattle.sr_desugar.specs.Core.{core_of}
 use Rattle.sr_desugar.specs.Laws.{WaitApart}
 use Rattle.sr_desugar.proofs.CoreNumbers.{codes, procs}
-use Rattle.sr_desugar.proofs.WaitsCode.{core_waits}
+use Rattle.sr_desugar.proofs.WaitsEach.{core_waits}
 use Rattle.sr_front.specs.declared.program.Checked.{Checked}
-use Rattle.sr_front.specs.Formals.{HasFormals}
+use Rattle.sr_front.specs.Formals.{HasFormals, arms_own, proc_own}
 use Rattle.sr_front.specs.Imports.{HasImports}
 use Rattle.sr_front.specs.Invocations.{HasInvocations}
 use Rattle.sr_front.specs.Program.{IsAccepted}
@@ -33,9 +33,8 @@ use Rattle.sr_front.proofs.Clear.{all_clear}
 use Rattle.sr_front.proofs.Declared.{Apart, all_component_keys}
 use Rattle.sr_front.proofs.Findings.{has_main}
 use Rattle.sr_front.proofs.CoreComponents.{main_is}
-use Rattle.sr_front.proofs.Makes.{made_ok}
-use Rattle.sr_front.proofs.Operations.{operations_ok}
-use Rattle.sr_front.proofs.OwnProcs.{procs_own}
+use Rattle.sr_front.proofs.Invokes.{called_ok, forwarded_ok, made_ok, sent_ok}
+use Rattle.sr_front.proofs.Operations.{operations_ok, components, core, imports, tables}
 use Rattle.sr_front.proofs.ProcNumbers.{numbers_are_ok}
 use Rattle.sr_front.proofs.EffectFreeCore.{accepted_effect_free}
 use Rattle.sr_front.proofs.ServedApart.{all_serve_shared, served_apart}
@@ -46,6 +45,14 @@ use Rattle.sr_front.proofs.Spelled.{no_final_in_globals}
 use Rattle.sr_front.proofs.SpotsApart.{spots-apart}
 use Rattle.sr_front.proofs.WaitApart.{waits_apart}
 use Rattle.sr_front.proofs.CoreParts.{well_made}
+use Rattle.sr_check.proofs.Owners.{Plain}
+use Rattle.sr_names.specs.declared.spot.Spot.{Spot}
+use Rattle.sr_desugar.proofs.WaitsCode.{ComponentsOkay}
+use Rattle.sr_front.proofs.Headed.{Headed}
+use Rattle.sr_front.proofs.KnownHeaded.{known_headed}
+use Rattle.sr_front.proofs.Optypes.{OptypesHeaded}
+use Rattle.sr_front.proofs.OptypesKnown.{optypes_known}
+use Rattle.sr_front.proofs.OwnCore.{all_own}
 
 module _ (contents : List (List ℕ)) (accepted : Checked) (is : IsAccepted contents accepted) where
   abbrev trees : List File
@@ -117,9 +124,25 @@ module _ (contents : List (List ℕ)) (accepted : Checked) (is : IsAccepted cont
     lists = sites_are_listed trees known facts own_services apart once shared (all_clear facts (components_in trees));
   }
 
-  -- the variables that stand for formals are own ones, where there are own variables
+  -- ---- heads
+
+  abbrev served : List Spot
+  served = served_spots facts (components_in trees)
+
+  -- each type of operations that is declared has a signature that fits its head
+  optypes : OptypesHeaded (tables trees facts).heads known
+  optypes = optypes_known uses is.names.specs trees facts (tables trees facts).shapes none names_apart
+
+  -- and so has each operation that is known at first
+  headed : Plain (Headed (components_in trees) served (tables trees facts).operations) uses known
+  headed = known_headed uses is.names.specs trees facts kept (tables trees facts).shapes (tables trees facts).heads served apart none optypes
+
+  services_owned : ComponentsOkay (λ number count owns. arms_own owns) facts (tables trees facts) (imports trees facts) 0 (components trees facts) × IsTrue (list_all proc_own (core trees facts).procs)
+  services_owned = all_own uses is.names.specs trees facts kept (facts_known uses is.names.specs trees facts is.checked) none apart names_apart headed optypes
+
+  -- the variables that stand for formals are own ones
   pub accepted_formals : HasFormals (core_of trees facts)
-  accepted_formals = record { arms = arms_own_ok uses trees known facts kept services apart wait_apart; procs = procs_own trees facts }
+  accepted_formals = record { arms = arms_own_ok uses trees known facts kept services apart wait_apart services_owned.0; procs = services_owned.1 }
 
   -- the imported globals that code and sites name are imported
   pub accepted_imports : HasImports (core_of trees facts)
@@ -128,8 +151,16 @@ module _ (contents : List (List ℕ)) (accepted : Checked) (is : IsAccepted cont
     sites = imported_ok uses trees known facts kept services apart wait_apart;
   }
 
-  -- what its code makes may be made
+  known_facts : facts ≡ (checked uses is.names.specs trees).facts
+  known_facts = facts_known uses is.names.specs trees facts is.checked
+
+  -- what its code invokes may be invoked
   pub accepted_invocations : HasInvocations (core_of trees facts)
-  accepted_invocations = record {
-    made = made_ok is.names.specs trees facts is.names is.named kept services apart (subst (IsDistinct same_spot) (all_component_keys trees) apart.components) none;
-  }
+  accepted_invocations =
+      let components_apart = subst (IsDistinct same_spot) (all_component_keys trees) apart.components in
+      record {
+        made = made_ok is.names.specs trees facts is.names is.named kept services apart components_apart names_apart none known_facts;
+        called = called_ok is.names.specs trees facts is.names is.named kept services apart components_apart names_apart none known_facts;
+        sent = sent_ok is.names.specs trees facts is.names is.named kept services apart components_apart names_apart none known_facts;
+        forwarded = forwarded_ok is.names.specs trees facts is.names is.named kept services apart components_apart names_apart none known_facts;
+      }

@@ -1,4 +1,4 @@
--- The words of enumerations and records in a type are among the names in it.
+-- The words and literals of enumerations, and the words of records, are among the names in a type.
 use Rattle.std.proofs.Common.{◌≡◌, ◌∙◌, ap, sym, subst, List, [], ◌∷◌, ◌++◌, Option, Some, None, map, flat_map}
 use Rattle.std.proofs.lemmas.List.Concat.{flat_map-append}
 use Rattle.sr_value.specs.declared.place.Span.{Span}
@@ -10,10 +10,10 @@ use Rattle.sr_tree.specs.declared.types.TypeTree.{TypeTree, out-TypeTree, out-ro
 use Rattle.sr_tree.specs.declared.types.TypeTree.TheFolds.{fold-TypeTree, fold-Formal, fold-Returned, fold-Signature, fold-roll-TypeTree, fold-roll-Formal, fold-roll-Returned, fold-roll-Signature, ind-TypeTree, map-TypeTree, map-Formal, map-Returned, map-Signature}
 use Rattle.sr_tree.specs.declared.types.TypeTree.TheOpen.{TypeTree-F, Formal-F, Returned-F, Signature-F}
 use Rattle.sr_tree.specs.declared.types.TypeTree.TheVariants as ty
-use Rattle.sr_tree.specs.Nested.{Holds, all_trees, all_types, type_step, formal_step, returned_step, signature_step, types_within, formal_types, returned_types, signature_types, layer_place, maybe_place, word_places}
+use Rattle.sr_tree.specs.Nested.{Holds, all_trees, all_types, type_step, formal_step, returned_step, signature_step, types_within, formal_types, returned_types, signature_types}
 use Rattle.sr_order.specs.Names.{where_some, names_spans, dims_names, decl_names, expr_names, qualified_names, type_names_step, formal_names_step, returned_names_step, signature_names_step, type_names, formal_names, returned_names, signature_names}
 use Rattle.sr_order.specs.Spans.{joined}
-use Rattle.sr_front.proofs.Sharing.{Shares, none, in_first, both_share, all_left_out}
+use Rattle.sr_front.proofs.Sharing.{Shares, none, in_first, both_share, all_first_only, all_left_out}
 
 abbrev HT : Type 0
 HT = Holds TypeTree
@@ -27,16 +27,22 @@ HR = Holds Returned
 abbrev HS : Type 0
 HS = Holds Signature
 
-abbrev Words : List Span → List TypeTree → Type 0
-Words names types = Shares names (word_places types) []
+-- the word of an enumeration with its literals, and the word of a record
+abbrev pub layer_words : {A B C D : Type 0} → TypeTree-F A B C D → List Span
+layer_words (TypeTree-F.Enum span literals) = span ∷ names_spans literals
+layer_words (TypeTree-F.Rec span fields) = span ∷ []
+layer_words _ = []
 
-abbrev places : TypeTree → List Span
-places tree = maybe_place (layer_place (out-TypeTree tree))
+abbrev pub words_of : TypeTree → List Span
+words_of tree = layer_words (out-TypeTree tree)
+
+abbrev pub Words : List Span → List TypeTree → Type 0
+Words names types = Shares names (flat_map words_of types) []
 
 -- ---- parts
 
 words_both : {s t : List Span} (a b : List TypeTree) → Words s a → Words t b → Words (s ++ t) (a ++ b)
-words_both {s = s} {t = t} a b x y = subst (λ words. Shares (s ++ t) words []) (sym (flat_map-append places a b)) (both_share x y)
+words_both {s = s} {t = t} a b x y = subst (λ words. Shares (s ++ t) words []) (sym (flat_map-append words_of a b)) (both_share x y)
 
 -- names before those
 words_after : {t : List Span} (b : List TypeTree) (s : List Span) → Words t b → Words (s ++ t) b
@@ -48,15 +54,15 @@ out-enum span literals = ap out-TypeTree (sym (ty.rolls-Enum span literals)) ∙
 out-record : (span : Span) (fields : List Formal) → out-TypeTree (ty.Rec span fields) ≡ TypeTree-F.Rec span fields
 out-record span fields = ap out-TypeTree (sym (ty.rolls-Rec span fields)) ∙ out-roll-TypeTree (TypeTree-F.Rec span fields)
 
--- an enumeration: its word
+-- an enumeration: its word and its literals
 enum_words : (span : Span) (literals : List Name) → Words (span ∷ names_spans literals) (ty.Enum span literals ∷ [])
 enum_words span literals =
-    subst (λ layer. Shares (span ∷ names_spans literals) (maybe_place (layer_place layer) ++ []) []) (sym (out-enum span literals)) (in_first span (all_left_out (names_spans literals)))
+    subst (λ layer. Shares (span ∷ names_spans literals) (layer_words layer ++ []) []) (sym (out-enum span literals)) (in_first span (all_first_only (names_spans literals)))
 
 -- a record: its word, and those in its fields
 record_words : (span : Span) (fields : List Formal) (names : List Span) (types : List TypeTree) → Words names types → Words (span ∷ names) (ty.Rec span fields ∷ types)
 record_words span fields names types x =
-    subst (λ layer. Shares (span ∷ names) (maybe_place (layer_place layer) ++ word_places types) []) (sym (out-record span fields)) (in_first span x)
+    subst (λ layer. Shares (span ∷ names) (layer_words layer ++ flat_map words_of types) []) (sym (out-record span fields)) (in_first span x)
 
 -- ---- trees with what is known of them
 

@@ -1,0 +1,165 @@
+-- What an expression that is an operation's name is known by: the walk over expressions.
+use Rattle.std.proofs.Common.{◌≡◌, ℕ, [], ◌∷◌, Option, Some, None, refl, sym, subst}
+use Rattle.sr_check_expr.specs.declared.facts.Facts.{Facts}
+use Rattle.sr_check_expr.specs.declared.typed_expr.TypedExpr.{TypedExpr}
+use Rattle.sr_check_expr.specs.declared.typed_expr.Named.{Named}
+use Rattle.sr_check_expr.specs.declared.typed_expr.Named.TheVariants as named
+use Rattle.sr_check_expr.specs.Calls.{Called, call_typing, called_by}
+use Rattle.sr_check_expr.specs.Exprs.{Inferrer, CalledInferrer, PartInferrer, create_step, expr_step, invocation_step, infer_create, infer_expr, infer_invocation, part_step}
+use Rattle.sr_check_expr.specs.LiteralTypes.{literal_named, literal_typed}
+use Rattle.sr_check_expr.specs.Meanings.{known as known_value, meant_by, typed_expr}
+use Rattle.sr_check_expr.specs.Typings.{Typing, typed_exprs_of}
+use Rattle.sr_check.specs.ErrorFree.{ErrorFree}
+use Rattle.sr_check.proofs.ErrorFree.{error_free_first, error_free_second}
+use Rattle.sr_core.specs.declared.expression.Expr.{Expr}
+use Rattle.sr_core.specs.declared.expression.Expr.TheVariants as core
+use Rattle.sr_core.specs.declared.expression.Leaf.TheVariants as leaf
+use Rattle.sr_core.specs.declared.expression.Part.{Part}
+use Rattle.sr_core.specs.declared.expression.Step.TheVariants as step
+use Rattle.sr_lower_expr.specs.declared.scene.Scene.{Scene}
+use Rattle.sr_lower_expr.specs.Expressions.{LoweredTree, LoweredInvocation, core_expr, core_value, create_core, create_lowered, expr_core, expr_lowered, field_core, invocation_lowered, part_lowered}
+use Rattle.sr_lower_expr.specs.Operators.{conversion_function}
+use Rattle.sr_lower_expr.specs.Places.{value_of}
+use Rattle.sr_lower_expr.proofs.Trees.{of_create, of_invocation, told_is}
+use Rattle.sr_tables.specs.Parts.{deciding}
+use Rattle.sr_tree.specs.declared.expr.Create.{Create, roll-Create}
+use Rattle.sr_tree.specs.declared.expr.Create.TheFolds.{fold-roll-Create, fold-roll-Expr, ind-Expr, map-Create, map-Expr, map-Invocation, map-Part}
+use Rattle.sr_tree.specs.declared.expr.Create.TheOpen.{Create-F, Expr-F, Invocation-F, Part-F}
+use Rattle.sr_tree.specs.declared.expr.Expr.{Expr as Tree, roll-Expr}
+use Rattle.sr_tree.specs.declared.expr.Invocation.{Invocation, roll-Invocation}
+use Rattle.sr_tree.specs.declared.expr.Part.{Part as PartTree, roll-Part}
+use Rattle.sr_types.specs.declared.ty.Ty.{Ty}
+use Rattle.sr_front.specs.Invocations.{InvocationTest}
+use Rattle.sr_front.proofs.ExprParts.{inferred_create, inferred_expr, lowered_create, lowered_expr}
+use Rattle.sr_front.proofs.EffectFreeExprs.{StaysNamed, field_stays, name_stays, stays_itself}
+use Rattle.sr_front.proofs.InvokesNames.{Nameless, apply_nameless, array_nameless, binary_nameless, call_nameless, constant_nameless, instance_nameless, leaf_names, naming_nameless, nothing_nameless, part_nameless, unary_nameless}
+use Rattle.sr_front.proofs.InvokesTargets.{AllAtEnd, Fits, Reads, field_fits, group_fits, name_fits, nameless_fits, operation_of}
+
+module _ (test : InvocationTest) (scene : Scene) (ends : AllAtEnd scene) (known : Facts) (reads : Reads test scene known) where
+  abbrev pub FitsHere : TypedExpr → Ty → Option ℕ → Type 0
+  FitsHere = Fits test scene ends known reads
+
+  abbrev pub number_of : Expr → Option ℕ
+  number_of = operation_of test scene ends known reads
+
+  -- a call names nothing
+  call_stays : (called : Called) (later : Named) → StaysNamed (call_typing scene.facts called).typed_expr.named later
+  call_stays called later = by called.callee.typed_expr.named
+    where
+      by : (callee : Named) → StaysNamed (called_by scene.facts called.span called.callee.typed_expr (typed_exprs_of called.arguments) callee).typed_expr.named later
+      by (named.Predefined name) = tt
+      by (named.«Type» ty) = tt
+      by _ = tt
+
+  -- ---- each tree, when its parts are so
+
+  -- what an expression names in the end is what it names here, and where no rule is broken it fits
+  abbrev Good : Typing → Typing → Expr → Type 0
+  Good here end expr = StaysNamed end.typed_expr.named here.typed_expr.named × (ErrorFree here.found → FitsHere here.typed_expr end.typed_expr.typed.ty (number_of expr))
+
+  abbrev CreateGood : Create → Type 0
+  CreateGood tree = StaysNamed (infer_create tree scene.facts).typed_expr.named (infer_create tree known).typed_expr.named × Nameless test (of_create scene tree).1
+
+  abbrev TreeGood : Tree → Type 0
+  TreeGood tree = Good (infer_expr tree known) (infer_expr tree scene.facts) (core_value scene tree)
+
+  abbrev InvocationGood : Invocation → Type 0
+  InvocationGood tree = Unit {0}
+
+  abbrev PartGood : PartTree → Type 0
+  PartGood tree = Unit {0}
+
+  abbrev C : Type 0
+  C = (tree : Create) × CreateGood tree
+
+  abbrev T : Type 0
+  T = (tree : Tree) × TreeGood tree
+
+  abbrev I : Type 0
+  I = (tree : Invocation) × InvocationGood tree
+
+  abbrev P : Type 0
+  P = (tree : PartTree) × PartGood tree
+
+  abbrev first_create : Create-F C T I P → Create-F Create Tree Invocation PartTree
+  first_create = map-Create C T I P Create Tree Invocation PartTree (λ c. c.0) (λ e. e.0) (λ s. s.0) (λ p. p.0)
+
+  abbrev first_expr : Expr-F C T I P → Expr-F Create Tree Invocation PartTree
+  first_expr = map-Expr C T I P Create Tree Invocation PartTree (λ c. c.0) (λ e. e.0) (λ s. s.0) (λ p. p.0)
+
+  abbrev first_invocation : Invocation-F C T I P → Invocation-F Create Tree Invocation PartTree
+  first_invocation = map-Invocation C T I P Create Tree Invocation PartTree (λ c. c.0) (λ e. e.0) (λ s. s.0) (λ p. p.0)
+
+  abbrev first_part : Part-F C T I P → Part-F Create Tree Invocation PartTree
+  first_part = map-Part C T I P Create Tree Invocation PartTree (λ c. c.0) (λ e. e.0) (λ s. s.0) (λ p. p.0)
+
+  create_good : (y : Create-F C T I P) → StaysNamed (create_step (inferred_create (first_create y)) scene.facts).typed_expr.named (create_step (inferred_create (first_create y)) known).typed_expr.named × Nameless test (create_core scene (lowered_create scene (first_create y)))
+  create_good (Create-F.Resource span resource arguments None) = (tt, instance_nameless test scene (meant_by scene.facts (deciding resource)) _ _)
+  create_good (Create-F.Resource span resource arguments (Some machine)) = (tt, instance_nameless test scene (meant_by scene.facts (deciding resource)) _ _)
+  create_good (Create-F.Machine span) = (tt, leaf_names test leaf.MakeMachine)
+
+  expr_good : (y : Expr-F C T I P) → Good (expr_step (inferred_expr (first_expr y)) known) (expr_step (inferred_expr (first_expr y)) scene.facts) (value_of (expr_core scene (lowered_expr scene (first_expr y))))
+  expr_good (Expr-F.Literal span literal) = ((stays_itself (literal_named literal)), λ whole. nameless_fits test scene ends known reads _ _ _ (constant_nameless test (known_value (literal_typed literal).value)))
+  expr_good (Expr-F.Name name) = (name_stays scene.facts known reads.stay name.span name.span name.span, name_fits test scene ends known reads name.span name.span name.span)
+  expr_good (Expr-F.BasicType span basic) = (refl, λ whole. nameless_fits test scene ends known reads _ _ _ (nothing_nameless test))
+  expr_good (Expr-F.Conversion span conversion value) = (tt, λ whole. nameless_fits test scene ends known reads _ _ _ (apply_nameless test (conversion_function conversion) (core_value scene value.0 ∷ [])))
+  expr_good (Expr-F.Group span inner) = (
+    tt,
+    λ whole. group_fits test scene ends known reads span (infer_expr inner.0 known).typed_expr (infer_expr inner.0 scene.facts).typed_expr.typed.ty (number_of (core_value scene inner.0))
+        (inner.1.1 (error_free_first (infer_expr inner.0 known).found _ whole)),
+  )
+  expr_good (Expr-F.Parts span parts) = (tt, λ whole. nameless_fits test scene ends known reads _ _ _ (array_nameless test _))
+  expr_good (Expr-F.Field span owner field) =
+      let here = (infer_expr owner.0 known).typed_expr in
+      let end = (infer_expr owner.0 scene.facts).typed_expr in (
+        field_stays scene.facts known reads.stay span end here field end.named here.named owner.1.0,
+        λ whole.
+            subst (λ (one : LoweredTree). FitsHere (expr_step (inferred_expr (Expr-F.Field span owner.0 field)) known).typed_expr (expr_step (inferred_expr (Expr-F.Field span owner.0 field)) scene.facts).typed_expr.typed.ty
+            (number_of (value_of (field_core scene one field (typed_expr scene.facts one.0).named)))) (sym (told_is scene owner.0))
+            (field_fits test scene ends known reads span here end (owner.0, core_expr scene owner.0) field here.named end.named owner.1.0 (error_free_second (infer_expr owner.0 known).found _ whole)),
+      )
+  expr_good (Expr-F.Index span array first None) = (tt, λ whole. nameless_fits test scene ends known reads _ _ _ (part_nameless test (core_expr scene array.0) (step.At (core_value scene first.0))))
+  expr_good (Expr-F.Index span array first (Some second)) = (tt, λ whole. nameless_fits test scene ends known reads _ _ _ (part_nameless test (core_expr scene array.0) (step.At2 (core_value scene first.0) (core_value scene second.0))))
+  expr_good (Expr-F.Call invocation) =
+      let sending = of_invocation scene invocation.0 in
+      ((call_stays (infer_invocation invocation.0 scene.facts) (call_typing known (infer_invocation invocation.0 known)).typed_expr.named), λ whole. nameless_fits test scene ends known reads _ _ _ (call_nameless test scene sending (typed_expr scene.facts sending.callee.0).named))
+  expr_good (Expr-F.Create create) = (create.1.0, λ whole. nameless_fits test scene ends known reads _ _ _ create.1.1)
+  expr_good (Expr-F.Unary span operator operand) = (tt, λ whole. nameless_fits test scene ends known reads _ _ _ (unary_nameless test _ (core_value scene operand.0)))
+  expr_good (Expr-F.Pending span operation) =
+      (tt, λ whole. nameless_fits test scene ends known reads _ _ _ (naming_nameless test scene (meant_by scene.facts operation) (λ operation number. core.Leaf (leaf.Count number)) (λ operation number. leaf_names test (leaf.Count number))))
+  expr_good (Expr-F.Binary span left operator right) = (tt, λ whole. nameless_fits test scene ends known reads _ _ _ (binary_nameless test operator (core_value scene left.0) (core_value scene right.0)))
+
+  -- ---- all trees
+
+  step_create : (x : Create-F Create Tree Invocation PartTree) (y : Create-F C T I P) → first_create y ≡ x → CreateGood (roll-Create x)
+  step_create x y is = subst (λ z. CreateGood (roll-Create z)) is
+      (subst (λ (infer : Inferrer). StaysNamed (infer scene.facts).typed_expr.named (infer known).typed_expr.named × Nameless test (of_create scene (roll-Create (first_create y))).1)
+      (sym (fold-roll-Create Inferrer Inferrer CalledInferrer PartInferrer create_step expr_step invocation_step part_step (first_create y)))
+      (subst (λ (one : Create × Expr). StaysNamed (create_step (inferred_create (first_create y)) scene.facts).typed_expr.named (create_step (inferred_create (first_create y)) known).typed_expr.named × Nameless test one.1)
+      (sym (fold-roll-Create (Create × Expr) LoweredTree LoweredInvocation (PartTree × Part) (create_lowered scene) (expr_lowered scene) invocation_lowered part_lowered (first_create y)))
+      (create_good y)))
+
+  step_expr : (x : Expr-F Create Tree Invocation PartTree) (y : Expr-F C T I P) → first_expr y ≡ x → TreeGood (roll-Expr x)
+  step_expr x y is = subst (λ z. TreeGood (roll-Expr z)) is
+      (subst (λ (infer : Inferrer). Good (infer known) (infer scene.facts) (core_value scene (roll-Expr (first_expr y))))
+      (sym (fold-roll-Expr Inferrer Inferrer CalledInferrer PartInferrer create_step expr_step invocation_step part_step (first_expr y)))
+      (subst (λ (one : LoweredTree). Good (expr_step (inferred_expr (first_expr y)) known) (expr_step (inferred_expr (first_expr y)) scene.facts) (value_of one.1))
+      (sym (fold-roll-Expr (Create × Expr) LoweredTree LoweredInvocation (PartTree × Part) (create_lowered scene) (expr_lowered scene) invocation_lowered part_lowered (first_expr y)))
+      (expr_good y)))
+
+  step_invocation : (x : Invocation-F Create Tree Invocation PartTree) (y : Invocation-F C T I P) → first_invocation y ≡ x → InvocationGood (roll-Invocation x)
+  step_invocation x y is = tt
+
+  step_part : (x : Part-F Create Tree Invocation PartTree) (y : Part-F C T I P) → first_part y ≡ x → PartGood (roll-Part x)
+  step_part x y is = tt
+
+  tree_good : (tree : Tree) → TreeGood tree
+  tree_good = ind-Expr CreateGood TreeGood InvocationGood PartGood step_create step_expr step_invocation step_part
+
+  -- where no rule is broken in an expression it fits
+  pub tree_fits : (tree : Tree) → ErrorFree (infer_expr tree known).found → FitsHere (infer_expr tree known).typed_expr (infer_expr tree scene.facts).typed_expr.typed.ty (number_of (core_value scene tree))
+  tree_fits tree = (tree_good tree).1
+
+  -- what an expression is in the end that isn't a value, it is here
+  pub tree_stays : (tree : Tree) → StaysNamed (infer_expr tree scene.facts).typed_expr.named (infer_expr tree known).typed_expr.named
+  tree_stays tree = (tree_good tree).0
