@@ -12,25 +12,30 @@ use crate::operators::{
     to_count, to_number, to_wait,
 };
 use crate::parts::{add_piece, add_repeated, make_array, part_at, part_at2, part_field};
-use crate::places::{extend, owner_in, place_at, place_at2, root_in};
-use crate::putting::{put_list, put_number, put_pieces, put_place, put_shape, put_value};
+use crate::places::{place_at, place_at2};
+use crate::putting::put_number;
 use crate::reading::{add_reading, begin_reading, end_read, number_read, read_next, store_read};
 use crate::results::store_results;
-use crate::services::{add_named, collect, end_service, forward, open_service, reply};
+use crate::services::{add_named, collect, end_service, forward, open_service, reply, select};
 use crate::shapes::{
     make, make_formal, make_like, one_dimension, store_formal, store_in, string_shape,
     two_dimensions,
 };
+use crate::simple::{
+    count, drop_list, drop_numbers, drop_value, make_machine, moment, place_field, put_arguments,
+    put_constant, put_fixed, put_machine, put_no_pieces, put_no_values, put_operation,
+    put_resource, put_spot, stop,
+};
 use crate::step::Step;
-use crate::ticks::{each, number_on, quantify, repeat, tick, wake};
+use crate::ticks::{each, quantify, repeat, tick, wake};
 use crate::variables::{load, load_again, load_second, store, store_second};
 use crate::writing::write;
-use sr_ask::Request;
 use sr_code::Instruction;
-use sr_frame::{Scene, whole};
-use sr_value::{Cap, Duplicate, NoMemory, Row, Sel, Value};
+use sr_frame::Scene;
+use sr_value::NoMemory;
 
 /// Carries out an instruction, up to a request.
+// Each arm is one call: the function fills the temporaries of all its arms when it begins.
 pub fn execute(
     scene: &Scene,
     frame: &mut Frame,
@@ -40,30 +45,23 @@ pub fn execute(
     ensures { Does result frame.new (begun scene.now.names.now instruction.now (here_of scene.now) next frame.old.operands frame.old) }
 {
     match instruction {
-        Instruction::Constant(value) => put_value(frame, value.copy(scene.alloc)?, next),
-        Instruction::Operation { whose, op } => {
-            let owner = owner_in(scene, *whose);
-            put_value(frame, Value::Capa(Cap::Op { owner, op: *op }), next)
-        }
-        Instruction::MyResource => put_value(
-            frame,
-            Value::Capa(Cap::Res(scene.start.instance)),
-            next,
-        ),
-        Instruction::MyMachine => put_value(frame, Value::Capa(Cap::Vm(scene.start.vm)), next),
-        Instruction::Count { op } => Ok(Step::Asks(Request::Count { op: *op })),
-        Instruction::MakeMachine => Ok(Step::Asks(Request::MakeVm)),
-        Instruction::Moment => Ok(Step::Asks(Request::Age)),
+        Instruction::Constant(value) => put_constant(scene, frame, value, next),
+        Instruction::Operation { whose, op } => put_operation(scene, frame, *whose, *op, next),
+        Instruction::MyResource => put_resource(scene, frame, next),
+        Instruction::MyMachine => put_machine(scene, frame, next),
+        Instruction::Count { op } => count(*op),
+        Instruction::MakeMachine => make_machine(),
+        Instruction::Moment => moment(),
         Instruction::ToNumber => to_number(scene, frame, next),
         Instruction::ToCap => to_cap(scene, frame, next),
         Instruction::OperateOne(op) => operate_one(scene, frame, *op, next),
         Instruction::Operate(op) => operate(scene, frame, *op, next),
         Instruction::AndSkip { to } => and_skip(scene, frame, *to, next),
         Instruction::OrSkip { to } => or_skip(scene, frame, *to, next),
-        Instruction::NoValues => put_list(frame, Row::new(scene.alloc), next),
+        Instruction::NoValues => put_no_values(scene, frame, next),
         Instruction::Collect => collect(scene, frame, next),
         Instruction::Apply(function) => apply_to_list(scene, frame, *function, next),
-        Instruction::NoPieces => put_pieces(frame, Row::new(scene.alloc), next),
+        Instruction::NoPieces => put_no_pieces(scene, frame, next),
         Instruction::AddPiece => add_piece(scene, frame, next),
         Instruction::AddRepeated => add_repeated(scene, frame, next),
         Instruction::MakeArray => make_array(scene, frame, next),
@@ -71,14 +69,10 @@ pub fn execute(
         Instruction::PartAt2 => part_at2(scene, frame, next),
         Instruction::PartField(field) => part_field(scene, frame, *field, next),
         Instruction::Member { op } => member_of(scene, frame, *op, next),
-        Instruction::Spot(root) => put_place(
-            frame,
-            whole(scene.alloc, root_in(scene, *root)),
-            next,
-        ),
+        Instruction::Spot(root) => put_spot(scene, frame, *root, next),
         Instruction::At => place_at(scene, frame, next),
         Instruction::At2 => place_at2(scene, frame, next),
-        Instruction::Field(field) => extend(scene, frame, Sel::Field(*field), next),
+        Instruction::Field(field) => place_field(scene, frame, *field, next),
         Instruction::Load => load(scene, frame, next),
         Instruction::ToCall => to_call(scene, frame, next),
         Instruction::PassValue => pass_value(scene, frame, next),
@@ -98,7 +92,7 @@ pub fn execute(
         Instruction::NumberRead => number_read(scene, frame, next),
         Instruction::EndRead => end_read(scene, frame, next),
         Instruction::Jump { to } => Ok(Step::Goes((*to).min(next))),
-        Instruction::FixedShape(shape) => put_shape(frame, shape.copy(scene.alloc)?, next),
+        Instruction::FixedShape(shape) => put_fixed(scene, frame, shape, next),
         Instruction::StringShape => string_shape(scene, frame, next),
         Instruction::OneDimension => one_dimension(scene, frame, next),
         Instruction::TwoDimensions => two_dimensions(scene, frame, next),
@@ -107,7 +101,7 @@ pub fn execute(
             scene, frame, *scope, *var, shape, next,
         ),
         Instruction::StoreIn { scope, var } => store_in(scene, frame, *scope, *var, next),
-        Instruction::Arguments => put_list(frame, scene.start.args.copy(scene.alloc)?, next),
+        Instruction::Arguments => put_arguments(scene, frame, next),
         Instruction::MakeFormal {
             scope,
             var,
@@ -117,14 +111,8 @@ pub fn execute(
         Instruction::StoreFormal { scope, var, mode } => store_formal(
             scene, frame, *scope, *var, *mode, next,
         ),
-        Instruction::DropList => {
-            let _ = frame.operands.lists.pop();
-            Ok(Step::Goes(next))
-        }
-        Instruction::DropValue => {
-            let _ = frame.operands.values.pop();
-            Ok(Step::Goes(next))
-        }
+        Instruction::DropList => drop_list(scene, frame, next),
+        Instruction::DropValue => drop_value(scene, frame, next),
         Instruction::Send => send(scene, frame, next),
         Instruction::Forward => forward(scene, frame, next),
         Instruction::Store => store(scene, frame, next),
@@ -133,13 +121,11 @@ pub fn execute(
         Instruction::StoreSecond => store_second(scene, frame, next),
         Instruction::Write { line } => write(scene, frame, *line, next),
         Instruction::Number(number) => put_number(frame, *number, next),
-        Instruction::Stop => Ok(Step::Asks(Request::Stop {
-            status: number_on(frame),
-        })),
+        Instruction::Stop => stop(frame),
         Instruction::Destroy => destroy(scene, frame, next),
         Instruction::TakeDone => take_reply_to(scene.alloc, frame),
         Instruction::ToWait => to_wait(scene, frame, next),
-        Instruction::Age => Ok(Step::Asks(Request::Age)),
+        Instruction::Age => moment(),
         Instruction::Wake => wake(scene, frame, next),
         Instruction::Reply => reply(scene, frame, next),
         Instruction::Tick => tick(frame, next),
@@ -147,17 +133,11 @@ pub fn execute(
         Instruction::Again { to } => tick(frame, *to),
         Instruction::Quantify(direction) => quantify(scene, frame, *direction, next),
         Instruction::Each { var, head } => each(scene, frame, *var, *head, next),
-        Instruction::DropNumbers => {
-            let _ = frame.operands.loops.pop();
-            Ok(Step::Goes(next))
-        }
+        Instruction::DropNumbers => drop_numbers(scene, frame, next),
         Instruction::ToCount => to_count(scene, frame, next),
         Instruction::Repeat { head } => repeat(scene, frame, *head, next),
         Instruction::AddNamed(named) => add_named(scene, frame, *named, next),
-        Instruction::Select { site, .. } => {
-            let env = frame.operands.lists.take(Row::new(scene.alloc));
-            Ok(Step::Asks(Request::Select { site: *site, env }))
-        }
+        Instruction::Select { site, .. } => select(scene.alloc, frame, *site),
         Instruction::OpenService { gives } => open_service(scene, frame, gives, next),
         Instruction::EndService => end_service(scene, frame, next),
         Instruction::OpenCo => open_co(scene, frame, next),

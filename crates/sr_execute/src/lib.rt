@@ -18,6 +18,7 @@ mod results;
 mod resumption;
 mod services;
 mod shapes;
+mod simple;
 mod step;
 mod ticks;
 mod tops;

@@ -63,11 +63,19 @@ pub fn execute_quickly(
         Instruction::Jump { to } => Ok(Carried::Goes((*to).min(next))),
         Instruction::JumpUnless { to } => quick_jump_unless(scene, frame, *to, next),
         Instruction::Each { var, head } => quick_each(scene, frame, *var, *head, next),
-        _ => declare_quickly(scene, frame, instruction, next),
+        Instruction::Constant(_)
+        | Instruction::FixedShape(_)
+        | Instruction::Make { .. }
+        | Instruction::StoreIn { .. }
+        | Instruction::MakeFormal { .. }
+        | Instruction::StoreFormal { .. } => declare_quickly(scene, frame, instruction, next),
+        _ => serve_quickly(scene, frame, instruction, next),
     }
 }
 
 /// Carries out an instruction that makes own variables, or that puts operands for them.
+// Its temporaries would be filled for the instructions above too.
+#[inline(never)]
 fn declare_quickly(
     scene: &Scene,
     frame: &mut Frame,
@@ -98,11 +106,12 @@ fn declare_quickly(
             var,
             mode,
         } => quick_store_formal(scene, frame, *var, *mode, next),
-        _ => serve_quickly(scene, frame, instruction, next),
+        _ => Ok(Carried::Left),
     }
 }
 
 /// Carries out an instruction of a call or of a service that asks nothing.
+#[inline(never)]
 fn serve_quickly(
     scene: &Scene,
     frame: &mut Frame,

@@ -282,36 +282,74 @@ pub fn resume(
     ensures { Leads result frame.old frame.new (resumes instruction.now next frame.old answer) }
 {
     match instruction {
+        Instruction::Load | Instruction::LoadAgain => put_got(frame, answer, next),
+        Instruction::Store => after_done(frame, answer, next),
+        Instruction::Invoke => put_made(frame, answer, next),
+        Instruction::Take { none } => take_results(alloc, frame, answer, *none, next),
+        Instruction::Reply => mark_done(frame, answer, next),
+        Instruction::Select {
+            count,
+            has_else,
+            arms,
+            otherwise,
+            end,
+            ..
+        } => {
+            let ways = Ways {
+                arms: arms.as_slice(),
+                otherwise: *otherwise,
+                end: *end,
+            };
+            choose(frame, selected(*count, *has_else, answer), &ways)
+        }
+        _ => resume_any(alloc, frame, instruction, answer, next),
+    }
+}
+
+/// What an answer leads to at any instruction that asked.
+// In `resume` its temporaries would be filled for the instructions there too.
+#[inline(never)]
+fn resume_any(
+    alloc: Global,
+    frame: &mut Frame,
+    instruction: &Instruction,
+    answer: Answer,
+    next: usize,
+) -> Result<Option<usize>, NoMemory>
+    requires { next + 1 < 2 ^ 64 }
+    ensures { Leads result frame.old frame.new (resumes instruction.now next frame.old answer) }
+{
+    match instruction {
         Instruction::Count { .. } => put_int(frame, answer, next),
         Instruction::MakeMachine => put_machine(frame, answer, next),
         Instruction::Moment => put_moment(frame, answer, next),
-        Instruction::Load => put_got(frame, answer, next),
+        Instruction::Age => put_age(frame, answer, next),
+        Instruction::Load | Instruction::LoadAgain | Instruction::LoadSecond => put_got(
+            frame, answer, next,
+        ),
         Instruction::PassVar => pass_got(alloc, frame, answer, next),
-        Instruction::Invoke => put_made(frame, answer, next),
+        Instruction::Invoke | Instruction::Create { .. } | Instruction::Destroy => put_made(
+            frame, answer, next,
+        ),
         Instruction::Take { none } => take_results(alloc, frame, answer, *none, next),
         Instruction::StoreResults { .. } => after_done(frame, answer, next + 1),
         Instruction::EnsureGlobal { .. } => after_ready(frame, answer, next),
-        Instruction::Create { .. } => put_made(frame, answer, next),
         Instruction::TakeInstance => take_instance(frame, answer, next),
         Instruction::ReadNext { store, end } => take_item(frame, answer, *store, *end, next),
-        Instruction::StoreRead => after_done(frame, answer, next),
-        Instruction::Make { .. } => after_done(frame, answer, next),
-        Instruction::MakeLike { .. } => after_done(frame, answer, next),
-        Instruction::StoreIn { .. } => after_done(frame, answer, next),
-        Instruction::MakeFormal { .. } => after_done(frame, answer, next),
-        Instruction::StoreFormal { .. } => after_done(frame, answer, next),
-        Instruction::Store => after_done(frame, answer, next),
-        Instruction::StoreSecond => after_done(frame, answer, next),
-        Instruction::Write { .. } => after_done(frame, answer, next),
-        Instruction::Wake => after_done(frame, answer, next),
-        Instruction::StoreValue => after_done(frame, answer, next),
+        Instruction::StoreRead
+        | Instruction::Make { .. }
+        | Instruction::MakeLike { .. }
+        | Instruction::StoreIn { .. }
+        | Instruction::MakeFormal { .. }
+        | Instruction::StoreFormal { .. }
+        | Instruction::Store
+        | Instruction::StoreSecond
+        | Instruction::Write { .. }
+        | Instruction::Wake
+        | Instruction::StoreValue => after_done(frame, answer, next),
         Instruction::Send => after_made(frame, answer, next),
         Instruction::Forward => mark_made(frame, answer, next),
-        Instruction::LoadAgain => put_got(frame, answer, next),
-        Instruction::LoadSecond => put_got(frame, answer, next),
-        Instruction::Destroy => put_made(frame, answer, next),
         Instruction::TakeDone => take_done(frame, answer, next),
-        Instruction::Age => put_age(frame, answer, next),
         Instruction::Reply => mark_done(frame, answer, next),
         Instruction::Select {
             count,

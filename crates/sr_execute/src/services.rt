@@ -1,6 +1,7 @@
-ghost use Rattle.sr_code.specs.Operands.{join_value};
+ghost use Rattle.sr_ask.specs.declared.request.Request.TheVariants as request;
+ghost use Rattle.sr_code.specs.Operands.{drop_list, join_value, list_on};
 ghost use Rattle.sr_frame.specs.Scenes.{here_of};
-ghost use Rattle.sr_execute.specs.Executes.{Does, begun, went};
+ghost use Rattle.sr_execute.specs.Executes.{Does, begun, waits, went};
 ghost use Rattle.sr_code.specs.declared.instruction.Instruction.TheVariants as instruction;
 
 use crate::calls::take_call;
@@ -13,6 +14,15 @@ use sr_code::Call;
 use sr_core::Named;
 use sr_frame::{Scene, own_value, results_now};
 use sr_value::{Cap, Duplicate, NoMemory, Row, Value, ValueFail};
+use std::alloc::Global;
+
+/// Asks for an invocation to service; the list of what guards name goes with it.
+pub fn select(alloc: Global, frame: &mut Frame, site: u32) -> Result<Step, NoMemory>
+    ensures { Does result frame.new (waits (request.Select site (list_on frame.old.operands)) (drop_list frame.old.operands) frame.old) }
+{
+    let env = frame.operands.lists.take(Row::new(alloc));
+    Ok(Step::Asks(Request::Select { site, env }))
+}
 
 /// Gives the present results, where none were given.
 pub fn reply(scene: &Scene, frame: &mut Frame, next: usize) -> Result<Step, NoMemory>

@@ -67,6 +67,8 @@ fn drop_ended<A: Actor>(crew: &mut HashMap<u32, Member<A>>, world: &World, numbe
 }
 
 /// Drops those whose processes have ended.
+#[cold]
+#[inline(never)]
 pub(crate) fn let_go<A: Actor>(
     crew: &mut HashMap<u32, Member<A>>,
     alloc: Global,

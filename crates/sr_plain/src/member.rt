@@ -33,6 +33,7 @@ impl<A: Actor> Member<A> {
     }
 
     /// Hands the process its answer, if it got one, and notes that it made the last step.
+    #[inline(always)]
     pub(crate) fn hear(&mut self, actor: u32, carried: Carried, last: &mut u32) -> Option<Plainly>
         ensures answered { (program : A.Program) → AnsweredBy (A.asks_after program) A.can_feed actor carried.name carried.output carried.acted self.old self.new last.old last.new result }
         ensures cannot { IfNone result (carried.acted ≡ Cannot) }

@@ -156,6 +156,7 @@ impl<A: Actor> Plain<A> {
     }
 
     /// Has the machine carry out what a process asks that has begun.
+    #[inline(always)]
     fn try_member(&mut self, program: &A::Program, me: Me) -> Result<Option<Plainly>, NoMemory>
         requires begun { IsSome (member_of self.old.crew me.process) }
         ensures tries { (limit : ℕ) (state : State) (events : List Event) (start : starts.Start) → IsEngine (A.asks_after program.now) A.can_feed (A.core_of program.now) limit state events self.old → started state.world start.process ≡ Some start → me ≡ me_at start → is_ready self.old.waiters me.process ≡ true → self.old.woken ≡ None → Tries (A.asks_after program.now) A.can_feed (A.core_of program.now) limit state events (find (takes_turn (A.core_of program.now) limit state) (start ∷ [])) result self.new }
@@ -186,6 +187,8 @@ impl<A: Actor> Plain<A> {
     }
 
     /// No process can make a step: main's final code begins, or the run ends.
+    #[cold]
+    #[inline(never)]
     fn come_to_rest(&mut self, program: &A::Program) -> Result<Plainly, NoMemory>
         ensures { (limit : ℕ) (state : State) (events : List Event) → IsEngine (A.asks_after program.now) A.can_feed (A.core_of program.now) limit state events self.old → no_step (A.core_of program.now) limit state ≡ true → Steps (A.asks_after program.now) A.can_feed (A.core_of program.now) limit state events None result self.new }
     {

@@ -139,6 +139,7 @@ impl Process {
     }
 
     /// Asks at a line.
+    #[inline(always)]
     fn ask(&mut self, request: Request, place: Place)
         ensures { self.new ≡ asking request place self.old }
     {
@@ -150,6 +151,7 @@ impl Process {
     }
 
     /// What an instruction leads to.
+    #[inline(always)]
     fn take_step(&mut self, step: Step, place: Place)
         ensures { self.new ≡ stepped step place self.old }
     {
@@ -171,6 +173,8 @@ impl Process {
     }
 
     /// Begins the code of its role.
+    #[cold]
+    #[inline(never)]
     fn begin(&mut self, program: &Program) -> Result<(), NoMemory>
         requires { self.old.phase ≡ new_phase }
         ensures same { OnOk result (SameAsks program.now self.old self.new) }
@@ -290,6 +294,8 @@ impl Process {
     }
 
     /// One instruction.
+    // In `run` its temporaries would be filled for each quick instruction too.
+    #[inline(never)]
     fn carry_out(&mut self, program: &Program, coded: &Coded) -> Result<(), NoMemory>
         requires runs { Runs self.old }
         requires at { coded_at program.now.code.items self.old.address ≡ Some coded.now }
@@ -311,6 +317,8 @@ impl Process {
     }
 
     /// The end of its code.
+    #[cold]
+    #[inline(never)]
     fn finish(&mut self, program: &Program) -> Result<(), NoMemory>
         requires runs { Runs self.old }
         requires at { coded_at program.now.code.items self.old.address ≡ None }
@@ -415,6 +423,8 @@ impl Process {
     }
 
     /// Begins, hears what it was fed, and runs to its next request.
+    // Apart from the engine, which is inlined into the loop of the run.
+    #[inline(never)]
     pub(crate) fn advance(&mut self, program: &Program) -> Result<(), NoMemory>
         ensures same { OnOk result (SameAsks program.now self.old self.new) }
         ensures asked { OnOk result (IsSome (asked_by self.new)) }

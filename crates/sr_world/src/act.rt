@@ -22,6 +22,7 @@ fn duty_for(wants: bool, actor: u32, name: u32) -> Duty
 
 impl World {
     /// Carries a request of a process out. `name` is the number of the step, for what it makes.
+    // Its arms stand in functions that aren't inlined: each call would fill the temporaries of all of them.
     pub fn act(&mut self, core: &Core, actor: u32, ask: &Ask, name: u32) -> Result<Acted, NoMemory>
         requires { NeedsNew (does core.now self.old actor ask.now name) self.old name }
         ensures { Acts (does core.now self.old actor ask.now name) self.old self.new result }

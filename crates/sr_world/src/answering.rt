@@ -139,6 +139,7 @@ impl World {
     }
 
     /// A process answers an invocation. Initial code that answers its `create` is ready from then on.
+    #[inline(never)]
     pub(crate) fn reply(
         &mut self,
         role: Role,
@@ -169,6 +170,7 @@ impl World {
     }
 
     /// The earliest reply to one of these invocations.
+    #[inline(never)]
     pub(crate) fn take(&mut self, actor: u32, ids: &Row<u32>) -> Result<Acted, NoMemory>
         ensures { Acts (take_of actor ids.now self.old) self.old self.new result }
     {

@@ -110,6 +110,7 @@ impl World {
     }
 
     /// Stops the run with a status.
+    #[inline(never)]
     pub(crate) fn stop(
         &mut self,
         core: &Core,

@@ -110,6 +110,7 @@ impl World {
     }
 
     /// A process ends. The invocation that it was started for is answered, unless it has been.
+    #[inline(never)]
     pub(crate) fn finish(
         &mut self,
         role: Role,
@@ -192,6 +193,7 @@ impl World {
     }
 
     /// Ends an instance.
+    #[inline(never)]
     pub(crate) fn destroy(
         &mut self,
         core: &Core,

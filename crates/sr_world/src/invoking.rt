@@ -161,6 +161,7 @@ impl World {
     }
 
     /// Invokes an operation.
+    #[inline(never)]
     pub(crate) fn invoke(
         &mut self,
         core: &Core,
@@ -201,6 +202,7 @@ impl World {
     }
 
     /// Tells how many invocations of an operation are pending.
+    #[inline(never)]
     pub(crate) fn count(&mut self, core: &Core, actor: u32, op: u32) -> Result<Acted, NoMemory>
         ensures { Acts (count_of core.now actor op self.old) self.old self.new result }
     {

@@ -54,6 +54,7 @@ fn is_global_ready(places: &Places, global: u32, machine: u32) -> bool
 
 impl World {
     /// Makes sure of a global's instance on a machine.
+    #[inline(never)]
     pub(crate) fn ensure_global(
         &mut self,
         core: &Core,
@@ -109,6 +110,7 @@ impl World {
     }
 
     /// Makes an instance of a resource on a machine.
+    #[inline(never)]
     pub(crate) fn create(
         &mut self,
         core: &Core,
@@ -163,6 +165,7 @@ impl World {
     }
 
     /// Makes a machine.
+    #[inline(never)]
     pub(crate) fn make_machine(&mut self, name: u32) -> Result<Acted, NoMemory>
         requires { NeedsNew (make_machine_of name self.old) self.old name }
         ensures { Acts (make_machine_of name self.old) self.old self.new result }

@@ -100,6 +100,7 @@ fn read_token(alloc: Global, input: &mut Input, kind: ReadKind) -> Result<Answer
 
 impl World {
     /// Reads the next item of the input.
+    #[inline(never)]
     pub(crate) fn read(&mut self, kind: ReadKind) -> Result<Acted, NoMemory>
         ensures { Acts (read_of kind self.old) self.old self.new result }
     {
@@ -111,6 +112,7 @@ impl World {
     }
 
     /// Writes bytes after all that was written.
+    #[inline(never)]
     pub(crate) fn write(&mut self, bytes: &Text) -> Result<Acted, NoMemory>
         ensures { Acts (Did (write_of bytes.now self.old) Answer.Done) self.old self.new result }
     {
@@ -119,6 +121,7 @@ impl World {
     }
 
     /// Tells the moment. One that doesn't fit an `int` is as if memory ran out.
+    #[inline(never)]
     pub(crate) fn age(&mut self) -> Result<Acted, NoMemory>
         ensures { Acts (Did self.old (Answer.Number (pos self.old.moment))) self.old self.new result }
     {
@@ -129,6 +132,7 @@ impl World {
     }
 
     /// Lets a process go on from a moment on.
+    #[inline(never)]
     pub(crate) fn wake(&mut self, until: u32) -> Result<Acted, NoMemory>
         ensures { Acts (wake_of until self.old) self.old self.new result }
     {

@@ -85,6 +85,7 @@ impl World {
     }
 
     /// Chooses an invocation for an `in` statement of a process, which services it.
+    #[inline(never)]
     pub(crate) fn select(
         &mut self,
         core: &Core,

@@ -21,6 +21,7 @@ fn failed(fail: ValueFail, place: Place) -> Result<Acted, NoMemory>
 
 impl World {
     /// Gives a block a variable of this shape.
+    #[inline(never)]
     pub(crate) fn declare(
         &mut self,
         place: Place,
@@ -37,6 +38,7 @@ impl World {
     }
 
     /// Loads the value at the end of a path.
+    #[inline(never)]
     pub(crate) fn load(
         &mut self,
         place: Place,
@@ -53,6 +55,7 @@ impl World {
     }
 
     /// Puts a value at the end of a path.
+    #[inline(never)]
     pub(crate) fn store(
         &mut self,
         place: Place,
