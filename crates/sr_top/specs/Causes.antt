@@ -31,6 +31,22 @@ pub record Call : Type 0 where
   pub now : runs.Devices
   pub items : List Item
 
+-- input and output at one time: what is left, what is held, and the counts of their faults
+abbrev pub devices : Option (List ℕ) → ℕ → Option (List ℕ) → ℕ → runs.Devices
+devices left read_faults held write_faults = record { left = left; read_faults = read_faults; held = held; write_faults = write_faults }
+
+-- a call by its parts, in this order
+abbrev pub call_of : List (List ℕ) → Option (List (List ℕ × List ℕ)) → ℕ → ℕ → runs.Devices → runs.Devices → List Item → Call
+call_of words files file_faults file_faults_now before now items = record {
+  words = words;
+  files = files;
+  file_faults = file_faults;
+  file_faults_now = file_faults_now;
+  before = before;
+  now = now;
+  items = items;
+}
+
 -- ---- before a run
 
 -- no item was made, and input and output are as before

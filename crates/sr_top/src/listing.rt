@@ -1,6 +1,6 @@
 ghost use Rattle.std.specs.Prelude.{◌≡◌, ℕ, List, None, Option, Some};
 ghost use Rattle.sr_class_text.specs.Lines as lines;
-ghost use Rattle.sr_top.specs.Causes.{HasCause, PutsLines};
+ghost use Rattle.sr_top.specs.Causes.{HasCause, PutsLines, call_of, devices};
 ghost use Rattle.sr_top.specs.Programs.{classes_in, core_in};
 ghost use Rattle.sr_top.specs.Tasks.{ListsClasses, task};
 
@@ -21,15 +21,10 @@ pub fn list_classes<F: Files, O: Sink>(
     output: &mut O,
 ) -> Outcome
     ensures cause { (words : List (List ℕ)) (left : Option (List ℕ)) (read_faults : ℕ) → task words ≡ Some (ListsClasses names.now) → HasCause
-        (record {
-          words = words;
-          files = F.content files.old;
-          file_faults = F.faults files.old;
-          file_faults_now = F.faults files.new;
-          before = record { left = left; read_faults = read_faults; held = O.held output.old; write_faults = O.faults output.old };
-          now = record { left = left; read_faults = read_faults; held = O.held output.new; write_faults = O.faults output.new };
-          items = result.items;
-        })
+        (call_of words (F.content files.old) (F.faults files.old) (F.faults files.new)
+        (devices left read_faults (O.held output.old) (O.faults output.old))
+        (devices left read_faults (O.held output.new) (O.faults output.new))
+        result.items)
         result.ending }
     ensures header { result.header ≡ None }
     ensures files { F.content files.new ≡ F.content files.old }

@@ -1,7 +1,7 @@
 ghost use Rattle.std.specs.Prelude.{◌≡◌, ℕ, false, List, [], ◌∷◌, Option, None, Some, IfOk, IfSome};
 ghost use Rattle.sr_journal.specs.Journal.{IsInRange};
 ghost use Rattle.sr_run.specs.Runs.{Devices};
-ghost use Rattle.sr_top.specs.Causes.{HasCause};
+ghost use Rattle.sr_top.specs.Causes.{HasCause, call_of, devices};
 ghost use Rattle.sr_top.specs.Journal.{CanBeAsked, HasHeaderIf};
 ghost use Rattle.sr_top.specs.Report as report_of;
 ghost use Rattle.sr_top.specs.Tasks as tasks;
@@ -81,26 +81,16 @@ pub fn obey<F: Files, I: Source, O: Sink>(
     output: &mut O,
 ) -> Obeyed
     ensures cause { (words : List (List ℕ)) → command_of words ≡ Some command → HasCause
-        (record {
-          words = words;
-          files = F.content files.old;
-          file_faults = F.faults files.old;
-          file_faults_now = F.faults files.new;
-          before = record { left = I.left input.old; read_faults = I.faults input.old; held = O.held output.old; write_faults = O.faults output.old };
-          now = record { left = I.left input.new; read_faults = I.faults input.new; held = O.held output.new; write_faults = O.faults output.new };
-          items = result.items;
-        })
+        (call_of words (F.content files.old) (F.faults files.old) (F.faults files.new)
+        (devices (I.left input.old) (I.faults input.old) (O.held output.old) (O.faults output.old))
+        (devices (I.left input.new) (I.faults input.new) (O.held output.new) (O.faults output.new))
+        result.items)
         result.ending }
     ensures header { (words : List (List ℕ)) → command_of words ≡ Some command → HasHeaderIf
-        (record {
-          words = words;
-          files = F.content files.old;
-          file_faults = F.faults files.old;
-          file_faults_now = F.faults files.new;
-          before = record { left = I.left input.old; read_faults = I.faults input.old; held = O.held output.old; write_faults = O.faults output.old };
-          now = record { left = I.left input.new; read_faults = I.faults input.new; held = O.held output.new; write_faults = O.faults output.new };
-          items = result.items;
-        })
+        (call_of words (F.content files.old) (F.faults files.old) (F.faults files.new)
+        (devices (I.left input.old) (I.faults input.old) (O.held output.old) (O.faults output.old))
+        (devices (I.left input.new) (I.faults input.new) (O.held output.new) (O.faults output.new))
+        result.items)
         result.ending result.header }
     ensures in_range { (words : List (List ℕ)) → command_of words ≡ Some command → IfSome result.header (λ header. IsInRange header result.items) }
     ensures names { (words : List (List ℕ)) → command_of words ≡ Some command
@@ -167,26 +157,16 @@ fn run_files<F: Files, I: Source, O: Sink>(
     output: &mut O,
 ) -> Outcome
     ensures cause { (words : List (List ℕ)) → tasks.task words ≡ Some (tasks.Runs (tasks.Named names.now) steps ticks journal) → HasCause
-        (record {
-          words = words;
-          files = F.content files.old;
-          file_faults = F.faults files.old;
-          file_faults_now = F.faults files.new;
-          before = record { left = I.left input.old; read_faults = I.faults input.old; held = O.held output.old; write_faults = O.faults output.old };
-          now = record { left = I.left input.new; read_faults = I.faults input.new; held = O.held output.new; write_faults = O.faults output.new };
-          items = result.items;
-        })
+        (call_of words (F.content files.old) (F.faults files.old) (F.faults files.new)
+        (devices (I.left input.old) (I.faults input.old) (O.held output.old) (O.faults output.old))
+        (devices (I.left input.new) (I.faults input.new) (O.held output.new) (O.faults output.new))
+        result.items)
         result.ending }
     ensures header { (words : List (List ℕ)) → tasks.task words ≡ Some (tasks.Runs (tasks.Named names.now) steps ticks journal) → HasHeaderIf
-        (record {
-          words = words;
-          files = F.content files.old;
-          file_faults = F.faults files.old;
-          file_faults_now = F.faults files.new;
-          before = record { left = I.left input.old; read_faults = I.faults input.old; held = O.held output.old; write_faults = O.faults output.old };
-          now = record { left = I.left input.new; read_faults = I.faults input.new; held = O.held output.new; write_faults = O.faults output.new };
-          items = result.items;
-        })
+        (call_of words (F.content files.old) (F.faults files.old) (F.faults files.new)
+        (devices (I.left input.old) (I.faults input.old) (O.held output.old) (O.faults output.old))
+        (devices (I.left input.new) (I.faults input.new) (O.held output.new) (O.faults output.new))
+        result.items)
         result.ending result.header }
     ensures in_range { CanBeAsked names.now steps ticks → IfSome result.header (λ header. IsInRange header result.items) }
     ensures files { F.content files.new ≡ F.content files.old }
@@ -208,15 +188,10 @@ fn run_sample<I: Source, O: Sink>(
 ) -> Outcome
     ensures cause { (words : List (List ℕ)) (files : Option (List (List ℕ × List ℕ))) (faults : ℕ)
         → tasks.task words ≡ Some (tasks.Runs (tasks.Sampled seed) (default_of settings.Steps) (default_of settings.Ticks) false) → HasCause
-        (record {
-          words = words;
-          files = files;
-          file_faults = faults;
-          file_faults_now = faults;
-          before = record { left = I.left input.old; read_faults = I.faults input.old; held = O.held output.old; write_faults = O.faults output.old };
-          now = record { left = I.left input.new; read_faults = I.faults input.new; held = O.held output.new; write_faults = O.faults output.new };
-          items = result.items;
-        })
+        (call_of words files faults faults
+        (devices (I.left input.old) (I.faults input.old) (O.held output.old) (O.faults output.old))
+        (devices (I.left input.new) (I.faults input.new) (O.held output.new) (O.faults output.new))
+        result.items)
         result.ending }
     ensures header { result.header ≡ None }
 {

@@ -1,6 +1,6 @@
 ghost use Rattle.std.specs.Prelude.{◌≡◌, ◌⊎◌, [], map, string_bytes, IfSome};
 ghost use Rattle.sr_journal.specs.Journal.{IsInRange};
-ghost use Rattle.sr_top.specs.Causes.{HasCause};
+ghost use Rattle.sr_top.specs.Causes.{HasCause, call_of, devices};
 ghost use Rattle.sr_top.specs.Headline.{Headline, IsComplete};
 ghost use Rattle.sr_top.specs.Journal.{HasHeaderIf, HasNoJournal, PutsJournal};
 ghost use Rattle.sr_top.specs.Report as report_of;
@@ -30,63 +30,38 @@ pub fn sr_top<F: Files, I: Source, O: Sink, D: Sink, J: Sink, G: Gate + Sync>(
     gate: &G,
 ) -> Report
     ensures cause { HasCause
-        (record {
-          words = map string_bytes words.now;
-          files = F.content files.old;
-          file_faults = F.faults files.old;
-          file_faults_now = F.faults files.new;
-          before = record { left = I.left input.old; read_faults = I.faults input.old; held = O.held output.old; write_faults = O.faults output.old };
-          now = record { left = I.left input.new; read_faults = I.faults input.new; held = O.held output.new; write_faults = O.faults output.new };
-          items = result.items;
-        })
+        (call_of (map string_bytes words.now) (F.content files.old) (F.faults files.old) (F.faults files.new)
+        (devices (I.left input.old) (I.faults input.old) (O.held output.old) (O.faults output.old))
+        (devices (I.left input.new) (I.faults input.new) (O.held output.new) (O.faults output.new))
+        result.items)
         result.ending }
     ensures headline { Headline
-        (record {
-          words = map string_bytes words.now;
-          files = F.content files.old;
-          file_faults = F.faults files.old;
-          file_faults_now = F.faults files.new;
-          before = record { left = I.left input.old; read_faults = I.faults input.old; held = O.held output.old; write_faults = O.faults output.old };
-          now = record { left = I.left input.new; read_faults = I.faults input.new; held = O.held output.new; write_faults = O.faults output.new };
-          items = result.items;
-        })
+        (call_of (map string_bytes words.now) (F.content files.old) (F.faults files.old) (F.faults files.new)
+        (devices (I.left input.old) (I.faults input.old) (O.held output.old) (O.faults output.old))
+        (devices (I.left input.new) (I.faults input.new) (O.held output.new) (O.faults output.new))
+        result.items)
         result.ending }
     ensures complete { IsComplete
-        (record {
-          words = map string_bytes words.now;
-          files = F.content files.old;
-          file_faults = F.faults files.old;
-          file_faults_now = F.faults files.new;
-          before = record { left = I.left input.old; read_faults = I.faults input.old; held = O.held output.old; write_faults = O.faults output.old };
-          now = record { left = I.left input.new; read_faults = I.faults input.new; held = O.held output.new; write_faults = O.faults output.new };
-          items = result.items;
-        })
+        (call_of (map string_bytes words.now) (F.content files.old) (F.faults files.old) (F.faults files.new)
+        (devices (I.left input.old) (I.faults input.old) (O.held output.old) (O.faults output.old))
+        (devices (I.left input.new) (I.faults input.new) (O.held output.new) (O.faults output.new))
+        result.items)
         result.ending }
     ensures files { F.content files.new ≡ F.content files.old }
     ensures diag { report_of.GotAsFar result.diag (report_of.diag_text (file_names (map string_bytes words.now)) result.ending)
         (D.held diag.old) (D.held diag.new) (D.faults diag.old) (D.faults diag.new) }
     ensures status { result.status ≡ report_of.status_of result.ending result.journal }
     ensures journal { PutsJournal
-        (record {
-          words = map string_bytes words.now;
-          files = F.content files.old;
-          file_faults = F.faults files.old;
-          file_faults_now = F.faults files.new;
-          before = record { left = I.left input.old; read_faults = I.faults input.old; held = O.held output.old; write_faults = O.faults output.old };
-          now = record { left = I.left input.new; read_faults = I.faults input.new; held = O.held output.new; write_faults = O.faults output.new };
-          items = result.items;
-        })
+        (call_of (map string_bytes words.now) (F.content files.old) (F.faults files.old) (F.faults files.new)
+        (devices (I.left input.old) (I.faults input.old) (O.held output.old) (O.faults output.old))
+        (devices (I.left input.new) (I.faults input.new) (O.held output.new) (O.faults output.new))
+        result.items)
         result.ending result.journal (J.held journal.old) (J.held journal.new) (J.faults journal.old) (J.faults journal.new)
         ⊎ (HasNoJournal
-        (record {
-          words = map string_bytes words.now;
-          files = F.content files.old;
-          file_faults = F.faults files.old;
-          file_faults_now = F.faults files.new;
-          before = record { left = I.left input.old; read_faults = I.faults input.old; held = O.held output.old; write_faults = O.faults output.old };
-          now = record { left = I.left input.new; read_faults = I.faults input.new; held = O.held output.new; write_faults = O.faults output.new };
-          items = result.items;
-        })
+        (call_of (map string_bytes words.now) (F.content files.old) (F.faults files.old) (F.faults files.new)
+        (devices (I.left input.old) (I.faults input.old) (O.held output.old) (O.faults output.old))
+        (devices (I.left input.new) (I.faults input.new) (O.held output.new) (O.faults output.new))
+        result.items)
         result.ending result.journal × (journal.new ≡ journal.old)) }
     ensures no_rounds { result.rounds ≡ [] }
 {
@@ -118,26 +93,16 @@ fn obey_words<F: Files, I: Source, O: Sink>(
     output: &mut O,
 ) -> Obeyed
     ensures cause { HasCause
-        (record {
-          words = map string_bytes words.now;
-          files = F.content files.old;
-          file_faults = F.faults files.old;
-          file_faults_now = F.faults files.new;
-          before = record { left = I.left input.old; read_faults = I.faults input.old; held = O.held output.old; write_faults = O.faults output.old };
-          now = record { left = I.left input.new; read_faults = I.faults input.new; held = O.held output.new; write_faults = O.faults output.new };
-          items = result.items;
-        })
+        (call_of (map string_bytes words.now) (F.content files.old) (F.faults files.old) (F.faults files.new)
+        (devices (I.left input.old) (I.faults input.old) (O.held output.old) (O.faults output.old))
+        (devices (I.left input.new) (I.faults input.new) (O.held output.new) (O.faults output.new))
+        result.items)
         result.ending }
     ensures header { HasHeaderIf
-        (record {
-          words = map string_bytes words.now;
-          files = F.content files.old;
-          file_faults = F.faults files.old;
-          file_faults_now = F.faults files.new;
-          before = record { left = I.left input.old; read_faults = I.faults input.old; held = O.held output.old; write_faults = O.faults output.old };
-          now = record { left = I.left input.new; read_faults = I.faults input.new; held = O.held output.new; write_faults = O.faults output.new };
-          items = result.items;
-        })
+        (call_of (map string_bytes words.now) (F.content files.old) (F.faults files.old) (F.faults files.new)
+        (devices (I.left input.old) (I.faults input.old) (O.held output.old) (O.faults output.old))
+        (devices (I.left input.new) (I.faults input.new) (O.held output.new) (O.faults output.new))
+        result.items)
         result.ending result.header }
     ensures in_range { IfSome result.header (λ header. IsInRange header result.items) }
     ensures names { report_of.diag_text result.names result.ending ≡ report_of.diag_text (file_names (map string_bytes words.now)) result.ending }
