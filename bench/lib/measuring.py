@@ -67,12 +67,10 @@ class Bounds:
         self.before = {}
         self.broken = []
 
-    def note(self, kind, size, told, took, is_bounded=True):
-        """Notes the milliseconds that a source of this kind and size took."""
+    def note(self, kind, size, told, took, may_grow=False):
+        """Notes the milliseconds that a source of this kind and size took, and whether they may grow faster."""
         print(f"{self.name}: {size} bytes of {kind}: {told}", flush=True)
-        if not is_bounded:
-            return
-        half = self.before.get(kind)
+        half = None if may_grow else self.before.get(kind)
         self.before[kind] = took
         self.worst = max(self.worst, took)
         if took > self.most_ms:

@@ -1,6 +1,6 @@
 -- What stands at the head of an operation is what is declared of it: an operation, a type of operations and what makes an
--- instance are known by the type that their heads make, and this type has a signature. Where no other rule is broken this
--- holds, since a type stands before its use.
+-- instance are known by the type that their heads make, and this type has a signature. A type stands before its use, so this
+-- is meant to hold where no other rule is broken; that isn't proved.
 use Rattle.std.specs.Prelude.{Bool, false, ◌&&◌, List, [], ◌∷◌, ◌++◌, Option, Some, None, is_some}
 use Rattle.sr_names.specs.declared.finding.Diagnostic.{Diagnostic}
 use Rattle.sr_names.specs.declared.finding.Finding.{Finding}
