@@ -25,7 +25,7 @@ use std::alloc::Global;
 
 /// Emits a statement.
 #[cycle(statement)]
-#[tactic(auto, using(crate::proofs::Weights::weight_if, crate::proofs::Weights::weight_do, crate::proofs::Weights::weight_fa, crate::proofs::Weights::weight_in, crate::proofs::Weights::weight_co))]
+#[tactic(auto, using(sr_meaning::proofs::Weights::weight_if, sr_meaning::proofs::Weights::weight_do, sr_meaning::proofs::Weights::weight_fa, sr_meaning::proofs::Weights::weight_in, sr_meaning::proofs::Weights::weight_co))]
 pub fn gen_statement(
     alloc: Global,
     core: &Core,
@@ -154,7 +154,7 @@ fn gen_act(
 
 /// Emits a block.
 #[cycle(statement)]
-#[tactic(auto, using(crate::proofs::Weights::item_within))]
+#[tactic(auto, using(sr_meaning::proofs::Weights::item_within))]
 pub fn gen_block(
     alloc: Global,
     core: &Core,
@@ -193,7 +193,7 @@ fn gen_if(
 
 /// Emits guarded blocks, of which the first runs whose condition holds.
 #[cycle(statement)]
-#[tactic(auto, using(crate::proofs::Weights::item_within))]
+#[tactic(auto, using(sr_meaning::proofs::Weights::item_within))]
 fn gen_guards(
     alloc: Global,
     core: &Core,
@@ -214,7 +214,7 @@ fn gen_guards(
 }
 
 #[cycle(statement)]
-#[tactic(auto, using(crate::proofs::Weights::weight_guarded))]
+#[tactic(auto, using(sr_meaning::proofs::Weights::weight_guarded))]
 fn gen_guarded(
     alloc: Global,
     core: &Core,
@@ -501,7 +501,7 @@ fn gen_in(
 
 /// Emits the services of the arms of an `in`, which go on at `to`, and notes their addresses.
 #[cycle(statement)]
-#[tactic(auto, using(crate::proofs::Weights::item_within))]
+#[tactic(auto, using(sr_meaning::proofs::Weights::item_within))]
 fn gen_services(
     alloc: Global,
     core: &Core,
@@ -607,7 +607,7 @@ fn gen_co(
 
 /// Emits what each reply leads to, and notes the addresses.
 #[cycle(statement)]
-#[tactic(auto, using(crate::proofs::Weights::item_within))]
+#[tactic(auto, using(sr_meaning::proofs::Weights::item_within))]
 fn gen_replies(
     alloc: Global,
     core: &Core,
@@ -634,7 +634,7 @@ fn gen_replies(
 
 /// Emits the stores of a reply, and the block of its arm.
 #[cycle(statement)]
-#[tactic(auto, using(crate::proofs::Weights::weight_arm))]
+#[tactic(auto, using(sr_meaning::proofs::Weights::weight_arm))]
 fn gen_reply(
     alloc: Global,
     core: &Core,
@@ -656,7 +656,7 @@ fn gen_reply(
 
 /// Emits all invocations of a `co`.
 #[cycle(statement)]
-#[tactic(auto, using(crate::proofs::Weights::item_within, crate::proofs::Weights::weight_arm))]
+#[tactic(auto, using(sr_meaning::proofs::Weights::item_within, sr_meaning::proofs::Weights::weight_arm))]
 fn gen_calls(
     alloc: Global,
     core: &Core,

@@ -30,7 +30,7 @@ use Rattle.sr_core.specs.Values.{values_of}
 use Rattle.sr_interpreter_expr.specs.Interpreters.{Agrees}
 use Rattle.sr_meaning.proofs.Forever.{forever}
 use Rattle.sr_interpreter.proofs.Steps.{block_at, in_step, start_calls_step}
-use Rattle.sr_interpreter.proofs.Weights.{block_of_weights, item_within, weight_of, weight_of_block, weight_of_blocks}
+use Rattle.sr_meaning.proofs.Weights.{block_of_weights, item_within, weight_of, weight_of_block, weight_of_blocks}
 
 -- where the first piece stops, both stop
 pub stops_too : {A B : Type 0} (first : Outcome A) (next : A → Doing B) (stop : Stop) (last : Stage) → Agrees first (Err stop) last → Agrees (and_then first next) (Err stop) last

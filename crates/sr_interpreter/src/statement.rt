@@ -29,7 +29,7 @@ use sr_value::{NoMemory, Place, Row};
 
 /// What a statement asks, and how it ends.
 #[cycle(execution)]
-#[tactic(auto, using(crate::proofs::Weights::weight_if, crate::proofs::Weights::weight_do, crate::proofs::Weights::weight_fa, crate::proofs::Weights::weight_in, crate::proofs::Weights::weight_co, crate::proofs::Steps::meaning_of_do))]
+#[tactic(auto, using(sr_meaning::proofs::Weights::weight_if, sr_meaning::proofs::Weights::weight_do, sr_meaning::proofs::Weights::weight_fa, sr_meaning::proofs::Weights::weight_in, sr_meaning::proofs::Weights::weight_co, crate::proofs::Steps::meaning_of_do))]
 pub fn run(
     scene: &Scene,
     interpreter: &mut Interpreter,
@@ -119,7 +119,7 @@ fn run_action(
 
 /// What a block asks, and how it ends.
 #[cycle(execution)]
-#[tactic(auto, using(crate::proofs::Weights::item_within, crate::proofs::Steps::before_other))]
+#[tactic(auto, using(sr_meaning::proofs::Weights::item_within, crate::proofs::Steps::before_other))]
 pub fn run_block(
     scene: &Scene,
     interpreter: &mut Interpreter,
@@ -138,7 +138,7 @@ pub fn run_block(
 
 /// Runs the block of the first guard that holds, and says how it ended.
 #[cycle(execution)]
-#[tactic(auto, using(crate::proofs::Weights::item_within))]
+#[tactic(auto, using(sr_meaning::proofs::Weights::item_within))]
 fn run_guards(
     scene: &Scene,
     interpreter: &mut Interpreter,
@@ -156,7 +156,7 @@ fn run_guards(
 
 /// Runs a block where its condition holds.
 #[cycle(execution)]
-#[tactic(auto, using(crate::proofs::Weights::weight_guarded))]
+#[tactic(auto, using(sr_meaning::proofs::Weights::weight_guarded))]
 fn run_guarded(
     scene: &Scene,
     interpreter: &mut Interpreter,
@@ -381,7 +381,7 @@ fn run_in(
 
 /// The service of a picked invocation.
 #[cycle(execution)]
-#[tactic(auto, using(crate::proofs::Weights::item_within))]
+#[tactic(auto, using(sr_meaning::proofs::Weights::item_within))]
 fn run_pick(
     scene: &Scene,
     interpreter: &mut Interpreter,
@@ -458,7 +458,7 @@ fn arm_number(at: usize) -> Result<u32, NoMemory>
 
 /// All invocations of a `co`, in the order of the text and of the quantifiers.
 #[cycle(execution)]
-#[tactic(auto, using(crate::proofs::Weights::item_within, crate::proofs::Weights::weight_arm, crate::proofs::Steps::start_calls_step))]
+#[tactic(auto, using(sr_meaning::proofs::Weights::item_within, sr_meaning::proofs::Weights::weight_arm, crate::proofs::Steps::start_calls_step))]
 fn start_calls(scene: &Scene, interpreter: &mut Interpreter, arms: &[CoArm]) -> Result<(), Stop>
     ensures { Agrees (start_calls 0 (map co_part_of arms.now) (here_of scene.now) (stage_of interpreter.old)) result (stage_of interpreter.new) }
 {
@@ -498,7 +498,7 @@ fn complete_outs(
 
 /// Takes one reply, and does what it leads to.
 #[cycle(execution)]
-#[tactic(auto, using(crate::proofs::Weights::item_within))]
+#[tactic(auto, using(sr_meaning::proofs::Weights::item_within))]
 fn complete_next(
     scene: &Scene,
     interpreter: &mut Interpreter,
@@ -531,7 +531,7 @@ fn complete_reply(
 
 /// The stores of a reply, and then the block of its arm.
 #[cycle(execution)]
-#[tactic(auto, using(crate::proofs::Weights::weight_arm, crate::proofs::Steps::co_part_is))]
+#[tactic(auto, using(sr_meaning::proofs::Weights::weight_arm, crate::proofs::Steps::co_part_is))]
 fn complete_arm(
     scene: &Scene,
     interpreter: &mut Interpreter,

@@ -6,3 +6,4 @@ pub mod RegularProcesses
 pub mod RegularStatements
 pub mod RegularTrees
 pub mod RegularWhole
+pub mod Weights

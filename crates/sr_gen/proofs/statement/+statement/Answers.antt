@@ -16,7 +16,7 @@ use Rattle.sr_gen.proofs.Loops.{acts_do, acts_fa, acts_pads, acts_quantified, ac
 use Rattle.sr_gen.proofs.Services.{acts_in_row, item_at, serves_arm, services_begin, services_step}
 use Rattle.sr_gen.proofs.Together.{acts_co, calls_begin, calls_end, calls_step, completes_arm, completes_as, part_is, replies_begin, replies_end, replies_step}
 use Rattle.sr_gen.proofs.Trees.{guarded_is, meaning_act, meaning_co, meaning_declare, meaning_do, meaning_fa, meaning_if, meaning_in, meaning_sends}
-use Rattle.sr_gen.proofs.Weights.{block_within, weight_of_block}
+use Rattle.sr_meaning.proofs.Weights.{block_within, weight_of_block}
 use Rattle.sr_gen.proofs.statement.+statement.Goals as goal
 
 -- ---- statements

@@ -6,7 +6,8 @@ use Rattle.sr_meaning.specs.Statements.{block_meaning, first_true, meaning_of, s
 use Rattle.sr_gen_expr.specs.Emitting.{Gives, put_nothing}
 use Rattle.sr_gen.specs.Blocks.{each_block}
 use Rattle.sr_gen.specs.Doing.{Acts, CompletesEach, ServesEach, Tries}
-use Rattle.sr_gen.proofs.Weights.{weight_of, weight_of_arm, weight_of_arms, weight_of_block, weight_of_blocks, weight_of_guarded, weight_of_guards, weight_of_inner, weight_of_optional}
+use Rattle.sr_meaning.proofs.Weights.{weight_of, weight_of_arm, weight_of_arms, weight_of_block, weight_of_blocks, weight_of_guarded, weight_of_guards, weight_of_optional}
+use Rattle.sr_gen.proofs.Weights.{weight_of_inner}
 use Rattle.sr_gen.proofs.statement.+statement.Given as goal
 
 abbrev pub decreases-gen_statement : goal.decreases-gen_statement

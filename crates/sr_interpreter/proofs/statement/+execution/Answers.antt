@@ -9,7 +9,7 @@ use Rattle.sr_interpreter_parts.specs.Turns.{listed}
 use Rattle.sr_interpreter_expr.specs.Interpreters.{Agrees, here_of, stage_of}
 use Rattle.sr_interpreter.proofs.Completions.{reply_given, no_reply_given}
 use Rattle.sr_interpreter.proofs.Executions.{arm_given, arm_within, block_given, block_within, calls_end, calls_go_on, do_stops, first_and_rest, in_given, in_stops, no_arm, no_block, not_there, quantified_fails, quantified_given, there}
-use Rattle.sr_interpreter.proofs.Weights.{weight_of_arm, weight_of_block}
+use Rattle.sr_meaning.proofs.Weights.{weight_of_arm, weight_of_block}
 use Rattle.sr_interpreter.proofs.statement.+execution.Goals as goal
 
 pub complete_next-returns-in-Ok : goal.complete_next-returns-in-Ok

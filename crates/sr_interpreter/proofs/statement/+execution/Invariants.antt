@@ -6,7 +6,8 @@ use Rattle.sr_interpreter.specs.Blocks.{inner_meaning}
 use Rattle.sr_meaning.specs.Statements.{block_of, complete_all, do_turn, first_true, for_values, quantified, start_calls}
 use Rattle.sr_interpreter_parts.specs.Turns.{listed, listed_from}
 use Rattle.sr_interpreter_expr.specs.Interpreters.{here_of, stage_of}
-use Rattle.sr_interpreter.proofs.Weights.{weight_of, weight_of_arm, weight_of_arms, weight_of_block, weight_of_blocks, weight_of_guarded, weight_of_guards, weight_of_inner, weight_of_optional}
+use Rattle.sr_meaning.proofs.Weights.{weight_of, weight_of_arm, weight_of_arms, weight_of_block, weight_of_blocks, weight_of_guarded, weight_of_guards, weight_of_optional}
+use Rattle.sr_interpreter.proofs.Weights.{weight_of_inner}
 use Rattle.sr_interpreter.proofs.statement.+execution.Given as goal
 
 abbrev pub decreases-run : goal.decreases-run
