@@ -1,5 +1,5 @@
 -- Each number in what procs, initial code and final code are in the core names something.
-use Rattle.std.proofs.Common.{◌+◌, Bool, List, [], ◌∷◌, ◌++◌, IsTrue, flat_map, length, map, refl, arith, length-append}
+use Rattle.std.proofs.Common.{Bool, List, [], ◌∷◌, ◌++◌, IsTrue, flat_map, length, map, refl, arith, length-append}
 use Rattle.std.proofs.lemmas.Bool.{and_from}
 use Rattle.std.specs.List.{list_all}
 use Rattle.std.specs.Prelude.{option_to_list}
@@ -11,7 +11,6 @@ use Rattle.sr_core.specs.Numbers.{Where, argument_ok, block_ok}
 use Rattle.sr_names.specs.declared.spot.Spot.{Spot}
 use Rattle.sr_tree.specs.declared.component.Item.{Item}
 use Rattle.sr_tree.specs.declared.component.Item.TheVariants as item
-use Rattle.sr_tree.specs.declared.component.Procedure.{Procedure}
 use Rattle.sr_tree.specs.declared.component.Process.{Process}
 use Rattle.sr_tree.specs.declared.component.ProcItem.{ProcItem}
 use Rattle.sr_tree.specs.declared.component.ProcItem.TheVariants as inner

@@ -1,5 +1,5 @@
 -- Where code declares names there are own variables.
-use Rattle.std.proofs.Common.{◌+◌, ◌<◌, List, ◌∷◌, ◌++◌, length, arith, length-append}
+use Rattle.std.proofs.Common.{◌<◌, List, ◌∷◌, ◌++◌, length, arith, length-append}
 use Rattle.sr_names.specs.declared.spot.Spot.{Spot}
 use Rattle.sr_lower_expr.specs.declared.scene.Scene.{Scene}
 
