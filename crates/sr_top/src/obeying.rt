@@ -212,15 +212,7 @@ fn run_sample<I: Source, O: Sink>(
 /// Says whether the files of these names are a program.
 fn check_files<F: Files>(alloc: Global, names: &[Text], files: &mut F) -> Outcome
     ensures cause { (words : List (List ℕ)) (devices : Devices) → tasks.task words ≡ Some (tasks.Checks names.now) → HasCause
-        (record {
-          words = words;
-          files = F.content files.old;
-          file_faults = F.faults files.old;
-          file_faults_now = F.faults files.new;
-          before = devices;
-          now = devices;
-          items = result.items;
-        })
+        (call_of words (F.content files.old) (F.faults files.old) (F.faults files.new) devices devices result.items)
         result.ending }
     ensures header { result.header ≡ None }
     ensures files { F.content files.new ≡ F.content files.old }

@@ -6,7 +6,7 @@ use Rattle.sr_ask.specs.declared.item.Item.{Item}
 use Rattle.sr_journal.specs.Journal.{IsInRange}
 use Rattle.sr_top.proofs.Asked.{handed_on, named_as, task_is}
 use Rattle.sr_top.proofs.Commands.{can_be_asked}
-use Rattle.sr_top.specs.Causes.{Call, HasCause}
+use Rattle.sr_top.specs.Causes.{Call, HasCause, call_of, devices}
 use Rattle.sr_top.specs.Journal.{CanBeAsked, EndsBeforeRun, HasHeaderIf, without}
 use Rattle.sr_top.specs.Tasks.{Checks, ListsClasses, Named, Runs, keeps_journal}
 use Rattle.sr_top.proofs.obeying.obey.Goals as goal
@@ -14,50 +14,18 @@ use Rattle.sr_top.proofs.obeying.obey.Goals as goal
 pub returns-in-Run-clause-cause : goal.returns-in-Run-clause-cause
 returns-in-Run-clause-cause g c = λ words told.
     let call : List Item → Call =
-    λ items. record {
-      words = words;
-      files = g.F.Files.content c.args.files.now;
-      file_faults = g.F.Files.faults c.args.files.now;
-      file_faults_now = g.F.Files.faults c.run_files-outcome.new.files;
-      before = record {
-        left = g.I.Source.left c.args.input.now;
-        read_faults = g.I.Source.faults c.args.input.now;
-        held = g.O.Sink.held c.args.output.now;
-        write_faults = g.O.Sink.faults c.args.output.now;
-      };
-      now = record {
-        left = g.I.Source.left c.run_files-outcome.new.input;
-        read_faults = g.I.Source.faults c.run_files-outcome.new.input;
-        held = g.O.Sink.held c.run_files-outcome.new.output;
-        write_faults = g.O.Sink.faults c.run_files-outcome.new.output;
-      };
-      items = items;
-    } in
+    call_of words (g.F.Files.content c.args.files.now) (g.F.Files.faults c.args.files.now) (g.F.Files.faults c.run_files-outcome.new.files)
+    (devices (g.I.Source.left c.args.input.now) (g.I.Source.faults c.args.input.now) (g.O.Sink.held c.args.output.now) (g.O.Sink.faults c.args.output.now))
+    (devices (g.I.Source.left c.run_files-outcome.new.input) (g.I.Source.faults c.run_files-outcome.new.input) (g.O.Sink.held c.run_files-outcome.new.output) (g.O.Sink.faults c.run_files-outcome.new.output)) in
     handed_on (λ items ending header. HasCause (call items) ending) _ _ _ _ _ _ c.named.ensures.items c.named.ensures.ending c.named.ensures.header
     (c.run_files-outcome.ensures.cause words (task_is words _ _ _ told c.in-Run.is refl ∙ ap (λ names. Some (Runs (Named names) c.in-Run.steps c.in-Run.ticks c.in-Run.journal)) (sym c.as_slice.ensures)))
 
 pub returns-in-Run-clause-header : goal.returns-in-Run-clause-header
 returns-in-Run-clause-header g c = λ words told.
     let call : List Item → Call =
-    λ items. record {
-      words = words;
-      files = g.F.Files.content c.args.files.now;
-      file_faults = g.F.Files.faults c.args.files.now;
-      file_faults_now = g.F.Files.faults c.run_files-outcome.new.files;
-      before = record {
-        left = g.I.Source.left c.args.input.now;
-        read_faults = g.I.Source.faults c.args.input.now;
-        held = g.O.Sink.held c.args.output.now;
-        write_faults = g.O.Sink.faults c.args.output.now;
-      };
-      now = record {
-        left = g.I.Source.left c.run_files-outcome.new.input;
-        read_faults = g.I.Source.faults c.run_files-outcome.new.input;
-        held = g.O.Sink.held c.run_files-outcome.new.output;
-        write_faults = g.O.Sink.faults c.run_files-outcome.new.output;
-      };
-      items = items;
-    } in
+    call_of words (g.F.Files.content c.args.files.now) (g.F.Files.faults c.args.files.now) (g.F.Files.faults c.run_files-outcome.new.files)
+    (devices (g.I.Source.left c.args.input.now) (g.I.Source.faults c.args.input.now) (g.O.Sink.held c.args.output.now) (g.O.Sink.faults c.args.output.now))
+    (devices (g.I.Source.left c.run_files-outcome.new.input) (g.I.Source.faults c.run_files-outcome.new.input) (g.O.Sink.held c.run_files-outcome.new.output) (g.O.Sink.faults c.run_files-outcome.new.output)) in
     handed_on (λ items ending header. HasHeaderIf (call items) ending header) _ _ _ _ _ _ c.named.ensures.items c.named.ensures.ending c.named.ensures.header
     (c.run_files-outcome.ensures.header words (task_is words _ _ _ told c.in-Run.is refl ∙ ap (λ names. Some (Runs (Named names) c.in-Run.steps c.in-Run.ticks c.in-Run.journal)) (sym c.as_slice.ensures)))
 
@@ -72,25 +40,9 @@ returns-in-Run-clause-names g c = λ words told. named_as words c.named.result.n
 pub returns-in-Check-clause-cause : goal.returns-in-Check-clause-cause
 returns-in-Check-clause-cause g c = λ words told.
     let call : List Item → Call =
-    λ items. record {
-      words = words;
-      files = g.F.Files.content c.args.files.now;
-      file_faults = g.F.Files.faults c.args.files.now;
-      file_faults_now = g.F.Files.faults c.check_files-outcome.new.files;
-      before = record {
-        left = g.I.Source.left c.args.input.now;
-        read_faults = g.I.Source.faults c.args.input.now;
-        held = g.O.Sink.held c.args.output.now;
-        write_faults = g.O.Sink.faults c.args.output.now;
-      };
-      now = record {
-        left = g.I.Source.left c.args.input.now;
-        read_faults = g.I.Source.faults c.args.input.now;
-        held = g.O.Sink.held c.args.output.now;
-        write_faults = g.O.Sink.faults c.args.output.now;
-      };
-      items = items;
-    } in
+    call_of words (g.F.Files.content c.args.files.now) (g.F.Files.faults c.args.files.now) (g.F.Files.faults c.check_files-outcome.new.files)
+    (devices (g.I.Source.left c.args.input.now) (g.I.Source.faults c.args.input.now) (g.O.Sink.held c.args.output.now) (g.O.Sink.faults c.args.output.now))
+    (devices (g.I.Source.left c.args.input.now) (g.I.Source.faults c.args.input.now) (g.O.Sink.held c.args.output.now) (g.O.Sink.faults c.args.output.now)) in
     handed_on (λ items ending header. HasCause (call items) ending) _ _ _ _ _ _ c.named-in-Check.ensures.items c.named-in-Check.ensures.ending c.named-in-Check.ensures.header
     (c.check_files-outcome.ensures.cause words (call []).before (task_is words _ _ _ told c.in-Check.is refl ∙ ap (λ names. Some (Checks names)) (sym c.as_slice-in-Check.ensures)))
 
@@ -107,25 +59,9 @@ returns-in-Check-clause-names g c = λ words told. named_as words c.named-in-Che
 pub returns-in-Classes-clause-cause : goal.returns-in-Classes-clause-cause
 returns-in-Classes-clause-cause g c = λ words told.
     let call : List Item → Call =
-    λ items. record {
-      words = words;
-      files = g.F.Files.content c.args.files.now;
-      file_faults = g.F.Files.faults c.args.files.now;
-      file_faults_now = g.F.Files.faults c.list_classes-outcome.new.files;
-      before = record {
-        left = g.I.Source.left c.args.input.now;
-        read_faults = g.I.Source.faults c.args.input.now;
-        held = g.O.Sink.held c.args.output.now;
-        write_faults = g.O.Sink.faults c.args.output.now;
-      };
-      now = record {
-        left = g.I.Source.left c.args.input.now;
-        read_faults = g.I.Source.faults c.args.input.now;
-        held = g.O.Sink.held c.list_classes-outcome.new.output;
-        write_faults = g.O.Sink.faults c.list_classes-outcome.new.output;
-      };
-      items = items;
-    } in
+    call_of words (g.F.Files.content c.args.files.now) (g.F.Files.faults c.args.files.now) (g.F.Files.faults c.list_classes-outcome.new.files)
+    (devices (g.I.Source.left c.args.input.now) (g.I.Source.faults c.args.input.now) (g.O.Sink.held c.args.output.now) (g.O.Sink.faults c.args.output.now))
+    (devices (g.I.Source.left c.args.input.now) (g.I.Source.faults c.args.input.now) (g.O.Sink.held c.list_classes-outcome.new.output) (g.O.Sink.faults c.list_classes-outcome.new.output)) in
     handed_on (λ items ending header. HasCause (call items) ending) _ _ _ _ _ _ c.named-in-Classes.ensures.items c.named-in-Classes.ensures.ending c.named-in-Classes.ensures.header
     (c.list_classes-outcome.ensures.cause words _ _ (task_is words _ _ _ told c.in-Classes.is refl ∙ ap (λ names. Some (ListsClasses names)) (sym c.as_slice-in-Classes.ensures)))
 
@@ -142,25 +78,9 @@ returns-in-Classes-clause-names g c = λ words told. named_as words c.named-in-C
 pub returns-in-Ok-clause-cause : goal.returns-in-Ok-clause-cause
 returns-in-Ok-clause-cause g c = λ words told.
     let call : List Item → Call =
-    λ items. record {
-      words = words;
-      files = g.F.Files.content c.args.files.now;
-      file_faults = g.F.Files.faults c.args.files.now;
-      file_faults_now = g.F.Files.faults c.args.files.now;
-      before = record {
-        left = g.I.Source.left c.args.input.now;
-        read_faults = g.I.Source.faults c.args.input.now;
-        held = g.O.Sink.held c.args.output.now;
-        write_faults = g.O.Sink.faults c.args.output.now;
-      };
-      now = record {
-        left = g.I.Source.left c.run_sample-outcome.new.input;
-        read_faults = g.I.Source.faults c.run_sample-outcome.new.input;
-        held = g.O.Sink.held c.run_sample-outcome.new.output;
-        write_faults = g.O.Sink.faults c.run_sample-outcome.new.output;
-      };
-      items = items;
-    } in
+    call_of words (g.F.Files.content c.args.files.now) (g.F.Files.faults c.args.files.now) (g.F.Files.faults c.args.files.now)
+    (devices (g.I.Source.left c.args.input.now) (g.I.Source.faults c.args.input.now) (g.O.Sink.held c.args.output.now) (g.O.Sink.faults c.args.output.now))
+    (devices (g.I.Source.left c.run_sample-outcome.new.input) (g.I.Source.faults c.run_sample-outcome.new.input) (g.O.Sink.held c.run_sample-outcome.new.output) (g.O.Sink.faults c.run_sample-outcome.new.output)) in
     handed_on (λ items ending header. HasCause (call items) ending) _ _ _ _ _ _ c.named-in-Ok.ensures.items c.named-in-Ok.ensures.ending c.named-in-Ok.ensures.header
     (c.run_sample-outcome.ensures.cause words _ _ (task_is words _ _ _ told c.in-Gen.is refl))
 
