@@ -1,5 +1,5 @@
 ghost use Rattle.sr_value.specs.Operators.{Answers};
-ghost use Rattle.sr_code.specs.Operands.{put_place, put_shape, put_value};
+ghost use Rattle.sr_code.specs.Operands.{drop_value, put_place, put_value};
 ghost use Rattle.sr_frame.specs.Scenes.{here_of};
 ghost use Rattle.sr_frame.specs.Variables.{own_value};
 ghost use Rattle.sr_execute.specs.Executes.{begun, ticking, went};
@@ -9,8 +9,8 @@ ghost use Rattle.sr_code.specs.declared.instruction.Instruction.TheVariants as i
 use crate::frame::Frame;
 use crate::places::{owner_in, root_in, take_place};
 use crate::quick_calls::{
-    quick_collect, quick_end_service, quick_list, quick_open_service, quick_pass_value,
-    quick_reply, quick_store_results, quick_to_call,
+    quick_arguments, quick_collect, quick_drop_list, quick_end_service, quick_no_values,
+    quick_open_service, quick_pass_value, quick_reply, quick_store_results, quick_to_call,
 };
 use crate::quick_variables::{
     quick_each, quick_make, quick_make_formal, quick_store_formal, quick_store_in,
@@ -18,7 +18,7 @@ use crate::quick_variables::{
 use crate::tops::top_or;
 use sr_ask::{Located, Own, Spot};
 use sr_code::Instruction;
-use sr_core::{Scope, number, truth};
+use sr_core::{OperationOwner, Scope, number, truth};
 use sr_frame::{Scene, own_stored, own_value, whole};
 use sr_value::{
     Cap, Duplicate, Fault, NoMemory, Operator, Row, Sel, Shape, Value, ValueFail, arith,
@@ -36,7 +36,9 @@ pub enum Carried {
     Left,
 }
 
-/// Carries out an instruction that loops often use, where it asks nothing.
+/// Carries out an instruction that loops or rendezvous often use, where it asks nothing.
+// The arms from `quick_constant` on are one call each, which isn't inlined: their temporaries would be filled for each
+// instruction.
 pub fn execute_quickly(
     scene: &Scene,
     frame: &mut Frame,
@@ -63,30 +65,8 @@ pub fn execute_quickly(
         Instruction::Jump { to } => Ok(Carried::Goes((*to).min(next))),
         Instruction::JumpUnless { to } => quick_jump_unless(scene, frame, *to, next),
         Instruction::Each { var, head } => quick_each(scene, frame, *var, *head, next),
-        Instruction::Constant(_)
-        | Instruction::FixedShape(_)
-        | Instruction::Make { .. }
-        | Instruction::StoreIn { .. }
-        | Instruction::MakeFormal { .. }
-        | Instruction::StoreFormal { .. } => declare_quickly(scene, frame, instruction, next),
-        _ => serve_quickly(scene, frame, instruction, next),
-    }
-}
-
-/// Carries out an instruction that makes own variables, or that puts operands for them.
-// Its temporaries would be filled for the instructions above too.
-#[inline(never)]
-fn declare_quickly(
-    scene: &Scene,
-    frame: &mut Frame,
-    instruction: &Instruction,
-    next: usize,
-) -> Result<Carried, NoMemory>
-    ensures { DoesOrLeaves result frame.old frame.new (begun scene.now.names.now instruction.now (here_of scene.now) next frame.old.operands frame.old) }
-{
-    match instruction {
-        Instruction::Constant(value) => quick_value(frame, value.copy(scene.alloc)?, next),
-        Instruction::FixedShape(shape) => quick_shape(frame, shape.copy(scene.alloc)?, next),
+        Instruction::Constant(value) => quick_constant(scene, frame, value, next),
+        Instruction::FixedShape(shape) => quick_fixed_shape(scene, frame, shape, next),
         Instruction::Make {
             scope: Scope::Own,
             var,
@@ -106,39 +86,15 @@ fn declare_quickly(
             var,
             mode,
         } => quick_store_formal(scene, frame, *var, *mode, next),
-        _ => Ok(Carried::Left),
-    }
-}
-
-/// Carries out an instruction of a call or of a service that asks nothing.
-#[inline(never)]
-fn serve_quickly(
-    scene: &Scene,
-    frame: &mut Frame,
-    instruction: &Instruction,
-    next: usize,
-) -> Result<Carried, NoMemory>
-    ensures { DoesOrLeaves result frame.old frame.new (begun scene.now.names.now instruction.now (here_of scene.now) next frame.old.operands frame.old) }
-{
-    match instruction {
-        Instruction::Operation { whose, op } => {
-            let owner = owner_in(scene, *whose);
-            quick_value(frame, Value::Capa(Cap::Op { owner, op: *op }), next)
-        }
+        Instruction::Operation { whose, op } => quick_operation(scene, frame, *whose, *op, next),
         Instruction::ToCall => quick_to_call(scene, frame, next),
         Instruction::PassValue => quick_pass_value(scene, frame, next),
         Instruction::StoreResults { to } => quick_store_results(scene, frame, *to, next),
-        Instruction::DropValue => {
-            let _ = frame.operands.values.pop();
-            Ok(Carried::Goes(next))
-        }
-        Instruction::Arguments => quick_list(frame, scene.start.args.copy(scene.alloc)?, next),
-        Instruction::NoValues => quick_list(frame, Row::new(scene.alloc), next),
+        Instruction::DropValue => quick_drop_value(frame, next),
+        Instruction::Arguments => quick_arguments(scene, frame, next),
+        Instruction::NoValues => quick_no_values(scene, frame, next),
         Instruction::Collect => quick_collect(scene, frame, next),
-        Instruction::DropList => {
-            let _ = frame.operands.lists.pop();
-            Ok(Carried::Goes(next))
-        }
+        Instruction::DropList => quick_drop_list(frame, next),
         Instruction::OpenService { gives } => quick_open_service(scene, frame, gives, next),
         Instruction::EndService => quick_end_service(scene, frame, next),
         Instruction::Reply => quick_reply(scene, frame, next),
@@ -162,11 +118,55 @@ fn quick_place(frame: &mut Frame, place: Located, next: usize) -> Result<Carried
     Ok(Carried::Goes(next))
 }
 
-/// A shape goes on the operands.
-fn quick_shape(frame: &mut Frame, shape: Shape, next: usize) -> Result<Carried, NoMemory>
-    ensures { DoesOrLeaves result frame.old frame.new (went next (put_shape shape frame.old.operands) frame.old) }
+/// A constant goes on the operands.
+#[inline(never)]
+fn quick_constant(
+    scene: &Scene,
+    frame: &mut Frame,
+    value: &Value,
+    next: usize,
+) -> Result<Carried, NoMemory>
+    ensures { DoesOrLeaves result frame.old frame.new (begun scene.now.names.now (instruction.Constant value.now) (here_of scene.now) next frame.old.operands frame.old) }
 {
+    quick_value(frame, value.copy(scene.alloc)?, next)
+}
+
+/// A shape that is fixed goes on the operands.
+#[inline(never)]
+fn quick_fixed_shape(
+    scene: &Scene,
+    frame: &mut Frame,
+    shape: &Shape,
+    next: usize,
+) -> Result<Carried, NoMemory>
+    ensures { DoesOrLeaves result frame.old frame.new (begun scene.now.names.now (instruction.FixedShape shape.now) (here_of scene.now) next frame.old.operands frame.old) }
+{
+    let shape = shape.copy(scene.alloc)?;
     frame.operands.shapes.push(shape)?;
+    Ok(Carried::Goes(next))
+}
+
+/// The capability of an operation goes on the operands.
+#[inline(never)]
+fn quick_operation(
+    scene: &Scene,
+    frame: &mut Frame,
+    whose: OperationOwner,
+    op: u32,
+    next: usize,
+) -> Result<Carried, NoMemory>
+    ensures { DoesOrLeaves result frame.old frame.new (begun scene.now.names.now (instruction.Operation whose op) (here_of scene.now) next frame.old.operands frame.old) }
+{
+    let owner = owner_in(scene, whose);
+    quick_value(frame, Value::Capa(Cap::Op { owner, op }), next)
+}
+
+/// The value on top goes.
+#[inline(never)]
+fn quick_drop_value(frame: &mut Frame, next: usize) -> Result<Carried, NoMemory>
+    ensures { DoesOrLeaves result frame.old frame.new (went next (drop_value frame.old.operands) frame.old) }
+{
+    let _ = frame.operands.values.pop();
     Ok(Carried::Goes(next))
 }
 

@@ -1,4 +1,4 @@
-ghost use Rattle.sr_code.specs.Operands.{put_list};
+ghost use Rattle.sr_code.specs.Operands.{drop_list, put_list};
 ghost use Rattle.sr_frame.specs.Scenes.{here_of};
 ghost use Rattle.sr_execute.specs.Executes.{begun, went};
 ghost use Rattle.sr_execute.specs.Quick.{DoesOrLeaves};
@@ -14,8 +14,33 @@ use sr_core::capability;
 use sr_frame::{Scene, value_after};
 use sr_value::{Duplicate, NoMemory, Row, Value, ValueFail};
 
+/// The arguments of the process go on the operands.
+#[inline(never)]
+pub fn quick_arguments(scene: &Scene, frame: &mut Frame, next: usize) -> Result<Carried, NoMemory>
+    ensures { DoesOrLeaves result frame.old frame.new (begun scene.now.names.now instruction.Arguments (here_of scene.now) next frame.old.operands frame.old) }
+{
+    quick_list(frame, scene.start.args.copy(scene.alloc)?, next)
+}
+
+/// A list without values goes on the operands.
+#[inline(never)]
+pub fn quick_no_values(scene: &Scene, frame: &mut Frame, next: usize) -> Result<Carried, NoMemory>
+    ensures { DoesOrLeaves result frame.old frame.new (begun scene.now.names.now instruction.NoValues (here_of scene.now) next frame.old.operands frame.old) }
+{
+    quick_list(frame, Row::new(scene.alloc), next)
+}
+
+/// The list on top goes.
+#[inline(never)]
+pub fn quick_drop_list(frame: &mut Frame, next: usize) -> Result<Carried, NoMemory>
+    ensures { DoesOrLeaves result frame.old frame.new (went next (drop_list frame.old.operands) frame.old) }
+{
+    let _ = frame.operands.lists.pop();
+    Ok(Carried::Goes(next))
+}
+
 /// A list goes on the operands.
-pub fn quick_list(frame: &mut Frame, list: Row<Value>, next: usize) -> Result<Carried, NoMemory>
+fn quick_list(frame: &mut Frame, list: Row<Value>, next: usize) -> Result<Carried, NoMemory>
     ensures { DoesOrLeaves result frame.old frame.new (went next (put_list list frame.old.operands) frame.old) }
 {
     frame.operands.lists.push(list)?;
@@ -23,6 +48,7 @@ pub fn quick_list(frame: &mut Frame, list: Row<Value>, next: usize) -> Result<Ca
 }
 
 /// A value joins the list on top.
+#[inline(never)]
 pub fn quick_collect(scene: &Scene, frame: &mut Frame, next: usize) -> Result<Carried, NoMemory>
     ensures { DoesOrLeaves result frame.old frame.new (begun scene.now.names.now instruction.Collect (here_of scene.now) next frame.old.operands frame.old) }
 {
@@ -34,6 +60,7 @@ pub fn quick_collect(scene: &Scene, frame: &mut Frame, next: usize) -> Result<Ca
 }
 
 /// A value becomes a call of that capability, without arguments.
+#[inline(never)]
 pub fn quick_to_call(scene: &Scene, frame: &mut Frame, next: usize) -> Result<Carried, NoMemory>
     ensures { DoesOrLeaves result frame.old frame.new (begun scene.now.names.now instruction.ToCall (here_of scene.now) next frame.old.operands frame.old) }
 {
@@ -53,6 +80,7 @@ pub fn quick_to_call(scene: &Scene, frame: &mut Frame, next: usize) -> Result<Ca
 }
 
 /// A value joins the call as an argument.
+#[inline(never)]
 pub fn quick_pass_value(scene: &Scene, frame: &mut Frame, next: usize) -> Result<Carried, NoMemory>
     ensures { DoesOrLeaves result frame.old frame.new (begun scene.now.names.now instruction.PassValue (here_of scene.now) next frame.old.operands frame.old) }
 {
@@ -64,6 +92,7 @@ pub fn quick_pass_value(scene: &Scene, frame: &mut Frame, next: usize) -> Result
 }
 
 /// The value of a reply goes on the operands, where no place gets a result.
+#[inline(never)]
 pub fn quick_store_results(
     scene: &Scene,
     frame: &mut Frame,
@@ -84,6 +113,7 @@ pub fn quick_store_results(
 }
 
 /// Begins to service the invocation that was chosen.
+#[inline(never)]
 pub fn quick_open_service(
     scene: &Scene,
     frame: &mut Frame,
@@ -112,6 +142,7 @@ pub fn quick_open_service(
 }
 
 /// Goes back to the service around.
+#[inline(never)]
 pub fn quick_end_service(scene: &Scene, frame: &mut Frame, next: usize) -> Result<Carried, NoMemory>
     ensures { DoesOrLeaves result frame.old frame.new (begun scene.now.names.now instruction.EndService (here_of scene.now) next frame.old.operands frame.old) }
 {
@@ -125,6 +156,7 @@ pub fn quick_end_service(scene: &Scene, frame: &mut Frame, next: usize) -> Resul
 }
 
 /// Goes on where the results were given.
+#[inline(never)]
 pub fn quick_reply(scene: &Scene, frame: &Frame, next: usize) -> Result<Carried, NoMemory>
     ensures { DoesOrLeaves result frame.now frame.now (begun scene.now.names.now instruction.Reply (here_of scene.now) next frame.now.operands frame.now) }
 {

@@ -36,6 +36,7 @@ fn quick_made(
 }
 
 /// Makes an own variable of a shape.
+#[inline(never)]
 pub fn quick_make(
     scene: &Scene,
     frame: &mut Frame,
@@ -56,6 +57,7 @@ pub fn quick_make(
 }
 
 /// Stores a value in a whole own variable.
+#[inline(never)]
 pub fn quick_store_in(
     scene: &Scene,
     frame: &mut Frame,
@@ -72,6 +74,7 @@ pub fn quick_store_in(
 }
 
 /// Makes a formal that is an own variable.
+#[inline(never)]
 pub fn quick_make_formal(
     scene: &Scene,
     frame: &mut Frame,
@@ -90,6 +93,7 @@ pub fn quick_make_formal(
 }
 
 /// Stores the next argument of the list in its formal, which is an own variable.
+#[inline(never)]
 pub fn quick_store_formal(
     scene: &Scene,
     frame: &mut Frame,

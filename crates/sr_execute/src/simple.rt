@@ -1,8 +1,8 @@
 ghost use Rattle.std.specs.Prelude.{◌≡◌, Ok};
 ghost use Rattle.sr_ask.specs.declared.request.Request.TheVariants as request;
-ghost use Rattle.sr_code.specs.Operands.{number_on};
+ghost use Rattle.sr_code.specs.Operands.{drop_list, drop_numbers, drop_value, number_on};
 ghost use Rattle.sr_frame.specs.Scenes.{here_of};
-ghost use Rattle.sr_execute.specs.Executes.{Does, begun};
+ghost use Rattle.sr_execute.specs.Executes.{Does, begun, went};
 ghost use Rattle.sr_code.specs.declared.instruction.Instruction.TheVariants as instruction;
 
 use crate::frame::Frame;
@@ -108,24 +108,24 @@ pub fn put_arguments(scene: &Scene, frame: &mut Frame, next: usize) -> Result<St
 }
 
 /// The list on top goes.
-pub fn drop_list(scene: &Scene, frame: &mut Frame, next: usize) -> Result<Step, NoMemory>
-    ensures { Does result frame.new (begun scene.now.names.now instruction.DropList (here_of scene.now) next frame.old.operands frame.old) }
+pub fn drop_list(frame: &mut Frame, next: usize) -> Result<Step, NoMemory>
+    ensures { Does result frame.new (went next (drop_list frame.old.operands) frame.old) }
 {
     let _ = frame.operands.lists.pop();
     Ok(Step::Goes(next))
 }
 
 /// The value on top goes.
-pub fn drop_value(scene: &Scene, frame: &mut Frame, next: usize) -> Result<Step, NoMemory>
-    ensures { Does result frame.new (begun scene.now.names.now instruction.DropValue (here_of scene.now) next frame.old.operands frame.old) }
+pub fn drop_value(frame: &mut Frame, next: usize) -> Result<Step, NoMemory>
+    ensures { Does result frame.new (went next (drop_value frame.old.operands) frame.old) }
 {
     let _ = frame.operands.values.pop();
     Ok(Step::Goes(next))
 }
 
 /// The numbers of a quantifier go.
-pub fn drop_numbers(scene: &Scene, frame: &mut Frame, next: usize) -> Result<Step, NoMemory>
-    ensures { Does result frame.new (begun scene.now.names.now instruction.DropNumbers (here_of scene.now) next frame.old.operands frame.old) }
+pub fn drop_numbers(frame: &mut Frame, next: usize) -> Result<Step, NoMemory>
+    ensures { Does result frame.new (went next (drop_numbers frame.old.operands) frame.old) }
 {
     let _ = frame.operands.loops.pop();
     Ok(Step::Goes(next))
