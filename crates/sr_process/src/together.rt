@@ -241,6 +241,7 @@ fn item_loaded(code: &Code, own: &Row<Option<Own>>, var: u32, address: usize) ->
 }
 
 /// The number of the own variable on top or of an item of it, where it is loaded next.
+#[inline(always)]
 fn part_loaded(code: &Code, own: &Row<Option<Own>>, var: u32, address: usize) -> Option<Found>
     ensures { IfSome result (λ found. Loads code.now own.now (whole_of var) address found) }
 {
@@ -251,6 +252,7 @@ fn part_loaded(code: &Code, own: &Row<Option<Own>>, var: u32, address: usize) ->
 }
 
 /// The number that the instructions at an address put: a constant, or what an own variable or an item of one holds.
+#[inline(always)]
 fn number_at(code: &Code, own: &Row<Option<Own>>, address: usize) -> Option<Found>
     ensures { IfSome result (λ found. Puts code.now own.now address found) }
 {
