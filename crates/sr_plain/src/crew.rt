@@ -9,6 +9,8 @@ use sr_world::World;
 use std::alloc::Global;
 use std::collections::HashMap;
 
+#[cold]
+#[inline(never)]
 fn begin<A: Actor>(
     crew: &mut HashMap<u32, Member<A>>,
     alloc: Global,

@@ -83,6 +83,8 @@ impl<A: Actor> Plain<A> {
     }
 
     /// Makes the next item of the run. After an error, and after the end of the run, no further call is allowed.
+    // With what it calls it is a part of the loop of the run.
+    #[inline(always)]
     pub fn step(&mut self, program: &A::Program) -> Result<Plainly, NoMemory>
         ensures { (limit : ℕ) (state : State) (events : List Event) → IsEngine (A.asks_after program.now) A.can_feed (A.core_of program.now) limit state events self.old → Steps (A.asks_after program.now) A.can_feed (A.core_of program.now) limit state events (turn (A.core_of program.now) limit state (last_in events)) result self.new }
     {
@@ -119,6 +121,7 @@ impl<A: Actor> Plain<A> {
     }
 
     /// Asks in turn those who may be able to make a step.
+    #[inline(always)]
     fn take_turn(&mut self, program: &A::Program) -> Result<Plainly, NoMemory>
         requires { self.old.woken ≡ None }
         ensures { (limit : ℕ) (state : State) (events : List Event) → IsEngine (A.asks_after program.now) A.can_feed (A.core_of program.now) limit state events self.old → Steps (A.asks_after program.now) A.can_feed (A.core_of program.now) limit state events (turn (A.core_of program.now) limit state (last_in events)) result self.new }
@@ -132,6 +135,7 @@ impl<A: Actor> Plain<A> {
     }
 
     /// Asks a process that is ready. It is ready no more where it makes no step.
+    #[inline(always)]
     fn try_ready(&mut self, program: &A::Program, process: u32) -> Result<Option<Plainly>, NoMemory>
         requires ready { is_ready self.old.waiters process ≡ true }
         requires awake { self.old.woken ≡ None }

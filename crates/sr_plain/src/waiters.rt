@@ -71,6 +71,7 @@ fn alone(alloc: Global, process: u32) -> Result<BTreeSet<u32>, NoMemory>
     Ok(processes)
 }
 
+#[inline(never)]
 fn both(alloc: Global, process: u32, other: u32) -> Result<BTreeSet<u32>, NoMemory>
     ensures itself { IfOk result (λ processes. contains nat_cmp processes process ≡ true) }
     ensures other { IfOk result (λ processes. contains nat_cmp processes other ≡ true) }
@@ -153,6 +154,7 @@ impl Waiters {
     }
 
     /// Makes ready who waits there.
+    #[inline(always)]
     pub(crate) fn wake(&mut self, place: Place) -> Result<(), NoMemory>
         ensures { OnOk result (IsWokenAt place self.old self.new) }
     {

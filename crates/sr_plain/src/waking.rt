@@ -7,6 +7,8 @@ use sr_queue::class_of;
 use sr_value::NoMemory;
 use sr_world::World;
 
+#[cold]
+#[inline(never)]
 fn wake_all(waiters: &mut Waiters, world: &World) -> Result<(), NoMemory>
     ensures { OnOk result (ReadiesAll world.now waiters.old waiters.new) }
 {
@@ -18,6 +20,7 @@ fn wake_all(waiters: &mut Waiters, world: &World) -> Result<(), NoMemory>
     Ok(())
 }
 
+#[inline(always)]
 fn wake_if_lives(waiters: &mut Waiters, world: &World, process: u32) -> Result<(), NoMemory>
     ensures { OnOk result (ReadiesIfLives world.now process waiters.old waiters.new) }
 {

@@ -15,6 +15,7 @@ use sr_ports::{Sink, Source};
 use sr_value::Row;
 
 /// Makes the next item, or takes more of the input.
+#[inline(always)]
 pub(crate) fn advance<A: Actor, I: Source, O: Sink>(
     plain: &mut Plain<A>,
     program: &A::Program,
