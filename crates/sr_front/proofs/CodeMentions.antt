@@ -1,5 +1,5 @@
--- What code mentions passes a test that the scene passes.
-use Rattle.std.proofs.Common.{◌≡◌, Bool, List, [], ◌∷◌, ◌++◌, Option, Some, None, IsTrue, map, refl, sym, subst}
+-- What code mentions passes a test that the scene passes, and all that the names in the code are in the core.
+use Rattle.std.proofs.Common.{◌≡◌, Bool, List, [], ◌∷◌, ◌++◌, Option, Some, None, IsTrue, flat_map, map, refl, sym, subst}
 use Rattle.std.proofs.lemmas.Bool.{and_from}
 use Rattle.std.specs.List.{list_all}
 use Rattle.sr_core.specs.declared.statement.Bump.TheVariants.{Increase, Decrease}
@@ -8,8 +8,8 @@ use Rattle.sr_core.specs.declared.statement.CoArm.{CoArm}
 use Rattle.sr_core.specs.declared.statement.Guarded.{Guarded}
 use Rattle.sr_core.specs.declared.statement.Statement.{Statement}
 use Rattle.sr_names.specs.Spots.{spot_of}
-use Rattle.sr_tree.specs.declared.expr.Expr.{Expr}
-use Rattle.sr_tree.specs.declared.expr.Invocation.{Invocation}
+use Rattle.sr_order.specs.Names.{arm_names, arm_names_step, block_item_names, block_item_names_step, block_names, branch_names, branch_names_step, co_arm_names, co_arm_names_step, condition_names, expr_names, invocation_names, item_names, name_names, names_spans, proc_item_names, quantifier_names, spec_item_names, statement_names, statement_names_step, where_some}
+use Rattle.sr_order.specs.Spans.{joined}
 use Rattle.sr_tree.specs.declared.statement.Arm.{Arm as ArmTree, roll-Arm}
 use Rattle.sr_tree.specs.declared.statement.BlockItem.{BlockItem, roll-BlockItem}
 use Rattle.sr_tree.specs.declared.statement.BlockItem.TheFolds.{fold-roll-Arm, fold-roll-BlockItem, fold-roll-Branch, fold-roll-CoArm, fold-roll-Statement, ind-Statement, map-Arm, map-BlockItem, map-Branch, map-CoArm, map-Statement}
@@ -40,11 +40,13 @@ use Rattle.sr_tables.specs.declared.sites.Mention.{Mention}
 use Rattle.sr_tables.specs.Sites.{mentions_at, mentions_in, mentions_in_argument}
 use Rattle.sr_desugar.specs.Bodies.{all_code, body_made, inner_made, item_output, item_outputs, process_send, process_sends, quantifier_argument, spec_item_core}
 use Rattle.sr_desugar.specs.Core.{spec_code}
-use Rattle.sr_lower_expr.proofs.Each.{both_pass, lists_pass, made_passes}
+use Rattle.sr_check.proofs.Each.{each-left, each-right}
+use Rattle.sr_lower_expr.proofs.Each.{both_pass, made_passes}
 use Rattle.sr_front.specs.Imports.{arguments_mentions}
 use Rattle.sr_front.proofs.CodeRules.{arm_passes, arm_rule, block_passes, block_rule, branch_passes, branch_rule, co_rule, do_else_rule, do_rule, fa_rule, if_rule, in_rule, one_passes}
 use Rattle.sr_front.proofs.MentionRules.{argument_passes, load_rule, rows, val_rule}
-use Rattle.sr_front.proofs.Mentions.{Means, operation_expr_passes, own_place_passes}
+use Rattle.sr_front.proofs.KeptCode.{named_arm, named_branch, named_co_arm, named_item, named_statement}
+use Rattle.sr_front.proofs.Mentions.{Means, NamePasses, NamesPass, operation_expr_passes, own_place_passes}
 use Rattle.sr_front.proofs.PartMentions.{act_passes, call_made_passes, co_call_passes, const_passes, create_of, forward_passes, quantifiers_pass, receive_passes, semaphores_pass, send_passes, value_passes, vars_pass, written_passes}
 
 abbrev sends_by : Scene → Process → List QuantifierTree → Statement
@@ -55,23 +57,29 @@ sends_by scene process (quantifier ∷ more) =
 module _ (scene : Scene) (test : Mention → Bool) (means : Means scene test) where
   -- ---- what is made of a tree passes
 
+  abbrev Name : Span → Type 0
+  Name = NamePasses scene test means
+
+  abbrev Names : List Span → Type 0
+  Names = NamesPass scene test means
+
   abbrev AllOne : Block → Type 0
   AllOne block = IsTrue (list_all (one_passes test) block)
 
   abbrev ItemGood : BlockItem → Type 0
-  ItemGood tree = AllOne (core_block_item scene tree).made
+  ItemGood tree = Names (block_item_names tree) → AllOne (core_block_item scene tree).made
 
   abbrev StatementGood : StatementTree → Type 0
-  StatementGood tree = IsTrue (one_passes test (core_statement scene tree).made)
+  StatementGood tree = Names (statement_names tree) → IsTrue (one_passes test (core_statement scene tree).made)
 
   abbrev ArmGood : ArmTree → Type 0
-  ArmGood tree = IsTrue (block_passes test (core_arm scene tree).made.block)
+  ArmGood tree = Names (arm_names tree) → IsTrue (block_passes test (core_arm scene tree).made.block)
 
   abbrev BranchGood : Branch → Type 0
-  BranchGood tree = IsTrue (branch_passes test (core_branch scene tree).made)
+  BranchGood tree = Names (branch_names tree) → IsTrue (branch_passes test (core_branch scene tree).made)
 
   abbrev CoArmGood : CoArmTree → Type 0
-  CoArmGood tree = IsTrue (arm_passes test (core_co_arm scene tree).made)
+  CoArmGood tree = Names (co_arm_names tree) → IsTrue (arm_passes test (core_co_arm scene tree).made)
 
   abbrev I : Type 0
   I = (tree : BlockItem) × ItemGood tree
@@ -132,171 +140,178 @@ module _ (scene : Scene) (test : Mention → Bool) (means : Means scene test) wh
 
   -- ---- lists of parts
 
-  items_good : (items : List I) → AllOne (lists (all_made (map (core_block_item scene) (map (λ (t : I). t.0) items))))
-  items_good [] = refl
-  items_good (item ∷ items) =
+  abbrev items_names : List I → List Span
+  items_names items = joined (map block_item_names (map (λ (t : I). t.0) items))
+
+  abbrev branches_names : List B → List Span
+  branches_names branches = joined (map branch_names (map (λ (t : B). t.0) branches))
+
+  abbrev arms_names : List A → List Span
+  arms_names arms = joined (map arm_names (map (λ (t : A). t.0) arms))
+
+  items_good : (items : List I) → Names (items_names items) → AllOne (lists (all_made (map (core_block_item scene) (map (λ (t : I). t.0) items))))
+  items_good [] names = refl
+  items_good (item ∷ items) names =
       both_pass (one_passes test) (core_block_item scene item.0).made (lists (all_made (map (core_block_item scene) (map (λ (t : I). t.0) items))))
-      (item.1)
-      (items_good items)
+      (item.1 (each-left Name (block_item_names item.0) _ names)) (items_good items (each-right Name (block_item_names item.0) _ names))
 
-  block_good : (items : List I) → IsTrue (block_passes test (block_made (map (core_block_item scene) (map (λ (t : I). t.0) items))).made)
-  block_good items = block_rule test (lists (all_made (map (core_block_item scene) (map (λ (t : I). t.0) items)))) (items_good items)
+  block_good : (items : List I) → Names (items_names items) → IsTrue (block_passes test (block_made (map (core_block_item scene) (map (λ (t : I). t.0) items))).made)
+  block_good items names = block_rule test (lists (all_made (map (core_block_item scene) (map (λ (t : I). t.0) items)))) (items_good items names)
 
-  branches_good : (branches : List B) → IsTrue (list_all (branch_passes test) (all_made (map (core_branch scene) (map (λ (t : B). t.0) branches))))
-  branches_good [] = refl
-  branches_good (branch ∷ branches) =
-      and_from _ _
-      (branch.1)
-      (branches_good branches)
+  branches_good : (branches : List B) → Names (branches_names branches) → IsTrue (list_all (branch_passes test) (all_made (map (core_branch scene) (map (λ (t : B). t.0) branches))))
+  branches_good [] names = refl
+  branches_good (branch ∷ branches) names = and_from _ _ (branch.1 (each-left Name (branch_names branch.0) _ names)) (branches_good branches (each-right Name (branch_names branch.0) _ names))
 
-  arms_good : (arms : List A) → IsTrue (list_all (block_passes test) (blocks_of (map (core_arm scene) (map (λ (t : A). t.0) arms))))
-  arms_good [] = refl
-  arms_good (arm ∷ arms) =
-      and_from _ _
-      (arm.1)
-      (arms_good arms)
+  arms_good : (arms : List A) → Names (arms_names arms) → IsTrue (list_all (block_passes test) (blocks_of (map (core_arm scene) (map (λ (t : A). t.0) arms))))
+  arms_good [] names = refl
+  arms_good (arm ∷ arms) names = and_from _ _ (arm.1 (each-left Name (arm_names arm.0) _ names)) (arms_good arms (each-right Name (arm_names arm.0) _ names))
 
-  co_arms_good : (arms : List C) → IsTrue (list_all (arm_passes test) (all_made (map (core_co_arm scene) (map (λ (t : C). t.0) arms))))
-  co_arms_good [] = refl
-  co_arms_good (arm ∷ arms) =
-      and_from _ _
-      (arm.1)
-      (co_arms_good arms)
+  co_arms_good : (arms : List C) → Names (joined (map co_arm_names (map (λ (t : C). t.0) arms))) → IsTrue (list_all (arm_passes test) (all_made (map (core_co_arm scene) (map (λ (t : C). t.0) arms))))
+  co_arms_good [] names = refl
+  co_arms_good (arm ∷ arms) names = and_from _ _ (arm.1 (each-left Name (co_arm_names arm.0) _ names)) (co_arms_good arms (each-right Name (co_arm_names arm.0) _ names))
 
   -- ---- each tree, when its parts are so
 
-  item_good : (y : BlockItem-F I S A B C) → AllOne (made_of_item (first_item y)).made
-  item_good (BlockItem-F.Const constant) = const_passes scene test means Own constant
-  item_good (BlockItem-F.Var variables) = vars_pass scene test means Own variables
-  item_good (BlockItem-F.Statement statement) = and_from _ _ (statement.1) refl
+  item_good : (y : BlockItem-F I S A B C) → Names (block_item_names_step (named_item (first_item y))) → AllOne (made_of_item (first_item y)).made
+  item_good (BlockItem-F.Const constant) names = const_passes scene test means Own constant names
+  item_good (BlockItem-F.Var variables) names = vars_pass scene test means Own variables names
+  item_good (BlockItem-F.Statement statement) names = and_from _ _ (statement.1 names) refl
 
-  statement_good : (y : Statement-F I S A B C) → IsTrue (one_passes test (made_of_statement (first_statement y)).made)
-  statement_good (Statement-F.Skip span) = act_passes scene test means span action.Skip refl
-  statement_good (Statement-F.Exit span) = act_passes scene test means span action.Exit refl
-  statement_good (Statement-F.Next span) = act_passes scene test means span action.Next refl
-  statement_good (Statement-F.Return span) = act_passes scene test means span action.Return refl
-  statement_good (Statement-F.Reply span) = act_passes scene test means span action.Reply refl
-  statement_good (Statement-F.Stop span None) = act_passes scene test means span (action.Stop None) refl
-  statement_good (Statement-F.Stop span (Some status)) =
-      act_passes scene test means span (action.Stop (Some (core_value scene status))) (value_passes scene test means status)
-  statement_good (Statement-F.Call span with_call invocation) = call_made_passes scene test means span invocation (function_called scene.facts invocation)
-  statement_good (Statement-F.Send span invocation) =
-      act_passes scene test means span (send_of scene (core_sending scene invocation)) (send_passes scene test means invocation)
-  statement_good (Statement-F.Forward span invocation) =
-      act_passes scene test means span (forward_of scene (core_sending scene invocation)) (forward_passes scene test means invocation)
-  statement_good (Statement-F.Receive span operation places) = receive_passes scene test means span (meant_by scene.facts operation) places
-  statement_good (Statement-F.Assign span target value) =
+  statement_good : (y : Statement-F I S A B C) → Names (statement_names_step (named_statement (first_statement y))) → IsTrue (one_passes test (made_of_statement (first_statement y)).made)
+  statement_good (Statement-F.Skip span) names = act_passes scene test means span action.Skip refl
+  statement_good (Statement-F.Exit span) names = act_passes scene test means span action.Exit refl
+  statement_good (Statement-F.Next span) names = act_passes scene test means span action.Next refl
+  statement_good (Statement-F.Return span) names = act_passes scene test means span action.Return refl
+  statement_good (Statement-F.Reply span) names = act_passes scene test means span action.Reply refl
+  statement_good (Statement-F.Stop span None) names = act_passes scene test means span (action.Stop None) refl
+  statement_good (Statement-F.Stop span (Some status)) names = act_passes scene test means span (action.Stop (Some (core_value scene status))) (value_passes scene test means status names)
+  statement_good (Statement-F.Call span with_call invocation) names = call_made_passes scene test means span invocation (function_called scene.facts invocation) names
+  statement_good (Statement-F.Send span invocation) names = act_passes scene test means span (send_of scene (core_sending scene invocation)) (send_passes scene test means invocation names)
+  statement_good (Statement-F.Forward span invocation) names = act_passes scene test means span (forward_of scene (core_sending scene invocation)) (forward_passes scene test means invocation names)
+  statement_good (Statement-F.Receive span operation places) names = receive_passes scene test means span (meant_by scene.facts operation) places names.1
+  statement_good (Statement-F.Assign span target value) names =
       act_passes scene test means span (action.Assign (core_place scene target) (core_value scene value))
-      (both_pass test (mentions_at (core_place scene target)) (mentions_in (core_value scene value)) (written_passes scene test means target) (value_passes scene test means value))
-  statement_good (Statement-F.Exchange span left right) =
+      (both_pass test (mentions_at (core_place scene target)) (mentions_in (core_value scene value))
+      (written_passes scene test means target (each-left Name (expr_names target) _ names)) (value_passes scene test means value (each-right Name (expr_names target) _ names)))
+  statement_good (Statement-F.Exchange span left right) names =
       act_passes scene test means span (action.Swap (core_place scene left) (core_place scene right))
-      (both_pass test (mentions_at (core_place scene left)) (mentions_at (core_place scene right)) (written_passes scene test means left) (written_passes scene test means right))
-  statement_good (Statement-F.Increment span target) =
-      act_passes scene test means span (action.Bump (core_place scene target) Increase) (written_passes scene test means target)
-  statement_good (Statement-F.Decrement span target) =
-      act_passes scene test means span (action.Bump (core_place scene target) Decrease) (written_passes scene test means target)
-  statement_good (Statement-F.If span branches None) =
-      if_rule test (line_of span) _ [] (branches_good branches) refl
-  statement_good (Statement-F.If span branches (Some otherwise)) =
-      if_rule test (line_of span) _ _
-      (branches_good branches)
-      (block_good otherwise)
-  statement_good (Statement-F.Do span branches None) =
-      do_rule test (line_of span) _ (branches_good branches)
-  statement_good (Statement-F.Do span branches (Some otherwise)) =
-      do_else_rule test (line_of span) _ _
-      (branches_good branches)
-      (block_good otherwise)
-  statement_good (Statement-F.ForAll span quantifiers block) =
+      (both_pass test (mentions_at (core_place scene left)) (mentions_at (core_place scene right))
+      (written_passes scene test means left (each-left Name (expr_names left) _ names)) (written_passes scene test means right (each-right Name (expr_names left) _ names)))
+  statement_good (Statement-F.Increment span target) names = act_passes scene test means span (action.Bump (core_place scene target) Increase) (written_passes scene test means target names)
+  statement_good (Statement-F.Decrement span target) names = act_passes scene test means span (action.Bump (core_place scene target) Decrease) (written_passes scene test means target names)
+  statement_good (Statement-F.If span branches None) names = if_rule test (line_of span) _ [] (branches_good branches (each-left Name (branches_names branches) [] names)) refl
+  statement_good (Statement-F.If span branches (Some otherwise)) names =
+      if_rule test (line_of span) _ _ (branches_good branches (each-left Name (branches_names branches) _ names)) (block_good otherwise (each-right Name (branches_names branches) _ names))
+  statement_good (Statement-F.Do span branches None) names = do_rule test (line_of span) _ (branches_good branches (each-left Name (branches_names branches) [] names))
+  statement_good (Statement-F.Do span branches (Some otherwise)) names =
+      do_else_rule test (line_of span) _ _ (branches_good branches (each-left Name (branches_names branches) _ names)) (block_good otherwise (each-right Name (branches_names branches) _ names))
+  statement_good (Statement-F.ForAll span quantifiers block) names =
       fa_rule test (line_of span) (quantifiers_core scene quantifiers) _
-      (quantifiers_pass scene test means quantifiers)
-      (block_good block)
-  statement_good (Statement-F.In span arms None) =
-      in_rule test (line_of span) (site_number scene (spot_of span)) _ [] (arms_good arms) refl
-  statement_good (Statement-F.In span arms (Some otherwise)) =
-      in_rule test (line_of span) (site_number scene (spot_of span)) _ _
-      (arms_good arms)
-      (block_good otherwise)
-  statement_good (Statement-F.Co span arms) = co_rule test (line_of span) _ (co_arms_good arms)
-  statement_good (Statement-F.Destroy span target) = act_passes scene test means span (action.Destroy (core_value scene target)) (value_passes scene test means target)
-  statement_good (Statement-F.Create span create) = act_passes scene test means span (action.Evaluate (core_create scene create)) (create_of scene test means create)
+      (quantifiers_pass scene test means quantifiers (each-left Name (flat_map quantifier_names quantifiers) _ names)) (block_good block (each-right Name (flat_map quantifier_names quantifiers) _ names))
+  statement_good (Statement-F.In span arms None) names = in_rule test (line_of span) (site_number scene (spot_of span)) _ [] (arms_good arms (each-left Name (arms_names arms) [] names)) refl
+  statement_good (Statement-F.In span arms (Some otherwise)) names =
+      in_rule test (line_of span) (site_number scene (spot_of span)) _ _ (arms_good arms (each-left Name (arms_names arms) _ names)) (block_good otherwise (each-right Name (arms_names arms) _ names))
+  statement_good (Statement-F.Co span arms) names = co_rule test (line_of span) _ (co_arms_good arms names)
+  statement_good (Statement-F.Destroy span target) names = act_passes scene test means span (action.Destroy (core_value scene target)) (value_passes scene test means target names)
+  statement_good (Statement-F.Create span create) names = act_passes scene test means span (action.Evaluate (core_create scene create)) (create_of scene test means create names)
 
-  arm_good : (y : Arm-F I S A B C) → IsTrue (block_passes test (made_of_arm (first_arm y)).made.block)
-  arm_good y = block_good y.block
+  arm_good : (y : Arm-F I S A B C) → Names (arm_names_step (named_arm (first_arm y))) → IsTrue (block_passes test (made_of_arm (first_arm y)).made.block)
+  arm_good y names =
+      let after = each-right Name (where_some name_names y.returned) _ (each-right Name (names_spans y.formals) _ names.1) in
+      block_good y.block (each-right Name (where_some expr_names y.order) _ (each-right Name (where_some condition_names y.condition) _ after))
 
-  branch_good : (y : Branch-F I S A B C) → IsTrue (branch_passes test (made_of_branch (first_branch y)).made)
-  branch_good y = branch_rule test (core_value scene y.guard) _ (value_passes scene test means y.guard) (block_good y.block)
+  branch_good : (y : Branch-F I S A B C) → Names (branch_names_step (named_branch (first_branch y))) → IsTrue (branch_passes test (made_of_branch (first_branch y)).made)
+  branch_good y names =
+      branch_rule test (core_value scene y.guard) _ (value_passes scene test means y.guard (each-left Name (expr_names y.guard) _ names)) (block_good y.block (each-right Name (expr_names y.guard) _ names))
 
-  co_arm_parts : (span : Span) (quantifiers : List QuantifierTree) (target : Option Expr) (with_call : Bool) (invocation : Invocation) (block : Option (List I))
-      → IsTrue (arm_passes test (made_of_co_arm (first_co_arm (record { span = span; quantifiers = quantifiers; target = target; with_call = with_call; invocation = invocation; block = block }))).made)
-  co_arm_parts span quantifiers target with_call invocation None =
-      arm_rule test (quantifiers_core scene quantifiers) (co_call scene target (core_sending scene invocation)) []
-      (quantifiers_pass scene test means quantifiers)
-      (co_call_passes scene test means target invocation) refl
-  co_arm_parts span quantifiers target with_call invocation (Some block) =
-      arm_rule test (quantifiers_core scene quantifiers) (co_call scene target (core_sending scene invocation)) _
-      (quantifiers_pass scene test means quantifiers)
-      (co_call_passes scene test means target invocation)
-      (block_good block)
+  co_arm_by : (y : CoArm-F I S A B C) (block : Option (List I)) → Names (co_arm_names_step (named_co_arm (first_co_arm (record y { block = block }))))
+      → IsTrue (arm_passes test (made_of_co_arm (first_co_arm (record y { block = block }))).made)
+  co_arm_by y None names =
+      let quantified = flat_map quantifier_names y.quantifiers in
+      let after = each-right Name quantified _ names in
+      let invoked = each-right Name (where_some expr_names y.target) _ after in
+      arm_rule test (quantifiers_core scene y.quantifiers) (co_call scene y.target (core_sending scene y.invocation)) []
+      (quantifiers_pass scene test means y.quantifiers (each-left Name quantified _ names))
+      (co_call_passes scene test means y.target y.invocation (each-left Name (where_some expr_names y.target) _ after) (each-left Name (invocation_names y.invocation) _ invoked)) refl
+  co_arm_by y (Some block) names =
+      let quantified = flat_map quantifier_names y.quantifiers in
+      let after = each-right Name quantified _ names in
+      let invoked = each-right Name (where_some expr_names y.target) _ after in
+      arm_rule test (quantifiers_core scene y.quantifiers) (co_call scene y.target (core_sending scene y.invocation)) _
+      (quantifiers_pass scene test means y.quantifiers (each-left Name quantified _ names))
+      (co_call_passes scene test means y.target y.invocation (each-left Name (where_some expr_names y.target) _ after) (each-left Name (invocation_names y.invocation) _ invoked))
+      (block_good block (each-right Name (invocation_names y.invocation) _ invoked))
 
-  co_arm_good : (y : CoArm-F I S A B C) → IsTrue (arm_passes test (made_of_co_arm (first_co_arm y)).made)
-  co_arm_good y = co_arm_parts y.span y.quantifiers y.target y.with_call y.invocation y.block
+  co_arm_good : (y : CoArm-F I S A B C) → Names (co_arm_names_step (named_co_arm (first_co_arm y))) → IsTrue (arm_passes test (made_of_co_arm (first_co_arm y)).made)
+  co_arm_good y = co_arm_by y y.block
 
   -- ---- all trees
 
   item_step : (x : BlockItem-F BlockItem StatementTree ArmTree Branch CoArmTree) (y : BlockItem-F I S A B C) → first_item y ≡ x → ItemGood (roll-BlockItem x)
-  item_step x y is =
-      subst (λ (m : WithSites Block). AllOne m.made)
+  item_step x y is = subst (λ z. ItemGood (roll-BlockItem z)) is
+      (subst (λ (spans : List Span). Names spans → AllOne (core_block_item scene (roll-BlockItem (first_item y))).made)
+      (sym (fold-roll-BlockItem (List Span) (List Span) (List Span) (List Span) (List Span) block_item_names_step statement_names_step arm_names_step branch_names_step co_arm_names_step (first_item y)))
+      (subst (λ (m : WithSites Block). Names (block_item_names_step (named_item (first_item y))) → AllOne m.made)
       (sym (fold-roll-BlockItem (WithSites Block) (WithSites Statement) (WithSites LoweredArm) (WithSites Guarded) (WithSites CoArm)
-      (item_made scene) (statement_made scene) (arm_made scene) (branch_made scene) (co_arm_made scene) x))
-      (subst (λ z. AllOne (made_of_item z).made) is (item_good y))
+      (item_made scene) (statement_made scene) (arm_made scene) (branch_made scene) (co_arm_made scene) (first_item y)))
+      (item_good y)))
 
   statement_step : (x : Statement-F BlockItem StatementTree ArmTree Branch CoArmTree) (y : Statement-F I S A B C) → first_statement y ≡ x → StatementGood (roll-Statement x)
-  statement_step x y is =
-      subst (λ (m : WithSites Statement). IsTrue (one_passes test m.made))
+  statement_step x y is = subst (λ z. StatementGood (roll-Statement z)) is
+      (subst (λ (spans : List Span). Names spans → IsTrue (one_passes test (core_statement scene (roll-Statement (first_statement y))).made))
+      (sym (fold-roll-Statement (List Span) (List Span) (List Span) (List Span) (List Span) block_item_names_step statement_names_step arm_names_step branch_names_step co_arm_names_step (first_statement y)))
+      (subst (λ (m : WithSites Statement). Names (statement_names_step (named_statement (first_statement y))) → IsTrue (one_passes test m.made))
       (sym (fold-roll-Statement (WithSites Block) (WithSites Statement) (WithSites LoweredArm) (WithSites Guarded) (WithSites CoArm)
-      (item_made scene) (statement_made scene) (arm_made scene) (branch_made scene) (co_arm_made scene) x))
-      (subst (λ z. IsTrue (one_passes test (made_of_statement z).made)) is (statement_good y))
+      (item_made scene) (statement_made scene) (arm_made scene) (branch_made scene) (co_arm_made scene) (first_statement y)))
+      (statement_good y)))
 
   arm_step : (x : Arm-F BlockItem StatementTree ArmTree Branch CoArmTree) (y : Arm-F I S A B C) → first_arm y ≡ x → ArmGood (roll-Arm x)
-  arm_step x y is =
-      subst (λ (m : WithSites LoweredArm). IsTrue (block_passes test m.made.block))
+  arm_step x y is = subst (λ z. ArmGood (roll-Arm z)) is
+      (subst (λ (spans : List Span). Names spans → IsTrue (block_passes test (core_arm scene (roll-Arm (first_arm y))).made.block))
+      (sym (fold-roll-Arm (List Span) (List Span) (List Span) (List Span) (List Span) block_item_names_step statement_names_step arm_names_step branch_names_step co_arm_names_step (first_arm y)))
+      (subst (λ (m : WithSites LoweredArm). Names (arm_names_step (named_arm (first_arm y))) → IsTrue (block_passes test m.made.block))
       (sym (fold-roll-Arm (WithSites Block) (WithSites Statement) (WithSites LoweredArm) (WithSites Guarded) (WithSites CoArm)
-      (item_made scene) (statement_made scene) (arm_made scene) (branch_made scene) (co_arm_made scene) x))
-      (subst (λ z. IsTrue (block_passes test (made_of_arm z).made.block)) is (arm_good y))
+      (item_made scene) (statement_made scene) (arm_made scene) (branch_made scene) (co_arm_made scene) (first_arm y)))
+      (arm_good y)))
 
   branch_step : (x : Branch-F BlockItem StatementTree ArmTree Branch CoArmTree) (y : Branch-F I S A B C) → first_branch y ≡ x → BranchGood (roll-Branch x)
-  branch_step x y is =
-      subst (λ (m : WithSites Guarded). IsTrue (branch_passes test m.made))
+  branch_step x y is = subst (λ z. BranchGood (roll-Branch z)) is
+      (subst (λ (spans : List Span). Names spans → IsTrue (branch_passes test (core_branch scene (roll-Branch (first_branch y))).made))
+      (sym (fold-roll-Branch (List Span) (List Span) (List Span) (List Span) (List Span) block_item_names_step statement_names_step arm_names_step branch_names_step co_arm_names_step (first_branch y)))
+      (subst (λ (m : WithSites Guarded). Names (branch_names_step (named_branch (first_branch y))) → IsTrue (branch_passes test m.made))
       (sym (fold-roll-Branch (WithSites Block) (WithSites Statement) (WithSites LoweredArm) (WithSites Guarded) (WithSites CoArm)
-      (item_made scene) (statement_made scene) (arm_made scene) (branch_made scene) (co_arm_made scene) x))
-      (subst (λ z. IsTrue (branch_passes test (made_of_branch z).made)) is (branch_good y))
+      (item_made scene) (statement_made scene) (arm_made scene) (branch_made scene) (co_arm_made scene) (first_branch y)))
+      (branch_good y)))
 
   co_arm_step : (x : CoArm-F BlockItem StatementTree ArmTree Branch CoArmTree) (y : CoArm-F I S A B C) → first_co_arm y ≡ x → CoArmGood (roll-CoArm x)
-  co_arm_step x y is =
-      subst (λ (m : WithSites CoArm). IsTrue (arm_passes test m.made))
+  co_arm_step x y is = subst (λ z. CoArmGood (roll-CoArm z)) is
+      (subst (λ (spans : List Span). Names spans → IsTrue (arm_passes test (core_co_arm scene (roll-CoArm (first_co_arm y))).made))
+      (sym (fold-roll-CoArm (List Span) (List Span) (List Span) (List Span) (List Span) block_item_names_step statement_names_step arm_names_step branch_names_step co_arm_names_step (first_co_arm y)))
+      (subst (λ (m : WithSites CoArm). Names (co_arm_names_step (named_co_arm (first_co_arm y))) → IsTrue (arm_passes test m.made))
       (sym (fold-roll-CoArm (WithSites Block) (WithSites Statement) (WithSites LoweredArm) (WithSites Guarded) (WithSites CoArm)
-      (item_made scene) (statement_made scene) (arm_made scene) (branch_made scene) (co_arm_made scene) x))
-      (subst (λ z. IsTrue (arm_passes test (made_of_co_arm z).made)) is (co_arm_good y))
+      (item_made scene) (statement_made scene) (arm_made scene) (branch_made scene) (co_arm_made scene) (first_co_arm y)))
+      (co_arm_good y)))
 
-  statement_mentions_pass : (tree : StatementTree) → IsTrue (one_passes test (core_statement scene tree).made)
-  statement_mentions_pass = ind-Statement ItemGood StatementGood ArmGood BranchGood CoArmGood item_step statement_step arm_step branch_step co_arm_step
+  statement_mentions_pass : (tree : StatementTree) → Names (statement_names tree) → IsTrue (one_passes test (core_statement scene tree).made)
+  statement_mentions_pass tree = ind-Statement ItemGood StatementGood ArmGood BranchGood CoArmGood item_step statement_step arm_step branch_step co_arm_step tree
 
   -- ---- blocks of procs and final code
 
-  inner_passes : (one : ProcItem) → IsTrue (list_all (one_passes test) (inner_made scene one).made)
-  inner_passes (inner.Const constant) = const_passes scene test means Own constant
-  inner_passes (inner.Var variables) = vars_pass scene test means Own variables
-  inner_passes (inner.Op operations) = refl
-  inner_passes (inner.Sem semaphores) = semaphores_pass scene test means semaphores.span semaphores.semaphores
-  inner_passes (inner.Statement statement) = and_from _ _ (statement_mentions_pass statement) refl
+  inner_passes : (one : ProcItem) → Names (proc_item_names one) → IsTrue (list_all (one_passes test) (inner_made scene one).made)
+  inner_passes (inner.Const constant) names = const_passes scene test means Own constant names
+  inner_passes (inner.Var variables) names = vars_pass scene test means Own variables names
+  inner_passes (inner.Op operations) names = refl
+  inner_passes (inner.Sem semaphores) names = semaphores_pass scene test means semaphores.span semaphores.semaphores names
+  inner_passes (inner.Statement statement) names = and_from _ _ (statement_mentions_pass statement names) refl
 
-  inners_pass : (block : List ProcItem) → IsTrue (list_all (one_passes test) (lists (all_made (map (inner_made scene) block))))
-  inners_pass [] = refl
-  inners_pass (one ∷ block) = both_pass (one_passes test) (inner_made scene one).made (lists (all_made (map (inner_made scene) block))) (inner_passes one) (inners_pass block)
+  inners_pass : (block : List ProcItem) → Names (block_names block) → IsTrue (list_all (one_passes test) (lists (all_made (map (inner_made scene) block))))
+  inners_pass [] names = refl
+  inners_pass (one ∷ block) names =
+      both_pass (one_passes test) (inner_made scene one).made (lists (all_made (map (inner_made scene) block)))
+      (inner_passes one (each-left Name (proc_item_names one) _ names)) (inners_pass block (each-right Name (proc_item_names one) _ names))
 
-  pub body_passes : (block : List ProcItem) → IsTrue (block_passes test (body_made scene block).made.block)
-  body_passes block = block_rule test (lists (all_made (map (inner_made scene) block))) (inners_pass block)
+  pub body_passes : (block : List ProcItem) → Names (block_names block) → IsTrue (block_passes test (body_made scene block).made.block)
+  body_passes block names = block_rule test (lists (all_made (map (inner_made scene) block))) (inners_pass block names)
 
   -- ---- initial code
 
@@ -312,35 +327,44 @@ module _ (scene : Scene) (test : Mention → Bool) (means : Means scene test) wh
       (operation_expr_passes scene test means (spot_named process.name))
       (rows test mentions_in_argument (map (quantifier_argument scene) process.quantifiers) (made_passes (argument_passes test) (quantifier_argument scene) argument_passes_of process.quantifiers)))
 
-  process_sends_pass : (process : Process) → IsTrue (one_passes test (process_sends scene process))
+  process_sends_pass : (process : Process) → Names (flat_map quantifier_names process.quantifiers) → IsTrue (one_passes test (process_sends scene process))
   process_sends_pass process = by process.quantifiers
     where
-      by : (quantifiers : List QuantifierTree) → IsTrue (one_passes test (sends_by scene process quantifiers))
-      by [] = process_send_passes process
-      by (quantifier ∷ more) =
+      by : (quantifiers : List QuantifierTree) → Names (flat_map quantifier_names quantifiers) → IsTrue (one_passes test (sends_by scene process quantifiers))
+      by [] names = process_send_passes process
+      by (quantifier ∷ more) names =
           fa_rule test (line_of process.span) (quantifiers_core scene (quantifier ∷ more)) (act process.span (process_send scene process) ∷ [])
-          (quantifiers_pass scene test means (quantifier ∷ more))
+          (quantifiers_pass scene test means (quantifier ∷ more) names)
           (block_rule test (act process.span (process_send scene process) ∷ []) (and_from _ _ (process_send_passes process) refl))
 
-  spec_passes : (one : SpecItem) → IsTrue (list_all (one_passes test) (spec_item_core scene one))
-  spec_passes (spec.Const constant) = const_passes scene test means Shared constant
-  spec_passes (spec.Var variables) = vars_pass scene test means Shared variables
-  spec_passes (spec.Sem semaphores) = semaphores_pass scene test means semaphores.span semaphores.semaphores
-  spec_passes _ = refl
+  spec_passes : (one : SpecItem) → Names (spec_item_names one) → IsTrue (list_all (one_passes test) (spec_item_core scene one))
+  spec_passes (spec.Const constant) names = const_passes scene test means Shared constant names
+  spec_passes (spec.Var variables) names = vars_pass scene test means Shared variables names
+  spec_passes (spec.Sem semaphores) names = semaphores_pass scene test means semaphores.span semaphores.semaphores names
+  spec_passes _ names = refl
 
-  code_passes : (one : Item) → IsTrue (list_all (one_passes test) (item_output scene one).code)
-  code_passes (item.Spec declared) = spec_passes declared
-  code_passes (item.Proc proc) = refl
-  code_passes (item.Procedure procedure) = refl
-  code_passes (item.Process process) = and_from _ _ (process_sends_pass process) refl
-  code_passes (item.Final final) = refl
-  code_passes (item.Statement statement) = and_from _ _ (statement_mentions_pass statement) refl
+  specs_pass : (specs : List SpecItem) → Names (flat_map spec_item_names specs) → IsTrue (list_all (one_passes test) (spec_code scene specs))
+  specs_pass [] names = refl
+  specs_pass (one ∷ specs) names =
+      both_pass (one_passes test) (spec_item_core scene one) (spec_code scene specs)
+      (spec_passes one (each-left Name (spec_item_names one) _ names)) (specs_pass specs (each-right Name (spec_item_names one) _ names))
 
-  codes_pass : (items : List Item) → IsTrue (list_all (one_passes test) (all_code (item_outputs scene items)))
-  codes_pass [] = refl
-  codes_pass (one ∷ items) = both_pass (one_passes test) (item_output scene one).code (all_code (item_outputs scene items)) (code_passes one) (codes_pass items)
+  code_passes : (one : Item) → Names (item_names one) → IsTrue (list_all (one_passes test) (item_output scene one).code)
+  code_passes (item.Spec declared) names = spec_passes declared names
+  code_passes (item.Proc proc) names = refl
+  code_passes (item.Procedure procedure) names = refl
+  code_passes (item.Process process) names = and_from _ _ (process_sends_pass process (each-left Name (flat_map quantifier_names process.quantifiers) _ names.1)) refl
+  code_passes (item.Final final) names = refl
+  code_passes (item.Statement statement) names = and_from _ _ (statement_mentions_pass statement names) refl
 
-  pub initial_passes : (specs : List SpecItem) (items : List Item) → IsTrue (block_passes test (spec_code scene specs ++ all_code (item_outputs scene items)))
-  initial_passes specs items =
+  codes_pass : (items : List Item) → Names (flat_map item_names items) → IsTrue (list_all (one_passes test) (all_code (item_outputs scene items)))
+  codes_pass [] names = refl
+  codes_pass (one ∷ items) names =
+      both_pass (one_passes test) (item_output scene one).code (all_code (item_outputs scene items))
+      (code_passes one (each-left Name (item_names one) _ names)) (codes_pass items (each-right Name (item_names one) _ names))
+
+  pub initial_passes : (specs : List SpecItem) (items : List Item) → Names (flat_map spec_item_names specs) → Names (flat_map item_names items)
+      → IsTrue (block_passes test (spec_code scene specs ++ all_code (item_outputs scene items)))
+  initial_passes specs items in_specs in_items =
       block_rule test (spec_code scene specs ++ all_code (item_outputs scene items))
-      (both_pass (one_passes test) (spec_code scene specs) (all_code (item_outputs scene items)) (lists_pass (one_passes test) (spec_item_core scene) spec_passes specs) (codes_pass items))
+      (both_pass (one_passes test) (spec_code scene specs) (all_code (item_outputs scene items)) (specs_pass specs in_specs) (codes_pass items in_items))

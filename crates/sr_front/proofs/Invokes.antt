@@ -46,20 +46,27 @@ use Rattle.sr_tables.specs.Parts.{component_spot, components_in, kind_of}
 use Rattle.sr_tree.specs.declared.component.Component.{Component}
 use Rattle.sr_tree.specs.declared.component.Component.TheVariants.{Resource, SplitResource, Global}
 use Rattle.sr_tree.specs.declared.component.File.{File}
+use Rattle.sr_value.specs.declared.place.Span.{Span}
 use Rattle.sr_front.specs.Invocations.{InvocationTest, block_invokes, calls_operation, code_invokes, forwards_operation, makes_resource, of_calls, of_forwards, of_makes, of_sends, sends_operation, takes}
 use Rattle.sr_front.proofs.AllowedCode.{files_error_free}
 use Rattle.sr_front.proofs.CoreComponents.{component_at}
 use Rattle.sr_front.proofs.Declared.{Apart}
 use Rattle.sr_front.proofs.EffectFreeCode.{files_facts}
+use Rattle.sr_front.proofs.FirstStays.{all_settled}
+use Rattle.sr_front.proofs.InfosStay.{Reads, Settled, settled_here, stays_itself}
 use Rattle.sr_front.proofs.InvokesCode.{components_good}
-use Rattle.sr_front.proofs.InvokesKnown.{Between, Free, between, between_first, code_is_free, counted, ends, heads, heads_here, in_table, shapes, stays}
+use Rattle.sr_front.proofs.InvokesKnown.{Between, Free, between, between_first, code_is_free, counted, ends, grows, heads, heads_here, in_table, shapes, stays}
 use Rattle.sr_front.proofs.InvokesMet.{Allowed}
+use Rattle.sr_front.proofs.KeptNames.{Anywhere, all_fit}
+use Rattle.sr_front.proofs.Leading.{leads_on, leads_self}
 use Rattle.sr_front.proofs.MakingHeaded.{core_formals}
 use Rattle.sr_front.proofs.InvokesTargets.{AllAtEnd}
 use Rattle.sr_front.proofs.Members.{Among, all_among, passes_at}
 use Rattle.sr_front.proofs.Numbered.{each_once_apart, number_at}
 use Rattle.sr_front.proofs.Operations.{components, core, imports, tables, wholes}
+use Rattle.sr_front.proofs.Placed.{Placed}
 use Rattle.sr_front.proofs.ProcNumbers.{all_code_ok}
+use Rattle.sr_front.proofs.ReadsCode.{component_inside, reads_components}
 use Rattle.sr_front.proofs.UsesInFiles.{means_resource}
 
 -- ---- what a resource is in the core
@@ -120,7 +127,7 @@ module _ (files : List File) (facts : Facts) (apart : IsDistinct same_spot (map 
     may_make : (spot : Spot) (decl : Decl) (number args : ℕ) → meaning_at facts.uses spot ≡ Some (Declared decl) → is_resource decl.sort ≡ true
         → position (same_spot decl.spot) (tables files facts).components ≡ Some number → Counts decl.spot args → IsTrue (makes_resource (core files facts) number args)
     may_make spot decl number args means is found count =
-        let one : IsComponent (components_in files) decl = means_resource files names named spot decl (ap (λ uses. meaning_at uses spot) (sym kept) ∙ means) is in
+        let one : IsComponent (components_in files) decl = means_resource files facts names named spot decl (ap (λ uses. meaning_at uses spot) (sym kept) ∙ means) is in
         resource_makes one.component number args one.there (ap (λ (d : Decl). is_resource d.sort) (sym one.is) ∙ is)
         (ap (λ (d : Decl). position (same_spot d.spot) (tables files facts).components) (sym one.is) ∙ found)
         (count one.component (among_in (components_in files) one.component one.there) (ap (λ (d : Decl). d.spot) (sym one.is)))
@@ -144,6 +151,24 @@ module _ (specs : Specs) (files : List File) (facts : Facts) (names : Names) (na
   final : facts ≡ (components_read (components files facts) first).facts
   final = checked_so ∙ files_facts files first
 
+  abbrev inside : List Span
+  inside = flat_map component_inside (components files facts)
+
+  code_read : Reads inside first facts
+  code_read = subst (Reads inside first) (sym final) (reads_components (components files facts) first)
+
+  -- all code stands where nothing is known at first, and what is known after it is known in the end
+  start : Placed Anywhere facts inside first (components_read (components files facts) first).facts
+  start =
+      let settled : Settled facts inside first facts = subst (λ (end : Facts). Settled end inside first end) (sym final) (all_settled names.uses specs files names_apart) in
+      subst (Placed Anywhere facts inside first) final
+      (record {
+        free = all_fit (λ span. spot_of span) inside;
+        settled = settled;
+        start = record { stays = settled_here facts inside first facts code_read settled; leads = leads_on inside first facts code_read };
+        end = record { stays = stays_itself facts; leads = leads_self facts };
+      })
+
   abbrev scene : ℕ → Component → Scene
   scene number component = scene_of facts (tables files facts) (imports files facts) number component
 
@@ -162,8 +187,9 @@ module _ (specs : Specs) (files : List File) (facts : Facts) (names : Names) (na
       (between specs files facts names.uses kept apart none names_apart)
       (λ number component there. record {
         allowed = allowed number component;
-        reads = λ now h. record {
+        reads = λ now h ending. record {
           stay = stays specs files facts names.uses kept apart none names_apart whole final number there.0 component now h;
+          grows = grows specs files facts names.uses kept apart none names_apart whole final number there.0 component now h ending;
           makes = λ used decl ty number arguments means is at known_as takes.
               makes used decl number (length arguments) means is at
               (λ other among spot outline. counted specs files facts names.uses kept apart none names_apart whole final there.0 component now h outline other among ty arguments
@@ -172,7 +198,7 @@ module _ (specs : Specs) (files : List File) (facts : Facts) (names : Names) (na
         };
         entry = in_table specs files facts names.uses kept apart none names_apart whole final number there.0 component there.1;
       })
-      0 (components files facts) (all_among (components files facts)) (code_is_free specs files facts names.uses kept apart none names_apart) first (between_first specs files facts names.uses kept apart none names_apart) whole in
+      0 (components files facts) (all_among (components files facts)) (code_is_free specs files facts names.uses kept apart none names_apart) first start (between_first specs files facts names.uses kept apart none names_apart) whole in
       all_code_ok names.uses files first facts kept services apart (code_invokes test) good.codes
       (λ number whole at. passes_at (λ (one : LoweredComponent). list_all (λ (proc : Proc). block_invokes test proc.body.block) one.procs) (wholes files facts) number whole good.procs at)
 

@@ -70,7 +70,10 @@ use Rattle.sr_front.proofs.OperationShares.{NamesFree, names_free}
 use Rattle.sr_front.proofs.Optypes.{OptypesHeaded, layer_stays}
 use Rattle.sr_front.proofs.OptypesKnown.{optypes_known}
 use Rattle.sr_front.proofs.PlainNames.{block_plain, code_plain, component_code_plain, inner_plain}
+use Rattle.sr_front.proofs.Leading.{grown}
+use Rattle.sr_front.proofs.Placed.{Ending}
 use Rattle.sr_front.proofs.Staying.{Loose, Same, same_self, same_signatures, same_with, stay_through}
+use Rattle.sr_front.proofs.TypesStay.{Grows}
 
 -- ---- names that are no operation's are among those of code
 
@@ -332,6 +335,10 @@ module _ (specs : Specs) (files : List File) (facts : Facts) (uses : Meanings) (
     stays number place tree now h =
         let stay = stay_through facts known now last.1.1.0.back h.1.1.0.forth in
         record { uses = stay.uses; infos = stay.infos }
+
+    -- what is known in code is known in the end
+    pub grows : (number : ℕ) (place : ℕ) (tree : Component) (now : Facts) → Within place tree now → Ending (scene number tree).facts now → Grows now (scene number tree).facts
+    grows number place tree now h ending = grown known now (scene number tree).facts h.1.1.0 (standing_same facts tree last.1.1.0) h.0.0.0 ending.stays ending.leads
 
     pub heads_here : (place : ℕ) (tree : Component) (now : Facts) → Within place tree now → (spot : Spot) (operation : Operation) (found : Info) → found_at entries spot ≡ Some operation → info_at now.infos spot ≡ Some found
         → IsHead now.signatures operation found

@@ -1,4 +1,4 @@
--- Expressions of the core that are no operation's name.
+-- Expressions of the core that name an operation, and those that name none.
 use Rattle.std.proofs.Common.{◌≡◌, ℕ, Bool, true, false, List, [], ◌∷◌, Option, Some, None, Result, Ok, Err, refl, ap, ◌∙◌}
 use Rattle.std.specs.Prelude.{position}
 use Rattle.sr_core.specs.declared.component.Operation.{Operation}
@@ -14,13 +14,12 @@ use Rattle.sr_core.specs.declared.expression.Part.{Part}
 use Rattle.sr_core.specs.declared.expression.PlaceExpr.{PlaceExpr}
 use Rattle.sr_core.specs.declared.expression.Reading.{Reading}
 use Rattle.sr_core.specs.declared.expression.Step.{Step}
-use Rattle.sr_core.specs.declared.expression.Step.TheVariants as step
 use Rattle.sr_check_expr.specs.declared.typed_expr.Named.{Named}
 use Rattle.sr_check_expr.specs.declared.typed_expr.Named.TheVariants as named
 use Rattle.sr_lower_expr.specs.declared.scene.Lowered.{Lowered}
 use Rattle.sr_lower_expr.specs.declared.scene.Lowered.TheVariants as lowered
 use Rattle.sr_lower_expr.specs.declared.scene.Scene.{Scene}
-use Rattle.sr_lower_expr.specs.Expressions.{LoweredInvocation, call_core, constant_or_nothing, end_or_nothing, end_value, ends_core, function_core, instance_core, layer_member, lowered_of, field_number, spec_operation, trees_of}
+use Rattle.sr_lower_expr.specs.Expressions.{LoweredInvocation, call_core, constant_or_nothing, end_or_nothing, end_value, ends_core, function_core, instance_core, lowered_of, trees_of}
 use Rattle.sr_lower_expr.specs.Operators.{binary_core}
 use Rattle.sr_lower_expr.specs.Places.{naming, nothing, operation_at, operation_number, part_of, value_of}
 use Rattle.sr_lower_expr.specs.Shapes.{shape_of_type}
@@ -32,7 +31,6 @@ use Rattle.sr_tree.specs.declared.expr.BinaryOperator.{BinaryOperator}
 use Rattle.sr_tree.specs.declared.expr.BinaryOperator.TheVariants as binary
 use Rattle.sr_tree.specs.declared.expr.Expr.{Expr as Tree}
 use Rattle.sr_types.specs.declared.ty.Ty.{Ty}
-use Rattle.sr_types.specs.declared.ty.Ty.TheOpen.{Ty-F}
 use Rattle.sr_value.specs.declared.fault.Fault.{Fault}
 use Rattle.sr_value.specs.declared.operator.Operator.{Operator}
 use Rattle.sr_value.specs.declared.value.Value.{Value}
@@ -50,6 +48,9 @@ module _ (test : InvocationTest) where
 
   pub leaf_names : (leaf : Leaf) → (expr_seen test (core.Leaf leaf)).operation ≡ leaf_operation leaf
   leaf_names leaf = ap (λ (seen : Seen). seen.operation) (seen_of test (Expr-F.Leaf leaf) (core.Leaf leaf) (core.rolls-Leaf leaf))
+
+  pub member_names : (of : Expr) (op : ℕ) → (expr_seen test (core.Member of op)).operation ≡ Some op
+  member_names of op = ap (λ (seen : Seen). seen.operation) (seen_of test (Expr-F.Member of op) (core.Member of op) (core.rolls-Member of op))
 
   pub load_nameless : (place : PlaceExpr) → Nameless (core.Load place)
   load_nameless place = by_node (Expr-F.Load place) (core.Load place) (core.rolls-Load place) refl
@@ -91,13 +92,6 @@ module _ (test : InvocationTest) where
       by (Some operation) = each operation (operation_number scene spot)
 
   module _ (scene : Scene) where
-    pub layer_nameless : {A : Type 0} (owner : Lowered) (name : List ℕ) (layer : Ty-F A) → Nameless (value_of (layer_member scene owner name layer))
-    layer_nameless owner name (Ty-F.Rec spot) = part_nameless owner (step.Field (field_number scene.facts spot name))
-    layer_nameless owner name (Ty-F.Resource spot) =
-        naming_nameless scene (spec_operation scene.facts spot name) (λ operation number. core.Member (value_of owner) number)
-        (λ operation number. by_node (Expr-F.Member (value_of owner) number) (core.Member (value_of owner) number) (core.rolls-Member (value_of owner) number) refl)
-    layer_nameless owner name _ = nothing_nameless
-
     ended : (end : Result Value Fault) → Nameless (end_or_nothing end)
     ended (Ok end) = leaf_names (leaf.Constant end)
     ended (Err fault) = nothing_nameless

@@ -1,11 +1,11 @@
--- What an expression that is an operation's name is known by: the walk over expressions.
-use Rattle.std.proofs.Common.{◌≡◌, ℕ, [], ◌∷◌, Option, Some, None, refl, sym, subst}
+-- What an expression that names an operation is known by: the walk over expressions.
+use Rattle.std.proofs.Common.{◌≡◌, ℕ, [], ◌∷◌, Option, Some, None, refl, sym, ap, subst}
 use Rattle.sr_check_expr.specs.declared.facts.Facts.{Facts}
 use Rattle.sr_check_expr.specs.declared.typed_expr.TypedExpr.{TypedExpr}
 use Rattle.sr_check_expr.specs.declared.typed_expr.Named.{Named}
 use Rattle.sr_check_expr.specs.declared.typed_expr.Named.TheVariants as named
 use Rattle.sr_check_expr.specs.Calls.{Called, call_typing, called_by}
-use Rattle.sr_check_expr.specs.Exprs.{Inferrer, CalledInferrer, PartInferrer, create_step, expr_step, invocation_step, infer_create, infer_expr, infer_invocation, part_step}
+use Rattle.sr_check_expr.specs.Exprs.{Inferrer, CalledInferrer, PartInferrer, create_step, expr_step, field_typing, invocation_step, infer_create, infer_expr, infer_invocation, part_step}
 use Rattle.sr_check_expr.specs.LiteralTypes.{literal_named, literal_typed}
 use Rattle.sr_check_expr.specs.Meanings.{known as known_value, meant_by, typed_expr}
 use Rattle.sr_check_expr.specs.Typings.{Typing, typed_exprs_of}
@@ -30,6 +30,7 @@ use Rattle.sr_tree.specs.declared.expr.Invocation.{Invocation, roll-Invocation}
 use Rattle.sr_tree.specs.declared.expr.Part.{Part as PartTree, roll-Part}
 use Rattle.sr_types.specs.declared.ty.Ty.{Ty}
 use Rattle.sr_front.specs.Invocations.{InvocationTest}
+use Rattle.sr_front.proofs.ExprsStay.{expr_stays}
 use Rattle.sr_front.proofs.ExprParts.{inferred_create, inferred_expr, lowered_create, lowered_expr}
 use Rattle.sr_front.proofs.EffectFreeExprs.{StaysNamed, field_stays, name_stays, stays_itself}
 use Rattle.sr_front.proofs.InvokesNames.{Nameless, apply_nameless, array_nameless, binary_nameless, call_nameless, constant_nameless, instance_nameless, leaf_names, naming_nameless, nothing_nameless, part_nameless, unary_nameless}
@@ -114,9 +115,14 @@ module _ (test : InvocationTest) (scene : Scene) (ends : AllAtEnd scene) (known 
       let end = (infer_expr owner.0 scene.facts).typed_expr in (
         field_stays scene.facts known reads.stay span end here field end.named here.named owner.1.0,
         λ whole.
+            let same = expr_stays known scene.facts reads.grows owner.0 (error_free_first (infer_expr owner.0 known).found _ whole) in
             subst (λ (one : LoweredTree). FitsHere (expr_step (inferred_expr (Expr-F.Field span owner.0 field)) known).typed_expr (expr_step (inferred_expr (Expr-F.Field span owner.0 field)) scene.facts).typed_expr.typed.ty
             (number_of (value_of (field_core scene one field (typed_expr scene.facts one.0).named)))) (sym (told_is scene owner.0))
-            (field_fits test scene ends known reads span here end (owner.0, core_expr scene owner.0) field here.named end.named owner.1.0 (error_free_second (infer_expr owner.0 known).found _ whole)),
+            (subst (λ (what : Named). ErrorFree (field_typing known span here field what).found
+            → FitsHere (field_typing known span here field what).typed_expr (field_typing scene.facts span end field end.named).typed_expr.typed.ty (number_of (value_of (field_core scene (owner.0, core_expr scene owner.0) field end.named))))
+            (sym (ap (λ (one : TypedExpr). one.named) same))
+            (field_fits test scene ends known reads span here (owner.0, core_expr scene owner.0) field end.named (ap (λ (one : TypedExpr). one.typed.ty) same))
+            (error_free_second (infer_expr owner.0 known).found _ whole)),
       )
   expr_good (Expr-F.Index span array first None) = (tt, λ whole. nameless_fits test scene ends known reads _ _ _ (part_nameless test (core_expr scene array.0) (step.At (core_value scene first.0))))
   expr_good (Expr-F.Index span array first (Some second)) = (tt, λ whole. nameless_fits test scene ends known reads _ _ _ (part_nameless test (core_expr scene array.0) (step.At2 (core_value scene first.0) (core_value scene second.0))))
@@ -159,7 +165,3 @@ module _ (test : InvocationTest) (scene : Scene) (ends : AllAtEnd scene) (known 
   -- where no rule is broken in an expression it fits
   pub tree_fits : (tree : Tree) → ErrorFree (infer_expr tree known).found → FitsHere (infer_expr tree known).typed_expr (infer_expr tree scene.facts).typed_expr.typed.ty (number_of (core_value scene tree))
   tree_fits tree = (tree_good tree).1
-
-  -- what an expression is in the end that isn't a value, it is here
-  pub tree_stays : (tree : Tree) → StaysNamed (infer_expr tree scene.facts).typed_expr.named (infer_expr tree known).typed_expr.named
-  tree_stays tree = (tree_good tree).0

@@ -68,7 +68,7 @@ module _ (Q : Facts → Type 0) (Free Fit : Spot → Type 0) (closed : Closed Q 
       let after = written_entered constant.ty facts in
       closed.put after (spot_of constant.name.span) (const_of false after constant) free.0 (keeps_written Q closed.entered constant.ty facts h)
 
-  keeps_vars : (type : Ty) (decls : List Decl) (facts : Facts) → Each (λ decl. AllFree (decl_names decl)) decls → Q facts → Q (vars_declared type decls facts)
+  pub keeps_vars : (type : Ty) (decls : List Decl) (facts : Facts) → Each (λ decl. AllFree (decl_names decl)) decls → Q facts → Q (vars_declared type decls facts)
   keeps_vars type [] facts free h = h
   keeps_vars type (decl ∷ decls) facts free h = keeps_vars type decls _ free.1 (closed.put facts (spot_of decl.name.span) _ free.0.0 h)
 

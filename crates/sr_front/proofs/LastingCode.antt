@@ -1,7 +1,7 @@
 -- An operation that is known stays one where the code of components is looked at, and so does what a block declares.
 use Rattle.std.proofs.Common.{Bool, true, List, [], ◌∷◌, ◌++◌, ap, flat_map}
 use Rattle.sr_check.proofs.Each.{Each, each-left, each-right}
-use Rattle.sr_check.specs.declared.serving.Serving.TheVariants.{SetsUp, Ends as EndsInstance, Serves}
+use Rattle.sr_check.specs.declared.serving.Serving.TheVariants.{Ends as EndsInstance, Serves}
 use Rattle.sr_check.specs.Components.{beginning, block_read, component_read, components_read, item_read, items_procs, items_read, proc_item_read, quantifiers_formal, signed_declared}
 use Rattle.sr_check.specs.Contexts.{Context, with_facts}
 use Rattle.sr_check.specs.Owners.{Owned, component_at, inner_owned, ops_owned, sems_owned}
@@ -18,6 +18,7 @@ use Rattle.sr_check_expr.specs.declared.info.Info.TheVariants as info
 use Rattle.sr_names.specs.declared.spot.Spot.{Spot}
 use Rattle.sr_names.specs.Spots.{spot_of}
 use Rattle.sr_names.proofs.Marking.{entry-same}
+use Rattle.sr_order.specs.Spans.{block_operations}
 use Rattle.sr_order.specs.Names.{name_names, names_spans, quantifier_names, signature_names, where_some}
 use Rattle.sr_tree.specs.declared.component.Component.{Component}
 use Rattle.sr_tree.specs.declared.component.Item.{Item}
@@ -29,61 +30,32 @@ use Rattle.sr_tree.specs.declared.declaration.Semaphore.{Semaphore}
 use Rattle.sr_tree.specs.Parts.{body_of}
 use Rattle.sr_types.specs.declared.ty.Ty.{Ty}
 use Rattle.sr_value.specs.declared.place.Span.{Span}
-use Rattle.sr_front.proofs.KeptCode.{keeps_statement}
-use Rattle.sr_front.proofs.KeptNames.{Anywhere, all_fit, keeps_const, keeps_formal_quantifiers, keeps_local_ops, keeps_local_sems, keeps_quantifiers, keeps_service, keeps_signed, keeps_var}
+use Rattle.sr_front.proofs.InfosStay.{Steady}
+use Rattle.sr_front.proofs.KeptBy.{Names}
+use Rattle.sr_front.proofs.KeptNames.{Anywhere, all_fit, keeps_local_sems}
 use Rattle.sr_front.proofs.Lasting.{Away, Lasts, Other, is_operation, lasting, lasts_ops_in}
 use Rattle.sr_front.proofs.OwnCode.{LocalItem}
 use Rattle.sr_front.proofs.PlainNames.{block_plain, code_plain, component_code_plain, inner_plain}
+use Rattle.sr_front.proofs.ReadsCode.{code_operations, component_code_operations, keeps_block, keeps_components, keeps_items}
 use Rattle.sr_front.proofs.TypeSpots.{Elsewhere}
 
 -- ---- an operation that is known
 
 module _ (spot : Spot) where
-  inner_lasts : (one : ProcItem) (context : Context) → Away spot (inner_plain one) → Lasts spot context.facts → Lasts spot (proc_item_read one context).facts
-  inner_lasts (inner.Const constant) context away h = keeps_const (Lasts spot) (Other spot) Anywhere (lasting spot) constant context.facts away h
-  inner_lasts (inner.Var variables) context away h = keeps_var (Lasts spot) (Other spot) Anywhere (lasting spot) variables context.facts away h
-  inner_lasts (inner.Op operations) context away h = keeps_local_ops (Lasts spot) (Other spot) Anywhere (lasting spot) operations.items context.facts (all_fit (λ op. spot_of (op_item_name op).span) operations.items) h
-  inner_lasts (inner.Sem semaphores) context away h = keeps_local_sems (Lasts spot) (Other spot) Anywhere (lasting spot) semaphores.semaphores context.facts (all_fit (λ semaphore. spot_of semaphore.name.span) semaphores.semaphores) h
-  inner_lasts (inner.Statement statement) context away h = keeps_statement (Lasts spot) (Other spot) Anywhere (lasting spot) statement away context h
+  steady : Steady (Lasts spot) (Other spot) Anywhere
+  steady = record { closed = lasting spot; standing = λ facts component h. h }
+
+  anywhere : (spans : List Span) → Names Anywhere spans
+  anywhere spans = all_fit (λ span. spot_of span) spans
 
   pub block_lasts : (items : List ProcItem) (context : Context) → Away spot (block_plain items) → Lasts spot context.facts → Lasts spot (block_read items context).facts
-  block_lasts [] context away h = h
-  block_lasts (one ∷ items) context away h =
-      block_lasts items (with_facts context (proc_item_read one context).facts) (each-right (Elsewhere spot) (inner_plain one) _ away)
-      (inner_lasts one context (each-left (Elsewhere spot) (inner_plain one) _ away) h)
-
-  item_lasts : (procs : Procs) (one : Item) (facts : Facts) → Away spot (code_plain one) → Lasts spot facts → Lasts spot (item_read procs one facts).facts
-  item_lasts procs (item.Spec declared) facts away h = h
-  item_lasts procs (item.Proc proc) facts away h =
-      let served = operation_named facts proc.name in
-      let after = each-right (Elsewhere spot) (names_spans proc.formals) _ away.1 in
-      block_lasts proc.block (beginning procs (Serves (spot_or (spot_of proc.name.span) served)) (service_bound proc.formals proc.returned (type_of served) facts))
-      (each-right (Elsewhere spot) (where_some name_names proc.returned) _ after)
-      (keeps_service (Lasts spot) (Other spot) Anywhere (lasting spot) proc.formals proc.returned (type_of served) facts (each-left (Elsewhere spot) (names_spans proc.formals) _ away.1) (each-left (Elsewhere spot) (where_some name_names proc.returned) _ after) h)
-  item_lasts procs (item.Procedure procedure) facts away h =
-      let signed = (signature_read procedure.signature facts).signed in
-      block_lasts procedure.block (beginning procs (Serves (spot_of procedure.name.span)) (signed_declared signed facts)) (each-right (Elsewhere spot) (signature_names procedure.signature) _ away)
-      (keeps_signed (Lasts spot) (Other spot) Anywhere (lasting spot) procedure.signature facts (each-left (Elsewhere spot) (signature_names procedure.signature) _ away) h)
-  item_lasts procs (item.Process process) facts away h =
-      let known = quantifiers_known facts process.quantifiers in
-      let names = flat_map quantifier_names process.quantifiers in
-      let quantified = each-left (Elsewhere spot) names _ away in
-      block_lasts process.block (beginning procs (Serves (spot_of process.name.span)) (quantifiers_formal process.quantifiers known)) (each-right (Elsewhere spot) names _ away)
-      (keeps_formal_quantifiers (Lasts spot) (Other spot) Anywhere (lasting spot) process.quantifiers known quantified (keeps_quantifiers (Lasts spot) (Other spot) Anywhere (lasting spot) process.quantifiers facts quantified h))
-  item_lasts procs (item.Final final) facts away h = block_lasts final.block (beginning procs EndsInstance facts) away h
-  item_lasts procs (item.Statement statement) facts away h = keeps_statement (Lasts spot) (Other spot) Anywhere (lasting spot) statement away (beginning procs SetsUp facts) h
+  block_lasts items context away h = keeps_block (Lasts spot) (Other spot) Anywhere steady items context away (anywhere (block_operations items)) h
 
   pub items_lasts : (procs : Procs) (items : List Item) (facts : Facts) → Away spot (flat_map code_plain items) → Lasts spot facts → Lasts spot (items_read procs items facts).facts
-  items_lasts procs [] facts away h = h
-  items_lasts procs (one ∷ items) facts away h =
-      items_lasts procs items (item_read procs one facts).facts (each-right (Elsewhere spot) (code_plain one) _ away) (item_lasts procs one facts (each-left (Elsewhere spot) (code_plain one) _ away) h)
+  items_lasts procs items facts away h = keeps_items (Lasts spot) (Other spot) Anywhere steady procs items facts away (anywhere (flat_map code_operations items)) h
 
   pub components_lasts : (trees : List Component) (facts : Facts) → Away spot (flat_map component_code_plain trees) → Lasts spot facts → Lasts spot (components_read trees facts).facts
-  components_lasts [] facts away h = h
-  components_lasts (tree ∷ more) facts away h =
-      let start = standing facts (component_decl tree) in
-      components_lasts more (component_read tree facts).facts (each-right (Elsewhere spot) (component_code_plain tree) _ away)
-      (items_lasts (items_procs start (body_of tree) []) (body_of tree) start (each-left (Elsewhere spot) (component_code_plain tree) _ away) h)
+  components_lasts trees facts away h = keeps_components (Lasts spot) (Other spot) Anywhere steady trees facts away (anywhere (flat_map component_code_operations trees)) h
 
 -- ---- what a block declares
 

@@ -1,5 +1,6 @@
--- What is mentioned by what an expression is in the core passes a test that the scene passes.
-use Rattle.std.proofs.Common.{◌≡◌, ℕ, negsuc, Bool, true, false, List, [], ◌∷◌, Option, Some, None, Result, Ok, Err, IsTrue, map, position, if◌then◌else◌, zip, refl, sym, ap, ◌∙◌, subst}
+-- What is mentioned by what an expression is in the core passes a test that the scene passes, and all that the names in the
+-- expression are in the core.
+use Rattle.std.proofs.Common.{◌≡◌, ℕ, negsuc, Bool, true, false, List, [], ◌∷◌, Option, Some, None, Result, Ok, Err, IsTrue, map, position, if◌then◌else◌, zip, refl, sym, subst}
 use Rattle.std.proofs.lemmas.Bool.{and_from}
 use Rattle.std.specs.List.{list_all}
 use Rattle.sr_check_expr.specs.declared.typed_expr.Named.{Named}
@@ -26,11 +27,15 @@ use Rattle.sr_names.specs.declared.predefined.Predefined.{Predefined}
 use Rattle.sr_names.specs.declared.predefined.Predefined.TheVariants.{Read, Eof, Abs, Min, Max, Low, High, Lb, Ub, Length, Pred, Succ, MyResource, MyVm}
 use Rattle.sr_names.specs.declared.spot.Spot.{Spot}
 use Rattle.sr_names.specs.Spots.{same_spot, spot_of}
+use Rattle.sr_names.specs.declared.meaning.Decl.{Decl}
+use Rattle.sr_order.specs.Names.{create_names, create_names_step, expr_names, expr_names_step, invocation_names, invocation_names_step, part_names, part_names_step, qualified_names}
+use Rattle.sr_order.specs.Spans.{joined}
+use Rattle.sr_check.proofs.Each.{Each, each-left, each-right}
 use Rattle.sr_names.specs.Uses.{meaning_at}
 use Rattle.sr_tree.specs.declared.expr.BinaryOperator.{BinaryOperator}
 use Rattle.sr_tree.specs.declared.expr.BinaryOperator.TheVariants as binary
 use Rattle.sr_tree.specs.declared.expr.Create.{Create, roll-Create}
-use Rattle.sr_tree.specs.declared.expr.Create.TheFolds.{fold-roll-Create, fold-roll-Expr, fold-roll-Invocation, fold-roll-Part, ind-Create, ind-Expr, map-Create, map-Expr, map-Invocation, map-Part}
+use Rattle.sr_tree.specs.declared.expr.Create.TheFolds.{fold_out-Invocation, fold-roll-Create, fold-roll-Expr, fold-roll-Invocation, fold-roll-Part, ind-Create, ind-Expr, map-Create, map-Expr, map-Invocation, map-Part}
 use Rattle.sr_tree.specs.declared.expr.Create.TheOpen.{Create-F, Expr-F, Invocation-F, Part-F}
 use Rattle.sr_tree.specs.declared.expr.Expr.{Expr as Tree, roll-Expr}
 use Rattle.sr_tree.specs.declared.expr.Invocation.{Invocation, out-Invocation, roll-Invocation}
@@ -60,7 +65,6 @@ use Rattle.sr_lower_expr.proofs.Trees.{of_create, of_invocation, of_part}
 
 -- What a scene names passes a test of what is mentioned.
 pub record Means (scene : Scene) (test : Mention → Bool) : Type 0 where
-  pub variables : (spot : Spot) → IsTrue (test (mention.Variable (root_of scene spot)))
   pub own : (spot : Spot) → IsTrue (test (mention.Variable (own_root scene spot)))
   pub nowhere : IsTrue (test (mention.Variable nowhere))
   pub operations : (scope : Scope) (component : ℕ) → IsTrue (test (mention.Operation (whose_by scene scope component)))
@@ -124,18 +128,35 @@ module _ (scene : Scene) (test : Mention → Bool) (means : Means scene test) wh
   constant_passes None = nothing_passes
   constant_passes (Some written) = leaf_rule test (leaf.Constant written) refl
 
-  named_passes : (spot : Spot) (written : Option Value) (operation : Option Operation) → Good (named_core scene spot written operation)
-  named_passes spot (Some written) operation = leaf_rule test (leaf.Constant written) refl
-  named_passes spot None (Some operation) = operation_expr_passes spot
-  named_passes spot None None = place_at_passes (root_of scene spot) (means.variables spot)
+  -- a variable, where it is one, passes
+  abbrev VariablePasses : Spot → Option Value → Option Operation → Type 0
+  VariablePasses spot written operation = written ≡ None → operation ≡ None → IsTrue (test (mention.Variable (root_of scene spot)))
 
-  meaning_passes : (meaning : Option Meaning) → Good (meaning_core scene meaning)
-  meaning_passes (Some (Declared decl)) = named_passes decl.spot (constant_at scene.facts decl.spot) (operation_at scene decl.spot)
-  meaning_passes (Some (MeansPredefined Eof)) = leaf_rule test (leaf.Constant (value.Int (negsuc 0))) refl
-  meaning_passes _ = nothing_passes
+  named_passes : (spot : Spot) (written : Option Value) (operation : Option Operation) → VariablePasses spot written operation → Good (named_core scene spot written operation)
+  named_passes spot (Some written) operation variable = leaf_rule test (leaf.Constant written) refl
+  named_passes spot None (Some operation) variable = operation_expr_passes spot
+  named_passes spot None None variable = place_at_passes (root_of scene spot) (variable refl refl)
 
-  name_passes : (span : Span) → Good (name_core scene span)
+  meaning_passes : (meaning : Option Meaning) → ((decl : Decl) → meaning ≡ Some (Declared decl) → VariablePasses decl.spot (constant_at scene.facts decl.spot) (operation_at scene decl.spot)) → Good (meaning_core scene meaning)
+  meaning_passes (Some (Declared decl)) variable = named_passes decl.spot (constant_at scene.facts decl.spot) (operation_at scene decl.spot) (variable decl refl)
+  meaning_passes (Some (MeansPredefined Eof)) variable = leaf_rule test (leaf.Constant (value.Int (negsuc 0))) refl
+  meaning_passes _ variable = nothing_passes
+
+  -- what a name is in the core passes
+  abbrev pub NamePasses : Span → Type 0
+  NamePasses span = Good (name_core scene span)
+
+  abbrev pub NamesPass : List Span → Type 0
+  NamesPass = Each NamePasses
+
+  pub name_passes : (span : Span)
+      → ((decl : Decl) → meaning_at scene.facts.uses (spot_of span) ≡ Some (Declared decl) → VariablePasses decl.spot (constant_at scene.facts decl.spot) (operation_at scene decl.spot)) → NamePasses span
   name_passes span = meaning_passes (meaning_at scene.facts.uses (spot_of span))
+
+  -- where each variable passes each name does
+  pub all_names_pass : ((spot : Spot) → IsTrue (test (mention.Variable (root_of scene spot)))) → (spans : List Span) → NamesPass spans
+  all_names_pass variables [] = tt
+  all_names_pass variables (span ∷ spans) = (name_passes span (λ decl means constant operation. variables decl.spot), all_names_pass variables spans)
 
   -- ---- parts of values
 
@@ -146,9 +167,9 @@ module _ (scene : Scene) (test : Mention → Bool) (means : Means scene test) wh
       (λ operation is. member_rule test (value_of owner) (operation_number scene (spec_operation scene.facts spot name)) (value_of_passes owner ok))
   layer_passes owner name _ ok = nothing_passes
 
-  field_passes : (owner : LoweredTree) (field : Name) (what : Named) → Good owner.1 → Good (field_core scene owner field what)
-  field_passes owner field (named.Component decl) ok = name_passes field.span
-  field_passes owner field _ ok = layer_passes owner.1 field.text (out-Ty (type_of scene.facts owner.0)) ok
+  field_passes : (owner : LoweredTree) (field : Name) (what : Named) → NamePasses field.span → Good owner.1 → Good (field_core scene owner field what)
+  field_passes owner field (named.Component decl) name ok = name
+  field_passes owner field _ name ok = layer_passes owner.1 field.text (out-Ty (type_of scene.facts owner.0)) ok
 
   -- ---- predefined functions
 
@@ -252,16 +273,16 @@ module _ (scene : Scene) (test : Mention → Bool) (means : Means scene test) wh
   -- ---- each tree, when its parts are so
 
   abbrev CreateGood : Create → Type 0
-  CreateGood tree = IsTrue (expr_passes test (of_create scene tree).1)
+  CreateGood tree = NamesPass (create_names tree) → IsTrue (expr_passes test (of_create scene tree).1)
 
   abbrev TreeGood : Tree → Type 0
-  TreeGood tree = Good (told scene tree).1
+  TreeGood tree = NamesPass (expr_names tree) → Good (told scene tree).1
 
   abbrev InvocationGood : Invocation → Type 0
-  InvocationGood tree = SendingGood (of_invocation scene tree)
+  InvocationGood tree = NamesPass (invocation_names tree) → SendingGood (of_invocation scene tree)
 
   abbrev PartGood : PartTree → Type 0
-  PartGood tree = IsTrue (part_passes test (of_part scene tree).1)
+  PartGood tree = NamesPass (part_names tree) → IsTrue (part_passes test (of_part scene tree).1)
 
   abbrev C : Type 0
   C = (tree : Create) × CreateGood tree
@@ -300,104 +321,140 @@ module _ (scene : Scene) (test : Mention → Bool) (means : Means scene test) wh
   abbrev lowered_part : Part-F Create Tree Invocation PartTree → Part-F (Create × Expr) LoweredTree LoweredInvocation (PartTree × Part)
   lowered_part = map-Part Create Tree Invocation PartTree (Create × Expr) LoweredTree LoweredInvocation (PartTree × Part) (of_create scene) (told scene) (of_invocation scene) (of_part scene)
 
-  all_good : (trees : List T) → AllGood (map (λ (one : LoweredTree). one.1) (map (told scene) (map (λ (tree : T). tree.0) trees)))
-  all_good [] = refl
-  all_good (tree ∷ trees) = and_from _ _ tree.1 (all_good trees)
+  abbrev named_create : Create-F Create Tree Invocation PartTree → Create-F (List Span) (List Span) (List Span) (List Span)
+  named_create = map-Create Create Tree Invocation PartTree (List Span) (List Span) (List Span) (List Span) create_names expr_names invocation_names part_names
 
-  parts_good : (parts : List P) → IsTrue (list_all (part_passes test) (map (λ (part : PartTree × Part). part.1) (map (of_part scene) (map (λ (part : P). part.0) parts))))
-  parts_good [] = refl
-  parts_good (part ∷ parts) = and_from _ _ part.1 (parts_good parts)
+  abbrev named_expr : Expr-F Create Tree Invocation PartTree → Expr-F (List Span) (List Span) (List Span) (List Span)
+  named_expr = map-Expr Create Tree Invocation PartTree (List Span) (List Span) (List Span) (List Span) create_names expr_names invocation_names part_names
 
-  create_good : (y : Create-F C T I P) → IsTrue (expr_passes test (create_core scene (lowered_create (first_create y))))
-  create_good (Create-F.Resource span resource arguments None) =
-      instance_passes (meant_by scene.facts (deciding resource)) _ _ (values_passes _ (all_good arguments)) (leaf_rule test leaf.MyMachine (and_from _ _ means.machine refl))
-  create_good (Create-F.Resource span resource arguments (Some machine)) =
-      instance_passes (meant_by scene.facts (deciding resource)) _ _ (values_passes _ (all_good arguments)) (value_of_passes (core_expr scene machine.0) machine.1)
-  create_good (Create-F.Machine span) = leaf_rule test leaf.MakeMachine refl
+  abbrev named_invocation : Invocation-F Create Tree Invocation PartTree → Invocation-F (List Span) (List Span) (List Span) (List Span)
+  named_invocation = map-Invocation Create Tree Invocation PartTree (List Span) (List Span) (List Span) (List Span) create_names expr_names invocation_names part_names
 
-  expr_good : (y : Expr-F C T I P) → Good (expr_core scene (lowered_expr (first_expr y)))
-  expr_good (Expr-F.Literal span literal) = constant_passes (known (literal_typed literal).value)
-  expr_good (Expr-F.Name name) = name_passes name.span
-  expr_good (Expr-F.BasicType span basic) = nothing_passes
-  expr_good (Expr-F.Conversion span conversion value) =
-      apply_rule test (conversion_function conversion) (core_value scene value.0 ∷ []) (and_from _ _ (value_of_passes (core_expr scene value.0) value.1) refl)
-  expr_good (Expr-F.Group span inner) = value_of_passes (core_expr scene inner.0) inner.1
-  expr_good (Expr-F.Parts span parts) = array_rule test _ (parts_good parts)
-  expr_good (Expr-F.Field span owner field) = field_passes (told scene owner.0) field (typed_expr scene.facts (told scene owner.0).0).named owner.1
-  expr_good (Expr-F.Index span array first None) =
-      part_of_passes (core_expr scene array.0) (step.At (core_value scene first.0)) array.1
-      (at_rule test (core_value scene first.0) (value_of_passes (core_expr scene first.0) first.1))
-  expr_good (Expr-F.Index span array first (Some second)) =
-      part_of_passes (core_expr scene array.0) (step.At2 (core_value scene first.0) (core_value scene second.0)) array.1
-      (at2_rule test (core_value scene first.0) (core_value scene second.0)
-      (value_of_passes (core_expr scene first.0) first.1) (value_of_passes (core_expr scene second.0) second.1))
-  expr_good (Expr-F.Call invocation) = call_passes (of_invocation scene invocation.0) invocation.1
-  expr_good (Expr-F.Create create) = create.1
-  expr_good (Expr-F.Unary span operator operand) =
-      unary_rule test (prefix_of operator) (core_value scene operand.0) (value_of_passes (core_expr scene operand.0) operand.1)
-  expr_good (Expr-F.Pending span operation) =
+  abbrev named_part : Part-F Create Tree Invocation PartTree → Part-F (List Span) (List Span) (List Span) (List Span)
+  named_part = map-Part Create Tree Invocation PartTree (List Span) (List Span) (List Span) (List Span) create_names expr_names invocation_names part_names
+
+  all_good : (trees : List T) → NamesPass (joined (map expr_names (map (λ (tree : T). tree.0) trees))) → AllGood (map (λ (one : LoweredTree). one.1) (map (told scene) (map (λ (tree : T). tree.0) trees)))
+  all_good [] names = refl
+  all_good (tree ∷ trees) names = and_from _ _ (tree.1 (each-left NamePasses (expr_names tree.0) _ names)) (all_good trees (each-right NamePasses (expr_names tree.0) _ names))
+
+  parts_good : (parts : List P) → NamesPass (joined (map part_names (map (λ (part : P). part.0) parts)))
+      → IsTrue (list_all (part_passes test) (map (λ (part : PartTree × Part). part.1) (map (of_part scene) (map (λ (part : P). part.0) parts))))
+  parts_good [] names = refl
+  parts_good (part ∷ parts) names = and_from _ _ (part.1 (each-left NamePasses (part_names part.0) _ names)) (parts_good parts (each-right NamePasses (part_names part.0) _ names))
+
+  value_good : (tree : T) → NamesPass (expr_names tree.0) → IsTrue (expr_passes test (core_value scene tree.0))
+  value_good tree names = value_of_passes (core_expr scene tree.0) (tree.1 names)
+
+  create_good : (y : Create-F C T I P) → NamesPass (create_names_step (named_create (first_create y))) → IsTrue (expr_passes test (create_core scene (lowered_create (first_create y))))
+  create_good (Create-F.Resource span resource arguments None) names =
+      let after = each-right NamePasses (qualified_names resource) _ names in
+      instance_passes (meant_by scene.facts (deciding resource)) _ _ (values_passes _ (all_good arguments (each-left NamePasses (joined (map expr_names (map (λ (tree : T). tree.0) arguments))) _ after)))
+      (leaf_rule test leaf.MyMachine (and_from _ _ means.machine refl))
+  create_good (Create-F.Resource span resource arguments (Some machine)) names =
+      let after = each-right NamePasses (qualified_names resource) _ names in
+      let passed = joined (map expr_names (map (λ (tree : T). tree.0) arguments)) in
+      instance_passes (meant_by scene.facts (deciding resource)) _ _ (values_passes _ (all_good arguments (each-left NamePasses passed _ after)))
+      (value_good machine (each-right NamePasses passed _ after))
+  create_good (Create-F.Machine span) names = leaf_rule test leaf.MakeMachine refl
+
+  expr_good : (y : Expr-F C T I P) → NamesPass (expr_names_step (named_expr (first_expr y))) → Good (expr_core scene (lowered_expr (first_expr y)))
+  expr_good (Expr-F.Literal span literal) names = constant_passes (known (literal_typed literal).value)
+  expr_good (Expr-F.Name name) names = names.0
+  expr_good (Expr-F.BasicType span basic) names = nothing_passes
+  expr_good (Expr-F.Conversion span conversion value) names = apply_rule test (conversion_function conversion) (core_value scene value.0 ∷ []) (and_from _ _ (value_good value names) refl)
+  expr_good (Expr-F.Group span inner) names = value_good inner names
+  expr_good (Expr-F.Parts span parts) names = array_rule test _ (parts_good parts names)
+  expr_good (Expr-F.Field span owner field) names =
+      field_passes (told scene owner.0) field (typed_expr scene.facts (told scene owner.0).0).named (each-right NamePasses (expr_names owner.0) (field.span ∷ []) names).0
+      (owner.1 (each-left NamePasses (expr_names owner.0) _ names))
+  expr_good (Expr-F.Index span array first None) names =
+      let after = each-right NamePasses (expr_names array.0) _ names in
+      part_of_passes (core_expr scene array.0) (step.At (core_value scene first.0)) (array.1 (each-left NamePasses (expr_names array.0) _ names))
+      (at_rule test (core_value scene first.0) (value_good first (each-left NamePasses (expr_names first.0) _ after)))
+  expr_good (Expr-F.Index span array first (Some second)) names =
+      let after = each-right NamePasses (expr_names array.0) _ names in
+      part_of_passes (core_expr scene array.0) (step.At2 (core_value scene first.0) (core_value scene second.0)) (array.1 (each-left NamePasses (expr_names array.0) _ names))
+      (at2_rule test (core_value scene first.0) (core_value scene second.0) (value_good first (each-left NamePasses (expr_names first.0) _ after)) (value_good second (each-right NamePasses (expr_names first.0) _ after)))
+  expr_good (Expr-F.Call invocation) names = call_passes (of_invocation scene invocation.0) (invocation.1 names)
+  expr_good (Expr-F.Create create) names = create.1 names
+  expr_good (Expr-F.Unary span operator operand) names = unary_rule test (prefix_of operator) (core_value scene operand.0) (value_good operand names)
+  expr_good (Expr-F.Pending span operation) names =
       naming_passes (meant_by scene.facts operation) (λ found number. core.Leaf (leaf.Count number))
       (λ found is. leaf_rule test (leaf.Count (operation_number scene (meant_by scene.facts operation))) (and_from _ _ (means.counts (meant_by scene.facts operation) found is) refl))
-  expr_good (Expr-F.Binary span left operator right) =
+  expr_good (Expr-F.Binary span left operator right) names =
       binary_passes operator (core_value scene left.0) (core_value scene right.0)
-      (value_of_passes (core_expr scene left.0) left.1) (value_of_passes (core_expr scene right.0) right.1)
+      (value_good left (each-left NamePasses (expr_names left.0) _ names)) (value_good right (each-right NamePasses (expr_names left.0) _ names))
 
-  invocation_good : (y : Invocation-F C T I P) → SendingGood (invocation_lowered (lowered_invocation (first_invocation y)))
-  invocation_good y = (y.callee.1, all_good y.arguments)
+  invocation_good : (y : Invocation-F C T I P) → NamesPass (invocation_names_step (named_invocation (first_invocation y))) → SendingGood (invocation_lowered (lowered_invocation (first_invocation y)))
+  invocation_good y names = (y.callee.1 (each-left NamePasses (expr_names y.callee.0) _ names), all_good y.arguments (each-right NamePasses (expr_names y.callee.0) _ names))
 
-  parts_of_good : (span : Span) (count : Option T) (value : T)
+  parts_of_good : (span : Span) (count : Option T) (value : T) → NamesPass (part_names_step (named_part (first_part (record { span = span; count = count; value = value }))))
       → IsTrue (part_passes test (part_lowered (lowered_part (first_part (record { span = span; count = count; value = value })))).1)
-  parts_of_good span None value = one_rule test (core_value scene value.0) (value_of_passes (core_expr scene value.0) value.1)
-  parts_of_good span (Some count) value =
+  parts_of_good span None value names = one_rule test (core_value scene value.0) (value_good value names)
+  parts_of_good span (Some count) value names =
       repeated_rule test (core_value scene count.0) (core_value scene value.0)
-      (value_of_passes (core_expr scene count.0) count.1) (value_of_passes (core_expr scene value.0) value.1)
+      (value_good count (each-left NamePasses (expr_names count.0) _ names)) (value_good value (each-right NamePasses (expr_names count.0) _ names))
 
-  part_good : (y : Part-F C T I P) → IsTrue (part_passes test (part_lowered (lowered_part (first_part y))).1)
+  part_good : (y : Part-F C T I P) → NamesPass (part_names_step (named_part (first_part y))) → IsTrue (part_passes test (part_lowered (lowered_part (first_part y))).1)
   part_good y = parts_of_good y.span y.count y.value
 
   -- ---- all trees
 
   create_step : (x : Create-F Create Tree Invocation PartTree) (y : Create-F C T I P) → first_create y ≡ x → CreateGood (roll-Create x)
-  create_step x y is =
-      ap (λ (one : Create × Expr). expr_passes test one.1) (fold-roll-Create (Create × Expr) LoweredTree LoweredInvocation (PartTree × Part) (create_lowered scene) (expr_lowered scene) invocation_lowered part_lowered x)
-      ∙ subst (λ z. IsTrue (expr_passes test (create_core scene (lowered_create z)))) is (create_good y)
+  create_step x y is = subst (λ z. CreateGood (roll-Create z)) is
+      (subst (λ (spans : List Span). NamesPass spans → IsTrue (expr_passes test (of_create scene (roll-Create (first_create y))).1))
+      (sym (fold-roll-Create (List Span) (List Span) (List Span) (List Span) create_names_step expr_names_step invocation_names_step part_names_step (first_create y)))
+      (subst (λ (one : Create × Expr). NamesPass (create_names_step (named_create (first_create y))) → IsTrue (expr_passes test one.1))
+      (sym (fold-roll-Create (Create × Expr) LoweredTree LoweredInvocation (PartTree × Part) (create_lowered scene) (expr_lowered scene) invocation_lowered part_lowered (first_create y)))
+      (create_good y)))
 
   expr_step : (x : Expr-F Create Tree Invocation PartTree) (y : Expr-F C T I P) → first_expr y ≡ x → TreeGood (roll-Expr x)
-  expr_step x y is =
-      ap (λ (one : LoweredTree). lowered_passes one.1) (fold-roll-Expr (Create × Expr) LoweredTree LoweredInvocation (PartTree × Part) (create_lowered scene) (expr_lowered scene) invocation_lowered part_lowered x)
-      ∙ subst (λ z. Good (expr_core scene (lowered_expr z))) is (expr_good y)
+  expr_step x y is = subst (λ z. TreeGood (roll-Expr z)) is
+      (subst (λ (spans : List Span). NamesPass spans → Good (told scene (roll-Expr (first_expr y))).1)
+      (sym (fold-roll-Expr (List Span) (List Span) (List Span) (List Span) create_names_step expr_names_step invocation_names_step part_names_step (first_expr y)))
+      (subst (λ (one : LoweredTree). NamesPass (expr_names_step (named_expr (first_expr y))) → Good one.1)
+      (sym (fold-roll-Expr (Create × Expr) LoweredTree LoweredInvocation (PartTree × Part) (create_lowered scene) (expr_lowered scene) invocation_lowered part_lowered (first_expr y)))
+      (expr_good y)))
 
   invocation_step : (x : Invocation-F Create Tree Invocation PartTree) (y : Invocation-F C T I P) → first_invocation y ≡ x → InvocationGood (roll-Invocation x)
-  invocation_step x y is =
-      subst SendingGood
-      (sym (fold-roll-Invocation (Create × Expr) LoweredTree LoweredInvocation (PartTree × Part) (create_lowered scene) (expr_lowered scene) invocation_lowered part_lowered x))
-      (subst (λ z. SendingGood (invocation_lowered (lowered_invocation z))) is (invocation_good y))
+  invocation_step x y is = subst (λ z. InvocationGood (roll-Invocation z)) is
+      (subst (λ (spans : List Span). NamesPass spans → SendingGood (of_invocation scene (roll-Invocation (first_invocation y))))
+      (sym (fold-roll-Invocation (List Span) (List Span) (List Span) (List Span) create_names_step expr_names_step invocation_names_step part_names_step (first_invocation y)))
+      (subst (λ (one : LoweredInvocation). NamesPass (invocation_names_step (named_invocation (first_invocation y))) → SendingGood one)
+      (sym (fold-roll-Invocation (Create × Expr) LoweredTree LoweredInvocation (PartTree × Part) (create_lowered scene) (expr_lowered scene) invocation_lowered part_lowered (first_invocation y)))
+      (invocation_good y)))
 
   part_step : (x : Part-F Create Tree Invocation PartTree) (y : Part-F C T I P) → first_part y ≡ x → PartGood (roll-Part x)
-  part_step x y is =
-      ap (λ (one : PartTree × Part). part_passes test one.1) (fold-roll-Part (Create × Expr) LoweredTree LoweredInvocation (PartTree × Part) (create_lowered scene) (expr_lowered scene) invocation_lowered part_lowered x)
-      ∙ subst (λ z. IsTrue (part_passes test (part_lowered (lowered_part z)).1)) is (part_good y)
+  part_step x y is = subst (λ z. PartGood (roll-Part z)) is
+      (subst (λ (spans : List Span). NamesPass spans → IsTrue (part_passes test (of_part scene (roll-Part (first_part y))).1))
+      (sym (fold-roll-Part (List Span) (List Span) (List Span) (List Span) create_names_step expr_names_step invocation_names_step part_names_step (first_part y)))
+      (subst (λ (one : PartTree × Part). NamesPass (part_names_step (named_part (first_part y))) → IsTrue (part_passes test one.1))
+      (sym (fold-roll-Part (Create × Expr) LoweredTree LoweredInvocation (PartTree × Part) (create_lowered scene) (expr_lowered scene) invocation_lowered part_lowered (first_part y)))
+      (part_good y)))
 
-  pub tree_passes : (tree : Tree) → IsTrue (lowered_passes (core_expr scene tree))
-  tree_passes = ind-Expr CreateGood TreeGood InvocationGood PartGood create_step expr_step invocation_step part_step
+  pub tree_passes : (tree : Tree) → NamesPass (expr_names tree) → IsTrue (lowered_passes (core_expr scene tree))
+  tree_passes tree = ind-Expr CreateGood TreeGood InvocationGood PartGood create_step expr_step invocation_step part_step tree
 
-  pub create_passes : (tree : Create) → IsTrue (expr_passes test (core_create scene tree))
-  create_passes = ind-Create CreateGood TreeGood InvocationGood PartGood create_step expr_step invocation_step part_step
+  pub create_passes : (tree : Create) → NamesPass (create_names tree) → IsTrue (expr_passes test (core_create scene tree))
+  create_passes tree = ind-Create CreateGood TreeGood InvocationGood PartGood create_step expr_step invocation_step part_step tree
 
-  pub core_value_passes : (tree : Tree) → IsTrue (expr_passes test (core_value scene tree))
-  core_value_passes tree = value_of_passes (core_expr scene tree) (tree_passes tree)
+  pub core_value_passes : (tree : Tree) → NamesPass (expr_names tree) → IsTrue (expr_passes test (core_value scene tree))
+  core_value_passes tree names = value_of_passes (core_expr scene tree) (tree_passes tree names)
 
-  pub core_place_passes : (tree : Tree) → IsTrue (place_passes test (core_place scene tree))
-  core_place_passes tree = place_of_passes (core_expr scene tree) (tree_passes tree)
+  pub core_place_passes : (tree : Tree) → NamesPass (expr_names tree) → IsTrue (place_passes test (core_place scene tree))
+  core_place_passes tree names = place_of_passes (core_expr scene tree) (tree_passes tree names)
 
   -- ---- the parts of invocations
 
-  trees_passes : (trees : List Tree) → AllGood (map (λ (one : LoweredTree). one.1) (map (with_core scene) trees))
-  trees_passes [] = refl
-  trees_passes (tree ∷ trees) = and_from _ _ (tree_passes tree) (trees_passes trees)
+  trees_passes : (trees : List Tree) → NamesPass (joined (map expr_names trees)) → AllGood (map (λ (one : LoweredTree). one.1) (map (with_core scene) trees))
+  trees_passes [] names = refl
+  trees_passes (tree ∷ trees) names = and_from _ _ (tree_passes tree (each-left NamePasses (expr_names tree) _ names)) (trees_passes trees (each-right NamePasses (expr_names tree) _ names))
 
-  pub sending_passes : (tree : Invocation) → SendingGood (core_sending scene tree)
-  sending_passes tree = (tree_passes (out-Invocation tree).callee, trees_passes (out-Invocation tree).arguments)
+  pub sending_passes : (tree : Invocation) → NamesPass (invocation_names tree) → SendingGood (core_sending scene tree)
+  sending_passes tree all =
+      let names = subst NamesPass (fold_out-Invocation (List Span) (List Span) (List Span) (List Span) create_names_step expr_names_step invocation_names_step part_names_step tree) all in
+      let callee = (out-Invocation tree).callee in
+      (tree_passes callee (each-left NamePasses (expr_names callee) _ names), trees_passes (out-Invocation tree).arguments (each-right NamePasses (expr_names callee) _ names))
 
   pub all_told_passes : (sending : LoweredInvocation) → SendingGood sending → IsTrue (list_all (expr_passes test) (values (lowered_of sending.arguments)))
   all_told_passes sending ok = values_passes (lowered_of sending.arguments) ok.1

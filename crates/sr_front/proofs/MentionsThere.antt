@@ -19,7 +19,8 @@ use Rattle.sr_lower_expr.specs.Expressions.{core_value}
 use Rattle.sr_lower_expr.specs.Places.{import_place, imported_whose, operation_at, operation_number, whose_by}
 use Rattle.sr_lower_expr.proofs.PlaceNumbers.{Fits, own_root_ok, root_of_ok}
 use Rattle.sr_lower_expr.proofs.Within.{found_within, position_within}
-use Rattle.sr_front.proofs.Mentions.{Means, core_value_passes}
+use Rattle.sr_order.specs.Names.{expr_names}
+use Rattle.sr_front.proofs.Mentions.{Means, all_names_pass, core_value_passes}
 
 -- the variable or the operation that is mentioned is there, and so is its global
 abbrev pub mention_exists : Mention → Test
@@ -51,8 +52,8 @@ module _ (scene : Scene) (at : Where) (fits : Fits scene at) where
       lt-ltb (operation_number scene spot) (length at.core.operations) (omega (arith, within, fits.operations))
 
   pub scene_means : Means scene there
-  scene_means = record { variables = root_of_ok scene at fits; own = own_root_ok scene at fits; nowhere = refl; operations = whose_there; machine = refl; counts = count_there }
+  scene_means = record { own = own_root_ok scene at fits; nowhere = refl; operations = whose_there; machine = refl; counts = count_there }
 
   -- what an expression mentions is there
   pub value_there : (tree : Expr) → IsTrue (list_all there (mentions_in (core_value scene tree)))
-  value_there = core_value_passes scene there scene_means
+  value_there tree = core_value_passes scene there scene_means tree (all_names_pass scene there scene_means (root_of_ok scene at fits) (expr_names tree))

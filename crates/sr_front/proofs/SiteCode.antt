@@ -42,7 +42,7 @@ procs_at test first (one ∷ wholes) (suc place) whole all h =
     let same : (first + 1) + place ≡ first + suc place = omega arith in
     subst (λ number. IsTrue (list_all (λ (proc : Proc). test number whole.component proc.body) whole.procs)) same (procs_at test (first + 1) wholes place whole parts.1 h)
 
-from_zero : (test : CodeTest) (wholes : List LoweredComponent) → IsTrue (component_procs test 0 wholes) → (number : ℕ) (whole : LoweredComponent) → At wholes number whole
+pub from_zero : (test : CodeTest) (wholes : List LoweredComponent) → IsTrue (component_procs test 0 wholes) → (number : ℕ) (whole : LoweredComponent) → At wholes number whole
     → IsTrue (list_all (λ (proc : Proc). test number whole.component proc.body) whole.procs)
 from_zero test wholes all number whole h =
     let same : 0 + number ≡ number = omega arith in

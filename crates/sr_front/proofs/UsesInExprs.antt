@@ -8,7 +8,7 @@ use Rattle.sr_names.specs.declared.meaning.Decl.{Decl}
 use Rattle.sr_names.specs.declared.meaning.Meaning.{Meaning}
 use Rattle.sr_names.specs.declared.meaning.Meaning.TheVariants.{Predefined as MeansPredefined, Declared}
 use Rattle.sr_names.specs.declared.meaning.Sort.{Sort}
-use Rattle.sr_names.specs.declared.meaning.Sort.TheVariants.{Constant, Variable, Operation, Quantifier as quantifier_sort}
+use Rattle.sr_names.specs.declared.meaning.Sort.TheVariants.{Variable}
 use Rattle.sr_names.specs.declared.place.Blocks.{Blocks}
 use Rattle.sr_names.specs.declared.place.Place.{Place}
 use Rattle.sr_names.specs.declared.spot.Spot.{Spot}
@@ -43,27 +43,19 @@ use Rattle.sr_scope.specs.Types.{Formals, Signed, decls_found, dims_found, expr_
 use Rattle.sr_scope.proofs.Tables.{declared_before}
 use Rattle.sr_check.proofs.Each.{Each, each-append}
 
--- what may be declared in a block
-abbrev pub is_inner : Sort → Bool
-is_inner Constant = true
-is_inner Variable = true
-is_inner Operation = true
-is_inner quantifier_sort = true
-is_inner _ = false
-
 -- what a name means, by what the blocks around it declare it as
 abbrev blocks_meaning : Place → List ℕ → Spot → Option Decl → Option Meaning
 blocks_meaning place text at (Some decl) = Some (Declared decl)
 blocks_meaning place text at None = outside place text at
 
 -- `P at decl`: a name at this spot may mean this declaration
-module _ (P : Spot → Decl → Type 0) (inner : (at : Spot) (sort : Sort) (span : Span) → is_inner sort ≡ true → P at (declaration sort span)) where
+module _ (P : Spot → Decl → Type 0) where
   abbrev pub Fits : Spot → Option Meaning → Type 0
   Fits at None = Unit {0}
   Fits at (Some (MeansPredefined name)) = Unit {0}
   Fits at (Some (Declared decl)) = P at decl
 
-  abbrev FindingFits : Finding → Type 0
+  abbrev pub FindingFits : Finding → Type 0
   FindingFits (Use spot meaning) = Fits spot (Some meaning)
   FindingFits (Broken diagnostic) = Unit {0}
 
@@ -106,19 +98,21 @@ module _ (P : Spot → Decl → Type 0) (inner : (at : Spot) (sort : Sort) (span
       by None is = tt
       by (Some d) is = last d (declared_before table name.text text (declaration sort name.span) d is)
 
-  pub names_table : (sort : Sort) → ((at : Spot) (span : Span) → P at (declaration sort span)) → (names : List Name) (table : Entries) → TableFits table → TableFits (names_declared sort names table)
-  names_table sort may [] table fits = fits
-  names_table sort may (name ∷ names) table fits = names_table sort may names (name_declared sort name table) (name_table sort name (λ at. may at name.span) table fits)
+  -- what a name is declared as may be meant anywhere
+  abbrev pub MayMean : Sort → Name → Type 0
+  MayMean sort name = (at : Spot) → P at (declaration sort name.span)
 
-  pub inner_table : (sort : Sort) → is_inner sort ≡ true → (names : List Name) (table : Entries) → TableFits table → TableFits (names_declared sort names table)
-  inner_table sort is names table fits = names_table sort (λ at span. inner at sort span is) names table fits
+  pub names_table : (sort : Sort) (names : List Name) → Each (MayMean sort) names → (table : Entries) → TableFits table → TableFits (names_declared sort names table)
+  names_table sort [] may table fits = fits
+  names_table sort (name ∷ names) may table fits = names_table sort names may.1 (name_declared sort name table) (name_table sort name may.0 table fits)
 
-  pub inner_name : (sort : Sort) → is_inner sort ≡ true → (name : Name) (table : Entries) → TableFits table → TableFits (name_declared sort name table)
-  inner_name sort is name table fits = name_table sort name (λ at. inner at sort name.span is) table fits
+  abbrev pub MayReturn : Option Name → Type 0
+  MayReturn None = Unit {0}
+  MayReturn (Some name) = MayMean Variable name
 
-  pub returned_table : (returned : Option Name) (table : Entries) → TableFits table → TableFits (returned_declared returned table)
-  returned_table None table fits = fits
-  returned_table (Some name) table fits = inner_name Variable refl name table fits
+  pub returned_table : (returned : Option Name) → MayReturn returned → (table : Entries) → TableFits table → TableFits (returned_declared returned table)
+  returned_table None may table fits = fits
+  returned_table (Some name) may table fits = name_table Variable name may table fits
 
   pub blocks_opened : (blocks : Blocks) → BlocksFit blocks → BlocksFit (opened blocks)
   blocks_opened blocks fit = record { innermost = none_fit; outer = each-append TableFits blocks.outer (blocks.inner ∷ []) fit.outer (fit.innermost, tt) }
@@ -170,16 +164,23 @@ module _ (P : Spot → Decl → Type 0) (inner : (at : Spot) (sort : Sort) (span
   pub signed_twice_fit : (signed : Signed) (table : Entries) → AllFit (signed_twice signed table)
   signed_twice_fit signed table = both (formals_twice signed.formals table) _ (formals_twice_fit signed.formals table) (maybe_twice_fit signed.returned (formals_declared signed.formals table))
 
-  formals_table : (formals : List Formals) (table : Entries) → TableFits table → TableFits (formals_declared formals table)
-  formals_table [] table fits = fits
-  formals_table (formal ∷ formals) table fits = formals_table formals _ (inner_table Variable refl formal.names table fits)
+  abbrev pub FormalMay : Formals → Type 0
+  FormalMay formal = Each (MayMean Variable) formal.names
 
-  maybe_table : (formals : Option Formals) (table : Entries) → TableFits table → TableFits (maybe_declared formals table)
-  maybe_table None table fits = fits
-  maybe_table (Some formals) table fits = inner_table Variable refl formals.names table fits
+  abbrev pub MaybeMay : Option Formals → Type 0
+  MaybeMay None = Unit {0}
+  MaybeMay (Some formals) = FormalMay formals
 
-  pub signed_table : (signed : Signed) (table : Entries) → TableFits table → TableFits (signed_declared signed table)
-  signed_table signed table fits = maybe_table signed.returned (formals_declared signed.formals table) (formals_table signed.formals table fits)
+  formals_table : (formals : List Formals) → Each FormalMay formals → (table : Entries) → TableFits table → TableFits (formals_declared formals table)
+  formals_table [] may table fits = fits
+  formals_table (formal ∷ formals) may table fits = formals_table formals may.1 _ (names_table Variable formal.names may.0 table fits)
+
+  maybe_table : (formals : Option Formals) → MaybeMay formals → (table : Entries) → TableFits table → TableFits (maybe_declared formals table)
+  maybe_table None may table fits = fits
+  maybe_table (Some formals) may table fits = names_table Variable formals.names may table fits
+
+  pub signed_table : (signed : Signed) → Each FormalMay signed.formals → MaybeMay signed.returned → (table : Entries) → TableFits table → TableFits (signed_declared signed table)
+  signed_table signed formals returned table fits = maybe_table signed.returned returned (formals_declared signed.formals table) (formals_table signed.formals formals table fits)
 
   -- ---- names
 

@@ -4,8 +4,13 @@ use Rattle.std.specs.Prelude.{All, flat_map, IsTrue}
 use Rattle.std.specs.List.{IsDistinct, list_all}
 use Rattle.sr_check.specs.Checked.{checked, first_refused}
 use Rattle.sr_check.specs.Servicing.{AllServiceOwn, ServesShared}
-use Rattle.sr_check.proofs.Kept.{all_service_own, facts_known, none_refused, uses_kept}
-use Rattle.sr_check_decl.specs.Inferring.{program_known}
+use Rattle.sr_check.proofs.ErrorFree.{error_free_second}
+use Rattle.sr_check.proofs.Kept.{all_service_own, facts_known, none_found, none_refused, uses_kept}
+use Rattle.sr_check.specs.Components.{components_read}
+use Rattle.sr_check.specs.ErrorFree.{ErrorFree}
+use Rattle.sr_check_decl.specs.Cycles.{leads_left, type_cycles_found}
+use Rattle.sr_check_decl.specs.Inferring.{program_inferred, program_known}
+use Rattle.sr_check_decl.specs.Waiting.{files_waiting}
 use Rattle.sr_check_expr.specs.declared.facts.Facts.{Facts}
 use Rattle.sr_core.specs.WellFormed.{IsWellFormed}
 use Rattle.sr_names.specs.Noted.{Meanings}
@@ -28,7 +33,8 @@ use Rattle.sr_front.specs.Imports.{HasImports}
 use Rattle.sr_front.specs.Invocations.{HasInvocations}
 use Rattle.sr_front.specs.Program.{IsAccepted}
 use Rattle.sr_front.specs.Sites.{HasSites}
-use Rattle.sr_front.proofs.AllowedCode.{accepted_allowed}
+use Rattle.sr_front.specs.Variables.{HasVariables}
+use Rattle.sr_front.proofs.AllowedCode.{accepted_allowed, files_error_free}
 use Rattle.sr_front.proofs.Clear.{all_clear}
 use Rattle.sr_front.proofs.Declared.{Apart, all_component_keys}
 use Rattle.sr_front.proofs.Findings.{has_main}
@@ -43,6 +49,8 @@ use Rattle.sr_front.proofs.Sites.{sites_are_listed, sites_are_own, sites_are_ser
 use Rattle.sr_front.proofs.SiteCode.{arms_own_ok, code_imported_ok, guards_ok, imported_ok, otherwise_ok, own_ok}
 use Rattle.sr_front.proofs.Spelled.{no_final_in_globals}
 use Rattle.sr_front.proofs.SpotsApart.{spots-apart}
+use Rattle.sr_front.proofs.VariablesHad.{variables_had}
+use Rattle.sr_front.proofs.VariablesValued.{components_valued}
 use Rattle.sr_front.proofs.WaitApart.{waits_apart}
 use Rattle.sr_front.proofs.CoreParts.{well_made}
 use Rattle.sr_check.proofs.Owners.{Plain}
@@ -164,3 +172,12 @@ module _ (contents : List (List ℕ)) (accepted : Checked) (is : IsAccepted cont
         sent = sent_ok is.names.specs trees facts is.names is.named kept services apart components_apart names_apart none known_facts;
         forwarded = forwarded_ok is.names.specs trees facts is.names is.named kept services apart components_apart names_apart none known_facts;
       }
+
+  whole : ErrorFree (components_read (components_in trees) known).found
+  whole =
+      files_error_free trees known
+      (error_free_second (type_cycles_found (leads_left (program_inferred uses is.names.specs trees) (files_waiting trees))) _ (none_found uses is.names.specs trees none))
+
+  -- the variables of imported globals that code and sites name are there
+  pub accepted_variables : HasVariables (core_of trees facts)
+  accepted_variables = variables_had uses trees known facts kept services apart wait_apart (components_valued (components_in trees) known whole)

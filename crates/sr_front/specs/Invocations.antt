@@ -38,7 +38,8 @@ pub record InvocationTest : Type 0 where
 
 -- ---- expressions
 
--- of an expression: the number of the operation whose name it is, and whether what is invoked in it passes
+-- of an expression: the number of the operation that it names, by itself or through the capability of a resource, and
+-- whether what is invoked in it passes
 pub record Seen : Type 0 where
   pub operation : Option ℕ
   pub passes : Bool
@@ -49,9 +50,10 @@ leaf_operation _ = None
 
 abbrev pub node_operation : Expr-F Bool Seen Bool Bool Bool Bool → Option ℕ
 node_operation (Expr-F.Leaf leaf) = leaf_operation leaf
+node_operation (Expr-F.Member of op) = Some op
 node_operation _ = None
 
--- a target that is no operation's name is the value of a capability, and has no number
+-- a target that names no operation is the value of a capability, and has no number
 abbrev pub target_passes : (ℕ → ℕ → Bool) → Seen → ℕ → Bool
 target_passes test target args = target.passes && if_some (λ operation. test operation args) target.operation
 

@@ -6,3 +6,4 @@ pub mod Phases
 pub mod Program
 pub mod Reading
 pub mod Sites
+pub mod Variables

@@ -8,6 +8,7 @@ ghost use Rattle.sr_front.specs.Invocations.{HasInvocations};
 ghost use Rattle.sr_front.specs.Program.{IsRefused};
 ghost use Rattle.sr_front.specs.Reading.{IsRefusal, contents_of};
 ghost use Rattle.sr_front.specs.Sites.{HasSites};
+ghost use Rattle.sr_front.specs.Variables.{HasVariables};
 
 use crate::cores::core_of;
 use sr_code::Program;
@@ -27,6 +28,7 @@ pub fn compile(alloc: Global, files: &[(Text, Text)]) -> Result<Program, FrontFa
     ensures imports { IfOk result (λ program. HasImports program.core) }
     ensures formals { IfOk result (λ program. HasFormals program.core) }
     ensures invocations { IfOk result (λ program. HasInvocations program.core) }
+    ensures variables { IfOk result (λ program. HasVariables program.core) }
     ensures code { IfOk result (λ program. AsksTheSame program.core program.code) }
     ensures refused { IfErr result (IsRefusal (IsRefused (contents_of files.now))) }
 {

@@ -7,6 +7,7 @@ ghost use Rattle.sr_front.specs.Invocations.{HasInvocations};
 ghost use Rattle.sr_front.specs.Program.{IsRefused};
 ghost use Rattle.sr_front.specs.Reading.{IsRefusal, contents_of};
 ghost use Rattle.sr_front.specs.Sites.{HasSites};
+ghost use Rattle.sr_front.specs.Variables.{HasVariables};
 
 use crate::program::{Checked, accept};
 use sr_classes::partition;
@@ -27,6 +28,7 @@ pub fn core_of(alloc: Global, files: &[(Text, Text)]) -> Result<(Core, Classes),
     ensures imports { IfOk result (λ made. HasImports made.0) }
     ensures formals { IfOk result (λ made. HasFormals made.0) }
     ensures invocations { IfOk result (λ made. HasInvocations made.0) }
+    ensures variables { IfOk result (λ made. HasVariables made.0) }
     ensures refused { IfErr result (IsRefusal (IsRefused (contents_of files.now))) }
 {
     let accepted = accept(alloc, files)?;

@@ -1,0 +1,87 @@
+-- What the table of shared variables has is a shared variable of a component, with the component and its place among the component's variables.
+use Rattle.std.proofs.Common.{◌≡◌, ◌⊎◌, ℕ, false, List, [], ◌∷◌, Some, map, flat_map, refl, sym, ap, ◌∙◌, subst, inl, inr, is_some}
+use Rattle.std.specs.List.{enumerate_from}
+use Rattle.std.proofs.lemmas.Bool.{false≢true}
+use Rattle.sr_check_expr.specs.declared.facts.Facts.{Facts}
+use Rattle.sr_names.proofs.Marking.{entry-same, entry-other, same_spot-cases}
+use Rattle.sr_names.specs.declared.spot.Spot.{Spot}
+use Rattle.sr_names.specs.Spots.{same_spot}
+use Rattle.sr_outline.specs.Numbers.{component_shared, shared_of, shared_spots}
+use Rattle.sr_scope.specs.Uses.{IsIn}
+use Rattle.sr_scope.proofs.Findings.{in_either}
+use Rattle.sr_tables.specs.declared.tables.SharedVariable.{SharedVariable}
+use Rattle.sr_tables.specs.Tables.{each_once, found_at, with_entries, with_entry}
+use Rattle.sr_tree.specs.declared.component.Component.{Component}
+
+-- ---- tables
+
+module _ {A : Type 0} where
+  some_is : {a b : A} → Some a ≡ Some b → a ≡ b
+  some_is e = cc
+
+  -- what the table has is one of the entries
+  from : (entries table : List (Spot × A)) (spot : Spot) (thing : A) → found_at (with_entries table entries) spot ≡ Some thing
+      → IsIn (spot, thing) entries ⊎ (found_at table spot ≡ Some thing)
+  from [] table spot thing e = inr e
+  from (first ∷ entries) table spot thing e = last (from entries (with_entry table first.0 first.1) spot thing e)
+    where
+      by : (spot ≡ first.0) ⊎ (same_spot spot first.0 ≡ false) → found_at (with_entry table first.0 first.1) spot ≡ Some thing
+          → IsIn (spot, thing) (first ∷ entries) ⊎ (found_at table spot ≡ Some thing)
+      by (inl same) found =
+          let there : first.1 ≡ thing = some_is (sym (entry-same table first.0 first.1) ∙ ap (λ s. found_at (with_entry table first.0 first.1) s) (sym same) ∙ found) in
+          inl (inl (λ i. (sym same i, there i)))
+      by (inr other) found = inr (sym (entry-other table first.0 first.1 spot other) ∙ found)
+
+      last : IsIn (spot, thing) entries ⊎ (found_at (with_entry table first.0 first.1) spot ≡ Some thing) → IsIn (spot, thing) (first ∷ entries) ⊎ (found_at table spot ≡ Some thing)
+      last (inl k) = inl (inr k)
+      last (inr found) = by (same_spot-cases spot first.0) found
+
+-- ---- lists
+
+pub in_mapped : {A B : Type 0} (f : A → B) (xs : List A) (x : A) → IsIn x xs → IsIn (f x) (map f xs)
+in_mapped f [] x h = absurd h
+in_mapped f (y ∷ xs) x (inl e) = inl (ap f e)
+in_mapped f (y ∷ xs) x (inr k) = inr (in_mapped f xs x k)
+
+from_mapped : {A B : Type 0} (f : A → B) (xs : List A) (b : B) → IsIn b (map f xs) → (x : A) × (IsIn x xs) × (f x ≡ b)
+from_mapped f [] b h = absurd h
+from_mapped f (y ∷ xs) b (inl e) = (y, inl refl, e)
+from_mapped f (y ∷ xs) b (inr k) = let more = from_mapped f xs b k in (more.0, inr more.1, more.2)
+
+from_flat : {A B : Type 0} (f : A → List B) (xs : List A) (b : B) → IsIn b (flat_map f xs) → (x : A) × (IsIn x xs) × (IsIn b (f x))
+from_flat f [] b h = absurd h
+from_flat f (y ∷ xs) b h = by (in_either b (f y) (flat_map f xs) h) (from_flat f xs b)
+  where
+    by : IsIn b (f y) ⊎ IsIn b (flat_map f xs) → (IsIn b (flat_map f xs) → (x : _) × (IsIn x xs) × (IsIn b (f x))) → (x : _) × (IsIn x (y ∷ xs)) × (IsIn b (f x))
+    by (inl k) more = (y, inl refl, k)
+    by (inr k) more = let rest = more k in (rest.0, inr rest.1, rest.2)
+
+-- ---- shared variables
+
+-- where a shared variable stands: by its component's place among the components, and by its own among the variables of the component
+pub record IsEntry (facts : Facts) (all : List Component) (spot : Spot) (variable : SharedVariable) : Type 0 where
+  pub component : Component
+  pub numbered : IsIn (variable.component, component) (enumerate_from 0 all)
+  pub place : IsIn (variable.var, spot) (enumerate_from 0 (each_once (shared_spots facts component)))
+
+module _ (facts : Facts) (all : List Component) where
+  abbrev entries_of : ℕ × Component → List (Spot × SharedVariable)
+  entries_of numbered = component_shared facts numbered.0 numbered.1
+
+  -- what the table has
+  pub entry_is : (spot : Spot) (variable : SharedVariable) → found_at (shared_of facts all) spot ≡ Some variable → IsEntry facts all spot variable
+  entry_is spot variable e = by (from (flat_map entries_of (enumerate_from 0 all)) [] spot variable e)
+    where
+      by : IsIn (spot, variable) (flat_map entries_of (enumerate_from 0 all)) ⊎ (found_at [] spot ≡ Some variable) → IsEntry facts all spot variable
+      by (inr none) = absurd (false≢true (ap is_some none))
+      by (inl k) =
+          let part = from_flat entries_of (enumerate_from 0 all) (spot, variable) k in
+          let one = from_mapped (λ (numbered : ℕ × Spot). (numbered.1, record { component = part.0.0; var = numbered.0 })) (enumerate_from 0 (each_once (shared_spots facts part.0.1))) (spot, variable) part.2 in
+          let component : part.0.0 ≡ variable.component = ap (λ (entry : Spot × SharedVariable). entry.1.component) one.2 in
+          let var : one.0.0 ≡ variable.var = ap (λ (entry : Spot × SharedVariable). entry.1.var) one.2 in
+          let there : one.0.1 ≡ spot = ap (λ (entry : Spot × SharedVariable). entry.0) one.2 in
+          record {
+            component = part.0.1;
+            numbered = subst (λ number. IsIn (number, part.0.1) (enumerate_from 0 all)) component part.1;
+            place = subst (λ (pair : ℕ × Spot). IsIn pair (enumerate_from 0 (each_once (shared_spots facts part.0.1)))) (λ i. (var i, there i)) one.1;
+          }
