@@ -19,7 +19,7 @@ use Rattle.sr_tree.specs.declared.declaration.OpItem.{OpItem}
 use Rattle.sr_tree.specs.declared.declaration.OpItem.TheVariants.{Signed, Typed}
 use Rattle.sr_tree.specs.declared.declaration.Semaphore.{Semaphore}
 use Rattle.sr_tree.specs.declared.name.Name.{Name}
-use Rattle.sr_tree.specs.Parts.{body_of, spec_of}
+use Rattle.sr_tree.specs.Parts.{body_of, spec_of, name_of}
 use Rattle.sr_types.specs.declared.ty.Ty.{Ty}
 use Rattle.sr_types.specs.Signatures.{signature_of}
 use Rattle.sr_value.specs.declared.place.Span.{Span}
@@ -46,7 +46,6 @@ use Rattle.sr_front.proofs.KeptBy.{KeptIn, Names}
 use Rattle.sr_front.proofs.KeptNames.{Anywhere, Closed}
 use Rattle.sr_front.proofs.PlainNames.{block_plain, code_plain}
 use Rattle.sr_front.proofs.KeptProcs.{closed_in, keeps_block, keeps_item, keeps_items}
-use Rattle.sr_tree.specs.Parts.{name_of}
 
 -- something is known at a spot, or at a name
 abbrev pub Has : Spot → Facts → Type 0

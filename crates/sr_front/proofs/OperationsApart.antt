@@ -23,7 +23,7 @@ use Rattle.sr_tree.specs.declared.declaration.Semaphore.{Semaphore}
 use Rattle.sr_tree.specs.Parts.{body_of, formals_of, spec_of}
 use Rattle.sr_value.specs.declared.place.Span.{Span}
 use Rattle.sr_front.proofs.Lasting.{Away}
-use Rattle.sr_front.proofs.PlainNames.{block_plain, code_plain, component_code_plain, component_plain, inner_plain, item_plain, spec_plain}
+use Rattle.sr_front.proofs.PlainNames.{block_plain, code_plain, component_code_plain, inner_plain}
 use Rattle.sr_front.proofs.Sharing.{Shares, all_left_out, both_share, in_first, in_second, left_out, none}
 use Rattle.sr_front.proofs.Shares.{shares_apart}
 
@@ -84,49 +84,6 @@ items_share (one ∷ items) = both_share (item_shares one) (items_share items)
 component_shares : (component : Component) → Shares (component_names component) (component_code_plain component) (component_operations component)
 component_shares component =
     left_out _ (both_share (spec_shares (spec_of component)) (both_share (all_left_out (flat_map formal_names (formals_of component))) (items_share (body_of component))))
-
--- ---- names in declarations
-
-spec_declares : (one : SpecItem) → Shares (spec_item_names one) (spec_plain one) (spec_operations one)
-spec_declares (spec.Op declared) = ops_share declared.items
-spec_declares (spec.Sem declared) = sems_share declared.semaphores
-spec_declares (spec.Import declared) = all_first _
-spec_declares (spec.Const declared) = all_first _
-spec_declares (spec.«Type» declared) = all_first _
-spec_declares (spec.OpType declared) = all_first _
-spec_declares (spec.Var declared) = all_first _
-
-specs_declare : (items : List SpecItem) → Shares (flat_map spec_item_names items) (flat_map spec_plain items) (flat_map spec_operations items)
-specs_declare [] = none
-specs_declare (one ∷ items) = both_share (spec_declares one) (specs_declare items)
-
--- what stands in blocks besides operations is left out
-inner_declares : (one : ProcItem) → Shares (proc_item_names one) [] (inner_operations one)
-inner_declares (inner.Op operations) = ops_share operations.items
-inner_declares (inner.Sem semaphores) = sems_share semaphores.semaphores
-inner_declares (inner.Const constant) = all_left_out _
-inner_declares (inner.Var variables) = all_left_out _
-inner_declares (inner.Statement statement) = all_left_out _
-
-block_declares : (block : List ProcItem) → Shares (block_names block) [] (block_operations block)
-block_declares [] = none
-block_declares (one ∷ block) = both_share (inner_declares one) (block_declares block)
-
-item_declares : (one : Item) → Shares (item_names one) (item_plain one) (item_operations one)
-item_declares (item.Spec declared) = spec_declares declared
-item_declares (item.Proc proc) = left_out proc.name.span (both_share (all_left_out (names_spans proc.formals)) (both_share (all_left_out (where_some name_names proc.returned)) (block_declares proc.block)))
-item_declares (item.Procedure procedure) = in_second procedure.name.span (both_share (all_left_out (signature_names procedure.signature)) (block_declares procedure.block))
-item_declares (item.Process process) = in_second process.name.span (both_share (all_left_out (flat_map quantifier_names process.quantifiers)) (block_declares process.block))
-item_declares (item.Final final) = block_declares final.block
-item_declares (item.Statement statement) = all_left_out _
-
-items_declare : (items : List Item) → Shares (flat_map item_names items) (flat_map item_plain items) (flat_map item_operations items)
-items_declare [] = none
-items_declare (one ∷ items) = both_share (item_declares one) (items_declare items)
-
-component_declares : (component : Component) → Shares (component_names component) (component_plain component) (component_operations component)
-component_declares component =
-    in_first _ (both_share (specs_declare (spec_of component)) (both_share (all_first (flat_map formal_names (formals_of component))) (items_declare (body_of component))))
 
 -- ---- names in files
 
@@ -202,8 +159,3 @@ module _ (files : List File) (distinct : IsDistinct same_spot (map spot_of (flat
   pub operations_apart : Each (λ (owned : Owned). Away owned.0 (flat_map component_code_plain (components_in files))) (flat_map component_owned (components_in files))
   operations_apart =
       components_are (λ spot. Away spot (flat_map component_code_plain (components_in files))) (components_in files) (shares_apart (files_share component_code_plain component_shares files) distinct)
-
-  -- nor where something else is declared in components
-  pub operations_first : Each (λ (owned : Owned). Away owned.0 (flat_map component_plain (components_in files))) (flat_map component_owned (components_in files))
-  operations_first =
-      components_are (λ spot. Away spot (flat_map component_plain (components_in files))) (components_in files) (shares_apart (files_share component_plain component_declares files) distinct)

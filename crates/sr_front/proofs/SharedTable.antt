@@ -1,5 +1,5 @@
--- What the table of shared variables has is a shared variable of a component, with the component and its place among the component's variables.
-use Rattle.std.proofs.Common.{◌≡◌, ◌⊎◌, ℕ, false, List, [], ◌∷◌, Some, map, flat_map, refl, sym, ap, ◌∙◌, subst, inl, inr, is_some}
+-- A shared variable of a component is in the table of shared variables, with the component and its place among the component's variables.
+use Rattle.std.proofs.Common.{◌≡◌, ◌⊎◌, ℕ, ◌+◌, true, false, List, [], ◌∷◌, Some, map, flat_map, refl, sym, ap, ◌∙◌, subst, inl, inr, is_some}
 use Rattle.std.specs.List.{enumerate_from}
 use Rattle.std.proofs.lemmas.Bool.{false≢true}
 use Rattle.sr_check_expr.specs.declared.facts.Facts.{Facts}
@@ -8,16 +8,34 @@ use Rattle.sr_names.specs.declared.spot.Spot.{Spot}
 use Rattle.sr_names.specs.Spots.{same_spot}
 use Rattle.sr_outline.specs.Numbers.{component_shared, shared_of, shared_spots}
 use Rattle.sr_scope.specs.Uses.{IsIn}
-use Rattle.sr_scope.proofs.Findings.{in_either}
+use Rattle.sr_scope.proofs.Findings.{in_either, in_flat}
 use Rattle.sr_tables.specs.declared.tables.SharedVariable.{SharedVariable}
 use Rattle.sr_tables.specs.Tables.{each_once, found_at, with_entries, with_entry}
 use Rattle.sr_tree.specs.declared.component.Component.{Component}
+use Rattle.sr_front.proofs.OwnOrShared.{in_once}
 
 -- ---- tables
 
 module _ {A : Type 0} where
   some_is : {a b : A} → Some a ≡ Some b → a ≡ b
   some_is e = cc
+
+  -- what a table has for a spot stays
+  kept : (entries table : List (Spot × A)) (spot : Spot) → is_some (found_at table spot) ≡ true → is_some (found_at (with_entries table entries) spot) ≡ true
+  kept [] table spot h = h
+  kept (entry ∷ entries) table spot h = kept entries (with_entry table entry.0 entry.1) spot (by (same_spot-cases spot entry.0))
+    where
+      by : (spot ≡ entry.0) ⊎ (same_spot spot entry.0 ≡ false) → is_some (found_at (with_entry table entry.0 entry.1) spot) ≡ true
+      by (inl e) = subst (λ s. is_some (found_at (with_entry table entry.0 entry.1) s) ≡ true) (sym e) (ap is_some (entry-same table entry.0 entry.1))
+      by (inr other) = ap is_some (entry-other table entry.0 entry.1 spot other) ∙ h
+
+  -- each spot of the entries is in the table
+  put : (entries table : List (Spot × A)) (entry : Spot × A) → IsIn entry entries → is_some (found_at (with_entries table entries) entry.0) ≡ true
+  put [] table entry h = absurd h
+  put (first ∷ entries) table entry (inl e) =
+      kept entries (with_entry table first.0 first.1) entry.0
+      (subst (λ (one : Spot × A). is_some (found_at (with_entry table first.0 first.1) one.0) ≡ true) e (ap is_some (entry-same table first.0 first.1)))
+  put (first ∷ entries) table entry (inr h) = put entries (with_entry table first.0 first.1) entry h
 
   -- what the table has is one of the entries
   from : (entries table : List (Spot × A)) (spot : Spot) (thing : A) → found_at (with_entries table entries) spot ≡ Some thing
@@ -37,6 +55,11 @@ module _ {A : Type 0} where
       last (inr found) = by (same_spot-cases spot first.0) found
 
 -- ---- lists
+
+in_numbered : {A : Type 0} (first : ℕ) (xs : List A) (x : A) → IsIn x xs → (number : ℕ) × IsIn (number, x) (enumerate_from first xs)
+in_numbered first [] x h = absurd h
+in_numbered first (y ∷ xs) x (inl e) = (first, inl (ap (λ z. (first, z)) e))
+in_numbered first (y ∷ xs) x (inr k) = let more = in_numbered (first + 1) xs x k in (more.0, inr more.1)
 
 pub in_mapped : {A B : Type 0} (f : A → B) (xs : List A) (x : A) → IsIn x xs → IsIn (f x) (map f xs)
 in_mapped f [] x h = absurd h
@@ -85,3 +108,13 @@ module _ (facts : Facts) (all : List Component) where
             numbered = subst (λ number. IsIn (number, part.0.1) (enumerate_from 0 all)) component part.1;
             place = subst (λ (pair : ℕ × Spot). IsIn pair (enumerate_from 0 (each_once (shared_spots facts part.0.1)))) (λ i. (var i, there i)) one.1;
           }
+
+  -- a shared variable of one of the components is in it
+  pub shared_found : (component : Component) → IsIn component all → (spot : Spot) → IsIn spot (shared_spots facts component) → is_some (found_at (shared_of facts all) spot) ≡ true
+  shared_found component there spot among =
+      let numbered = in_numbered 0 all component there in
+      let place = in_numbered 0 (each_once (shared_spots facts component)) spot (in_once spot (shared_spots facts component) among) in
+      let entry : IsIn (spot, record { component = numbered.0; var = place.0 }) (entries_of (numbered.0, component)) =
+      in_mapped (λ (one : ℕ × Spot). (one.1, record { component = numbered.0; var = one.0 })) (enumerate_from 0 (each_once (shared_spots facts component))) (place.0, spot) place.1 in
+      put (flat_map entries_of (enumerate_from 0 all)) [] (spot, record { component = numbered.0; var = place.0 })
+      (in_flat entries_of (numbered.0, component) (spot, record { component = numbered.0; var = place.0 }) (enumerate_from 0 all) numbered.1 entry)

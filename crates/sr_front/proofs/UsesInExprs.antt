@@ -1,5 +1,5 @@
 -- A fact of each name that is used, by what it means: names, expressions and types.
-use Rattle.std.proofs.Common.{◌≡◌, ◌⊎◌, ℕ, Bool, true, false, List, [], ◌∷◌, ◌++◌, Option, Some, None, map, refl, sym, subst, inl, inr}
+use Rattle.std.proofs.Common.{◌≡◌, ◌⊎◌, ℕ, Bool, true, false, List, [], ◌∷◌, ◌++◌, Option, Some, None, map, refl, sym, subst, inl, inr, if◌then◌else◌}
 use Rattle.std.specs.Prelude.{fold}
 use Rattle.sr_value.specs.declared.place.Span.{Span}
 use Rattle.sr_names.specs.declared.finding.Finding.{Finding}
@@ -18,9 +18,9 @@ use Rattle.sr_names.specs.Scopes.{denotes, in_blocks, member, no_blocks, opened,
 use Rattle.sr_names.specs.Spots.{spot_of}
 use Rattle.sr_names.specs.Tables.{declared_as}
 use Rattle.sr_tree.specs.declared.expr.Create.{Create, roll-Create}
-use Rattle.sr_tree.specs.declared.expr.Create.TheFolds.{fold-roll-Create, fold-roll-Expr, fold-roll-Invocation, fold-roll-Part, ind-Create, ind-Expr, ind-Invocation, map-Create, map-Expr, map-Invocation, map-Part}
+use Rattle.sr_tree.specs.declared.expr.Create.TheFolds.{fold_out-Expr, fold-roll-Create, fold-roll-Expr, fold-roll-Invocation, fold-roll-Part, ind-Create, ind-Expr, ind-Invocation, map-Create, map-Expr, map-Invocation, map-Part}
 use Rattle.sr_tree.specs.declared.expr.Create.TheOpen.{Create-F, Expr-F, Invocation-F, Part-F}
-use Rattle.sr_tree.specs.declared.expr.Expr.{Expr, roll-Expr}
+use Rattle.sr_tree.specs.declared.expr.Expr.{Expr, out-Expr, roll-Expr}
 use Rattle.sr_tree.specs.declared.expr.Invocation.{Invocation, roll-Invocation}
 use Rattle.sr_tree.specs.declared.expr.Part.{Part, roll-Part}
 use Rattle.sr_tree.specs.declared.name.Name.{Name}
@@ -38,7 +38,7 @@ use Rattle.sr_tree.specs.declared.types.TypeTree.TheOpen.{TypeTree-F, Formal-F, 
 use Rattle.sr_scope.specs.Declarations.{exprs_found, with_inner}
 use Rattle.sr_scope.specs.Declares.{name_twice, names_twice, name_declared, names_declared, returned_declared, returned_twice}
 use Rattle.sr_scope.specs.Exprs.{Finds, Reads, all_found, create_found, create_step, expr_reads, expr_step, invocation_found, invocation_step, part_found, part_step, reads_found}
-use Rattle.sr_scope.specs.Names.{component_named, field_found, name_found, qualified_found, second_found, spec_name_found}
+use Rattle.sr_scope.specs.Names.{component, component_named, field_found, is_component, name_found, qualified_found, second_found, spec_name_found}
 use Rattle.sr_scope.specs.Types.{Formals, Signed, decls_found, dims_found, expr_found, formal_read, formal_step, formals_declared, formals_found, formals_twice, maybe_declared, maybe_dims_found, maybe_expr_found, maybe_found, maybe_range_found, maybe_twice, maybe_type_found, range_found, returned_read, returned_step, signature_read, signature_step, signed_declared, signed_found, signed_twice, type_found, type_step}
 use Rattle.sr_scope.proofs.Tables.{declared_before}
 use Rattle.sr_check.proofs.Each.{Each, each-append}
@@ -79,10 +79,20 @@ module _ (P : Spot → Decl → Type 0) where
     pub innermost : TableFits blocks.inner
     pub outer : Each TableFits blocks.outer
 
-  -- what is declared outside of blocks, and in specs
+  -- a component that a name may mean
+  pub record IsNamed (component : Decl) : Type 0 where
+    pub at : Spot
+    pub may : P at component
+    pub is : is_component component.sort ≡ true
+
+  -- what is declared outside of blocks, and in the specs of components that names may mean
   pub record PlaceFits (place : Place) : Type 0 where
     pub names : (text : List ℕ) (at : Spot) → Fits at (denotes place no_blocks text at)
-    pub members : (component : Decl) (text : List ℕ) (at : Spot) → Fits at (member place component text at)
+    pub members : (component : Decl) → IsNamed component → (text : List ℕ) (at : Spot) → Fits at (member place component text at)
+
+  abbrev MaybeNamed : Option Decl → Type 0
+  MaybeNamed None = Unit {0}
+  MaybeNamed (Some component) = IsNamed component
 
   pub none_fit : TableFits []
   none_fit text = tt
@@ -199,21 +209,45 @@ module _ (P : Spot → Decl → Type 0) where
     pub name_fits : (blocks : Blocks) → BlocksFit blocks → (name : Name) → AllFit (name_found place blocks name)
     name_fits blocks fit name = reading_fits (denotes place blocks name.text (spot_of name.span)) name.span (meaning_fits blocks fit name.text (spot_of name.span))
 
-    field_fits : (component : Option Decl) (name : Name) → AllFit (field_found place component name)
-    field_fits None name = tt
-    field_fits (Some component) name = reading_fits (member place component name.text (spot_of name.span)) name.span (outer.members component name.text (spot_of name.span))
+    -- the component that a name means may be meant
+    component_is : (blocks : Blocks) → BlocksFit blocks → (name : Name) → MaybeNamed (component_named place blocks name)
+    component_is blocks fit name = by (denotes place blocks name.text (spot_of name.span)) (meaning_fits blocks fit name.text (spot_of name.span))
+      where
+        if_component : (decl : Decl) (b : Bool) → is_component decl.sort ≡ b → P (spot_of name.span) decl → MaybeNamed (if b then Some decl else None)
+        if_component decl true is may = record { at = spot_of name.span; may = may; is = is }
+        if_component decl false is may = tt
 
-    spec_name_fits : (component : Option Decl) (name : Name) → AllFit (spec_name_found place component name)
-    spec_name_fits None name = (tt, tt)
-    spec_name_fits (Some component) name = reading_fits (member place component name.text (spot_of name.span)) name.span (outer.members component name.text (spot_of name.span))
+        by : (meaning : Option Meaning) → Fits (spot_of name.span) meaning → MaybeNamed (component meaning)
+        by None fits = tt
+        by (Some (MeansPredefined name)) fits = tt
+        by (Some (Declared decl)) fits = if_component decl (is_component decl.sort) refl fits
 
-    second_fits : (component : Option Decl) (second : Option Name) → AllFit (second_found place component second)
-    second_fits component None = tt
-    second_fits component (Some name) = spec_name_fits component name
+    field_fits : (component : Option Decl) → MaybeNamed component → (name : Name) → AllFit (field_found place component name)
+    field_fits None is name = tt
+    field_fits (Some component) is name = reading_fits (member place component name.text (spot_of name.span)) name.span (outer.members component is name.text (spot_of name.span))
+
+    spec_name_fits : (component : Option Decl) → MaybeNamed component → (name : Name) → AllFit (spec_name_found place component name)
+    spec_name_fits None is name = (tt, tt)
+    spec_name_fits (Some component) is name = reading_fits (member place component name.text (spot_of name.span)) name.span (outer.members component is name.text (spot_of name.span))
+
+    second_fits : (component : Option Decl) → MaybeNamed component → (second : Option Name) → AllFit (second_found place component second)
+    second_fits component is None = tt
+    second_fits component is (Some name) = spec_name_fits component is name
 
     pub qualified_fits : (blocks : Blocks) → BlocksFit blocks → (name : QualifiedName) → AllFit (qualified_found place blocks name)
     qualified_fits blocks fit name =
-        both (name_found place blocks name.first) _ (name_fits blocks fit name.first) (second_fits (component_named place blocks name.first) name.second)
+        both (name_found place blocks name.first) _ (name_fits blocks fit name.first)
+        (second_fits (component_named place blocks name.first) (component_is blocks fit name.first) name.second)
+
+    -- so may the component that an expression names
+    read_is : (tree : Expr) (blocks : Blocks) → BlocksFit blocks → MaybeNamed (expr_reads tree place blocks).component
+    read_is tree blocks fit =
+        subst (λ (reads : Reads). MaybeNamed (reads place blocks).component) (sym (fold_out-Expr Finds Reads Finds Finds create_step expr_step invocation_step part_step tree)) (by (out-Expr tree))
+      where
+        by : (x : Expr-F Create Expr Invocation Part)
+            → MaybeNamed (expr_step (map-Expr Create Expr Invocation Part Finds Reads Finds Finds create_found expr_reads invocation_found part_found x) place blocks).component
+        by (Expr-F.Name name) = component_is blocks fit name
+        by _ = tt
 
     -- ---- expressions with what is known of them
 
@@ -291,7 +325,7 @@ module _ (P : Spot → Decl → Type 0) where
     expr_good (Expr-F.Group span inner) blocks fit = inner.1 blocks fit
     expr_good (Expr-F.Parts span parts) blocks fit = parts_good blocks fit parts
     expr_good (Expr-F.Field span owner field) blocks fit =
-        both (expr_found owner.0 place blocks) _ (owner.1 blocks fit) (field_fits (expr_reads owner.0 place blocks).component field)
+        both (expr_found owner.0 place blocks) _ (owner.1 blocks fit) (field_fits (expr_reads owner.0 place blocks).component (read_is owner.0 blocks fit) field)
     expr_good (Expr-F.Index span array first None) blocks fit =
         both (expr_found array.0 place blocks) _ (array.1 blocks fit) (both (expr_found first.0 place blocks) [] (first.1 blocks fit) tt)
     expr_good (Expr-F.Index span array first (Some second)) blocks fit =

@@ -1,25 +1,20 @@
 -- A name that means a resource means one of the components of the program.
-use Rattle.std.proofs.Common.{◌≡◌, ◌⊎◌, Bool, true, false, List, [], ◌∷◌, ◌++◌, Option, Some, None, Ok, map, flat_map, refl, sym, ap, ◌∙◌, subst, inl, inr, if◌then◌else◌, not}
+use Rattle.std.proofs.Common.{◌≡◌, ◌⊎◌, true, false, List, [], ◌∷◌, ◌++◌, Option, Some, None, Ok, map, flat_map, refl, sym, ap, ◌∙◌, subst, inl, inr, not}
 use Rattle.std.specs.Option.{option_map}
-use Rattle.std.proofs.lemmas.Bool.{false≢true}
+use Rattle.std.proofs.lemmas.Bool.{false≢true, true≢false}
 use Rattle.sr_names.proofs.Marking.{entry-same, entry-other, same_spot-cases}
-use Rattle.sr_names.specs.declared.cycles.Import.{Import as GlobalImport}
 use Rattle.sr_names.specs.declared.diagnostics.Diagnostics.{Diagnostics}
 use Rattle.sr_names.specs.declared.finding.Finding.{Finding}
 use Rattle.sr_names.specs.declared.finding.Finding.TheVariants.{Use, Broken}
-use Rattle.sr_names.specs.declared.links.Link.{Link}
 use Rattle.sr_names.specs.declared.meaning.Decl.{Decl}
 use Rattle.sr_names.specs.declared.meaning.Meaning.{Meaning}
 use Rattle.sr_names.specs.declared.meaning.Meaning.TheVariants.{Declared}
 use Rattle.sr_names.specs.declared.meaning.Sort.{Sort}
 use Rattle.sr_names.specs.declared.meaning.Sort.TheVariants.{Constant, Literal, «Type» as type_sort, OpType as optype_sort, Variable, Operation, Resource as resource_sort}
-use Rattle.sr_names.specs.declared.place.Blocks.{Blocks}
 use Rattle.sr_names.specs.declared.place.Place.{Place}
 use Rattle.sr_names.specs.declared.spot.Spot.{Spot}
 use Rattle.sr_names.specs.Cycles.{all_cycles_found, links_of}
 use Rattle.sr_names.specs.Diagnostics.{all_noted, noted, nothing}
-use Rattle.sr_names.specs.Entries.{Entries}
-use Rattle.sr_names.specs.Links.{connects}
 use Rattle.sr_names.specs.Noted.{Meanings}
 use Rattle.sr_names.specs.Readings.{declaration, reading}
 use Rattle.sr_names.specs.Scopes.{no_blocks}
@@ -33,28 +28,30 @@ use Rattle.sr_tree.specs.declared.component.Item.TheVariants as item
 use Rattle.sr_tree.specs.declared.component.SpecItem.{SpecItem}
 use Rattle.sr_tree.specs.declared.component.SpecItem.TheVariants as spec
 use Rattle.sr_tree.specs.declared.name.Name.{Name}
-use Rattle.sr_tree.specs.Parts.{body_of, formals_of, name_of, spec_of}
+use Rattle.sr_tree.specs.Parts.{body_of, formals_of, spec_of}
 use Rattle.sr_value.specs.declared.place.Span.{Span}
-use Rattle.sr_scope.specs.Components.{all_collected, decl_of, all_collected_twice, can_be_main, collected, collected_twice, component_found, components_found, files_collected_twice, files_found, files_imports, imports_found, imports_of, last_component, main_found, own_twice, place_of, sort_of}
+use Rattle.sr_scope.specs.Components.{decl_of, component_found, components_found, files_collected_twice, files_found, files_imports, imports_found, imports_of, main_found, own_twice, place_of}
 use Rattle.sr_scope.specs.Declarations.{var_names}
-use Rattle.sr_scope.specs.Declares.{name_declared, name_twice, names_twice, op_name}
-use Rattle.sr_scope.specs.Items.{inside, item_declared, item_found, item_twice, item_within, items_found, items_twice, name_served, name_served_twice, served_name, served_twice, serves, spec_declared, spec_found, spec_twice, spec_within, specs_declared, specs_found, specs_twice}
+use Rattle.sr_scope.specs.Declares.{op_name}
+use Rattle.sr_scope.specs.Items.{inside, item_found, item_within, items_found, served_twice, spec_found, spec_within, specs_found}
 use Rattle.sr_scope.specs.Literals.{literals_of}
 use Rattle.sr_scope.specs.Procs.{semaphore_names}
 use Rattle.sr_scope.specs.declared.program.Names.{Names}
+use Rattle.sr_scope.specs.Names.{is_component}
 use Rattle.sr_scope.specs.Resolved.{findings, no_place, program, resolved}
-use Rattle.sr_scope.specs.Types.{formal_read, formals_declared, formals_found, formals_twice}
+use Rattle.sr_scope.specs.Types.{formal_read, formals_found}
 use Rattle.sr_scope.specs.Uses.{IsIn}
 use Rattle.sr_scope.proofs.Findings.{in_either, in_left, in_right, uses_noted}
 use Rattle.sr_scope.proofs.Meant.{IsComponent}
 use Rattle.sr_scope.proofs.OwnNames.{formal_own, item_own, own_names, spec_own}
 use Rattle.sr_scope.proofs.Tables.{sorted}
 use Rattle.sr_check_expr.specs.PredefinedCalls.{is_resource}
+use Rattle.sr_front.proofs.DeclaredIn.{item_operations, item_variables}
 use Rattle.sr_front.proofs.UsesInExprs as exprs
 use Rattle.sr_front.proofs.UsesInItems as items
-use Rattle.sr_front.proofs.UsesInItems.{item_variables}
 use Rattle.sr_front.proofs.UsesInStatements.{is_inner}
 use Rattle.sr_front.proofs.UsesOutside as outside
+use Rattle.sr_front.proofs.UsesTwice as twice
 use Rattle.sr_tables.specs.Parts.{components_in}
 use Rattle.sr_check.proofs.Each.{Each}
 use Rattle.sr_check_expr.specs.declared.facts.Facts.{Facts}
@@ -67,10 +64,14 @@ inner_not : (sort : Sort) → is_inner sort ≡ true → is_resource sort ≡ fa
 inner_not resource_sort h = absurd (false≢true h)
 inner_not _ h = refl
 
--- ---- what a component declares is no resource
+-- ---- what a component declares is no component
 
-abbrev AreNot : List (Sort × Name) → Type 0
-AreNot names = (one : Sort × Name) → IsIn one names → is_resource one.0 ≡ false
+not_resource : (sort : Sort) → is_component sort ≡ false → is_resource sort ≡ false
+not_resource resource_sort h = absurd (true≢false h)
+not_resource _ h = refl
+
+abbrev pub AreNot : List (Sort × Name) → Type 0
+AreNot names = (one : Sort × Name) → IsIn one names → is_component one.0 ≡ false
 
 none_not : AreNot []
 none_not one k = absurd k
@@ -78,7 +79,7 @@ none_not one k = absurd k
 both_not : (xs ys : List (Sort × Name)) → AreNot xs → AreNot ys → AreNot (xs ++ ys)
 both_not xs ys a b one k = by (in_either one xs ys k)
   where
-    by : IsIn one xs ⊎ IsIn one ys → is_resource one.0 ≡ false
+    by : IsIn one xs ⊎ IsIn one ys → is_component one.0 ≡ false
     by (inl h) = a one h
     by (inr h) = b one h
 
@@ -86,11 +87,11 @@ flat_not : {A : Type 0} (names : A → List (Sort × Name)) → ((a : A) → Are
 flat_not names each [] = none_not
 flat_not names each (a ∷ items) = both_not (names a) (flat_map names items) (each a) (flat_not names each items)
 
-one_not : (sort : Sort) (name : Name) → is_resource sort ≡ false → AreNot ((sort, name) ∷ [])
-one_not sort name not one (inl e) = ap (λ (pair : Sort × Name). is_resource pair.0) (sym e) ∙ not
+one_not : (sort : Sort) (name : Name) → is_component sort ≡ false → AreNot ((sort, name) ∷ [])
+one_not sort name not one (inl e) = ap (λ (pair : Sort × Name). is_component pair.0) (sym e) ∙ not
 one_not sort name not one (inr k) = absurd k
 
-sorted_not : (sort : Sort) (names : List Name) → is_resource sort ≡ false → AreNot (sorted sort names)
+sorted_not : (sort : Sort) (names : List Name) → is_component sort ≡ false → AreNot (sorted sort names)
 sorted_not sort [] not = none_not
 sorted_not sort (name ∷ names) not = both_not ((sort, name) ∷ []) (sorted sort names) (one_not sort name not) (sorted_not sort names not)
 
@@ -111,7 +112,7 @@ item_not (item.Proc proc) = none_not
 item_not (item.Final final) = none_not
 item_not (item.Statement statement) = none_not
 
-own_not : (component : Component) → AreNot (own_names component)
+pub own_not : (component : Component) → AreNot (own_names component)
 own_not component =
     both_not (flat_map spec_own (spec_of component)) _ (flat_not spec_own spec_not (spec_of component))
     (both_not (flat_map formal_own (formals_of component)) _ (flat_not formal_own (λ formal. sorted_not Variable (formal_read formal).names refl) (formals_of component))
@@ -130,9 +131,6 @@ module _ (all : List Component) where
   abbrev All : List Finding → Type 0
   All = exprs.AllFit P
 
-  abbrev Table : Entries → Type 0
-  Table = exprs.TableFits P
-
   abbrev Found : Option Decl → Type 0
   Found = exprs.FoundFits P
 
@@ -141,89 +139,6 @@ module _ (all : List Component) where
 
   both : (f g : List Finding) → All f → All g → All (f ++ g)
   both = exprs.both P
-
-  twice : (sort : Sort) (name : Name) (table : Entries) → All (name_twice sort name table)
-  twice = exprs.twice_fits P
-
-  names_twice_fit : (sort : Sort) (names : List Name) (table : Entries) → All (names_twice sort names table)
-  names_twice_fit = exprs.names_twice_fit P
-
-  -- ---- what no use is
-
-  spec_twice_fits : (one : SpecItem) (table : Entries) → All (spec_twice one table)
-  spec_twice_fits (spec.Import imports) table = tt
-  spec_twice_fits (spec.Const constant) table = twice Constant constant.name table
-  spec_twice_fits (spec.Type named) table = both (name_twice type_sort named.name table) _ (twice type_sort named.name table) (names_twice_fit Literal (literals_of named.ty) (name_declared type_sort named.name table))
-  spec_twice_fits (spec.OpType named) table = twice optype_sort named.name table
-  spec_twice_fits (spec.Op operations) table = names_twice_fit Operation (map op_name operations.items) table
-  spec_twice_fits (spec.Var variables) table = names_twice_fit Variable (var_names variables) table
-  spec_twice_fits (spec.Sem declared) table = names_twice_fit Operation (semaphore_names declared.semaphores) table
-
-  specs_twice_fit : (items : List SpecItem) (table : Entries) → All (specs_twice items table)
-  specs_twice_fit [] table = tt
-  specs_twice_fit (one ∷ items) table = both (spec_twice one table) _ (spec_twice_fits one table) (specs_twice_fit items (spec_declared one table))
-
-  item_twice_fits : (one : Item) (table : Entries) → All (item_twice one table)
-  item_twice_fits (item.Spec declared) table = spec_twice_fits declared table
-  item_twice_fits (item.Procedure procedure) table = twice Operation procedure.name table
-  item_twice_fits (item.Process process) table = twice Operation process.name table
-  item_twice_fits (item.Proc proc) table = tt
-  item_twice_fits (item.Final final) table = tt
-  item_twice_fits (item.Statement statement) table = tt
-
-  items_twice_fit : (items : List Item) (table : Entries) → All (items_twice items table)
-  items_twice_fit [] table = tt
-  items_twice_fit (one ∷ items) table = both (item_twice one table) _ (item_twice_fits one table) (items_twice_fit items (item_declared one table))
-
-  own_twice_fit : (component : Component) → All (own_twice component)
-  own_twice_fit component =
-      let formals = map formal_read (formals_of component) in
-      let known = specs_declared (spec_of component) [] in
-      both (specs_twice (spec_of component) []) _ (specs_twice_fit (spec_of component) [])
-      (both (formals_twice formals known) _ (exprs.formals_twice_fit P formals known) (items_twice_fit (body_of component) (formals_declared formals known)))
-
-  if_served : (test : Bool) (name : Name) (served : Entries) → All (if test then name_twice Operation name served else [])
-  if_served true name served = twice Operation name served
-  if_served false name served = tt
-
-  name_served_fits : (place : Place) (blocks : Blocks) (name : Option Name) (served : Entries) → All (name_served_twice place blocks name served)
-  name_served_fits place blocks None served = tt
-  name_served_fits place blocks (Some name) served = if_served (serves place blocks name) name served
-
-  served_twice_fit : (items : List Item) (place : Place) (blocks : Blocks) (served : Entries) → All (served_twice items place blocks served)
-  served_twice_fit [] place blocks served = tt
-  served_twice_fit (one ∷ items) place blocks served =
-      both (name_served_twice place blocks (served_name one) served) _ (name_served_fits place blocks (served_name one) served)
-      (served_twice_fit items place blocks (name_served place blocks (served_name one) served))
-
-  collected_twice_fit : (component : Component) (place : Place) → All (collected_twice component place)
-  collected_twice_fit component place =
-      both (name_twice (sort_of component) (name_of component) place.components) _ (twice (sort_of component) (name_of component) place.components) (specs_twice_fit (spec_of component) [])
-
-  all_collected_twice_fit : (components : List Component) (place : Place) → All (all_collected_twice components place)
-  all_collected_twice_fit [] place = tt
-  all_collected_twice_fit (component ∷ components) place =
-      both (collected_twice component place) _ (collected_twice_fit component place) (all_collected_twice_fit components (collected component place))
-
-  files_collected_twice_fit : (files : List File) (place : Place) → All (files_collected_twice files place)
-  files_collected_twice_fit [] place = tt
-  files_collected_twice_fit (file ∷ files) place =
-      both (all_collected_twice file.components place) _ (all_collected_twice_fit file.components place) (files_collected_twice_fit files (all_collected file.components place))
-
-  unless_main : (test : Bool) (finding : Finding) → All (finding ∷ []) → All (if test then [] else finding ∷ [])
-  unless_main true finding fits = tt
-  unless_main false finding fits = fits
-
-  main_fits : (files : List File) → All (main_found files)
-  main_fits files = unless_main (can_be_main (last_component files)) _ (tt, tt)
-
-  where_cycle : (test : Bool) (finding : Finding) → All (finding ∷ []) → All (if test then finding ∷ [] else [])
-  where_cycle true finding fits = fits
-  where_cycle false finding fits = tt
-
-  cycles_fit : (links : List Link) (imports : List GlobalImport) → All (all_cycles_found links imports)
-  cycles_fit links [] = tt
-  cycles_fit links (import ∷ imports) = both _ _ (where_cycle (connects links import.link.to import.link.from) _ (tt, tt)) (cycles_fit links imports)
 
 -- ---- files
 
@@ -245,7 +160,7 @@ module _ (files : List File) (facts : Facts) where
   one_may component there at is = record { component = component; there = there; is = refl }
 
   declared_may : (component : Component) → IsIn component components → (one : Sort × Name) → IsIn one (own_names component) → (at : Spot) → in_all at (declaration one.0 one.1.span)
-  declared_may component there one among at = plain components at one.0 one.1.span (own_not component one among)
+  declared_may component there one among at = plain components at one.0 one.1.span (not_resource one.0 (own_not component one among))
 
   known : outside.Collected files in_all one_may declared_may (program files)
   known = outside.known files in_all one_may declared_may
@@ -259,8 +174,8 @@ module _ (files : List File) (facts : Facts) where
 
     spec_fits : (one : SpecItem) (within : Option Spot) → All components (spec_found one (inside place within) no_blocks)
     spec_fits one within =
-        items.spec_fits in_all facts Anywhere (λ at sort span is own. local components at sort span is) (λ at span is. local components at Constant span refl)
-        (λ at span. local components at Operation span refl) (inside place within) (place_fits within) one
+        items.spec_fits in_all facts Anywhere Anywhere (λ at sort span is own. local components at sort span is) (λ at span is. local components at Constant span refl)
+        (λ at span operated. plain components at Operation span refl) (inside place within) (place_fits within) one
 
     specs_fit : (items : List SpecItem) → All components (specs_found items place no_blocks)
     specs_fit [] = tt
@@ -268,8 +183,8 @@ module _ (files : List File) (facts : Facts) where
 
     item_fits : (one : Item) (within : Option Spot) → All components (item_found one (inside place within) no_blocks)
     item_fits one within =
-        items.item_fits in_all facts Anywhere (λ at sort span is own. local components at sort span is) (λ at span is. local components at Constant span refl)
-        (λ at span. local components at Operation span refl) (inside place within) (place_fits within) one (anywhere (item_variables facts one))
+        items.item_fits in_all facts Anywhere Anywhere (λ at sort span is own. local components at sort span is) (λ at span is. local components at Constant span refl)
+        (λ at span operated. plain components at Operation span refl) (inside place within) (place_fits within) one (anywhere (item_variables facts one)) (anywhere (item_operations one))
 
     items_fit : (items : List Item) → All components (items_found items (inside place None) no_blocks)
     items_fit [] = tt
@@ -286,9 +201,9 @@ module _ (files : List File) (facts : Facts) where
 
     component_fits : All components (component_found (program files).components (program files).specs component)
     component_fits =
-        both components (own_twice component) _ (own_twice_fit components component)
+        both components (own_twice component) _ (twice.own_twice_fit in_all component)
         (both components (imports_found (program files).components (imports_of component)) _ (imports_fit (imports_of component))
-        (both components (served_twice (body_of component) place no_blocks []) _ (served_twice_fit components (body_of component) place no_blocks [])
+        (both components (served_twice (body_of component) place no_blocks []) _ (twice.served_twice_fit in_all (body_of component) place no_blocks [])
         (both components (specs_found (spec_of component) place no_blocks) _ (specs_fit (spec_of component))
         (both components (formals_found (map formal_read (formals_of component)) (inside place None) no_blocks) _
         (exprs.formals_fit in_all (inside place None) (place_fits None) (formals_of component) no_blocks (outside.no_blocks_fit files in_all one_may declared_may))
@@ -307,10 +222,10 @@ module _ (files : List File) (facts : Facts) where
 
   findings_fit : All components (findings files)
   findings_fit =
-      both components (files_collected_twice files no_place) _ (files_collected_twice_fit components files no_place)
-      (both components (main_found files) _ (main_fits components files)
+      both components (files_collected_twice files no_place) _ (twice.files_collected_twice_fit in_all files no_place)
+      (both components (main_found files) _ (twice.main_fits in_all files)
       (both components (all_cycles_found (links_of (files_imports (program files).components files)) (files_imports (program files).components files)) _
-      (cycles_fit components (links_of (files_imports (program files).components files)) (files_imports (program files).components files))
+      (twice.cycles_fit in_all (links_of (files_imports (program files).components files)) (files_imports (program files).components files))
       (files_fit files (λ one k. k))))
 
   -- ---- uses

@@ -46,7 +46,7 @@ use Rattle.sr_check.proofs.Each.{Each, each-left, each-right}
 use Rattle.sr_check_expr.specs.declared.facts.Facts.{Facts}
 use Rattle.sr_check_expr.specs.Meanings.{is_constant}
 use Rattle.sr_names.specs.Spots.{spot_of}
-use Rattle.sr_outline.specs.Numbers.{arm_in, arm_names, block_item_names, branch_in, co_arm_in, co_arm_names, const_names, formal_names, formal_spots, inner_names, item_in, names_in, quantifier_names as quantifier_spots, returned_names, signature_returned, statement_names, var_names as var_spots}
+use Rattle.sr_outline.specs.Numbers.{arm_names, block_item_names, co_arm_names, const_names, formal_names, formal_spots, quantifier_names as quantifier_spots, returned_names, signature_returned, var_names as var_spots}
 use Rattle.sr_tables.specs.Lists.{lists, maybe}
 use Rattle.sr_tables.specs.Parts.{spot_named}
 use Rattle.sr_tree.specs.declared.types.Decl.{Decl as DeclTree}
@@ -56,6 +56,7 @@ use Rattle.sr_tree.specs.declared.types.Signature.{Signature, out-Signature}
 use Rattle.sr_tree.specs.declared.types.TypeTree.TheFolds.{fold_out-Formal, fold_out-Returned, fold_out-Signature, map-Signature}
 use Rattle.sr_tree.specs.declared.types.TypeTree.{TypeTree}
 use Rattle.sr_tree.specs.declared.types.TypeTree.TheOpen.{Signature-F}
+use Rattle.sr_front.proofs.DeclaredIn.{arm_declared, branch_declared, co_arm_declared, declared_in, inner_declared, inner_operations, item_declared, statement_declared}
 use Rattle.sr_front.proofs.UsesInExprs as exprs
 use Rattle.sr_front.proofs.UsesInExprs.{AllFit, BlocksFit, MayMean, MayReturn, PlaceFits, TableFits}
 
@@ -63,15 +64,14 @@ use Rattle.sr_front.proofs.UsesInExprs.{AllFit, BlocksFit, MayMean, MayReturn, P
 abbrev pub is_inner : Sort → Bool
 is_inner Constant = true
 is_inner Variable = true
-is_inner Operation = true
 is_inner quantifier_sort = true
 is_inner _ = false
 
--- `Owned spot`: a variable of this spot is one of those of the code around it
-module _ (P : Spot → Decl → Type 0) (facts : Facts) (Owned : Spot → Type 0)
+-- `Owned spot`: a variable of this spot is one of those of the code around it; `Operated spot`: so is an operation
+module _ (P : Spot → Decl → Type 0) (facts : Facts) (Owned Operated : Spot → Type 0)
     (owned : (at : Spot) (sort : Sort) (span : Span) → is_inner sort ≡ true → Owned (spot_of span) → P at (declaration sort span))
     (static : (at : Spot) (span : Span) → is_constant facts (spot_of span) ≡ true → P at (declaration Constant span))
-    (operation : (at : Spot) (span : Span) → P at (declaration Operation span)) where
+    (operation : (at : Spot) (span : Span) → Operated (spot_of span) → P at (declaration Operation span)) where
   abbrev Fit : Blocks → Type 0
   Fit = BlocksFit P
 
@@ -124,9 +124,9 @@ module _ (P : Spot → Decl → Type 0) (facts : Facts) (Owned : Spot → Type 0
       by true is none = λ at. static at constant.name.span is
       by false is one = λ at. owned at Constant constant.name.span refl one.0
 
-  operations_may : (names : List Name) → Each (MayMean P Operation) names
-  operations_may [] = tt
-  operations_may (name ∷ names) = ((λ at. operation at name.span), operations_may names)
+  operations_may : (names : List Name) → Each Operated (map spot_named names) → Each (MayMean P Operation) names
+  operations_may [] operated = tt
+  operations_may (name ∷ names) operated = ((λ at. operation at name.span operated.0), operations_may names operated.1)
 
   formal_may : (formal : Formal) → Own (formal_spots formal) → exprs.FormalMay P (formal_read formal)
   formal_may formal own =
@@ -240,19 +240,19 @@ module _ (P : Spot → Decl → Type 0) (facts : Facts) (Owned : Spot → Type 0
       pub inner : Table step.inner
 
     abbrev ItemGood : BlockItem → Type 0
-    ItemGood tree = Own (item_in facts tree) → (blocks : Blocks) → Fit blocks → StepFits (item_read tree place blocks)
+    ItemGood tree = Own (item_declared facts tree) → (blocks : Blocks) → Fit blocks → StepFits (item_read tree place blocks)
 
     abbrev Good : Statement → Type 0
-    Good tree = Own (names_in facts tree) → (blocks : Blocks) → Fit blocks → All (statement_found tree place blocks)
+    Good tree = Own (declared_in facts tree) → (blocks : Blocks) → Fit blocks → All (statement_found tree place blocks)
 
     abbrev ArmGood : Arm → Type 0
-    ArmGood tree = Own (arm_in facts tree) → (blocks : Blocks) → Fit blocks → All (arm_found tree place blocks)
+    ArmGood tree = Own (arm_declared facts tree) → (blocks : Blocks) → Fit blocks → All (arm_found tree place blocks)
 
     abbrev BranchGood : Branch → Type 0
-    BranchGood tree = Own (branch_in facts tree) → (blocks : Blocks) → Fit blocks → All (branch_found tree place blocks)
+    BranchGood tree = Own (branch_declared facts tree) → (blocks : Blocks) → Fit blocks → All (branch_found tree place blocks)
 
     abbrev CoArmGood : CoArm → Type 0
-    CoArmGood tree = Own (co_arm_in facts tree) → (blocks : Blocks) → Fit blocks → All (co_arm_found tree place blocks)
+    CoArmGood tree = Own (co_arm_declared facts tree) → (blocks : Blocks) → Fit blocks → All (co_arm_found tree place blocks)
 
     abbrev I : Type 0
     I = (tree : BlockItem) × ItemGood tree
@@ -269,16 +269,16 @@ module _ (P : Spot → Decl → Type 0) (facts : Facts) (Owned : Spot → Type 0
     abbrev C : Type 0
     C = (tree : CoArm) × CoArmGood tree
 
-    items_good : (items : List I) → Own (lists (map (item_in facts) (map (λ (e : I). e.0) items))) → (blocks : Blocks) → Fit blocks
+    items_good : (items : List I) → Own (lists (map (item_declared facts) (map (λ (e : I). e.0) items))) → (blocks : Blocks) → Fit blocks
         → All (steps_found (map item_read (map (λ (e : I). e.0) items)) place blocks)
     items_good [] own blocks fit = tt
     items_good (item ∷ items) own blocks fit =
-        let step = item.1 (each-left Owned (item_in facts item.0) _ own) blocks fit in
+        let step = item.1 (each-left Owned (item_declared facts item.0) _ own) blocks fit in
         let after = (item_read item.0 place blocks).inner in
         both (item_read item.0 place blocks).found _ step.found
-        (items_good items (each-right Owned (item_in facts item.0) _ own) (with_inner blocks after) (exprs.blocks_with P blocks after fit step.inner))
+        (items_good items (each-right Owned (item_declared facts item.0) _ own) (with_inner blocks after) (exprs.blocks_with P blocks after fit step.inner))
 
-    block_good : (items : List I) → Own (lists (map (item_in facts) (map (λ (e : I). e.0) items))) → (blocks : Blocks) → Fit blocks
+    block_good : (items : List I) → Own (lists (map (item_declared facts) (map (λ (e : I). e.0) items))) → (blocks : Blocks) → Fit blocks
         → All (block_found (map item_read (map (λ (e : I). e.0) items)) place blocks)
     block_good items own blocks fit = items_good items own (opened blocks) (exprs.blocks_opened P blocks fit)
 
@@ -319,19 +319,19 @@ module _ (P : Spot → Decl → Type 0) (facts : Facts) (Owned : Spot → Type 0
     co_arm_of x = co_arm_step (map-CoArm BlockItem Statement Arm Branch CoArm Steps Finds Finds Finds Finds item_read statement_found arm_found branch_found co_arm_found x)
 
     abbrev names_of_item : BlockItem-F BlockItem Statement Arm Branch CoArm → List Spot
-    names_of_item x = block_item_names facts (map-BlockItem BlockItem Statement Arm Branch CoArm (List Spot) (List Spot) (List Spot) (List Spot) (List Spot) (item_in facts) (names_in facts) (arm_in facts) (branch_in facts) (co_arm_in facts) x)
+    names_of_item x = block_item_names facts (map-BlockItem BlockItem Statement Arm Branch CoArm (List Spot) (List Spot) (List Spot) (List Spot) (List Spot) (item_declared facts) (declared_in facts) (arm_declared facts) (branch_declared facts) (co_arm_declared facts) x)
 
     abbrev names_of_statement : Statement-F BlockItem Statement Arm Branch CoArm → List Spot
-    names_of_statement x = statement_names facts (map-Statement BlockItem Statement Arm Branch CoArm (List Spot) (List Spot) (List Spot) (List Spot) (List Spot) (item_in facts) (names_in facts) (arm_in facts) (branch_in facts) (co_arm_in facts) x)
+    names_of_statement x = statement_declared (map-Statement BlockItem Statement Arm Branch CoArm (List Spot) (List Spot) (List Spot) (List Spot) (List Spot) (item_declared facts) (declared_in facts) (arm_declared facts) (branch_declared facts) (co_arm_declared facts) x)
 
     abbrev names_of_arm : Arm-F BlockItem Statement Arm Branch CoArm → List Spot
-    names_of_arm x = arm_names (map-Arm BlockItem Statement Arm Branch CoArm (List Spot) (List Spot) (List Spot) (List Spot) (List Spot) (item_in facts) (names_in facts) (arm_in facts) (branch_in facts) (co_arm_in facts) x)
+    names_of_arm x = arm_names (map-Arm BlockItem Statement Arm Branch CoArm (List Spot) (List Spot) (List Spot) (List Spot) (List Spot) (item_declared facts) (declared_in facts) (arm_declared facts) (branch_declared facts) (co_arm_declared facts) x)
 
     abbrev names_of_branch : Branch-F BlockItem Statement Arm Branch CoArm → List Spot
-    names_of_branch x = lists (map-Branch BlockItem Statement Arm Branch CoArm (List Spot) (List Spot) (List Spot) (List Spot) (List Spot) (item_in facts) (names_in facts) (arm_in facts) (branch_in facts) (co_arm_in facts) x).block
+    names_of_branch x = lists (map-Branch BlockItem Statement Arm Branch CoArm (List Spot) (List Spot) (List Spot) (List Spot) (List Spot) (item_declared facts) (declared_in facts) (arm_declared facts) (branch_declared facts) (co_arm_declared facts) x).block
 
     abbrev names_of_co_arm : CoArm-F BlockItem Statement Arm Branch CoArm → List Spot
-    names_of_co_arm x = co_arm_names (map-CoArm BlockItem Statement Arm Branch CoArm (List Spot) (List Spot) (List Spot) (List Spot) (List Spot) (item_in facts) (names_in facts) (arm_in facts) (branch_in facts) (co_arm_in facts) x)
+    names_of_co_arm x = co_arm_names (map-CoArm BlockItem Statement Arm Branch CoArm (List Spot) (List Spot) (List Spot) (List Spot) (List Spot) (item_declared facts) (declared_in facts) (arm_declared facts) (branch_declared facts) (co_arm_declared facts) x)
 
     -- ---- each kind of statement from its parts
 
@@ -347,12 +347,12 @@ module _ (P : Spot → Decl → Type 0) (facts : Facts) (Owned : Spot → Type 0
     item_good (BlockItem-F.Statement statement) own blocks fit = record { found = statement.1 own blocks fit; inner = fit.innermost }
 
     branches_good : (branches : List B) (items : List I)
-        → Own (lists (map (branch_in facts) (map (λ (e : B). e.0) branches)) ++ lists (map (item_in facts) (map (λ (e : I). e.0) items))) → (blocks : Blocks) → Fit blocks
+        → Own (lists (map (branch_declared facts) (map (λ (e : B). e.0) branches)) ++ lists (map (item_declared facts) (map (λ (e : I). e.0) items))) → (blocks : Blocks) → Fit blocks
         → All (all_found (map branch_found (map (λ (e : B). e.0) branches)) place blocks ++ block_found (map item_read (map (λ (e : I). e.0) items)) place blocks)
     branches_good branches items own blocks fit =
         both (all_found (map branch_found (map (λ (e : B). e.0) branches)) place blocks) _
-        (all_good branch_found (branch_in facts) branches (each-left Owned (lists (map (branch_in facts) (map (λ (e : B). e.0) branches))) _ own) blocks fit)
-        (block_good items (each-right Owned (lists (map (branch_in facts) (map (λ (e : B). e.0) branches))) _ own) blocks fit)
+        (all_good branch_found (branch_declared facts) branches (each-left Owned (lists (map (branch_declared facts) (map (λ (e : B). e.0) branches))) _ own) blocks fit)
+        (block_good items (each-right Owned (lists (map (branch_declared facts) (map (λ (e : B). e.0) branches))) _ own) blocks fit)
 
     statement_good : (y : Statement-F I T A B C) → Own (names_of_statement (bare y)) → (blocks : Blocks) → Fit blocks → All (statement_of (bare y) place blocks)
     statement_good (Statement-F.Skip span) own blocks fit = tt
@@ -370,19 +370,19 @@ module _ (P : Spot → Decl → Type 0) (facts : Facts) (Owned : Spot → Type 0
     statement_good (Statement-F.Exchange span left right) own blocks fit = both (expr_found left place blocks) _ (expr left blocks fit) (expr right blocks fit)
     statement_good (Statement-F.Increment span target) own blocks fit = expr target blocks fit
     statement_good (Statement-F.Decrement span target) own blocks fit = expr target blocks fit
-    statement_good (Statement-F.If span branches None) own blocks fit = both (all_found (map branch_found (map (λ (e : B). e.0) branches)) place blocks) [] (all_good branch_found (branch_in facts) branches (each-left Owned (lists (map (branch_in facts) (map (λ (e : B). e.0) branches))) [] own) blocks fit) tt
+    statement_good (Statement-F.If span branches None) own blocks fit = both (all_found (map branch_found (map (λ (e : B). e.0) branches)) place blocks) [] (all_good branch_found (branch_declared facts) branches (each-left Owned (lists (map (branch_declared facts) (map (λ (e : B). e.0) branches))) [] own) blocks fit) tt
     statement_good (Statement-F.If span branches (Some items)) own blocks fit = branches_good branches items own blocks fit
-    statement_good (Statement-F.Do span branches None) own blocks fit = both (all_found (map branch_found (map (λ (e : B). e.0) branches)) place blocks) [] (all_good branch_found (branch_in facts) branches (each-left Owned (lists (map (branch_in facts) (map (λ (e : B). e.0) branches))) [] own) blocks fit) tt
+    statement_good (Statement-F.Do span branches None) own blocks fit = both (all_found (map branch_found (map (λ (e : B). e.0) branches)) place blocks) [] (all_good branch_found (branch_declared facts) branches (each-left Owned (lists (map (branch_declared facts) (map (λ (e : B). e.0) branches))) [] own) blocks fit) tt
     statement_good (Statement-F.Do span branches (Some items)) own blocks fit = branches_good branches items own blocks fit
     statement_good (Statement-F.ForAll span quantifiers block) own blocks fit =
         let within = exprs.blocks_opened P blocks fit in
         both (quantifiers_found quantifiers place (opened blocks)) _ (quantifiers_fit quantifiers (each-left Owned (quantifier_spots quantifiers) _ own) (opened blocks) within)
         (block_good block (each-right Owned (quantifier_spots quantifiers) _ own) (with_quantifiers quantifiers (opened blocks)) (quantifiers_scope quantifiers (each-left Owned (quantifier_spots quantifiers) _ own) (opened blocks) within))
-    statement_good (Statement-F.In span arms None) own blocks fit = both (all_found (map arm_found (map (λ (e : A). e.0) arms)) place blocks) [] (all_good arm_found (arm_in facts) arms (each-left Owned (lists (map (arm_in facts) (map (λ (e : A). e.0) arms))) [] own) blocks fit) tt
+    statement_good (Statement-F.In span arms None) own blocks fit = both (all_found (map arm_found (map (λ (e : A). e.0) arms)) place blocks) [] (all_good arm_found (arm_declared facts) arms (each-left Owned (lists (map (arm_declared facts) (map (λ (e : A). e.0) arms))) [] own) blocks fit) tt
     statement_good (Statement-F.In span arms (Some items)) own blocks fit =
-        both (all_found (map arm_found (map (λ (e : A). e.0) arms)) place blocks) _ (all_good arm_found (arm_in facts) arms (each-left Owned (lists (map (arm_in facts) (map (λ (e : A). e.0) arms))) _ own) blocks fit)
-        (block_good items (each-right Owned (lists (map (arm_in facts) (map (λ (e : A). e.0) arms))) _ own) blocks fit)
-    statement_good (Statement-F.Co span arms) own blocks fit = all_good co_arm_found (co_arm_in facts) arms own blocks fit
+        both (all_found (map arm_found (map (λ (e : A). e.0) arms)) place blocks) _ (all_good arm_found (arm_declared facts) arms (each-left Owned (lists (map (arm_declared facts) (map (λ (e : A). e.0) arms))) _ own) blocks fit)
+        (block_good items (each-right Owned (lists (map (arm_declared facts) (map (λ (e : A). e.0) arms))) _ own) blocks fit)
+    statement_good (Statement-F.Co span arms) own blocks fit = all_good co_arm_found (co_arm_declared facts) arms own blocks fit
     statement_good (Statement-F.Destroy span target) own blocks fit = expr target blocks fit
     statement_good (Statement-F.Create span create) own blocks fit = exprs.create_fits P place outer create blocks fit
 
@@ -431,84 +431,84 @@ module _ (P : Spot → Decl → Type 0) (facts : Facts) (Owned : Spot → Type 0
     step_item : (x : BlockItem-F BlockItem Statement Arm Branch CoArm) (y : BlockItem-F I T A B C) → bare_item y ≡ x → ItemGood (roll-BlockItem x)
     step_item x y is = subst (λ z. ItemGood (roll-BlockItem z)) is (λ own blocks fit.
         subst (λ (steps : Steps). StepFits (steps place blocks)) (sym (fold-roll-BlockItem Steps Finds Finds Finds Finds item_step statement_step arm_step branch_step co_arm_step (bare_item y)))
-        (item_good y (subst Own (fold-roll-BlockItem (List Spot) (List Spot) (List Spot) (List Spot) (List Spot) (block_item_names facts) (statement_names facts) arm_names (λ branch. lists branch.block) co_arm_names (bare_item y)) own) blocks fit))
+        (item_good y (subst Own (fold-roll-BlockItem (List Spot) (List Spot) (List Spot) (List Spot) (List Spot) (block_item_names facts) statement_declared arm_names (λ branch. lists branch.block) co_arm_names (bare_item y)) own) blocks fit))
 
     step_statement : (x : Statement-F BlockItem Statement Arm Branch CoArm) (y : Statement-F I T A B C) → bare y ≡ x → Good (roll-Statement x)
     step_statement x y is = subst (λ z. Good (roll-Statement z)) is (λ own blocks fit.
         subst (λ (finds : Finds). All (finds place blocks)) (sym (fold-roll-Statement Steps Finds Finds Finds Finds item_step statement_step arm_step branch_step co_arm_step (bare y)))
-        (statement_good y (subst Own (fold-roll-Statement (List Spot) (List Spot) (List Spot) (List Spot) (List Spot) (block_item_names facts) (statement_names facts) arm_names (λ branch. lists branch.block) co_arm_names (bare y)) own) blocks fit))
+        (statement_good y (subst Own (fold-roll-Statement (List Spot) (List Spot) (List Spot) (List Spot) (List Spot) (block_item_names facts) statement_declared arm_names (λ branch. lists branch.block) co_arm_names (bare y)) own) blocks fit))
 
     step_arm : (x : Arm-F BlockItem Statement Arm Branch CoArm) (y : Arm-F I T A B C) → bare_arm y ≡ x → ArmGood (roll-Arm x)
     step_arm x y is = subst (λ z. ArmGood (roll-Arm z)) is (λ own blocks fit.
         subst (λ (finds : Finds). All (finds place blocks)) (sym (fold-roll-Arm Steps Finds Finds Finds Finds item_step statement_step arm_step branch_step co_arm_step (bare_arm y)))
-        (arm_good y (subst Own (fold-roll-Arm (List Spot) (List Spot) (List Spot) (List Spot) (List Spot) (block_item_names facts) (statement_names facts) arm_names (λ branch. lists branch.block) co_arm_names (bare_arm y)) own) blocks fit))
+        (arm_good y (subst Own (fold-roll-Arm (List Spot) (List Spot) (List Spot) (List Spot) (List Spot) (block_item_names facts) statement_declared arm_names (λ branch. lists branch.block) co_arm_names (bare_arm y)) own) blocks fit))
 
     step_branch : (x : Branch-F BlockItem Statement Arm Branch CoArm) (y : Branch-F I T A B C) → bare_branch y ≡ x → BranchGood (roll-Branch x)
     step_branch x y is = subst (λ z. BranchGood (roll-Branch z)) is (λ own blocks fit.
         subst (λ (finds : Finds). All (finds place blocks)) (sym (fold-roll-Branch Steps Finds Finds Finds Finds item_step statement_step arm_step branch_step co_arm_step (bare_branch y)))
-        (branch_good y (subst Own (fold-roll-Branch (List Spot) (List Spot) (List Spot) (List Spot) (List Spot) (block_item_names facts) (statement_names facts) arm_names (λ branch. lists branch.block) co_arm_names (bare_branch y)) own) blocks fit))
+        (branch_good y (subst Own (fold-roll-Branch (List Spot) (List Spot) (List Spot) (List Spot) (List Spot) (block_item_names facts) statement_declared arm_names (λ branch. lists branch.block) co_arm_names (bare_branch y)) own) blocks fit))
 
     step_co_arm : (x : CoArm-F BlockItem Statement Arm Branch CoArm) (y : CoArm-F I T A B C) → bare_co_arm y ≡ x → CoArmGood (roll-CoArm x)
     step_co_arm x y is = subst (λ z. CoArmGood (roll-CoArm z)) is (λ own blocks fit.
         subst (λ (finds : Finds). All (finds place blocks)) (sym (fold-roll-CoArm Steps Finds Finds Finds Finds item_step statement_step arm_step branch_step co_arm_step (bare_co_arm y)))
-        (co_arm_good y (subst Own (fold-roll-CoArm (List Spot) (List Spot) (List Spot) (List Spot) (List Spot) (block_item_names facts) (statement_names facts) arm_names (λ branch. lists branch.block) co_arm_names (bare_co_arm y)) own) blocks fit))
+        (co_arm_good y (subst Own (fold-roll-CoArm (List Spot) (List Spot) (List Spot) (List Spot) (List Spot) (block_item_names facts) statement_declared arm_names (λ branch. lists branch.block) co_arm_names (bare_co_arm y)) own) blocks fit))
 
     pub statement_fits : (tree : Statement) → Good tree
     statement_fits = ind-Statement ItemGood Good ArmGood BranchGood CoArmGood step_item step_statement step_arm step_branch step_co_arm
 
     -- ---- procs, procedures, processes and final code
 
-    proc_item_fits : (item : ProcItem) → Own (inner_names facts item) → (blocks : Blocks) → Fit blocks → StepFits (proc_item_read item place blocks)
-    proc_item_fits (inner.Const constant) own blocks fit = record {
+    proc_item_fits : (item : ProcItem) → Own (inner_declared facts item) → Each Operated (inner_operations item) → (blocks : Blocks) → Fit blocks → StepFits (proc_item_read item place blocks)
+    proc_item_fits (inner.Const constant) own operated blocks fit = record {
       found = both (const_found constant place blocks) _ (const_fits constant blocks fit) (twice Constant constant.name blocks.inner);
       inner = exprs.name_table P Constant constant.name (const_may constant own) blocks.inner fit.innermost;
     }
-    proc_item_fits (inner.Var variables) own blocks fit = record {
+    proc_item_fits (inner.Var variables) own operated blocks fit = record {
       found = both (var_found variables place blocks) _ (var_fits variables blocks fit) (names_twice Variable (var_names variables) blocks.inner);
       inner = exprs.names_table P Variable (var_names variables) (vars_may variables own) blocks.inner fit.innermost;
     }
-    proc_item_fits (inner.Op operations) own blocks fit = record {
+    proc_item_fits (inner.Op operations) own operated blocks fit = record {
       found = both (op_items_found operations.items place blocks) _ (op_items_fit operations.items blocks fit) (names_twice Operation (map op_name operations.items) blocks.inner);
-      inner = exprs.names_table P Operation (map op_name operations.items) (operations_may (map op_name operations.items)) blocks.inner fit.innermost;
+      inner = exprs.names_table P Operation (map op_name operations.items) (operations_may (map op_name operations.items) operated) blocks.inner fit.innermost;
     }
-    proc_item_fits (inner.Sem declared) own blocks fit = record {
+    proc_item_fits (inner.Sem declared) own operated blocks fit = record {
       found = both (semaphores_found declared.semaphores place blocks) _ (semaphores_fit declared.semaphores blocks fit) (names_twice Operation (semaphore_names declared.semaphores) blocks.inner);
-      inner = exprs.names_table P Operation (semaphore_names declared.semaphores) (operations_may (semaphore_names declared.semaphores)) blocks.inner fit.innermost;
+      inner = exprs.names_table P Operation (semaphore_names declared.semaphores) (operations_may (semaphore_names declared.semaphores) operated) blocks.inner fit.innermost;
     }
-    proc_item_fits (inner.Statement statement) own blocks fit = record { found = statement_fits statement own blocks fit; inner = fit.innermost }
+    proc_item_fits (inner.Statement statement) own operated blocks fit = record { found = statement_fits statement own blocks fit; inner = fit.innermost }
 
-    block_fits : (items : List ProcItem) → Own (flat_map (inner_names facts) items) → (blocks : Blocks) → Fit blocks → All (proc_items_found items place blocks)
-    block_fits [] own blocks fit = tt
-    block_fits (item ∷ items) own blocks fit =
-        let step = proc_item_fits item (each-left Owned (inner_names facts item) _ own) blocks fit in
+    block_fits : (items : List ProcItem) → Own (flat_map (inner_declared facts) items) → Each Operated (flat_map inner_operations items) → (blocks : Blocks) → Fit blocks → All (proc_items_found items place blocks)
+    block_fits [] own operated blocks fit = tt
+    block_fits (item ∷ items) own operated blocks fit =
+        let step = proc_item_fits item (each-left Owned (inner_declared facts item) _ own) (each-left Operated (inner_operations item) _ operated) blocks fit in
         let after = (proc_item_read item place blocks).inner in
         both (proc_item_read item place blocks).found _ step.found
-        (block_fits items (each-right Owned (inner_names facts item) _ own) (with_inner blocks after) (exprs.blocks_with P blocks after fit step.inner))
+        (block_fits items (each-right Owned (inner_declared facts item) _ own) (each-right Operated (inner_operations item) _ operated) (with_inner blocks after) (exprs.blocks_with P blocks after fit step.inner))
 
-    pub proc_fits : (proc : Proc) → Own (map spot_named proc.formals) → Own (returned_names proc.returned) → Own (flat_map (inner_names facts) proc.block)
-        → (blocks : Blocks) → Fit blocks → All (proc_found proc place blocks)
-    proc_fits proc formals returned own blocks fit =
+    pub proc_fits : (proc : Proc) → Own (map spot_named proc.formals) → Own (returned_names proc.returned) → Own (flat_map (inner_declared facts) proc.block)
+        → Each Operated (flat_map inner_operations proc.block) → (blocks : Blocks) → Fit blocks → All (proc_found proc place blocks)
+    proc_fits proc formals returned own operated blocks fit =
         both (name_found place blocks proc.name) _ (name blocks fit proc.name)
         (both (arm_twice proc.formals proc.returned) _ (arm_twice_fits proc.formals proc.returned)
-        (block_fits proc.block own (arm_scope proc.formals proc.returned blocks) (arm_scope_fits proc.formals proc.returned formals returned blocks fit)))
+        (block_fits proc.block own operated (arm_scope proc.formals proc.returned blocks) (arm_scope_fits proc.formals proc.returned formals returned blocks fit)))
 
     pub procedure_fits : (procedure : Procedure) → Own (formal_names (out-Signature procedure.signature).formals) → Own (signature_returned procedure.signature)
-        → Own (flat_map (inner_names facts) procedure.block) → (blocks : Blocks) → Fit blocks → All (procedure_found procedure place blocks)
-    procedure_fits procedure formals returned own blocks fit =
+        → Own (flat_map (inner_declared facts) procedure.block) → Each Operated (flat_map inner_operations procedure.block) → (blocks : Blocks) → Fit blocks → All (procedure_found procedure place blocks)
+    procedure_fits procedure formals returned own operated blocks fit =
         let signed = signature_may procedure.signature formals returned in
         both (signed_found (signature_read procedure.signature) place blocks) _ (exprs.signature_fits P place outer procedure.signature blocks fit)
         (both (signed_twice (signature_read procedure.signature) []) _ (exprs.signed_twice_fit P (signature_read procedure.signature) [])
-        (block_fits procedure.block own (with_inner (opened blocks) (signed_declared (signature_read procedure.signature) []))
+        (block_fits procedure.block own operated (with_inner (opened blocks) (signed_declared (signature_read procedure.signature) []))
         (exprs.blocks_with P (opened blocks) _ (exprs.blocks_opened P blocks fit) (exprs.signed_table P (signature_read procedure.signature) signed.0 signed.1 [] (exprs.none_fit P)))))
 
-    pub process_fits : (process : Process) → Own (quantifier_spots process.quantifiers) → Own (flat_map (inner_names facts) process.block)
-        → (blocks : Blocks) → Fit blocks → All (process_found process place blocks)
-    process_fits process quantified own blocks fit =
+    pub process_fits : (process : Process) → Own (quantifier_spots process.quantifiers) → Own (flat_map (inner_declared facts) process.block)
+        → Each Operated (flat_map inner_operations process.block) → (blocks : Blocks) → Fit blocks → All (process_found process place blocks)
+    process_fits process quantified own operated blocks fit =
         both (quantifiers_found process.quantifiers place (opened blocks)) _ (quantifiers_fit process.quantifiers quantified (opened blocks) (exprs.blocks_opened P blocks fit))
         (both (declares.names_twice Variable (quantifier_names process.quantifiers) []) _ (names_twice Variable (quantifier_names process.quantifiers) [])
-        (block_fits process.block own (with_inner (opened blocks) (names_declared Variable (quantifier_names process.quantifiers) []))
+        (block_fits process.block own operated (with_inner (opened blocks) (names_declared Variable (quantifier_names process.quantifiers) []))
         (exprs.blocks_with P (opened blocks) _ (exprs.blocks_opened P blocks fit)
         (exprs.names_table P Variable (quantifier_names process.quantifiers) (quantifiers_may Variable refl process.quantifiers quantified) [] (exprs.none_fit P)))))
 
-    pub final_fits : (final : FinalCode) → Own (flat_map (inner_names facts) final.block) → (blocks : Blocks) → Fit blocks → All (final_found final place blocks)
-    final_fits final own blocks fit = block_fits final.block own (opened blocks) (exprs.blocks_opened P blocks fit)
+    pub final_fits : (final : FinalCode) → Own (flat_map (inner_declared facts) final.block) → Each Operated (flat_map inner_operations final.block) → (blocks : Blocks) → Fit blocks → All (final_found final place blocks)
+    final_fits final own operated blocks fit = block_fits final.block own operated (opened blocks) (exprs.blocks_opened P blocks fit)

@@ -80,7 +80,7 @@ module _ (files : List File) (P : Spot → Decl → Type 0)
   abbrev Table : Entries → Type 0
   Table = exprs.TableFits P
 
-  abbrev Found : Option Decl → Type 0
+  abbrev pub Found : Option Decl → Type 0
   Found = exprs.FoundFits P
 
   abbrev Fits : Spot → Option Meaning → Type 0
@@ -150,7 +150,7 @@ module _ (files : List File) (P : Spot → Decl → Type 0)
   shown_by component None fits = tt
   shown_by component (Some decl) fits = hidden_fits (is_hidden component.sort decl.sort) decl fits
 
-  spec_named : (text : List ℕ) (found : Option Entries) → SpecFits found → Found (option_and_then (λ table. declared_as table text) found)
+  pub spec_named : (text : List ℕ) (found : Option Entries) → SpecFits found → Found (option_and_then (λ table. declared_as table text) found)
   spec_named text None fits = tt
   spec_named text (Some table) fits = fits text
 
@@ -186,7 +186,7 @@ module _ (files : List File) (P : Spot → Decl → Type 0)
         by (Some (Declared d)) is = meant_fits text at d (means files component there text at d (outside_less place within text at d is))
 
     pub place_fits : (within : Option Spot) → exprs.PlaceFits P (inside place within)
-    place_fits within = record { names = names_fit within; members = member_fits (inside place within) (known.specs) }
+    place_fits within = record { names = names_fit within; members = λ named is. member_fits (inside place within) (known.specs) named }
 
   pub no_blocks_fit : exprs.BlocksFit P no_blocks
   no_blocks_fit = record { innermost = exprs.none_fit P; outer = tt }

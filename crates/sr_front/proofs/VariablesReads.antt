@@ -1,10 +1,11 @@
 -- Where all that the guards of arms mention passes a test, so do the shared variables that they read.
-use Rattle.std.proofs.Common.{Bool, true, false, List, [], ◌∷◌, ◌++◌, IsTrue, flat_map, fold, refl, if◌then◌else◌}
+use Rattle.std.proofs.Common.{◌&&◌, Bool, true, false, List, [], ◌∷◌, ◌++◌, IsTrue, flat_map, fold, refl, if◌then◌else◌}
 use Rattle.std.proofs.lemmas.Bool.{and_from}
 use Rattle.std.specs.List.{filter_map, list_all, list_any}
 use Rattle.sr_core.specs.declared.owner.Root.TheVariants as root
 use Rattle.sr_core.specs.declared.site.Arm.{Arm}
 use Rattle.sr_core.specs.declared.site.SharedRead.{SharedRead}
+use Rattle.sr_core.specs.declared.site.Site.{Site}
 use Rattle.sr_lower_expr.proofs.Each.{both_pass, first_passes, rest_passes}
 use Rattle.sr_tables.specs.declared.sites.Mention.{Mention}
 use Rattle.sr_tables.specs.declared.sites.Mention.TheVariants as mention
@@ -35,3 +36,7 @@ module _ (test : Mention → Bool) where
   -- what is read is mentioned
   pub reads_pass : (arms : List Arm) → IsTrue (list_all test (flat_map arm_mentions arms)) → IsTrue (list_all read_passes (reads_of arms))
   reads_pass arms passes = all_more (flat_map arm_mentions arms) [] refl passes
+
+-- what the guards and orders of a site mention passes a test, and so do the shared variables in its list of what they read
+abbrev pub site_passes : (Mention → Bool) → Site → Bool
+site_passes test site = list_all test (flat_map arm_mentions site.arms) && list_all (read_passes test) site.reads
