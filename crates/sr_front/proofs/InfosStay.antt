@@ -111,10 +111,6 @@ module _ (names : List Span) (before after : Facts) (reads : Reads names before 
   pub fresh_after : (others : List Span) → AllAway names others → Fresh others before → Fresh others after
   fresh_after others apart fresh = reads (KnownIn (λ spot. Away spot others)) (λ spot. Away spot others) (in_steady (λ spot. Away spot others)) apart fresh
 
-  -- what is known after is known before, or at one of the names
-  pub known_by : (Spots : Spot → Type 0) → Names Spots names → KnownIn Spots before → KnownIn Spots after
-  known_by Spots free known = reads (KnownIn Spots) Spots (in_steady Spots) free known
-
 pub fresh_left : (xs ys : List Span) (facts : Facts) → Fresh (xs ++ ys) facts → Fresh xs facts
 fresh_left xs ys facts fresh spot one is = each-left (λ span. Other spot (spot_of span)) xs ys (fresh spot one is)
 

@@ -61,19 +61,19 @@ pub record Declares (Q : Facts → Type 0) (Free : Spot → Type 0) : Type 0 whe
   pub standing : (facts : Facts) (component : Decl) → Q facts → Q (standing facts component)
 
 module _ (Q : Facts → Type 0) (Free : Spot → Type 0) (declares : Declares Q Free) where
-  abbrev FreeName : Span → Type 0
+  abbrev pub FreeName : Span → Type 0
   FreeName span = Free (spot_of span)
 
-  abbrev AllFree : List Span → Type 0
+  abbrev pub AllFree : List Span → Type 0
   AllFree = Each FreeName
 
   -- ---- constants, variables and types
 
-  keeps_vars : (type : Ty) (decls : List DeclTree) (facts : Facts) → Each (λ decl. AllFree (decl_names decl)) decls → Q facts → Q (vars_declared type decls facts)
+  pub keeps_vars : (type : Ty) (decls : List DeclTree) (facts : Facts) → Each (λ decl. AllFree (decl_names decl)) decls → Q facts → Q (vars_declared type decls facts)
   keeps_vars type [] facts free h = h
   keeps_vars type (decl ∷ decls) facts free h = keeps_vars type decls _ free.1 (declares.put facts (spot_of decl.name.span) _ free.0.0 h)
 
-  keeps_if : (b : Bool) (name : Name) (typed : Typed) (facts : Facts) → FreeName name.span → Q facts → Q (declared_if b name typed facts)
+  pub keeps_if : (b : Bool) (name : Name) (typed : Typed) (facts : Facts) → FreeName name.span → Q facts → Q (declared_if b name typed facts)
   keeps_if true name typed facts free h = declares.put facts (spot_of name.span) (info.Value typed) free h
   keeps_if false name typed facts free h = h
 
@@ -94,16 +94,16 @@ module _ (Q : Facts → Type 0) (Free : Spot → Type 0) (declares : Declares Q 
   keeps_var : (variables : VarDecl) (facts : Facts) → AllFree (var_names variables) → Q facts → Q (var_declared variables facts)
   keeps_var variables facts free h = keeps_var_by variables.ty variables _ (decls_free variables free) (keeps_written Q declares.entered variables.ty facts h)
 
-  keeps_literals : (at : Spot) (number index : ℕ) (names : List Name) (facts : Facts) → AllFree (names_spans names) → Q facts → Q (literals_declared at number index names facts)
+  pub keeps_literals : (at : Spot) (number index : ℕ) (names : List Name) (facts : Facts) → AllFree (names_spans names) → Q facts → Q (literals_declared at number index names facts)
   keeps_literals at number index [] facts free h = h
   keeps_literals at number index (name ∷ names) facts free h = keeps_literals at number (index + 1) names _ free.1 (declares.put facts (spot_of name.span) _ free.0 h)
 
-  keeps_layer : (layer : TypeTree-F TypeTree Formal Returned SignatureTree) (tally : Tally) → AllFree (layer_words layer) → Q tally.facts → Q (layer_declared layer tally).facts
+  pub keeps_layer : (layer : TypeTree-F TypeTree Formal Returned SignatureTree) (tally : Tally) → AllFree (layer_words layer) → Q tally.facts → Q (layer_declared layer tally).facts
   keeps_layer (TypeTree-F.Enum span literals) tally free h = keeps_literals _ _ _ literals _ free.1 (declares.put tally.facts (spot_of span) _ free.0 h)
   keeps_layer (TypeTree-F.Rec span fields) tally free h = declares.put tally.facts (spot_of span) _ free.0 h
   keeps_layer _ tally free h = h
 
-  keeps_types : (trees : List TypeTree) (tally : Tally) → AllFree (flat_map words_of trees) → Q tally.facts → Q (types_declared trees tally).facts
+  pub keeps_types : (trees : List TypeTree) (tally : Tally) → AllFree (flat_map words_of trees) → Q tally.facts → Q (types_declared trees tally).facts
   keeps_types [] tally free h = h
   keeps_types (tree ∷ trees) tally free h =
       keeps_types trees _ (each-right FreeName (words_of tree) (flat_map words_of trees) free) (keeps_layer (out-TypeTree tree) tally (each-left FreeName (words_of tree) (flat_map words_of trees) free) h)
@@ -117,18 +117,18 @@ module _ (Q : Facts → Type 0) (Free : Spot → Type 0) (declares : Declares Q 
 
   -- ---- operations
 
-  keeps_declared_ops : (ops : List OpItem) (facts : Facts) → Q facts → Q (ops_declared false ops facts)
+  pub keeps_declared_ops : (ops : List OpItem) (facts : Facts) → Q facts → Q (ops_declared false ops facts)
   keeps_declared_ops [] facts h = h
   keeps_declared_ops (op ∷ ops) facts h = keeps_declared_ops ops _ (declares.operation facts (spot_of (op_item_name op).span) (op_type facts op) facts.here.component.spot false h)
 
-  keeps_sems : (semaphores : List Semaphore) (facts : Facts) → Q facts → Q (sems_declared false semaphores facts)
+  pub keeps_sems : (semaphores : List Semaphore) (facts : Facts) → Q facts → Q (sems_declared false semaphores facts)
   keeps_sems [] facts h = h
   keeps_sems (semaphore ∷ more) facts h =
       keeps_sems more _ (declares.operation (entered semaphore_signature facts) (spot_of semaphore.name.span) _ _ false (declares.entered facts semaphore_signature h))
 
   -- ---- items
 
-  keeps_spec_item : (in_spec : Bool) (inner : SpecItem) (tally : Tally) → AllFree (spec_plain inner) → Q tally.facts → Q (spec_item_declared in_spec inner tally).facts
+  pub keeps_spec_item : (in_spec : Bool) (inner : SpecItem) (tally : Tally) → AllFree (spec_plain inner) → Q tally.facts → Q (spec_item_declared in_spec inner tally).facts
   keeps_spec_item in_spec (spec.Import imports) tally free h = h
   keeps_spec_item in_spec (spec.Const constant) tally free h = keeps_const in_spec constant tally.facts free h
   keeps_spec_item in_spec (spec.«Type» named) tally free h = keeps_named_type named tally free h
@@ -138,7 +138,7 @@ module _ (Q : Facts → Type 0) (Free : Spot → Type 0) (declares : Declares Q 
   keeps_spec_item in_spec (spec.Var variables) tally free h = keeps_var variables tally.facts free h
   keeps_spec_item in_spec (spec.Sem semaphores) tally free h = keeps_sems semaphores.semaphores tally.facts h
 
-  keeps_item : (inner : Item) (tally : Tally) → AllFree (item_plain inner) → Q tally.facts → Q (item_declared inner tally).facts
+  pub keeps_item : (inner : Item) (tally : Tally) → AllFree (item_plain inner) → Q tally.facts → Q (item_declared inner tally).facts
   keeps_item (item.Spec inner) tally free h = keeps_spec_item false inner tally free h
   keeps_item (item.Procedure procedure) tally free h =
       declares.operation (signature_entered procedure.signature tally.facts) (spot_of procedure.name.span) _ _ false (keeps_signature Q declares.entered procedure.signature tally.facts h)
@@ -148,23 +148,23 @@ module _ (Q : Facts → Type 0) (Free : Spot → Type 0) (declares : Declares Q 
   keeps_item (item.Final final) tally free h = h
   keeps_item (item.Statement statement) tally free h = h
 
-  keeps_spec : (items : List SpecItem) (tally : Tally) → AllFree (flat_map spec_plain items) → Q tally.facts → Q (spec_items_declared items tally).facts
+  pub keeps_spec : (items : List SpecItem) (tally : Tally) → AllFree (flat_map spec_plain items) → Q tally.facts → Q (spec_items_declared items tally).facts
   keeps_spec [] tally free h = h
   keeps_spec (inner ∷ more) tally free h =
       keeps_spec more _ (each-right FreeName (spec_plain inner) _ free) (keeps_spec_item true inner tally (each-left FreeName (spec_plain inner) _ free) h)
 
-  keeps_items : (items : List Item) (tally : Tally) → AllFree (flat_map item_plain items) → Q tally.facts → Q (items_declared items tally).facts
+  pub keeps_items : (items : List Item) (tally : Tally) → AllFree (flat_map item_plain items) → Q tally.facts → Q (items_declared items tally).facts
   keeps_items [] tally free h = h
   keeps_items (inner ∷ more) tally free h =
       keeps_items more _ (each-right FreeName (item_plain inner) _ free) (keeps_item inner tally (each-left FreeName (item_plain inner) _ free) h)
 
   -- ---- components
 
-  keeps_params : (params : List NamedParam) (facts : Facts) → Each (λ param. Free param.spot) params → Q facts → Q (params_declared params facts)
+  pub keeps_params : (params : List NamedParam) (facts : Facts) → Each (λ param. Free param.spot) params → Q facts → Q (params_declared params facts)
   keeps_params [] facts free h = h
   keeps_params (param ∷ params) facts free h = keeps_params params _ free.1 (declares.put facts param.spot _ free.0 h)
 
-  keeps_head : (tree : Component) (facts : Facts) → FreeName (name_of tree).span → AllFree (flat_map formal_names (formals_of tree)) → Q facts → Q (head_declared tree facts)
+  pub keeps_head : (tree : Component) (facts : Facts) → FreeName (name_of tree).span → AllFree (flat_map formal_names (formals_of tree)) → Q facts → Q (head_declared tree facts)
   keeps_head tree facts free formals h =
       let entering = formals_entered (formals_of tree) facts in
       let params = component_formals entering (formals_of tree) in
@@ -173,7 +173,7 @@ module _ (Q : Facts → Type 0) (Free : Spot → Type 0) (declares : Declares Q 
       keeps_params params (component_typed (name_of tree) (making params) made) (component_params_free Free (formals_of tree) entering formals)
       (declares.put made (spot_of (name_of tree).span) _ free after)
 
-  keeps_component : (component : Component) (tally : Tally) → AllFree (component_plain component) → Q tally.facts → Q (component_declared component tally).facts
+  pub keeps_component : (component : Component) (tally : Tally) → AllFree (component_plain component) → Q tally.facts → Q (component_declared component tally).facts
   keeps_component component tally free h =
       let specs = flat_map spec_plain (spec_of component) in
       let formals = flat_map formal_names (formals_of component) in
@@ -182,25 +182,25 @@ module _ (Q : Facts → Type 0) (Free : Spot → Type 0) (declares : Declares Q 
       (keeps_head component _ free.0 (each-left FreeName formals _ after)
       (keeps_spec (spec_of component) _ (each-left FreeName specs _ free.1) (declares.standing tally.facts (component_decl component) h)))
 
-  abbrev ComponentFree : Component → Type 0
+  abbrev pub ComponentFree : Component → Type 0
   ComponentFree component = AllFree (component_plain component)
 
-  keeps_components : (components : List Component) (tally : Tally) → Each ComponentFree components → Q tally.facts → Q (components_declared components tally).facts
+  pub keeps_components : (components : List Component) (tally : Tally) → Each ComponentFree components → Q tally.facts → Q (components_declared components tally).facts
   keeps_components [] tally free h = h
   keeps_components (component ∷ more) tally free h = keeps_components more _ free.1 (keeps_component component tally free.0 h)
 
-  abbrev FilesFree : List File → Type 0
+  abbrev pub FilesFree : List File → Type 0
   FilesFree = Each (λ file. Each ComponentFree file.components)
 
-  keeps_files : (files : List File) (tally : Tally) → FilesFree files → Q tally.facts → Q (files_declared files tally).facts
+  pub keeps_files : (files : List File) (tally : Tally) → FilesFree files → Q tally.facts → Q (files_declared files tally).facts
   keeps_files [] tally free h = h
   keeps_files (file ∷ files) tally free h = keeps_files files _ free.1 (keeps_components file.components tally free.0 h)
 
-  keeps_named : (components : List Component) (facts : Facts) → Each ComponentFree components → Q facts → Q (components_named components facts)
+  pub keeps_named : (components : List Component) (facts : Facts) → Each ComponentFree components → Q facts → Q (components_named components facts)
   keeps_named [] facts free h = h
   keeps_named (component ∷ more) facts free h = keeps_named more _ free.1 (declares.put facts (spot_of (name_of component).span) _ free.0.0 h)
 
-  keeps_files_named : (files : List File) (facts : Facts) → FilesFree files → Q facts → Q (files_named files facts)
+  pub keeps_files_named : (files : List File) (facts : Facts) → FilesFree files → Q facts → Q (files_named files facts)
   keeps_files_named [] facts free h = h
   keeps_files_named (file ∷ files) facts free h = keeps_files_named files _ free.1 (keeps_named file.components facts free.0 h)
 

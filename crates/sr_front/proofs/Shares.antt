@@ -67,7 +67,7 @@ files_share (file ∷ files) =
 
 -- ---- at different spots
 
-other_way : (a b : Spot) → same_spot a b ≡ false → same_spot b a ≡ false
+pub other_way : (a b : Spot) → same_spot a b ≡ false → same_spot b a ≡ false
 other_way a b apart = by (same_spot-cases b a)
   where
     by : (b ≡ a) ⊎ (same_spot b a ≡ false) → same_spot b a ≡ false
