@@ -15,6 +15,7 @@ pub mod ConstantsWait
 pub mod CoreComponents
 pub mod CoreParts
 pub mod Declared
+pub mod DeclaredAgrees
 pub mod DeclaredIn
 pub mod DeclaredThen
 pub mod Distinct
@@ -23,9 +24,11 @@ pub mod EffectFreeCore
 pub mod EffectFreeExprs
 pub mod EffectFreeRules
 pub mod EffectFreeSites
+pub mod EnteredAgain
 pub mod ExprParts
 pub mod ExprsStay
 pub mod FileByFile
+pub mod FilesInOrder
 pub mod FinalOperations
 pub mod Findings
 pub mod FirmNames
@@ -38,6 +41,8 @@ pub mod FreeFiles
 pub mod Globals
 pub mod GuardCode
 pub mod GuardSites
+pub mod HalfProgram
+pub mod HalfWalk
 pub mod HeadCounts
 pub mod HeadTrees
 pub mod Headed
@@ -56,6 +61,7 @@ pub mod InvokesRules
 pub mod InvokesStatements
 pub mod InvokesTargets
 pub mod InvokesTrees
+pub mod ItemsInOrder
 pub mod KeptBy
 pub mod KeptCode
 pub mod KeptDeclared
@@ -83,6 +89,7 @@ pub mod Operations
 pub mod OperationsApart
 pub mod Optypes
 pub mod OptypesKnown
+pub mod OrderKept
 pub mod OwnApart
 pub mod OwnCode
 pub mod OwnCore
@@ -102,6 +109,9 @@ pub mod ProgramFits
 pub mod ProgramReads
 pub mod ProgramWords
 pub mod ReadsCode
+pub mod RecordsAgain
+pub mod RecordsWithin
+pub mod RightNames
 pub mod Rising
 pub mod RootsHad
 pub mod SameThen
@@ -122,6 +132,7 @@ pub mod StaticExprs
 pub mod StaticNames
 pub mod StaticTyped
 pub mod Staying
+pub mod TypeSites
 pub mod TypeSpots
 pub mod Typed
 pub mod TypedCode
@@ -137,6 +148,7 @@ pub mod TypedSpecs
 pub mod TypedSteps
 pub mod TypedTypes
 pub mod TypesBefore
+pub mod TypesInOrder
 pub mod TypesRead
 pub mod TypesStay
 pub mod TypesThen
@@ -162,3 +174,4 @@ pub mod WavedEnds
 pub mod WavesIdle
 pub mod WellFormed
 pub mod WordShares
+pub mod WordsApart
