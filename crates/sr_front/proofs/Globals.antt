@@ -45,14 +45,6 @@ use Rattle.sr_front.proofs.Numbered.{number_at}
 
 -- ---- lists
 
-in_from_member : (n : ℕ) (ns : List ℕ) → member n ns ≡ true → IsIn n ns
-in_from_member n [] h = absurd (false≢true h)
-in_from_member n (m ∷ ns) h = by (or_cases (eqb n m) (member n ns) h) (in_from_member n ns)
-  where
-    by : (eqb n m ≡ true) ⊎ (member n ns ≡ true) → (member n ns ≡ true → IsIn n ns) → IsIn n (m ∷ ns)
-    by (inl e) more = inl (sym (eqb-true n m e))
-    by (inr k) more = inr (more k)
-
 in_flat_map : {A B : Type 0} (f : A → List B) (xs : List A) (b : B) → IsIn b (flat_map f xs) → (a : A) × IsIn a xs × IsIn b (f a)
 in_flat_map f [] b h = absurd h
 in_flat_map {A = A} f (x ∷ xs) b h = by (in_either b (f x) (flat_map f xs) h) (in_flat_map f xs b)
@@ -334,7 +326,7 @@ import_found files from to i g =
     in_files_imports (program files).components files i.importer (import_of files from to i) (in_at (components_in files) from i.importer i.importer_at)
     (in_imports_to (program files).components (decl_of i.importer) (imports_of i.importer) i.name (import_of files from to i) i.among (import_is files from to i g))
 
-link_among : (imports : List Import) (import : Import) → IsIn import imports → Among (links_of imports) import.link
+pub link_among : (imports : List Import) (import : Import) → IsIn import imports → Among (links_of imports) import.link
 link_among [] import h = absurd h
 link_among (first ∷ imports) import (inl e) = inl (ap (λ (i : Import). i.link) e)
 link_among (first ∷ imports) import (inr h) = inr (link_among imports import h)

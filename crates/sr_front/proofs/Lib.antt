@@ -1,3 +1,5 @@
+pub mod AlikeInside
+pub mod AllSettled
 pub mod Allowed
 pub mod AllowedCode
 pub mod Clear
@@ -41,6 +43,7 @@ pub mod FreeFiles
 pub mod Globals
 pub mod GuardCode
 pub mod GuardSites
+pub mod HalfKnown
 pub mod HalfProgram
 pub mod HalfWalk
 pub mod HeadCounts
@@ -69,9 +72,12 @@ pub mod KeptFormals
 pub mod KeptNames
 pub mod KeptProcs
 pub mod KnownHeaded
+pub mod KnownOrWaits
 pub mod Lasting
 pub mod LastingCode
 pub mod Leading
+pub mod LinksBack
+pub mod LiteralsWithin
 pub mod MakingHeaded
 pub mod Members
 pub mod MentionRules
@@ -79,9 +85,16 @@ pub mod MentionedCode
 pub mod MentionedSites
 pub mod Mentions
 pub mod MentionsThere
+pub mod NamesAmong
 pub mod NamesStand
 pub mod NoTypesInCode
 pub mod Numbered
+pub mod NumberedDeclared
+pub mod NumberedExprs
+pub mod NumberedGrows
+pub mod NumberedReads
+pub mod NumberedTypes
+pub mod NumberedWaves
 pub mod NumbersStay
 pub mod OnlyOperations
 pub mod OperationShares
@@ -90,6 +103,7 @@ pub mod OperationsApart
 pub mod Optypes
 pub mod OptypesKnown
 pub mod OrderKept
+pub mod OutsideNames
 pub mod OwnApart
 pub mod OwnCode
 pub mod OwnCore
@@ -114,6 +128,7 @@ pub mod RecordsWithin
 pub mod RightNames
 pub mod Rising
 pub mod RootsHad
+pub mod SameExprs
 pub mod SameThen
 pub mod ServedApart
 pub mod Serviced
@@ -168,10 +183,14 @@ pub mod VariablesReads
 pub mod VariablesValued
 pub mod WaitApart
 pub mod Waiting
+pub mod WaitingChecked
 pub mod WaitingCode
 pub mod WaitingConstants
+pub mod WaitingItems
+pub mod WaitingTyped
 pub mod WavedEnds
 pub mod WavesIdle
+pub mod WavesSettle
 pub mod WellFormed
 pub mod WordShares
 pub mod WordsApart

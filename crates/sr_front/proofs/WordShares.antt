@@ -48,10 +48,10 @@ words_both {s = s} {t = t} a b x y = subst (λ words. Shares (s ++ t) words []) 
 words_after : {t : List Span} (b : List TypeTree) (s : List Span) → Words t b → Words (s ++ t) b
 words_after b s x = both_share (all_left_out s) x
 
-out-enum : (span : Span) (literals : List Name) → out-TypeTree (ty.Enum span literals) ≡ TypeTree-F.Enum span literals
+pub out-enum : (span : Span) (literals : List Name) → out-TypeTree (ty.Enum span literals) ≡ TypeTree-F.Enum span literals
 out-enum span literals = ap out-TypeTree (sym (ty.rolls-Enum span literals)) ∙ out-roll-TypeTree (TypeTree-F.Enum span literals)
 
-out-record : (span : Span) (fields : List Formal) → out-TypeTree (ty.Rec span fields) ≡ TypeTree-F.Rec span fields
+pub out-record : (span : Span) (fields : List Formal) → out-TypeTree (ty.Rec span fields) ≡ TypeTree-F.Rec span fields
 out-record span fields = ap out-TypeTree (sym (ty.rolls-Rec span fields)) ∙ out-roll-TypeTree (TypeTree-F.Rec span fields)
 
 -- an enumeration: its word and its literals
