@@ -16,13 +16,12 @@ use Rattle.sr_core.specs.Tests as tests
 use Rattle.sr_core.specs.WellFormed as wf
 use Rattle.sr_desugar.specs.Core.{LoweredComponent, core_of, whole_of, wholes_of, wholes_from, all_components, component_codes, scene_of}
 use Rattle.sr_outline.specs.Outline.{tables_of, imports_of as numbers_of, imports_at, needs_of, member}
-use Rattle.sr_scope.specs.Components.{can_be_main, last_component, last_of, is_none_of, sort_of}
+use Rattle.sr_scope.specs.Components.{can_be_main, last_component, last_of, sort_of}
 use Rattle.sr_tables.specs.Parts.{components_in, kind_of}
 use Rattle.sr_tables.specs.declared.tables.Tables.{Tables}
 use Rattle.sr_tree.specs.declared.component.Component.{Component}
 use Rattle.sr_tree.specs.declared.component.Component.TheVariants.{Resource, SplitResource, Global}
 use Rattle.sr_tree.specs.declared.component.File.{File}
-use Rattle.sr_tree.specs.declared.types.Formal.{Formal}
 use Rattle.sr_tree.specs.declared.component.Item.{Item}
 use Rattle.sr_tree.specs.declared.component.Item.TheVariants as item
 use Rattle.sr_tree.specs.Components.{final_count}
@@ -112,9 +111,6 @@ last_in (file ∷ next ∷ files) component e =
   where
     place : length (file ∷ next ∷ files) - 1 ≡ suc (length (next ∷ files) - 1)
     place = omega arith
-
-abbrev no_formals : List Formal → Bool
-no_formals formals = is_none_of formals
 
 -- a component that can be main is one in the core
 main_made : (facts : Facts) (tables : Tables) (imports : List (List ℕ)) (number : ℕ) (component : Component) → can_be_main (Some component) ≡ true

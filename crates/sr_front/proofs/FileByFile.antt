@@ -14,10 +14,6 @@ pub record LeadsOn {X Y A B : Type 0} (Passes : ℕ → A → B → Type 0) (Ref
   pub passes : (more : List B) → AllPass Passes at (map f (drop at files)) more → AllPass Passes 0 (map f files) (map g done ++ more)
   pub refuses : (refusal : Refusal) → FirstRefused Passes Refuses at (map f (drop at files)) refusal → FirstRefused Passes Refuses 0 (map f files) refusal
 
-pub begins : {X Y A B : Type 0} (Passes : ℕ → A → B → Type 0) (Refuses : ℕ → A → Refusal → Type 0) (f : X → A) (g : Y → B) (files : List X)
-    → LeadsOn Passes Refuses f g files 0 []
-begins Passes Refuses f g files = record { passes = λ more p. p; refuses = λ refusal p. p }
-
 front_of : {X A : Type 0} (f : X → A) (files : List X) (at : ℕ) (d : X) → at < length files
     → map f (drop at files) ≡ f (get_or files at d) ∷ map f (drop (suc at) files)
 front_of f files at d within = ap (map f) (drop-cons files at d within)

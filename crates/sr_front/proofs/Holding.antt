@@ -71,9 +71,6 @@ use Rattle.sr_front.proofs.Optypes.{OptypesHeaded, table_stays}
 
 -- ---- types of operations
 
-some_info : (a b : Info) → Some a ≡ Some b → a ≡ b
-some_info a b e = cc
-
 is_optype : Option Info → Bool
 is_optype (Some (info.OpType ty)) = true
 is_optype _ = false
@@ -131,7 +128,7 @@ also_unbroken : (first : Option Diagnostic) (found more : List Finding) → (Err
 also_unbroken None found more unbroken nothing = error_free_second found more nothing
 also_unbroken (Some diagnostic) found more unbroken nothing = absurd (none_some diagnostic (sym (unbroken nothing)))
 
-op_headed : (now : Facts) (op : OpItem) → ErrorFree (local_op_found now op) → ErrorFree (head_found now (op_item_name op) (op_type now op))
+pub op_headed : (now : Facts) (op : OpItem) → ErrorFree (local_op_found now op) → ErrorFree (head_found now (op_item_name op) (op_type now op))
 op_headed now op nothing =
     also_unbroken (all_noted none_noted (op_found now op)).first (op_found now op) (head_found now (op_item_name op) (op_type now op)) (none_broken none_noted (op_found now op)) nothing
 

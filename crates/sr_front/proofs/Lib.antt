@@ -39,6 +39,7 @@ pub mod FirstKnown
 pub mod FirstNames
 pub mod FirstShares
 pub mod FirstStays
+pub mod FixedNames
 pub mod FreeFiles
 pub mod Globals
 pub mod GuardCode
@@ -82,7 +83,6 @@ pub mod MakingHeaded
 pub mod Members
 pub mod MentionRules
 pub mod MentionedCode
-pub mod MentionedSites
 pub mod Mentions
 pub mod MentionsThere
 pub mod NamesAmong
@@ -127,6 +127,17 @@ pub mod RecordsAgain
 pub mod RecordsWithin
 pub mod RightNames
 pub mod Rising
+pub mod RootedActions
+pub mod RootedCode
+pub mod RootedComponents
+pub mod RootedCore
+pub mod RootedDecls
+pub mod RootedExprs
+pub mod RootedFits
+pub mod RootedHere
+pub mod RootedNames
+pub mod RootedParts
+pub mod RootedStatements
 pub mod RootsHad
 pub mod SameExprs
 pub mod SameThen
@@ -155,9 +166,11 @@ pub mod TypedDecls
 pub mod TypedExprs
 pub mod TypedHalf
 pub mod TypedItems
+pub mod TypedKnown
 pub mod TypedOps
 pub mod TypedPlaces
 pub mod TypedProcs
+pub mod TypedProgram
 pub mod TypedSignatures
 pub mod TypedSpecs
 pub mod TypedSteps
@@ -168,6 +181,7 @@ pub mod TypesRead
 pub mod TypesStay
 pub mod TypesThen
 pub mod UsableNames
+pub mod UsedSorts
 pub mod UsesAmong
 pub mod UsesInExprs
 pub mod UsesInFiles
@@ -178,9 +192,8 @@ pub mod UsesOutside
 pub mod UsesTwice
 pub mod UsesVisible
 pub mod UsesWithin
-pub mod VariablesHad
 pub mod VariablesReads
-pub mod VariablesValued
+pub mod VariablesStand
 pub mod WaitApart
 pub mod Waiting
 pub mod WaitingChecked

@@ -223,15 +223,6 @@ module _ (P : Together → Type 0) where
   StatementParts scene y =
       Good scene (statement_made scene (made_statement scene (bare y))).sites (statement_step scene.facts.uses (waits_statement scene (bare y))) (statement_called (calls_statement (bare y)))
 
-  abbrev made_items : Scene → List I → List (WithSites Block)
-  made_items scene items = map (core_block_item scene) (map (λ e. e.0) items)
-
-  abbrev waits_items : Scene → List I → List Waits
-  waits_items scene items = map (block_item_waits scene.facts.uses) (map (λ e. e.0) items)
-
-  abbrev calls_items : List I → List (List Called)
-  calls_items items = map block_item_calls (map (λ e. e.0) items)
-
   -- parts, and after them a block that may be left out
   with_none : (scene : Scene) (sites : List Site) (waits : Waits) (calls : List Called) → Good scene sites waits calls → Good scene (sites ++ []) (waits ++ []) (calls ++ [])
   with_none scene sites waits calls good = good_append scene sites [] waits [] calls [] good (λ hold clear. tt)

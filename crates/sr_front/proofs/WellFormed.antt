@@ -4,13 +4,8 @@ use Rattle.std.specs.Prelude.{All, flat_map, IsTrue}
 use Rattle.std.specs.List.{IsDistinct, list_all}
 use Rattle.sr_check.specs.Checked.{checked, first_refused}
 use Rattle.sr_check.specs.Servicing.{AllServiceOwn, ServesShared}
-use Rattle.sr_check.proofs.ErrorFree.{error_free_second}
-use Rattle.sr_check.proofs.Kept.{all_service_own, facts_known, none_found, none_refused, uses_kept}
-use Rattle.sr_check.specs.Components.{components_read}
-use Rattle.sr_check.specs.ErrorFree.{ErrorFree}
-use Rattle.sr_check_decl.specs.Cycles.{leads_left, type_cycles_found}
-use Rattle.sr_check_decl.specs.Inferring.{program_inferred, program_known}
-use Rattle.sr_check_decl.specs.Waiting.{files_waiting}
+use Rattle.sr_check.proofs.Kept.{all_service_own, facts_known, none_refused, uses_kept}
+use Rattle.sr_check_decl.specs.Inferring.{program_known}
 use Rattle.sr_check_expr.specs.declared.facts.Facts.{Facts}
 use Rattle.sr_core.specs.WellFormed.{IsWellFormed}
 use Rattle.sr_names.specs.Noted.{Meanings}
@@ -34,7 +29,7 @@ use Rattle.sr_front.specs.Invocations.{HasInvocations}
 use Rattle.sr_front.specs.Program.{IsAccepted}
 use Rattle.sr_front.specs.Sites.{HasSites}
 use Rattle.sr_front.specs.Variables.{HasVariables}
-use Rattle.sr_front.proofs.AllowedCode.{accepted_allowed, files_error_free}
+use Rattle.sr_front.proofs.AllowedCode.{accepted_allowed}
 use Rattle.sr_front.proofs.Clear.{all_clear}
 use Rattle.sr_front.proofs.Declared.{Apart, all_component_keys}
 use Rattle.sr_front.proofs.Findings.{has_main}
@@ -42,15 +37,26 @@ use Rattle.sr_front.proofs.CoreComponents.{main_is}
 use Rattle.sr_front.proofs.Invokes.{called_ok, forwarded_ok, made_ok, sent_ok}
 use Rattle.sr_front.proofs.Operations.{operations_ok, components, core, imports, tables}
 use Rattle.sr_front.proofs.ProcNumbers.{numbers_are_ok}
+use Rattle.sr_front.proofs.ConstantsTyped.{constant_typed}
+use Rattle.sr_front.proofs.ConstantTypes.{typed_static}
+use Rattle.sr_front.proofs.EffectFreeCode.{files_facts}
 use Rattle.sr_front.proofs.EffectFreeCore.{accepted_effect_free}
+use Rattle.sr_front.proofs.FilesInOrder.{declared_agrees}
+use Rattle.sr_front.proofs.FreeFiles.{free_components}
+use Rattle.sr_front.proofs.Rising.{Rises, names_rise}
+use Rattle.sr_front.proofs.TypedCode.{Good}
+use Rattle.sr_front.proofs.TypedItems.{FreeComponents}
+use Rattle.sr_front.proofs.TypedProgram.{program_good}
+use Rattle.sr_front.proofs.UsedSorts.{used_sort}
 use Rattle.sr_front.proofs.ServedApart.{all_serve_shared, served_apart}
 use Rattle.sr_front.proofs.Services.{procs_serve_own}
 use Rattle.sr_front.proofs.Sites.{sites_are_listed, sites_are_own, sites_are_served, sites_have_scopes, sites_well}
 use Rattle.sr_front.proofs.SiteCode.{arms_own_ok, code_imported_ok, guards_ok, imported_ok, otherwise_ok, own_ok}
 use Rattle.sr_front.proofs.Spelled.{no_final_in_globals}
 use Rattle.sr_front.proofs.SpotsApart.{spots-apart}
-use Rattle.sr_front.proofs.VariablesHad.{variables_had}
-use Rattle.sr_front.proofs.VariablesValued.{components_valued}
+use Rattle.sr_front.proofs.OwnOrShared.{ConstantsStatic}
+use Rattle.sr_front.proofs.SharedRulesMet.{no_vars_met, values_met}
+use Rattle.sr_front.proofs.VariablesStand.{variables_stand}
 use Rattle.sr_front.proofs.WaitApart.{waits_apart}
 use Rattle.sr_front.proofs.CoreParts.{well_made}
 use Rattle.sr_check.proofs.Owners.{Plain}
@@ -173,11 +179,30 @@ module _ (contents : List (List ℕ)) (accepted : Checked) (is : IsAccepted cont
         forwarded = forwarded_ok is.names.specs trees facts is.names is.named kept services apart components_apart names_apart none known_facts;
       }
 
-  whole : ErrorFree (components_read (components_in trees) known).found
-  whole =
-      files_error_free trees known
-      (error_free_second (type_cycles_found (leads_left (program_inferred uses is.names.specs trees) (files_waiting trees))) _ (none_found uses is.names.specs trees none))
+  -- ---- types
 
-  -- the variables of imported globals that code and sites name are there
+  -- names stand in the order of the text
+  rises : Rises (flat_map file_names trees)
+  rises = names_rise contents trees is.read
+
+  -- all that is known before code is read has a type
+  good : Good known
+  good = program_good trees is.names is.named names_apart apart none (declared_agrees trees is.names is.named names_apart rises is.names.specs)
+
+  -- and no type is known where code declares operations
+  free : FreeComponents (components_in trees) known
+  free = free_components uses is.names.specs trees names_apart none is.read.parsed
+
+  -- the constants in the specs of resources are static
+  specs_static : ConstantsStatic trees facts
+  specs_static =
+      subst (ConstantsStatic trees) (sym (known_facts ∙ files_facts trees known))
+      (typed_static trees is.names is.named names_apart rises is.names.specs none
+      (λ component there constant among resource. constant_typed uses is.names.specs trees none free good component there constant among))
+
+  -- each shared variable that code and sites name is one that the component has which is meant
   pub accepted_variables : HasVariables (core_of trees facts)
-  accepted_variables = variables_had uses trees known facts kept services apart wait_apart (components_valued (components_in trees) known whole)
+  accepted_variables =
+      variables_stand is.names.specs trees facts is.names is.named kept services apart names_apart none known_facts wait_apart
+      (record { specs = record { static = specs_static; no_vars = no_vars_met is.read.parsed }; values = values_met uses is.names.specs trees none })
+      (λ component there spot decl. used_sort trees is.names is.named names_apart rises is.names.specs facts apart known_facts component there spot decl) free good

@@ -1,9 +1,11 @@
--- Each shared variable of an imported global that code or a site names is one that the global has.
+-- Each shared variable that code or a site names is one that the component has which is meant: the component itself, or the
+-- global that it imports.
 use Rattle.std.specs.Prelude.{ℕ, Bool, true, false, List, [], ◌∷◌, ◌++◌, Option, Some, None, map, flat_map, slice_get, IsTrue}
 use Rattle.std.specs.List.{list_all}
 use Rattle.sr_core.specs.declared.component.Component.{Component}
 use Rattle.sr_core.specs.declared.component.Core.{Core}
 use Rattle.sr_core.specs.declared.formal.Formal.{Formal}
+use Rattle.sr_core.specs.declared.owner.Home.{Home}
 use Rattle.sr_core.specs.declared.owner.Home.TheVariants as home
 use Rattle.sr_core.specs.declared.owner.Root.TheVariants as root
 use Rattle.sr_core.specs.declared.site.SharedRead.{SharedRead}
@@ -35,49 +37,55 @@ declared_vars statement = elim (out-Statement statement) [
 abbrev pub shared_vars : Component → List ℕ
 shared_vars component = map (λ (formal : Formal). formal.var) component.formals ++ flat_map declared_vars component.initial.block
 
--- ---- what the global has that is imported
+-- ---- the component that is meant has the variable
 
 -- a variable of an import that isn't there passes no test
 abbrev pub with_import : Core → Option ℕ → (Component → Bool) → Bool
 with_import core None test = false
 with_import core (Some number) test = with_component core number test
 
--- the global at this place among the imports of a component has the variable
-abbrev pub import_has : Core → ℕ → ℕ → ℕ → Bool
-import_has core number import var =
-    with_component core number (λ component. with_import core (slice_get component.imports import) (λ global. member var (shared_vars global)))
+-- the component itself, or the global at this place among its imports
+abbrev pub with_meant : Core → Component → Home → (Component → Bool) → Bool
+with_meant core component home.Mine test = test component
+with_meant core component (home.Imported import) test = with_import core (slice_get component.imports import) test
+
+abbrev pub has_variable : Core → Component → Home → ℕ → Bool
+has_variable core component whose var = with_meant core component whose (λ meant. member var (shared_vars meant))
+
+abbrev pub mention_had : Core → Component → Mention → Bool
+mention_had core component (mention.Variable (root.Shared whose var)) = has_variable core component whose var
+mention_had core component one = true
 
 -- in the component with this number
-abbrev pub mention_had : Core → ℕ → Mention → Bool
-mention_had core number (mention.Variable (root.Shared (home.Imported import) var)) = import_has core number import var
-mention_had core number one = true
+abbrev pub mention_stands : Core → ℕ → Mention → Bool
+mention_stands core number one = with_component core number (λ component. mention_had core component one)
 
 -- ---- code and sites
 
 -- each variable that code mentions
-abbrev pub all_variables_had : Core → Bool
-all_variables_had core = all_code core (λ number component body. list_all (mention_had core number) (block_mentions body.block))
+abbrev pub all_variables_stand : Core → Bool
+all_variables_stand core = all_code core (λ number component body. list_all (mention_stands core number) (block_mentions body.block))
 
 -- each that the guards and orders of a site mention
-abbrev pub site_variables_had : Core → ℕ → Site → Bool
-site_variables_had core number site = list_all (mention_had core number) (flat_map arm_mentions site.arms)
+abbrev pub site_variables_stand : Core → ℕ → Site → Bool
+site_variables_stand core number site = list_all (mention_stands core number) (flat_map arm_mentions site.arms)
 
-abbrev pub all_guard_variables_had : Core → Bool
-all_guard_variables_had core =
-    all_code core (λ number component body. block_waits (λ site blocks other. site_variables_had core number site) core.sites body.block)
+abbrev pub all_guard_variables_stand : Core → Bool
+all_guard_variables_stand core =
+    all_code core (λ number component body. block_waits (λ site blocks other. site_variables_stand core number site) core.sites body.block)
 
 -- each in the list of what the guards of a site read
-abbrev pub site_reads_had : Core → ℕ → Site → Bool
-site_reads_had core number site = list_all (λ (read : SharedRead). mention_had core number (mention.Variable (root.Shared read.home read.var))) site.reads
+abbrev pub site_reads_stand : Core → ℕ → Site → Bool
+site_reads_stand core number site = list_all (λ (read : SharedRead). mention_stands core number (mention.Variable (root.Shared read.home read.var))) site.reads
 
-abbrev pub all_reads_had : Core → Bool
-all_reads_had core = all_code core (λ number component body. block_waits (λ site blocks other. site_reads_had core number site) core.sites body.block)
+abbrev pub all_reads_stand : Core → Bool
+all_reads_stand core = all_code core (λ number component body. block_waits (λ site blocks other. site_reads_stand core number site) core.sites body.block)
 
--- A core whose code and sites name variables of imported globals alone that these have.
+-- A core whose code and sites name shared variables alone that the component meant has.
 pub record HasVariables (core : Core) : Type 0 where
   -- in all code
-  pub code : IsTrue (all_variables_had core)
+  pub code : IsTrue (all_variables_stand core)
   -- in the guards and orders of the site of each `in`
-  pub guards : IsTrue (all_guard_variables_had core)
+  pub guards : IsTrue (all_guard_variables_stand core)
   -- and among the variables that they read
-  pub reads : IsTrue (all_reads_had core)
+  pub reads : IsTrue (all_reads_stand core)
