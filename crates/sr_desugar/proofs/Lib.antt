@@ -1,6 +1,7 @@
 pub mod Appends
 pub mod BodyNumbers
 pub mod CalledSame
+pub mod CodeFold
 pub mod CoreNumbers
 pub mod DeclNumbers
 pub mod FirstArm

@@ -22,8 +22,8 @@ use Rattle.sr_names.specs.declared.spot.Spot.{Spot}
 use Rattle.sr_names.specs.Spots.{spot_of}
 use Rattle.sr_check_expr.specs.declared.facts.Facts.{Facts}
 use Rattle.sr_check_expr.specs.Meanings.{function_called, is_constant, meant_by}
-use Rattle.sr_outline.specs.Numbers.{arm_sites, block_item_in_sites, block_item_sites, branch_sites, co_arm_sites, is_p, is_wait, sites_in, statement_sites, wait_operation}
-use Rattle.sr_tables.specs.Lists.{lists, maybe_lists}
+use Rattle.sr_outline.specs.Numbers.{arm_sites, block_item_in_sites, branch_sites, co_arm_sites, is_p, is_wait, sites_in, wait_operation}
+use Rattle.sr_tables.specs.Lists.{lists}
 use Rattle.sr_tables.specs.Parts.{line_of, spot_named}
 use Rattle.sr_tables.specs.Sites.{site_of}
 use Rattle.sr_tables.specs.Tables.{number_in}
@@ -31,14 +31,8 @@ use Rattle.sr_tree.specs.declared.declaration.ConstDecl.{ConstDecl}
 use Rattle.sr_tree.specs.declared.declaration.VarDecl.{VarDecl}
 use Rattle.sr_tree.specs.declared.expr.Expr.{Expr}
 use Rattle.sr_tree.specs.declared.expr.Invocation.{Invocation}
-use Rattle.sr_tree.specs.declared.statement.Arm.{Arm, roll-Arm}
-use Rattle.sr_tree.specs.declared.statement.BlockItem.{BlockItem, roll-BlockItem}
-use Rattle.sr_tree.specs.declared.statement.BlockItem.TheFolds.{fold-roll-Arm, fold-roll-BlockItem, fold-roll-Branch, fold-roll-CoArm, fold-roll-Statement, ind-Statement, map-Arm, map-BlockItem, map-Branch, map-CoArm, map-Statement}
-use Rattle.sr_tree.specs.declared.statement.BlockItem.TheOpen.{Arm-F, BlockItem-F, Branch-F, CoArm-F, Statement-F}
-use Rattle.sr_tree.specs.declared.statement.Branch.{Branch, roll-Branch}
-use Rattle.sr_tree.specs.declared.statement.CoArm.{CoArm, roll-CoArm}
-use Rattle.sr_tree.specs.declared.statement.Quantifier.{Quantifier}
-use Rattle.sr_tree.specs.declared.statement.Statement.{Statement, roll-Statement}
+use Rattle.sr_tree.specs.declared.statement.BlockItem.TheOpen.{BlockItem-F, Statement-F}
+use Rattle.sr_tree.specs.declared.statement.Statement.{Statement}
 use Rattle.sr_tree.specs.declared.types.Decl.{Decl}
 use Rattle.sr_tree.specs.declared.types.TypeTree.{TypeTree}
 use Rattle.sr_value.specs.declared.place.Place.{Place}
@@ -46,11 +40,14 @@ use Rattle.sr_value.specs.declared.place.Span.{Span}
 use Rattle.sr_lower_expr.specs.declared.scene.Scene.{Scene}
 use Rattle.sr_desugar.specs.Declarations.{after_first, const_core, declare, first_of, typed, typed_vars, untyped, untyped_vars, var_core}
 use Rattle.sr_lower_expr.specs.Places.{scope_of_operation, site_number}
-use Rattle.sr_desugar.specs.Statements.{LoweredArm, Block, WithSites, all_made, all_sites, alone, arm_made, arms_of, block_made, blocks_of, branch_made, call_action, call_made, co_arm_made, core_arm, core_block_item, core_branch, core_co_arm, core_statement, item_made, quantifiers_core, receive_arm, receive_assign, receive_made, scope_of_arms, statement_made}
+use Rattle.sr_desugar.specs.Statements.{LoweredArm, Block, WithSites, all_made, all_sites, alone, arms_of, block_made, blocks_of, call_action, call_made, core_arm, core_block_item, core_branch, core_co_arm, core_statement, quantifiers_core, receive_arm, receive_assign, receive_made, scope_of_arms}
 use Rattle.sr_core.specs.Tests.{all_true}
 use Rattle.sr_core.specs.Blocks.{co_arm_waits, guarded_waits}
 use Rattle.sr_core.specs.Sites.{has_blocks}
 use Rattle.sr_core.specs.Waiting.{SiteTest, block_waits, is_filled, site_found, site_passes, statement_waits}
+use Rattle.sr_tree.proofs.StatementFolds.{BranchNode, ByParts, Claim, CoArmNode, Fold, ItemNode, Known, StatementNode, arm_folds, bare_arm, bare_branch, bare_co_arm, bare_item, bare_statement, branch_folds, co_arm_folds, each_statement, from_branch, from_co_arm, from_item, from_statement, item_folds, statement_folds}
+use Rattle.sr_outline.proofs.NumberFolds.{waiting}
+use Rattle.sr_desugar.proofs.CodeFold.{making}
 use Rattle.sr_desugar.proofs.Numbered.{At, Waits, none_waits, waits_both, waits_by}
 
 -- ---- lists of tests
@@ -214,36 +211,48 @@ module _ (okay : Site → Bool) (test : SiteTest) (enough : Enough okay test) wh
     abbrev table : List Spot
     table = scene.tables.sites
 
-    abbrev ItemGood : BlockItem → Type 0
-    ItemGood item = Waits okay table (λ sites. IsTrue (block_waits test sites (core_block_item scene item).made)) (block_item_in_sites facts item) (core_block_item scene item).sites
+    abbrev sited : Fold (List Spot) (List Spot) (List Spot) (List Spot) (List Spot)
+    sited = waiting facts
 
-    abbrev StatementGood : Statement → Type 0
-    StatementGood tree = Waits okay table (λ sites. IsTrue (waits sites (core_statement scene tree).made)) (sites_in facts tree) (core_statement scene tree).sites
+    abbrev core_of : Fold (WithSites Block) (WithSites CoreStatement) (WithSites LoweredArm) (WithSites Guarded) (WithSites CoreCoArm)
+    core_of = making scene
 
-    abbrev ArmGood : Arm → Type 0
-    ArmGood arm = Waits okay table (λ sites. IsTrue (block_waits test sites (core_arm scene arm).made.block)) (arm_sites facts arm) (core_arm scene arm).sites
+    -- a tree waits where its own sites are
+    abbrev ItemGood : List Spot → WithSites Block → Type 0
+    ItemGood spots lowered = Waits okay table (λ sites. IsTrue (block_waits test sites lowered.made)) spots lowered.sites
 
-    abbrev BranchGood : Branch → Type 0
-    BranchGood branch = Waits okay table (λ sites. IsTrue (guarded_fits sites (core_branch scene branch).made)) (branch_sites facts branch) (core_branch scene branch).sites
+    abbrev StatementGood : List Spot → WithSites CoreStatement → Type 0
+    StatementGood spots lowered = Waits okay table (λ sites. IsTrue (waits sites lowered.made)) spots lowered.sites
 
-    abbrev CoArmGood : CoArm → Type 0
-    CoArmGood arm = Waits okay table (λ sites. IsTrue (arm_fits sites (core_co_arm scene arm).made)) (co_arm_sites facts arm) (core_co_arm scene arm).sites
+    abbrev ArmGood : List Spot → WithSites LoweredArm → Type 0
+    ArmGood spots lowered = Waits okay table (λ sites. IsTrue (block_waits test sites lowered.made.block)) spots lowered.sites
 
-    -- trees with what is known of them
+    abbrev BranchGood : List Spot → WithSites Guarded → Type 0
+    BranchGood spots lowered = Waits okay table (λ sites. IsTrue (guarded_fits sites lowered.made)) spots lowered.sites
+
+    abbrev CoArmGood : List Spot → WithSites CoreCoArm → Type 0
+    CoArmGood spots lowered = Waits okay table (λ sites. IsTrue (arm_fits sites lowered.made)) spots lowered.sites
+
+    abbrev good : Claim
+    good = record {
+      item = λ tree. ItemGood (block_item_in_sites facts tree) (core_block_item scene tree);
+      statement = λ tree. StatementGood (sites_in facts tree) (core_statement scene tree);
+      arm = λ tree. ArmGood (arm_sites facts tree) (core_arm scene tree);
+      branch = λ tree. BranchGood (branch_sites facts tree) (core_branch scene tree);
+      co_arm = λ tree. CoArmGood (co_arm_sites facts tree) (core_co_arm scene tree);
+    }
+
     abbrev I : Type 0
-    I = (tree : BlockItem) × ItemGood tree
-
-    abbrev S : Type 0
-    S = (tree : Statement) × StatementGood tree
+    I = Known good.item
 
     abbrev A : Type 0
-    A = (tree : Arm) × ArmGood tree
+    A = Known good.arm
 
     abbrev B : Type 0
-    B = (tree : Branch) × BranchGood tree
+    B = Known good.branch
 
     abbrev C : Type 0
-    C = (tree : CoArm) × CoArmGood tree
+    C = Known good.co_arm
 
     -- lists of parts in the core
     abbrev items_core : List I → WithSites Block
@@ -278,23 +287,9 @@ module _ (okay : Site → Bool) (test : SiteTest) (enough : Enough okay test) wh
     arms_good [] = none_waits (λ sites. refl)
     arms_good (arm ∷ arms) = waits_and (λ sites. block_waits test sites (core_arm scene arm.0).made.block) (λ sites. list_all all_true (map (map (waits sites)) (blocks_of (arms_core arms)))) arm.1 (arms_good arms)
 
-    -- ---- the open trees
+    -- ---- each kind of tree from its parts
 
-    abbrev spots_statement : Statement-F BlockItem Statement Arm Branch CoArm → Statement-F (List Spot) (List Spot) (List Spot) (List Spot) (List Spot)
-    spots_statement =
-        map-Statement BlockItem Statement Arm Branch CoArm (List Spot) (List Spot) (List Spot) (List Spot) (List Spot)
-        (block_item_in_sites facts) (sites_in facts) (arm_sites facts) (branch_sites facts) (co_arm_sites facts)
-
-    abbrev made_statement : Statement-F BlockItem Statement Arm Branch CoArm → Statement-F (WithSites Block) (WithSites CoreStatement) (WithSites LoweredArm) (WithSites Guarded) (WithSites CoreCoArm)
-    made_statement =
-        map-Statement BlockItem Statement Arm Branch CoArm (WithSites Block) (WithSites CoreStatement) (WithSites LoweredArm) (WithSites Guarded) (WithSites CoreCoArm)
-        (core_block_item scene) (core_statement scene) (core_arm scene) (core_branch scene) (core_co_arm scene)
-
-    abbrev bare : Statement-F I S A B C → Statement-F BlockItem Statement Arm Branch CoArm
-    bare = map-Statement I S A B C BlockItem Statement Arm Branch CoArm (λ e. e.0) (λ e. e.0) (λ e. e.0) (λ e. e.0) (λ e. e.0)
-
-    statement_good : (y : Statement-F I S A B C)
-        → Waits okay table (λ sites. IsTrue (waits sites (statement_made scene (made_statement (bare y))).made)) (statement_sites facts (spots_statement (bare y))) (statement_made scene (made_statement (bare y))).sites
+    statement_good : (y : StatementNode good) → StatementGood (from_statement sited (bare_statement good y)) (from_statement core_of (bare_statement good y))
     statement_good (Statement-F.Skip span) = none_waits (λ sites. act_fits sites _ _)
     statement_good (Statement-F.Exit span) = none_waits (λ sites. act_fits sites _ _)
     statement_good (Statement-F.Next span) = none_waits (λ sites. act_fits sites _ _)
@@ -347,118 +342,34 @@ module _ (okay : Site → Bool) (test : SiteTest) (enough : Enough okay test) wh
     statement_good (Statement-F.Destroy span target) = none_waits (λ sites. act_fits sites _ _)
     statement_good (Statement-F.Create span create) = none_waits (λ sites. act_fits sites _ _)
 
-    -- ---- arms, branches and items
-
-    abbrev spots_item : BlockItem-F BlockItem Statement Arm Branch CoArm → BlockItem-F (List Spot) (List Spot) (List Spot) (List Spot) (List Spot)
-    spots_item =
-        map-BlockItem BlockItem Statement Arm Branch CoArm (List Spot) (List Spot) (List Spot) (List Spot) (List Spot)
-        (block_item_in_sites facts) (sites_in facts) (arm_sites facts) (branch_sites facts) (co_arm_sites facts)
-
-    abbrev made_item : BlockItem-F BlockItem Statement Arm Branch CoArm → BlockItem-F (WithSites Block) (WithSites CoreStatement) (WithSites LoweredArm) (WithSites Guarded) (WithSites CoreCoArm)
-    made_item =
-        map-BlockItem BlockItem Statement Arm Branch CoArm (WithSites Block) (WithSites CoreStatement) (WithSites LoweredArm) (WithSites Guarded) (WithSites CoreCoArm)
-        (core_block_item scene) (core_statement scene) (core_arm scene) (core_branch scene) (core_co_arm scene)
-
-    abbrev bare_item : BlockItem-F I S A B C → BlockItem-F BlockItem Statement Arm Branch CoArm
-    bare_item = map-BlockItem I S A B C BlockItem Statement Arm Branch CoArm (λ e. e.0) (λ e. e.0) (λ e. e.0) (λ e. e.0) (λ e. e.0)
-
-    item_good : (y : BlockItem-F I S A B C)
-        → Waits okay table (λ sites. IsTrue (block_waits test sites (item_made scene (made_item (bare_item y))).made)) (block_item_sites (spots_item (bare_item y))) (item_made scene (made_item (bare_item y))).sites
+    item_good : (y : ItemNode good) → ItemGood (from_item sited (bare_item good y)) (from_item core_of (bare_item good y))
     item_good (BlockItem-F.Const constant) = none_waits (λ sites. const_fits sites scene Own constant)
     item_good (BlockItem-F.Var variables) = none_waits (λ sites. var_fits sites scene Own variables)
     item_good (BlockItem-F.Statement statement) = waits_by (λ sites fits. both (waits sites (core_statement scene statement.0).made) true fits refl) statement.1
 
-    abbrev made_arm : Arm-F BlockItem Statement Arm Branch CoArm → Arm-F (WithSites Block) (WithSites CoreStatement) (WithSites LoweredArm) (WithSites Guarded) (WithSites CoreCoArm)
-    made_arm =
-        map-Arm BlockItem Statement Arm Branch CoArm (WithSites Block) (WithSites CoreStatement) (WithSites LoweredArm) (WithSites Guarded) (WithSites CoreCoArm)
-        (core_block_item scene) (core_statement scene) (core_arm scene) (core_branch scene) (core_co_arm scene)
-
-    abbrev bare_arm : Arm-F I S A B C → Arm-F BlockItem Statement Arm Branch CoArm
-    bare_arm = map-Arm I S A B C BlockItem Statement Arm Branch CoArm (λ e. e.0) (λ e. e.0) (λ e. e.0) (λ e. e.0) (λ e. e.0)
-
-    abbrev made_branch : Branch-F BlockItem Statement Arm Branch CoArm → Branch-F (WithSites Block) (WithSites CoreStatement) (WithSites LoweredArm) (WithSites Guarded) (WithSites CoreCoArm)
-    made_branch =
-        map-Branch BlockItem Statement Arm Branch CoArm (WithSites Block) (WithSites CoreStatement) (WithSites LoweredArm) (WithSites Guarded) (WithSites CoreCoArm)
-        (core_block_item scene) (core_statement scene) (core_arm scene) (core_branch scene) (core_co_arm scene)
-
-    abbrev bare_branch : Branch-F I S A B C → Branch-F BlockItem Statement Arm Branch CoArm
-    bare_branch = map-Branch I S A B C BlockItem Statement Arm Branch CoArm (λ e. e.0) (λ e. e.0) (λ e. e.0) (λ e. e.0) (λ e. e.0)
-
-    branch_good : (y : Branch-F I S A B C)
-        → Waits okay table (λ sites. IsTrue (guarded_fits sites (branch_made scene (made_branch (bare_branch y))).made)) (lists (map (block_item_in_sites facts) (map (λ e. e.0) y.block))) (items_core y.block).sites
+    branch_good : (y : BranchNode good) → BranchGood (from_branch sited (bare_branch good y)) (from_branch core_of (bare_branch good y))
     branch_good y =
         waits_by (λ sites fits. subst IsTrue (sym (fold-roll-Guarded Bool Bool Bool (statement_waits test sites) co_arm_waits guarded_waits _)) fits) (items_good y.block)
 
-    abbrev made_co_arm : CoArm-F BlockItem Statement Arm Branch CoArm → CoArm-F (WithSites Block) (WithSites CoreStatement) (WithSites LoweredArm) (WithSites Guarded) (WithSites CoreCoArm)
-    made_co_arm =
-        map-CoArm BlockItem Statement Arm Branch CoArm (WithSites Block) (WithSites CoreStatement) (WithSites LoweredArm) (WithSites Guarded) (WithSites CoreCoArm)
-        (core_block_item scene) (core_statement scene) (core_arm scene) (core_branch scene) (core_co_arm scene)
+    co_arm_by : (y : CoArmNode good) (block : Option (List I))
+        → Waits okay table (λ sites. IsTrue (co_arm_waits (opened_arm sites (out-CoArm (from_co_arm core_of (bare_co_arm good (record y { block = block }))).made))))
+        (from_co_arm sited (bare_co_arm good (record y { block = block }))) (from_co_arm core_of (bare_co_arm good (record y { block = block }))).sites
+    co_arm_by y None = none_waits (λ sites. refl)
+    co_arm_by y (Some items) = items_good items
 
-    abbrev bare_co_arm : CoArm-F I S A B C → CoArm-F BlockItem Statement Arm Branch CoArm
-    bare_co_arm = map-CoArm I S A B C BlockItem Statement Arm Branch CoArm (λ e. e.0) (λ e. e.0) (λ e. e.0) (λ e. e.0) (λ e. e.0)
-
-    abbrev spots_co_arm : CoArm-F BlockItem Statement Arm Branch CoArm → CoArm-F (List Spot) (List Spot) (List Spot) (List Spot) (List Spot)
-    spots_co_arm =
-        map-CoArm BlockItem Statement Arm Branch CoArm (List Spot) (List Spot) (List Spot) (List Spot) (List Spot)
-        (block_item_in_sites facts) (sites_in facts) (arm_sites facts) (branch_sites facts) (co_arm_sites facts)
-
-    abbrev CoArmFits : CoArm-F I S A B C → Type 0
-    CoArmFits y =
-        Waits okay table (λ sites. IsTrue (co_arm_waits (opened_arm sites (out-CoArm (co_arm_made scene (made_co_arm (bare_co_arm y))).made))))
-        (maybe_lists (spots_co_arm (bare_co_arm y)).block) (co_arm_made scene (made_co_arm (bare_co_arm y))).sites
-
-    co_arm_parts_good : (span : Span) (quantifiers : List Quantifier) (target : Option Expr) (with_call : Bool) (invocation : Invocation) (block : Option (List I))
-        → CoArmFits (record { span = span; quantifiers = quantifiers; target = target; with_call = with_call; invocation = invocation; block = block })
-    co_arm_parts_good span quantifiers target with_call invocation None = none_waits (λ sites. refl)
-    co_arm_parts_good span quantifiers target with_call invocation (Some items) = items_good items
-
-    co_arm_good : (y : CoArm-F I S A B C)
-        → Waits okay table (λ sites. IsTrue (arm_fits sites (co_arm_made scene (made_co_arm (bare_co_arm y))).made)) (maybe_lists (spots_co_arm (bare_co_arm y)).block) (co_arm_made scene (made_co_arm (bare_co_arm y))).sites
-    co_arm_good y =
-        waits_by (λ sites fits. subst IsTrue (sym (fold_roll_core_arm Bool Bool Bool (statement_waits test sites) co_arm_waits guarded_waits _)) fits)
-        (co_arm_parts_good y.span y.quantifiers y.target y.with_call y.invocation y.block)
+    co_arm_good : (y : CoArmNode good) → CoArmGood (from_co_arm sited (bare_co_arm good y)) (from_co_arm core_of (bare_co_arm good y))
+    co_arm_good y = waits_by (λ sites fits. subst IsTrue (sym (fold_roll_core_arm Bool Bool Bool (statement_waits test sites) co_arm_waits guarded_waits _)) fits) (co_arm_by y y.block)
 
     -- ---- all trees
 
-    step_item : (x : BlockItem-F BlockItem Statement Arm Branch CoArm) (y : BlockItem-F I S A B C) → bare_item y ≡ x → ItemGood (roll-BlockItem x)
-    step_item x y is = subst (λ z. ItemGood (roll-BlockItem z)) is
-        (subst (λ spots. Waits okay table (λ sites. IsTrue (block_waits test sites (core_block_item scene (roll-BlockItem (bare_item y))).made)) spots (core_block_item scene (roll-BlockItem (bare_item y))).sites)
-        (sym (fold-roll-BlockItem (List Spot) (List Spot) (List Spot) (List Spot) (List Spot) block_item_sites (statement_sites facts) (λ arm. lists arm.block) (λ branch. lists branch.block) (λ arm. maybe_lists arm.block) (bare_item y)))
-        (subst (λ made. Waits okay table (λ sites. IsTrue (block_waits test sites made.made)) (block_item_sites (spots_item (bare_item y))) made.sites)
-        (sym (fold-roll-BlockItem (WithSites Block) (WithSites CoreStatement) (WithSites LoweredArm) (WithSites Guarded) (WithSites CoreCoArm) (item_made scene) (statement_made scene) (arm_made scene) (branch_made scene) (co_arm_made scene) (bare_item y)))
-        (item_good y)))
+    by_parts : ByParts good
+    by_parts = record {
+      item = λ y. subst (λ t. t) (λ i. ItemGood (item_folds sited (bare_item good y) i) (item_folds core_of (bare_item good y) i)) (item_good y);
+      statement = λ y. subst (λ t. t) (λ i. StatementGood (statement_folds sited (bare_statement good y) i) (statement_folds core_of (bare_statement good y) i)) (statement_good y);
+      arm = λ y. subst (λ t. t) (λ i. ArmGood (arm_folds sited (bare_arm good y) i) (arm_folds core_of (bare_arm good y) i)) (items_good y.block);
+      branch = λ y. subst (λ t. t) (λ i. BranchGood (branch_folds sited (bare_branch good y) i) (branch_folds core_of (bare_branch good y) i)) (branch_good y);
+      co_arm = λ y. subst (λ t. t) (λ i. CoArmGood (co_arm_folds sited (bare_co_arm good y) i) (co_arm_folds core_of (bare_co_arm good y) i)) (co_arm_good y);
+    }
 
-    step_statement : (x : Statement-F BlockItem Statement Arm Branch CoArm) (y : Statement-F I S A B C) → bare y ≡ x → StatementGood (roll-Statement x)
-    step_statement x y is = subst (λ z. StatementGood (roll-Statement z)) is
-        (subst (λ spots. Waits okay table (λ sites. IsTrue (waits sites (core_statement scene (roll-Statement (bare y))).made)) spots (core_statement scene (roll-Statement (bare y))).sites)
-        (sym (fold-roll-Statement (List Spot) (List Spot) (List Spot) (List Spot) (List Spot) block_item_sites (statement_sites facts) (λ arm. lists arm.block) (λ branch. lists branch.block) (λ arm. maybe_lists arm.block) (bare y)))
-        (subst (λ made. Waits okay table (λ sites. IsTrue (waits sites made.made)) (statement_sites facts (spots_statement (bare y))) made.sites)
-        (sym (fold-roll-Statement (WithSites Block) (WithSites CoreStatement) (WithSites LoweredArm) (WithSites Guarded) (WithSites CoreCoArm) (item_made scene) (statement_made scene) (arm_made scene) (branch_made scene) (co_arm_made scene) (bare y)))
-        (statement_good y)))
-
-    step_arm : (x : Arm-F BlockItem Statement Arm Branch CoArm) (y : Arm-F I S A B C) → bare_arm y ≡ x → ArmGood (roll-Arm x)
-    step_arm x y is = subst (λ z. ArmGood (roll-Arm z)) is
-        (subst (λ spots. Waits okay table (λ sites. IsTrue (block_waits test sites (core_arm scene (roll-Arm (bare_arm y))).made.block)) spots (core_arm scene (roll-Arm (bare_arm y))).sites)
-        (sym (fold-roll-Arm (List Spot) (List Spot) (List Spot) (List Spot) (List Spot) block_item_sites (statement_sites facts) (λ arm. lists arm.block) (λ branch. lists branch.block) (λ arm. maybe_lists arm.block) (bare_arm y)))
-        (subst (λ made. Waits okay table (λ sites. IsTrue (block_waits test sites made.made.block)) (lists (map (block_item_in_sites facts) (map (λ e. e.0) y.block))) made.sites)
-        (sym (fold-roll-Arm (WithSites Block) (WithSites CoreStatement) (WithSites LoweredArm) (WithSites Guarded) (WithSites CoreCoArm) (item_made scene) (statement_made scene) (arm_made scene) (branch_made scene) (co_arm_made scene) (bare_arm y)))
-        (items_good y.block)))
-
-    step_branch : (x : Branch-F BlockItem Statement Arm Branch CoArm) (y : Branch-F I S A B C) → bare_branch y ≡ x → BranchGood (roll-Branch x)
-    step_branch x y is = subst (λ z. BranchGood (roll-Branch z)) is
-        (subst (λ spots. Waits okay table (λ sites. IsTrue (guarded_fits sites (core_branch scene (roll-Branch (bare_branch y))).made)) spots (core_branch scene (roll-Branch (bare_branch y))).sites)
-        (sym (fold-roll-Branch (List Spot) (List Spot) (List Spot) (List Spot) (List Spot) block_item_sites (statement_sites facts) (λ arm. lists arm.block) (λ branch. lists branch.block) (λ arm. maybe_lists arm.block) (bare_branch y)))
-        (subst (λ made. Waits okay table (λ sites. IsTrue (guarded_fits sites made.made)) (lists (map (block_item_in_sites facts) (map (λ e. e.0) y.block))) made.sites)
-        (sym (fold-roll-Branch (WithSites Block) (WithSites CoreStatement) (WithSites LoweredArm) (WithSites Guarded) (WithSites CoreCoArm) (item_made scene) (statement_made scene) (arm_made scene) (branch_made scene) (co_arm_made scene) (bare_branch y)))
-        (branch_good y)))
-
-    step_co_arm : (x : CoArm-F BlockItem Statement Arm Branch CoArm) (y : CoArm-F I S A B C) → bare_co_arm y ≡ x → CoArmGood (roll-CoArm x)
-    step_co_arm x y is = subst (λ z. CoArmGood (roll-CoArm z)) is
-        (subst (λ spots. Waits okay table (λ sites. IsTrue (arm_fits sites (core_co_arm scene (roll-CoArm (bare_co_arm y))).made)) spots (core_co_arm scene (roll-CoArm (bare_co_arm y))).sites)
-        (sym (fold-roll-CoArm (List Spot) (List Spot) (List Spot) (List Spot) (List Spot) block_item_sites (statement_sites facts) (λ arm. lists arm.block) (λ branch. lists branch.block) (λ arm. maybe_lists arm.block) (bare_co_arm y)))
-        (subst (λ made. Waits okay table (λ sites. IsTrue (arm_fits sites made.made)) (maybe_lists (spots_co_arm (bare_co_arm y)).block) made.sites)
-        (sym (fold-roll-CoArm (WithSites Block) (WithSites CoreStatement) (WithSites LoweredArm) (WithSites Guarded) (WithSites CoreCoArm) (item_made scene) (statement_made scene) (arm_made scene) (branch_made scene) (co_arm_made scene) (bare_co_arm y)))
-        (co_arm_good y)))
-
-    pub statement_fits : (tree : Statement) → StatementGood tree
-    statement_fits = ind-Statement ItemGood StatementGood ArmGood BranchGood CoArmGood step_item step_statement step_arm step_branch step_co_arm
+    pub statement_fits : (tree : Statement) → Waits okay table (λ sites. IsTrue (waits sites (core_statement scene tree).made)) (sites_in facts tree) (core_statement scene tree).sites
+    statement_fits = each_statement good by_parts

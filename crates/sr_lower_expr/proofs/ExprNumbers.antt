@@ -1,5 +1,5 @@
 -- Each number in what an expression is in the core names something.
-use Rattle.std.proofs.Common.{◌≡◌, ℕ, negsuc, Bool, true, false, List, [], ◌∷◌, Option, Some, None, Result, Ok, Err, IsTrue, length, map, position, if◌then◌else◌, zip, refl, sym, ap, ◌∙◌, subst, arith}
+use Rattle.std.proofs.Common.{◌≡◌, ℕ, negsuc, Bool, true, false, List, [], ◌∷◌, Option, Some, None, Result, Ok, Err, IsTrue, length, map, position, if◌then◌else◌, zip, refl, subst, arith}
 use Rattle.std.proofs.lemmas.Bool.{and_from, lt-ltb}
 use Rattle.std.specs.List.{list_all}
 use Rattle.sr_check_expr.specs.declared.typed_expr.Named.{Named}
@@ -25,12 +25,11 @@ use Rattle.sr_names.specs.Spots.{same_spot, spot_of}
 use Rattle.sr_names.specs.Uses.{meaning_at}
 use Rattle.sr_tree.specs.declared.expr.BinaryOperator.{BinaryOperator}
 use Rattle.sr_tree.specs.declared.expr.BinaryOperator.TheVariants as binary
-use Rattle.sr_tree.specs.declared.expr.Create.{Create, roll-Create}
-use Rattle.sr_tree.specs.declared.expr.Create.TheFolds.{fold-roll-Create, fold-roll-Expr, fold-roll-Invocation, fold-roll-Part, ind-Create, ind-Expr, map-Create, map-Expr, map-Invocation, map-Part}
-use Rattle.sr_tree.specs.declared.expr.Create.TheOpen.{Create-F, Expr-F, Invocation-F, Part-F}
-use Rattle.sr_tree.specs.declared.expr.Expr.{Expr as Tree, roll-Expr}
-use Rattle.sr_tree.specs.declared.expr.Invocation.{Invocation, out-Invocation, roll-Invocation}
-use Rattle.sr_tree.specs.declared.expr.Part.{Part as PartTree, roll-Part}
+use Rattle.sr_tree.specs.declared.expr.Create.{Create}
+use Rattle.sr_tree.specs.declared.expr.Create.TheOpen.{Create-F, Expr-F}
+use Rattle.sr_tree.specs.declared.expr.Expr.{Expr as Tree}
+use Rattle.sr_tree.specs.declared.expr.Invocation.{Invocation, out-Invocation}
+use Rattle.sr_tree.specs.declared.expr.Part.{Part as PartTree}
 use Rattle.sr_tree.specs.declared.name.Name.{Name}
 use Rattle.sr_types.specs.declared.signature.Mode.{Mode}
 use Rattle.sr_types.specs.declared.signature.Mode.TheVariants.{Val, Var, Res}
@@ -47,8 +46,10 @@ use Rattle.sr_lower_expr.specs.Shapes.{shape_of_type}
 use Rattle.sr_tables.specs.Parts.{deciding}
 use Rattle.sr_lower_expr.specs.declared.scene.Lowered.{Lowered}
 use Rattle.sr_lower_expr.specs.declared.scene.Scene.{Scene}
-use Rattle.sr_lower_expr.specs.Expressions.{LoweredTree, LoweredInvocation, argument_core, arguments_by, call_core, call_of, call_returns, constant_or_nothing, core_create, core_expr, core_place, core_sending, core_value, lowered_of, create_core, create_lowered, end_or_nothing, end_value, ends_core, expr_core, expr_lowered, field_core, field_number, function_core, instance_core, invocation_lowered, is_second, layer_member, literals_in, meaning_core, name_core, named_core, named_types, part_lowered, reading_core, readable_of, readings_core, sent_arguments, spec_operation, told, trees_of, values, with_core, without_number}
+use Rattle.sr_lower_expr.specs.Expressions.{LoweredTree, LoweredInvocation, argument_core, arguments_by, call_core, call_of, call_returns, constant_or_nothing, core_create, core_expr, core_place, core_sending, core_value, lowered_of, end_or_nothing, end_value, ends_core, field_core, field_number, function_core, instance_core, is_second, layer_member, literals_in, meaning_core, name_core, named_core, named_types, reading_core, readable_of, readings_core, sent_arguments, spec_operation, told, trees_of, values, with_core, without_number}
 use Rattle.sr_lower_expr.specs.Places.{nothing, operation_at, place_of, root_of, value_of}
+use Rattle.sr_tree.proofs.ExprFolds.{ByParts, Claim, CreateNode, ExprNode, InvocationNode, Known, PartNode, bare_create, bare_expr, bare_invocation, bare_part, create_folds, each_create, each_expr, expr_folds, from_create, from_expr, from_invocation, from_part, invocation_folds, part_folds}
+use Rattle.sr_lower_expr.proofs.LowerFold.{lowering}
 use Rattle.sr_lower_expr.proofs.Each.{one_taken, turned_passes, zip_passes}
 use Rattle.sr_lower_expr.proofs.ExprRules.{and_rule, apply_rule, array_rule, at2_rule, at_rule, binary_rule, call_rule, create_rule, field_rule, leaf_rule, member_rule, one_rule, or_rule, part_ok, read_rule, reading_ok, reading_rule, repeated_rule, res_rule, unary_rule, val_rule, var_rule}
 use Rattle.sr_lower_expr.proofs.PlaceNumbers.{Fits, lowered_ok, naming_ok, nothing_ok, operation_expr_ok, part_of_ok, place_at_ok, place_of_ok, root_of_ok, value_of_ok}
@@ -196,54 +197,28 @@ module _ (scene : Scene) (at : Where) (fits : Fits scene at) where
 
   -- ---- each tree, when its parts are so
 
-  abbrev CreateGood : Create → Type 0
-  CreateGood tree = IsTrue (expr_ok (of_create scene tree).1 at)
+  abbrev CreateGood : Create × Expr → Type 0
+  CreateGood created = IsTrue (expr_ok created.1 at)
 
-  abbrev TreeGood : Tree → Type 0
-  TreeGood tree = Good (told scene tree).1
+  abbrev TreeGood : LoweredTree → Type 0
+  TreeGood tree = Good tree.1
 
-  abbrev InvocationGood : Invocation → Type 0
-  InvocationGood tree = SendingGood (of_invocation scene tree)
+  abbrev PartGood : PartTree × Part → Type 0
+  PartGood part = IsTrue (part_ok part.1 at)
 
-  abbrev PartGood : PartTree → Type 0
-  PartGood tree = IsTrue (part_ok (of_part scene tree).1 at)
-
-  abbrev C : Type 0
-  C = (tree : Create) × CreateGood tree
+  abbrev numbered : Claim
+  numbered = record {
+    create = λ tree. CreateGood (of_create scene tree);
+    expr = λ tree. TreeGood (told scene tree);
+    invocation = λ tree. SendingGood (of_invocation scene tree);
+    part = λ tree. PartGood (of_part scene tree);
+  }
 
   abbrev T : Type 0
-  T = (tree : Tree) × TreeGood tree
-
-  abbrev I : Type 0
-  I = (tree : Invocation) × InvocationGood tree
+  T = Known numbered.expr
 
   abbrev P : Type 0
-  P = (tree : PartTree) × PartGood tree
-
-  abbrev first_create : Create-F C T I P → Create-F Create Tree Invocation PartTree
-  first_create = map-Create C T I P Create Tree Invocation PartTree (λ c. c.0) (λ e. e.0) (λ s. s.0) (λ p. p.0)
-
-  abbrev first_expr : Expr-F C T I P → Expr-F Create Tree Invocation PartTree
-  first_expr = map-Expr C T I P Create Tree Invocation PartTree (λ c. c.0) (λ e. e.0) (λ s. s.0) (λ p. p.0)
-
-  abbrev first_invocation : Invocation-F C T I P → Invocation-F Create Tree Invocation PartTree
-  first_invocation = map-Invocation C T I P Create Tree Invocation PartTree (λ c. c.0) (λ e. e.0) (λ s. s.0) (λ p. p.0)
-
-  abbrev first_part : Part-F C T I P → Part-F Create Tree Invocation PartTree
-  first_part = map-Part C T I P Create Tree Invocation PartTree (λ c. c.0) (λ e. e.0) (λ s. s.0) (λ p. p.0)
-
-  abbrev lowered_create : Create-F Create Tree Invocation PartTree → Create-F (Create × Expr) LoweredTree LoweredInvocation (PartTree × Part)
-  lowered_create = map-Create Create Tree Invocation PartTree (Create × Expr) LoweredTree LoweredInvocation (PartTree × Part) (of_create scene) (told scene) (of_invocation scene) (of_part scene)
-
-  abbrev lowered_expr : Expr-F Create Tree Invocation PartTree → Expr-F (Create × Expr) LoweredTree LoweredInvocation (PartTree × Part)
-  lowered_expr = map-Expr Create Tree Invocation PartTree (Create × Expr) LoweredTree LoweredInvocation (PartTree × Part) (of_create scene) (told scene) (of_invocation scene) (of_part scene)
-
-  abbrev lowered_invocation : Invocation-F Create Tree Invocation PartTree → Invocation-F (Create × Expr) LoweredTree LoweredInvocation (PartTree × Part)
-  lowered_invocation =
-      map-Invocation Create Tree Invocation PartTree (Create × Expr) LoweredTree LoweredInvocation (PartTree × Part) (of_create scene) (told scene) (of_invocation scene) (of_part scene)
-
-  abbrev lowered_part : Part-F Create Tree Invocation PartTree → Part-F (Create × Expr) LoweredTree LoweredInvocation (PartTree × Part)
-  lowered_part = map-Part Create Tree Invocation PartTree (Create × Expr) LoweredTree LoweredInvocation (PartTree × Part) (of_create scene) (told scene) (of_invocation scene) (of_part scene)
+  P = Known numbered.part
 
   all_good : (trees : List T) → AllGood (map (λ (one : LoweredTree). one.1) (map (told scene) (map (λ (tree : T). tree.0) trees)))
   all_good [] = refl
@@ -253,14 +228,14 @@ module _ (scene : Scene) (at : Where) (fits : Fits scene at) where
   parts_good [] = refl
   parts_good (part ∷ parts) = and_from _ _ part.1 (parts_good parts)
 
-  create_good : (y : Create-F C T I P) → IsTrue (expr_ok (create_core scene (lowered_create (first_create y))) at)
+  create_good : (y : CreateNode numbered) → CreateGood (from_create (lowering scene) (bare_create numbered y))
   create_good (Create-F.Resource span resource arguments None) =
       instance_ok (meant_by scene.facts (deciding resource)) _ _ (values_ok _ (all_good arguments)) (leaf_rule at leaf.MyMachine refl)
   create_good (Create-F.Resource span resource arguments (Some machine)) =
       instance_ok (meant_by scene.facts (deciding resource)) _ _ (values_ok _ (all_good arguments)) (value_of_ok at (core_expr scene machine.0) machine.1)
   create_good (Create-F.Machine span) = leaf_rule at leaf.MakeMachine refl
 
-  expr_good : (y : Expr-F C T I P) → Good (expr_core scene (lowered_expr (first_expr y)))
+  expr_good : (y : ExprNode numbered) → TreeGood (from_expr (lowering scene) (bare_expr numbered y))
   expr_good (Expr-F.Literal span literal) = constant_ok (known (literal_typed literal).value)
   expr_good (Expr-F.Name name) = name_ok name.span
   expr_good (Expr-F.BasicType span basic) = nothing_ok at
@@ -287,47 +262,33 @@ module _ (scene : Scene) (at : Where) (fits : Fits scene at) where
       binary_ok operator (core_value scene left.0) (core_value scene right.0)
       (value_of_ok at (core_expr scene left.0) left.1) (value_of_ok at (core_expr scene right.0) right.1)
 
-  invocation_good : (y : Invocation-F C T I P) → SendingGood (invocation_lowered (lowered_invocation (first_invocation y)))
+  invocation_good : (y : InvocationNode numbered) → SendingGood (from_invocation (lowering scene) (bare_invocation numbered y))
   invocation_good y = (y.callee.1, all_good y.arguments)
 
-  parts_of_good : (span : Span) (count : Option T) (value : T)
-      → IsTrue (part_ok (part_lowered (lowered_part (first_part (record { span = span; count = count; value = value })))).1 at)
-  parts_of_good span None value = one_rule at (core_value scene value.0) (value_of_ok at (core_expr scene value.0) value.1)
-  parts_of_good span (Some count) value =
-      repeated_rule at (core_value scene count.0) (core_value scene value.0)
-      (value_of_ok at (core_expr scene count.0) count.1) (value_of_ok at (core_expr scene value.0) value.1)
-
-  part_good : (y : Part-F C T I P) → IsTrue (part_ok (part_lowered (lowered_part (first_part y))).1 at)
-  part_good y = parts_of_good y.span y.count y.value
+  part_good : (y : PartNode numbered) → PartGood (from_part (lowering scene) (bare_part numbered y))
+  part_good y = by y.count
+    where
+      by : (count : Option T) → PartGood (from_part (lowering scene) (bare_part numbered (record y { count = count })))
+      by None = one_rule at (core_value scene y.value.0) (value_of_ok at (core_expr scene y.value.0) y.value.1)
+      by (Some count) =
+          repeated_rule at (core_value scene count.0) (core_value scene y.value.0)
+          (value_of_ok at (core_expr scene count.0) count.1) (value_of_ok at (core_expr scene y.value.0) y.value.1)
 
   -- ---- all trees
 
-  create_step : (x : Create-F Create Tree Invocation PartTree) (y : Create-F C T I P) → first_create y ≡ x → CreateGood (roll-Create x)
-  create_step x y is =
-      ap (λ (one : Create × Expr). expr_ok one.1 at) (fold-roll-Create (Create × Expr) LoweredTree LoweredInvocation (PartTree × Part) (create_lowered scene) (expr_lowered scene) invocation_lowered part_lowered x)
-      ∙ subst (λ z. IsTrue (expr_ok (create_core scene (lowered_create z)) at)) is (create_good y)
-
-  expr_step : (x : Expr-F Create Tree Invocation PartTree) (y : Expr-F C T I P) → first_expr y ≡ x → TreeGood (roll-Expr x)
-  expr_step x y is =
-      ap (λ (one : LoweredTree). lowered_ok one.1 at) (fold-roll-Expr (Create × Expr) LoweredTree LoweredInvocation (PartTree × Part) (create_lowered scene) (expr_lowered scene) invocation_lowered part_lowered x)
-      ∙ subst (λ z. Good (expr_core scene (lowered_expr z))) is (expr_good y)
-
-  invocation_step : (x : Invocation-F Create Tree Invocation PartTree) (y : Invocation-F C T I P) → first_invocation y ≡ x → InvocationGood (roll-Invocation x)
-  invocation_step x y is =
-      subst SendingGood
-      (sym (fold-roll-Invocation (Create × Expr) LoweredTree LoweredInvocation (PartTree × Part) (create_lowered scene) (expr_lowered scene) invocation_lowered part_lowered x))
-      (subst (λ z. SendingGood (invocation_lowered (lowered_invocation z))) is (invocation_good y))
-
-  part_step : (x : Part-F Create Tree Invocation PartTree) (y : Part-F C T I P) → first_part y ≡ x → PartGood (roll-Part x)
-  part_step x y is =
-      ap (λ (one : PartTree × Part). part_ok one.1 at) (fold-roll-Part (Create × Expr) LoweredTree LoweredInvocation (PartTree × Part) (create_lowered scene) (expr_lowered scene) invocation_lowered part_lowered x)
-      ∙ subst (λ z. IsTrue (part_ok (part_lowered (lowered_part z)).1 at)) is (part_good y)
+  by_parts : ByParts numbered
+  by_parts = record {
+    create = λ y. subst CreateGood (create_folds (lowering scene) (bare_create numbered y)) (create_good y);
+    expr = λ y. subst TreeGood (expr_folds (lowering scene) (bare_expr numbered y)) (expr_good y);
+    invocation = λ y. subst SendingGood (invocation_folds (lowering scene) (bare_invocation numbered y)) (invocation_good y);
+    part = λ y. subst PartGood (part_folds (lowering scene) (bare_part numbered y)) (part_good y);
+  }
 
   pub tree_ok : (tree : Tree) → IsTrue (lowered_ok (core_expr scene tree) at)
-  tree_ok = ind-Expr CreateGood TreeGood InvocationGood PartGood create_step expr_step invocation_step part_step
+  tree_ok = each_expr numbered by_parts
 
   pub create_ok : (tree : Create) → IsTrue (expr_ok (core_create scene tree) at)
-  create_ok = ind-Create CreateGood TreeGood InvocationGood PartGood create_step expr_step invocation_step part_step
+  create_ok = each_create numbered by_parts
 
   pub core_value_ok : (tree : Tree) → IsTrue (expr_ok (core_value scene tree) at)
   core_value_ok tree = value_of_ok at (core_expr scene tree) (tree_ok tree)

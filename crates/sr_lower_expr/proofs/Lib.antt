@@ -2,6 +2,7 @@ pub mod Each
 pub mod ExprNumbers
 pub mod ExprRules
 pub mod Formals
+pub mod LowerFold
 pub mod PlaceNumbers
 pub mod Trees
 pub mod Turns

@@ -1,8 +1,6 @@
 -- The spans of the names in an expression are picked from its tokens.
 use Rattle.std.proofs.Common.{◌≡◌, sym, subst, ℕ, List, ◌∷◌, Some, None, map, flat_map}
-use Rattle.sr_value.specs.declared.place.Span.{Span}
 use Rattle.sr_tree.specs.declared.expr.Create.{Create, roll-Create}
-use Rattle.sr_tree.specs.declared.expr.Create.TheFolds.{fold-roll-Create, fold-roll-Expr, fold-roll-Invocation, fold-roll-Part, map-Create, map-Expr, map-Invocation, map-Part}
 use Rattle.sr_tree.specs.declared.expr.Create.TheOpen.{Create-F, Expr-F, Invocation-F, Part-F}
 use Rattle.sr_tree.specs.declared.expr.Create.TheVariants as create
 use Rattle.sr_tree.specs.declared.expr.Expr.{Expr, roll-Expr}
@@ -16,55 +14,29 @@ use Rattle.sr_tree.specs.Expressions.{SpellsQualifiedName, SpellsExpr, SpellsFac
 use Rattle.sr_tree.specs.Tables.{name_of}
 use Rattle.sr_order.specs.Order.{Picks, nothing, left_out, picked}
 use Rattle.sr_order.specs.Spans.{joined}
-use Rattle.sr_order.specs.Names.{qualified_names, create_names_step, expr_names_step, invocation_names_step, part_names_step, create_names, expr_names, invocation_names, part_names}
+use Rattle.sr_order.specs.Names.{qualified_names, create_names, expr_names, invocation_names, part_names}
+use Rattle.sr_tree.proofs.ExprFolds.{create_folds, expr_folds, from_create, from_expr, from_invocation, from_part, invocation_folds, part_folds}
+use Rattle.sr_order.proofs.NameFolds.{expr_naming}
 use Rattle.sr_order.proofs.Picked.{none, both, first, gathered}
 
--- ---- the names of a tree are those of its parts
-
-abbrev pub names_in_create : Create-F Create Expr Invocation Part → List Span
-names_in_create x = create_names_step (map-Create Create Expr Invocation Part (List Span) (List Span) (List Span) (List Span)
-    create_names expr_names invocation_names part_names x)
-
-abbrev pub names_in_expr : Expr-F Create Expr Invocation Part → List Span
-names_in_expr x = expr_names_step (map-Expr Create Expr Invocation Part (List Span) (List Span) (List Span) (List Span)
-    create_names expr_names invocation_names part_names x)
-
-abbrev pub names_in_invocation : Invocation-F Create Expr Invocation Part → List Span
-names_in_invocation x = invocation_names_step (map-Invocation Create Expr Invocation Part (List Span) (List Span) (List Span) (List Span)
-    create_names expr_names invocation_names part_names x)
-
-abbrev pub names_in_part : Part-F Create Expr Invocation Part → List Span
-names_in_part x = part_names_step (map-Part Create Expr Invocation Part (List Span) (List Span) (List Span) (List Span)
-    create_names expr_names invocation_names part_names x)
-
-pub create-parts : (x : Create-F Create Expr Invocation Part) → create_names (roll-Create x) ≡ names_in_create x
-create-parts x = fold-roll-Create (List Span) (List Span) (List Span) (List Span) create_names_step expr_names_step invocation_names_step part_names_step x
-
-pub expr-parts : (x : Expr-F Create Expr Invocation Part) → expr_names (roll-Expr x) ≡ names_in_expr x
-expr-parts x = fold-roll-Expr (List Span) (List Span) (List Span) (List Span) create_names_step expr_names_step invocation_names_step part_names_step x
-
-pub invocation-parts : (x : Invocation-F Create Expr Invocation Part) → invocation_names (roll-Invocation x) ≡ names_in_invocation x
-invocation-parts x = fold-roll-Invocation (List Span) (List Span) (List Span) (List Span) create_names_step expr_names_step invocation_names_step part_names_step x
-
-pub part-parts : (x : Part-F Create Expr Invocation Part) → part_names (roll-Part x) ≡ names_in_part x
-part-parts x = fold-roll-Part (List Span) (List Span) (List Span) (List Span) create_names_step expr_names_step invocation_names_step part_names_step x
+-- ---- what is picked for the parts of a tree is picked for the tree
 
 module _ {u : List Token} where
-  of_create : {tree : Create} (x : Create-F Create Expr Invocation Part) → roll-Create x ≡ tree → Picks (names_in_create x) u → Picks (create_names tree) u
-  of_create x rolls p = subst (λ tree. Picks (create_names tree) u) rolls (subst (λ spans. Picks spans u) (sym (create-parts x)) p)
+  of_create : {tree : Create} (x : Create-F Create Expr Invocation Part) → roll-Create x ≡ tree → Picks (from_create expr_naming x) u → Picks (create_names tree) u
+  of_create x rolls p = subst (λ tree. Picks (create_names tree) u) rolls (subst (λ spans. Picks spans u) (create_folds expr_naming x) p)
 
-  of_expr : {tree : Expr} (x : Expr-F Create Expr Invocation Part) → roll-Expr x ≡ tree → Picks (names_in_expr x) u → Picks (expr_names tree) u
-  of_expr x rolls p = subst (λ tree. Picks (expr_names tree) u) rolls (subst (λ spans. Picks spans u) (sym (expr-parts x)) p)
+  of_expr : {tree : Expr} (x : Expr-F Create Expr Invocation Part) → roll-Expr x ≡ tree → Picks (from_expr expr_naming x) u → Picks (expr_names tree) u
+  of_expr x rolls p = subst (λ tree. Picks (expr_names tree) u) rolls (subst (λ spans. Picks spans u) (expr_folds expr_naming x) p)
 
-  of_invocation : (x : Invocation-F Create Expr Invocation Part) → Picks (names_in_invocation x) u → Picks (invocation_names (roll-Invocation x)) u
-  of_invocation x p = subst (λ spans. Picks spans u) (sym (invocation-parts x)) p
+  of_invocation : (x : Invocation-F Create Expr Invocation Part) → Picks (from_invocation expr_naming x) u → Picks (invocation_names (roll-Invocation x)) u
+  of_invocation x p = subst (λ spans. Picks spans u) (invocation_folds expr_naming x) p
 
-  of_part : (x : Part-F Create Expr Invocation Part) → Picks (names_in_part x) u → Picks (part_names (roll-Part x)) u
-  of_part x p = subst (λ spans. Picks spans u) (sym (part-parts x)) p
+  of_part : (x : Part-F Create Expr Invocation Part) → Picks (from_part expr_naming x) u → Picks (part_names (roll-Part x)) u
+  of_part x p = subst (λ spans. Picks spans u) (part_folds expr_naming x) p
 
   -- and those of an invocation are those of the expression that it is
   pub called : (i : Invocation) → Picks (expr_names (expr.Call i)) u → Picks (invocation_names i) u
-  called i p = subst (λ spans. Picks spans u) (expr-parts (Expr-F.Call i)) (subst (λ tree. Picks (expr_names tree) u) (sym (expr.rolls-Call i)) p)
+  called i p = subst (λ spans. Picks spans u) (sym (expr_folds expr_naming (Expr-F.Call i))) (subst (λ tree. Picks (expr_names tree) u) (sym (expr.rolls-Call i)) p)
 
 -- ---- expressions
 

@@ -2,6 +2,7 @@ pub mod DeclNames
 pub mod ExprNames
 pub mod FileNames
 pub mod Files
+pub mod NameFolds
 pub mod Ordered
 pub mod Picked
 pub mod StatementNames

@@ -8,7 +8,6 @@ use Rattle.sr_tree.specs.declared.name.Name.{Name}
 use Rattle.sr_tree.specs.declared.statement.Arm.{Arm, roll-Arm}
 use Rattle.sr_tree.specs.declared.statement.ArmCondition.{ArmCondition}
 use Rattle.sr_tree.specs.declared.statement.BlockItem.{BlockItem, roll-BlockItem}
-use Rattle.sr_tree.specs.declared.statement.BlockItem.TheFolds.{fold-roll-Arm, fold-roll-BlockItem, fold-roll-Branch, fold-roll-CoArm, fold-roll-Statement, map-Arm, map-BlockItem, map-Branch, map-CoArm, map-Statement}
 use Rattle.sr_tree.specs.declared.statement.BlockItem.TheOpen.{BlockItem-F, Statement-F, Arm-F, Branch-F, CoArm-F}
 use Rattle.sr_tree.specs.declared.statement.BlockItem.TheVariants as item
 use Rattle.sr_tree.specs.declared.statement.Branch.{Branch, roll-Branch}
@@ -23,7 +22,9 @@ use Rattle.sr_tree.specs.Statements.{SpellsNamed, SpellsInvocation, SpellsStatus
 use Rattle.sr_tree.specs.Tables.{name_of}
 use Rattle.sr_order.specs.Order.{Picks, nothing, left_out, picked}
 use Rattle.sr_order.specs.Spans.{joined}
-use Rattle.sr_order.specs.Names.{where_some, name_names, names_spans, expr_names, invocation_names, quantifier_names, condition_names, statement_names_step, block_item_names_step, arm_names_step, branch_names_step, co_arm_names_step, statement_names, block_item_names, arm_names, branch_names, co_arm_names}
+use Rattle.sr_order.specs.Names.{where_some, name_names, names_spans, expr_names, invocation_names, quantifier_names, condition_names, statement_names, block_item_names, arm_names, branch_names, co_arm_names}
+use Rattle.sr_tree.proofs.StatementFolds.{arm_folds, branch_folds, co_arm_folds, from_arm, from_branch, from_co_arm, from_item, from_statement, item_folds, statement_folds}
+use Rattle.sr_order.proofs.NameFolds.{naming}
 use Rattle.sr_order.proofs.Picked.{none, both, three, first, second}
 use Rattle.sr_order.proofs.ExprNames.{called, expr-picked, primary-picked, create-picked}
 use Rattle.sr_order.proofs.TypeNames.{names-picked}
@@ -101,65 +102,25 @@ co-call-picked (s.called t h d) b = left_out t (both (invocation-picked d) b)
 co-call-picked {v = v} (s.stored {u = x} {v = y} {w = z} t d h c i) b =
     after x (t ∷ (y ++ z)) v (both (start-picked d) (left_out t (after y z v (second y (both (invocation-picked i) b)))))
 
--- ---- the names of a tree are those of its parts
-
-abbrev pub names_in_statement : Statement-F BlockItem Statement Arm Branch CoArm → List Span
-names_in_statement x = statement_names_step (map-Statement BlockItem Statement Arm Branch CoArm (List Span) (List Span) (List Span) (List Span) (List Span)
-    block_item_names statement_names arm_names branch_names co_arm_names x)
-
-abbrev pub names_in_item : BlockItem-F BlockItem Statement Arm Branch CoArm → List Span
-names_in_item x = block_item_names_step (map-BlockItem BlockItem Statement Arm Branch CoArm (List Span) (List Span) (List Span) (List Span) (List Span)
-    block_item_names statement_names arm_names branch_names co_arm_names x)
-
-abbrev pub names_in_arm : Arm-F BlockItem Statement Arm Branch CoArm → List Span
-names_in_arm x = arm_names_step (map-Arm BlockItem Statement Arm Branch CoArm (List Span) (List Span) (List Span) (List Span) (List Span)
-    block_item_names statement_names arm_names branch_names co_arm_names x)
-
-abbrev pub names_in_branch : Branch-F BlockItem Statement Arm Branch CoArm → List Span
-names_in_branch x = branch_names_step (map-Branch BlockItem Statement Arm Branch CoArm (List Span) (List Span) (List Span) (List Span) (List Span)
-    block_item_names statement_names arm_names branch_names co_arm_names x)
-
-abbrev pub names_in_co_arm : CoArm-F BlockItem Statement Arm Branch CoArm → List Span
-names_in_co_arm x = co_arm_names_step (map-CoArm BlockItem Statement Arm Branch CoArm (List Span) (List Span) (List Span) (List Span) (List Span)
-    block_item_names statement_names arm_names branch_names co_arm_names x)
-
-pub statement-parts : (x : Statement-F BlockItem Statement Arm Branch CoArm) → statement_names (roll-Statement x) ≡ names_in_statement x
-statement-parts x = fold-roll-Statement (List Span) (List Span) (List Span) (List Span) (List Span)
-    block_item_names_step statement_names_step arm_names_step branch_names_step co_arm_names_step x
-
-pub item-parts : (x : BlockItem-F BlockItem Statement Arm Branch CoArm) → block_item_names (roll-BlockItem x) ≡ names_in_item x
-item-parts x = fold-roll-BlockItem (List Span) (List Span) (List Span) (List Span) (List Span)
-    block_item_names_step statement_names_step arm_names_step branch_names_step co_arm_names_step x
-
-pub arm-parts : (x : Arm-F BlockItem Statement Arm Branch CoArm) → arm_names (roll-Arm x) ≡ names_in_arm x
-arm-parts x = fold-roll-Arm (List Span) (List Span) (List Span) (List Span) (List Span)
-    block_item_names_step statement_names_step arm_names_step branch_names_step co_arm_names_step x
-
-pub branch-parts : (x : Branch-F BlockItem Statement Arm Branch CoArm) → branch_names (roll-Branch x) ≡ names_in_branch x
-branch-parts x = fold-roll-Branch (List Span) (List Span) (List Span) (List Span) (List Span)
-    block_item_names_step statement_names_step arm_names_step branch_names_step co_arm_names_step x
-
-pub co-arm-parts : (x : CoArm-F BlockItem Statement Arm Branch CoArm) → co_arm_names (roll-CoArm x) ≡ names_in_co_arm x
-co-arm-parts x = fold-roll-CoArm (List Span) (List Span) (List Span) (List Span) (List Span)
-    block_item_names_step statement_names_step arm_names_step branch_names_step co_arm_names_step x
+-- ---- what is picked for the parts of a tree is picked for the tree
 
 module _ {u : List Token} where
-  of_statement : {tree : Statement} (x : Statement-F BlockItem Statement Arm Branch CoArm) → roll-Statement x ≡ tree → Picks (names_in_statement x) u
+  of_statement : {tree : Statement} (x : Statement-F BlockItem Statement Arm Branch CoArm) → roll-Statement x ≡ tree → Picks (from_statement naming x) u
       → Picks (statement_names tree) u
-  of_statement x rolls p = subst (λ tree. Picks (statement_names tree) u) rolls (subst (λ spans. Picks spans u) (sym (statement-parts x)) p)
+  of_statement x rolls p = subst (λ tree. Picks (statement_names tree) u) rolls (subst (λ spans. Picks spans u) (statement_folds naming x) p)
 
-  of_item : {tree : BlockItem} (x : BlockItem-F BlockItem Statement Arm Branch CoArm) → roll-BlockItem x ≡ tree → Picks (names_in_item x) u
+  of_item : {tree : BlockItem} (x : BlockItem-F BlockItem Statement Arm Branch CoArm) → roll-BlockItem x ≡ tree → Picks (from_item naming x) u
       → Picks (block_item_names tree) u
-  of_item x rolls p = subst (λ tree. Picks (block_item_names tree) u) rolls (subst (λ spans. Picks spans u) (sym (item-parts x)) p)
+  of_item x rolls p = subst (λ tree. Picks (block_item_names tree) u) rolls (subst (λ spans. Picks spans u) (item_folds naming x) p)
 
-  of_arm : (x : Arm-F BlockItem Statement Arm Branch CoArm) → Picks (names_in_arm x) u → Picks (arm_names (roll-Arm x)) u
-  of_arm x p = subst (λ spans. Picks spans u) (sym (arm-parts x)) p
+  of_arm : (x : Arm-F BlockItem Statement Arm Branch CoArm) → Picks (from_arm naming x) u → Picks (arm_names (roll-Arm x)) u
+  of_arm x p = subst (λ spans. Picks spans u) (arm_folds naming x) p
 
-  of_branch : (x : Branch-F BlockItem Statement Arm Branch CoArm) → Picks (names_in_branch x) u → Picks (branch_names (roll-Branch x)) u
-  of_branch x p = subst (λ spans. Picks spans u) (sym (branch-parts x)) p
+  of_branch : (x : Branch-F BlockItem Statement Arm Branch CoArm) → Picks (from_branch naming x) u → Picks (branch_names (roll-Branch x)) u
+  of_branch x p = subst (λ spans. Picks spans u) (branch_folds naming x) p
 
-  of_co_arm : (x : CoArm-F BlockItem Statement Arm Branch CoArm) → Picks (names_in_co_arm x) u → Picks (co_arm_names (roll-CoArm x)) u
-  of_co_arm x p = subst (λ spans. Picks spans u) (sym (co-arm-parts x)) p
+  of_co_arm : (x : CoArm-F BlockItem Statement Arm Branch CoArm) → Picks (from_co_arm naming x) u → Picks (co_arm_names (roll-CoArm x)) u
+  of_co_arm x p = subst (λ spans. Picks spans u) (co_arm_folds naming x) p
 
 -- ---- statements and blocks
 

@@ -1,12 +1,10 @@
 -- The spans of the statements in a statement or block are picked from its tokens.
-use Rattle.std.proofs.Common.{◌≡◌, sym, subst, Bool, true, false, List, [], ◌∷◌, Some, None, map}
-use Rattle.sr_value.specs.declared.place.Span.{Span}
+use Rattle.std.proofs.Common.{◌≡◌, subst, Bool, true, false, List, [], ◌∷◌, Some, None, map}
 use Rattle.sr_tree.specs.declared.expr.Create.{Create, out-Create}
 use Rattle.sr_tree.specs.declared.expr.Expr.{Expr, out-Expr}
 use Rattle.sr_tree.specs.declared.expr.Expr.TheVariants as expr
 use Rattle.sr_tree.specs.declared.statement.Arm.{Arm, roll-Arm}
 use Rattle.sr_tree.specs.declared.statement.BlockItem.{BlockItem, roll-BlockItem}
-use Rattle.sr_tree.specs.declared.statement.BlockItem.TheFolds.{fold-roll-Arm, fold-roll-BlockItem, fold-roll-Branch, fold-roll-CoArm, fold-roll-Statement, map-Arm, map-BlockItem, map-Branch, map-CoArm, map-Statement}
 use Rattle.sr_tree.specs.declared.statement.BlockItem.TheOpen.{BlockItem-F, Statement-F, Arm-F, Branch-F, CoArm-F}
 use Rattle.sr_tree.specs.declared.statement.BlockItem.TheVariants as item
 use Rattle.sr_tree.specs.declared.statement.Branch.{Branch, roll-Branch}
@@ -20,7 +18,9 @@ use Rattle.sr_tree.specs.Statements as s
 use Rattle.sr_tree.specs.Statements.{SpellsNamed, SpellsStatement, SpellsBranch, SpellsMoreBranches, SpellsBranches, SpellsArm, SpellsMoreArms, SpellsCoArm, SpellsMoreCoArms, SpellsBlockItem, SpellsItems, SpellsBlock, first_span}
 use Rattle.sr_tree.specs.Tables.{name_of}
 use Rattle.sr_order.specs.Order.{Picks, nothing, left_out, picked}
-use Rattle.sr_order.specs.Spans.{joined, statement_step, block_item_step, arm_step, branch_step, co_arm_step, spans_in, block_item_spans, arm_spans, branch_spans, co_arm_spans}
+use Rattle.sr_order.specs.Spans.{joined, spans_in, block_item_spans, arm_spans, branch_spans, co_arm_spans}
+use Rattle.sr_tree.proofs.StatementFolds.{arm_folds, branch_folds, co_arm_folds, from_arm, from_branch, from_co_arm, from_item, from_statement, item_folds, statement_folds}
+use Rattle.sr_order.proofs.NameFolds.{spanning}
 use Rattle.sr_order.proofs.Picked.{none, both, three, first, second}
 
 -- ---- the first token of an expression
@@ -47,46 +47,21 @@ create-picked (g.machine t v o k h i j l) = picked t none
 
 -- ---- what is picked for the parts of a tree is picked for the tree
 
-abbrev told_statement : Statement-F BlockItem Statement Arm Branch CoArm → List Span
-told_statement x = statement_step (map-Statement BlockItem Statement Arm Branch CoArm (List Span) (List Span) (List Span) (List Span) (List Span)
-    block_item_spans spans_in arm_spans branch_spans co_arm_spans x)
-
-abbrev told_item : BlockItem-F BlockItem Statement Arm Branch CoArm → List Span
-told_item x = block_item_step (map-BlockItem BlockItem Statement Arm Branch CoArm (List Span) (List Span) (List Span) (List Span) (List Span)
-    block_item_spans spans_in arm_spans branch_spans co_arm_spans x)
-
-abbrev told_arm : Arm-F BlockItem Statement Arm Branch CoArm → List Span
-told_arm x = arm_step (map-Arm BlockItem Statement Arm Branch CoArm (List Span) (List Span) (List Span) (List Span) (List Span)
-    block_item_spans spans_in arm_spans branch_spans co_arm_spans x)
-
-abbrev told_branch : Branch-F BlockItem Statement Arm Branch CoArm → List Span
-told_branch x = branch_step (map-Branch BlockItem Statement Arm Branch CoArm (List Span) (List Span) (List Span) (List Span) (List Span)
-    block_item_spans spans_in arm_spans branch_spans co_arm_spans x)
-
-abbrev told_co_arm : CoArm-F BlockItem Statement Arm Branch CoArm → List Span
-told_co_arm x = co_arm_step (map-CoArm BlockItem Statement Arm Branch CoArm (List Span) (List Span) (List Span) (List Span) (List Span)
-    block_item_spans spans_in arm_spans branch_spans co_arm_spans x)
-
 module _ {u : List Token} where
-  of_statement : {tree : Statement} (x : Statement-F BlockItem Statement Arm Branch CoArm) → roll-Statement x ≡ tree → Picks (told_statement x) u → Picks (spans_in tree) u
-  of_statement x rolls p = subst (λ tree. Picks (spans_in tree) u) rolls (subst (λ spans. Picks spans u)
-      (sym (fold-roll-Statement (List Span) (List Span) (List Span) (List Span) (List Span) block_item_step statement_step arm_step branch_step co_arm_step x)) p)
+  of_statement : {tree : Statement} (x : Statement-F BlockItem Statement Arm Branch CoArm) → roll-Statement x ≡ tree → Picks (from_statement spanning x) u → Picks (spans_in tree) u
+  of_statement x rolls p = subst (λ tree. Picks (spans_in tree) u) rolls (subst (λ spans. Picks spans u) (statement_folds spanning x) p)
 
-  of_item : {tree : BlockItem} (x : BlockItem-F BlockItem Statement Arm Branch CoArm) → roll-BlockItem x ≡ tree → Picks (told_item x) u → Picks (block_item_spans tree) u
-  of_item x rolls p = subst (λ tree. Picks (block_item_spans tree) u) rolls (subst (λ spans. Picks spans u)
-      (sym (fold-roll-BlockItem (List Span) (List Span) (List Span) (List Span) (List Span) block_item_step statement_step arm_step branch_step co_arm_step x)) p)
+  of_item : {tree : BlockItem} (x : BlockItem-F BlockItem Statement Arm Branch CoArm) → roll-BlockItem x ≡ tree → Picks (from_item spanning x) u → Picks (block_item_spans tree) u
+  of_item x rolls p = subst (λ tree. Picks (block_item_spans tree) u) rolls (subst (λ spans. Picks spans u) (item_folds spanning x) p)
 
-  of_arm : (x : Arm-F BlockItem Statement Arm Branch CoArm) → Picks (told_arm x) u → Picks (arm_spans (roll-Arm x)) u
-  of_arm x p = subst (λ spans. Picks spans u)
-      (sym (fold-roll-Arm (List Span) (List Span) (List Span) (List Span) (List Span) block_item_step statement_step arm_step branch_step co_arm_step x)) p
+  of_arm : (x : Arm-F BlockItem Statement Arm Branch CoArm) → Picks (from_arm spanning x) u → Picks (arm_spans (roll-Arm x)) u
+  of_arm x p = subst (λ spans. Picks spans u) (arm_folds spanning x) p
 
-  of_branch : (x : Branch-F BlockItem Statement Arm Branch CoArm) → Picks (told_branch x) u → Picks (branch_spans (roll-Branch x)) u
-  of_branch x p = subst (λ spans. Picks spans u)
-      (sym (fold-roll-Branch (List Span) (List Span) (List Span) (List Span) (List Span) block_item_step statement_step arm_step branch_step co_arm_step x)) p
+  of_branch : (x : Branch-F BlockItem Statement Arm Branch CoArm) → Picks (from_branch spanning x) u → Picks (branch_spans (roll-Branch x)) u
+  of_branch x p = subst (λ spans. Picks spans u) (branch_folds spanning x) p
 
-  of_co_arm : (x : CoArm-F BlockItem Statement Arm Branch CoArm) → Picks (told_co_arm x) u → Picks (co_arm_spans (roll-CoArm x)) u
-  of_co_arm x p = subst (λ spans. Picks spans u)
-      (sym (fold-roll-CoArm (List Span) (List Span) (List Span) (List Span) (List Span) block_item_step statement_step arm_step branch_step co_arm_step x)) p
+  of_co_arm : (x : CoArm-F BlockItem Statement Arm Branch CoArm) → Picks (from_co_arm spanning x) u → Picks (co_arm_spans (roll-CoArm x)) u
+  of_co_arm x p = subst (λ spans. Picks spans u) (co_arm_folds spanning x) p
 
 -- ---- statements and blocks
 

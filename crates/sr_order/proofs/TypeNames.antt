@@ -1,6 +1,5 @@
 -- The spans of the names in a type or signature are picked from its tokens.
-use Rattle.std.proofs.Common.{◌≡◌, sym, subst, List, ◌∷◌, ◌++◌, Option, Some, None, map, flat_map}
-use Rattle.sr_value.specs.declared.place.Span.{Span}
+use Rattle.std.proofs.Common.{◌≡◌, subst, List, ◌∷◌, ◌++◌, Option, Some, None, map, flat_map}
 use Rattle.sr_tree.specs.declared.name.Name.{Name}
 use Rattle.sr_tree.specs.declared.token.Token.{Token}
 use Rattle.sr_tree.specs.declared.types.Decl.{Decl}
@@ -11,59 +10,32 @@ use Rattle.sr_tree.specs.declared.types.Returned.{Returned, roll-Returned}
 use Rattle.sr_tree.specs.declared.types.Signature.{Signature, roll-Signature}
 use Rattle.sr_tree.specs.declared.types.TypePlace.{TypePlace}
 use Rattle.sr_tree.specs.declared.types.TypeTree.{TypeTree, roll-TypeTree}
-use Rattle.sr_tree.specs.declared.types.TypeTree.TheFolds.{fold-roll-Formal, fold-roll-Returned, fold-roll-Signature, fold-roll-TypeTree, map-Formal, map-Returned, map-Signature, map-TypeTree}
 use Rattle.sr_tree.specs.declared.types.TypeTree.TheOpen.{TypeTree-F, Formal-F, Returned-F, Signature-F}
 use Rattle.sr_tree.specs.declared.types.TypeTree.TheVariants as ty
 use Rattle.sr_tree.specs.Types as g
 use Rattle.sr_tree.specs.Types.{SpellsNames, SpellsMoreNames, SpellsRange, SpellsSecondRange, SpellsDims, SpellsDecl, SpellsDecls, SpellsMoreDecls, SpellsPlainTypeIn, SpellsTypeIn, SpellsFieldIn, SpellsMoreFieldsIn, SpellsFormalIn, SpellsMoreFormalsIn, SpellsFormals, SpellsFormalsIn, SpellsSignatureIn, formal_span}
 use Rattle.sr_order.specs.Order.{Picks, nothing, left_out, picked}
 use Rattle.sr_order.specs.Spans.{joined}
-use Rattle.sr_order.specs.Names.{where_some, names_spans, range_names, dims_names, decl_names, type_names_step, formal_names_step, returned_names_step, signature_names_step, type_names, formal_names, returned_names, signature_names}
+use Rattle.sr_order.specs.Names.{where_some, names_spans, range_names, dims_names, decl_names, type_names, formal_names, returned_names, signature_names}
+use Rattle.sr_tree.proofs.TypeFolds.{formal_layer, formal_rolls, returned_layer, returned_rolls, signature_layer, signature_rolls, type_layer, type_rolls}
+use Rattle.sr_order.proofs.NameFolds.{type_naming}
 use Rattle.sr_order.proofs.Picked.{none, both, first, second, gathered}
 use Rattle.sr_order.proofs.ExprNames.{qualified-picked, expr-picked}
 
--- ---- the names of a tree are those of its parts
-
-abbrev pub names_in_type : TypeTree-F TypeTree Formal Returned Signature → List Span
-names_in_type x = type_names_step (map-TypeTree TypeTree Formal Returned Signature (List Span) (List Span) (List Span) (List Span)
-    type_names formal_names returned_names signature_names x)
-
-abbrev pub names_in_formal : Formal-F TypeTree Formal Returned Signature → List Span
-names_in_formal x = formal_names_step (map-Formal TypeTree Formal Returned Signature (List Span) (List Span) (List Span) (List Span)
-    type_names formal_names returned_names signature_names x)
-
-abbrev pub names_in_returned : Returned-F TypeTree Formal Returned Signature → List Span
-names_in_returned x = returned_names_step (map-Returned TypeTree Formal Returned Signature (List Span) (List Span) (List Span) (List Span)
-    type_names formal_names returned_names signature_names x)
-
-abbrev pub names_in_signature : Signature-F TypeTree Formal Returned Signature → List Span
-names_in_signature x = signature_names_step (map-Signature TypeTree Formal Returned Signature (List Span) (List Span) (List Span) (List Span)
-    type_names formal_names returned_names signature_names x)
-
-pub type-parts : (x : TypeTree-F TypeTree Formal Returned Signature) → type_names (roll-TypeTree x) ≡ names_in_type x
-type-parts x = fold-roll-TypeTree (List Span) (List Span) (List Span) (List Span) type_names_step formal_names_step returned_names_step signature_names_step x
-
-pub formal-parts : (x : Formal-F TypeTree Formal Returned Signature) → formal_names (roll-Formal x) ≡ names_in_formal x
-formal-parts x = fold-roll-Formal (List Span) (List Span) (List Span) (List Span) type_names_step formal_names_step returned_names_step signature_names_step x
-
-pub returned-parts : (x : Returned-F TypeTree Formal Returned Signature) → returned_names (roll-Returned x) ≡ names_in_returned x
-returned-parts x = fold-roll-Returned (List Span) (List Span) (List Span) (List Span) type_names_step formal_names_step returned_names_step signature_names_step x
-
-pub signature-parts : (x : Signature-F TypeTree Formal Returned Signature) → signature_names (roll-Signature x) ≡ names_in_signature x
-signature-parts x = fold-roll-Signature (List Span) (List Span) (List Span) (List Span) type_names_step formal_names_step returned_names_step signature_names_step x
+-- ---- what is picked for the parts of a tree is picked for the tree
 
 module _ {u : List Token} where
-  of_type : {tree : TypeTree} (x : TypeTree-F TypeTree Formal Returned Signature) → roll-TypeTree x ≡ tree → Picks (names_in_type x) u → Picks (type_names tree) u
-  of_type x rolls p = subst (λ tree. Picks (type_names tree) u) rolls (subst (λ spans. Picks spans u) (sym (type-parts x)) p)
+  of_type : {tree : TypeTree} (x : TypeTree-F TypeTree Formal Returned Signature) → roll-TypeTree x ≡ tree → Picks (type_layer type_naming x) u → Picks (type_names tree) u
+  of_type x rolls p = subst (λ tree. Picks (type_names tree) u) rolls (subst (λ spans. Picks spans u) (type_rolls type_naming x) p)
 
-  of_formal : (x : Formal-F TypeTree Formal Returned Signature) → Picks (names_in_formal x) u → Picks (formal_names (roll-Formal x)) u
-  of_formal x p = subst (λ spans. Picks spans u) (sym (formal-parts x)) p
+  of_formal : (x : Formal-F TypeTree Formal Returned Signature) → Picks (formal_layer type_naming x) u → Picks (formal_names (roll-Formal x)) u
+  of_formal x p = subst (λ spans. Picks spans u) (formal_rolls type_naming x) p
 
-  of_returned : (x : Returned-F TypeTree Formal Returned Signature) → Picks (names_in_returned x) u → Picks (returned_names (roll-Returned x)) u
-  of_returned x p = subst (λ spans. Picks spans u) (sym (returned-parts x)) p
+  of_returned : (x : Returned-F TypeTree Formal Returned Signature) → Picks (returned_layer type_naming x) u → Picks (returned_names (roll-Returned x)) u
+  of_returned x p = subst (λ spans. Picks spans u) (returned_rolls type_naming x) p
 
-  of_signature : (x : Signature-F TypeTree Formal Returned Signature) → Picks (names_in_signature x) u → Picks (signature_names (roll-Signature x)) u
-  of_signature x p = subst (λ spans. Picks spans u) (sym (signature-parts x)) p
+  of_signature : (x : Signature-F TypeTree Formal Returned Signature) → Picks (signature_layer type_naming x) u → Picks (signature_names (roll-Signature x)) u
+  of_signature x p = subst (λ spans. Picks spans u) (signature_rolls type_naming x) p
 
 -- ---- names, ranges and what is declared
 

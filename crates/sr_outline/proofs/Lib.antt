@@ -2,6 +2,7 @@ pub mod Appends
 pub mod Files
 pub mod Making
 pub mod Needed
+pub mod NumberFolds
 pub mod DeclaredOperation
 pub mod Together
 pub mod Within

@@ -1,5 +1,5 @@
 -- The uses that are found in expressions are of the names in them.
-use Rattle.std.proofs.Common.{◌≡◌, sym, subst, Bool, true, false, List, [], ◌∷◌, Option, Some, None, map, flat_map}
+use Rattle.std.proofs.Common.{subst, Bool, true, false, List, [], ◌∷◌, Option, Some, None, map, flat_map}
 use Rattle.sr_value.specs.declared.place.Span.{Span}
 use Rattle.sr_names.specs.declared.meaning.Decl.{Decl}
 use Rattle.sr_names.specs.declared.meaning.Meaning.{Meaning}
@@ -11,21 +11,22 @@ use Rattle.sr_names.specs.Entries.{Entries}
 use Rattle.sr_names.specs.Readings.{reading, twice_unless}
 use Rattle.sr_names.specs.Scopes.{denotes, member}
 use Rattle.sr_names.specs.Spots.{spot_of}
-use Rattle.sr_tree.specs.declared.expr.Create.{Create, roll-Create}
-use Rattle.sr_tree.specs.declared.expr.Create.TheFolds.{fold-roll-Create, fold-roll-Expr, fold-roll-Invocation, fold-roll-Part, ind-Create, ind-Expr, ind-Invocation, map-Create, map-Expr, map-Invocation, map-Part}
-use Rattle.sr_tree.specs.declared.expr.Create.TheOpen.{Create-F, Expr-F, Invocation-F, Part-F}
-use Rattle.sr_tree.specs.declared.expr.Expr.{Expr, roll-Expr}
-use Rattle.sr_tree.specs.declared.expr.Invocation.{Invocation, roll-Invocation}
-use Rattle.sr_tree.specs.declared.expr.Part.{Part, roll-Part}
+use Rattle.sr_tree.specs.declared.expr.Create.{Create}
+use Rattle.sr_tree.specs.declared.expr.Create.TheOpen.{Create-F, Expr-F}
+use Rattle.sr_tree.specs.declared.expr.Expr.{Expr}
+use Rattle.sr_tree.specs.declared.expr.Invocation.{Invocation}
 use Rattle.sr_tree.specs.declared.name.Name.{Name}
 use Rattle.sr_tree.specs.declared.name.QualifiedName.{QualifiedName}
-use Rattle.sr_order.specs.Names.{qualified_names, where_some, name_names, create_names_step, expr_names_step, invocation_names_step, part_names_step, create_names, expr_names, invocation_names, part_names}
+use Rattle.sr_order.specs.Names.{qualified_names, where_some, name_names, create_names, expr_names, invocation_names, part_names}
 use Rattle.sr_order.specs.Spans.{joined}
 use Rattle.sr_scope.specs.Declares.{name_twice, names_twice, name_declared, returned_twice}
-use Rattle.sr_scope.specs.Exprs.{Finds, Reads, create_step, expr_step, invocation_step, part_step, expr_reads, create_found, invocation_found, part_found, reads_found, all_found}
+use Rattle.sr_scope.specs.Exprs.{Finds, Reads, expr_reads, create_found, invocation_found, part_found, reads_found, all_found}
 use Rattle.sr_scope.specs.Names.{component_named, name_found, field_found, spec_name_found, second_found, qualified_found}
 use Rattle.sr_scope.specs.Types.{expr_found, maybe_expr_found}
 use Rattle.sr_scope.specs.Declarations.{exprs_found}
+use Rattle.sr_tree.proofs.ExprFolds.{ByParts, Claim, CreateNode, ExprNode, InvocationNode, Known, PartNode, bare_create, bare_expr, bare_invocation, bare_part, create_folds, each_create, each_expr, each_invocation, expr_folds, from_create, from_expr, from_invocation, from_part, invocation_folds, part_folds}
+use Rattle.sr_order.proofs.NameFolds.{expr_naming}
+use Rattle.sr_scope.proofs.FoundFolds.{expr_finding}
 use Rattle.sr_scope.proofs.Among.{Among, nothing, both, besides, one_use, one_broken}
 
 -- ---- names
@@ -72,89 +73,41 @@ returned_twice_among (Some name) table = twice_among Variable name table
 
 -- ---- expressions with what is known of them
 
-abbrev CreateGood : Create → Type 0
-CreateGood tree = (place : Place) (blocks : Blocks) → Among (create_found tree place blocks) (create_names tree)
+-- what is found is among names
+abbrev pub Good : Finds → List Span → Type 0
+Good finds names = (place : Place) (blocks : Blocks) → Among (finds place blocks) names
 
-abbrev Good : Expr → Type 0
-Good tree = (place : Place) (blocks : Blocks) → Among (expr_found tree place blocks) (expr_names tree)
+abbrev ExprGood : Reads → List Span → Type 0
+ExprGood reads names = (place : Place) (blocks : Blocks) → Among (reads place blocks).found names
 
-abbrev InvocationGood : Invocation → Type 0
-InvocationGood tree = (place : Place) (blocks : Blocks) → Among (invocation_found tree place blocks) (invocation_names tree)
+abbrev among : Claim
+among = record {
+  create = λ tree. Good (create_found tree) (create_names tree);
+  expr = λ tree. ExprGood (expr_reads tree) (expr_names tree);
+  invocation = λ tree. Good (invocation_found tree) (invocation_names tree);
+  part = λ tree. Good (part_found tree) (part_names tree);
+}
 
-abbrev PartGood : Part → Type 0
-PartGood tree = (place : Place) (blocks : Blocks) → Among (part_found tree place blocks) (part_names tree)
-
-abbrev C : Type 0
-C = (tree : Create) × CreateGood tree
-
-abbrev T : Type 0
-T = (tree : Expr) × Good tree
-
-abbrev I : Type 0
-I = (tree : Invocation) × InvocationGood tree
-
-abbrev P : Type 0
-P = (tree : Part) × PartGood tree
-
-all_good : (place : Place) (blocks : Blocks) (trees : List T)
+all_good : (place : Place) (blocks : Blocks) (trees : List (Known among.expr))
     → Among (reads_found (map expr_reads (map (λ tree. tree.0) trees)) place blocks) (joined (map expr_names (map (λ tree. tree.0) trees)))
 all_good place blocks [] = nothing
 all_good place blocks (tree ∷ trees) = both (tree.1 place blocks) (all_good place blocks trees)
 
-parts_good : (place : Place) (blocks : Blocks) (trees : List P)
+parts_good : (place : Place) (blocks : Blocks) (trees : List (Known among.part))
     → Among (all_found (map part_found (map (λ tree. tree.0) trees)) place blocks) (joined (map part_names (map (λ tree. tree.0) trees)))
 parts_good place blocks [] = nothing
 parts_good place blocks (tree ∷ trees) = both (tree.1 place blocks) (parts_good place blocks trees)
 
-abbrev bare_create : Create-F C T I P → Create-F Create Expr Invocation Part
-bare_create = map-Create C T I P Create Expr Invocation Part (λ e. e.0) (λ e. e.0) (λ e. e.0) (λ e. e.0)
-
-abbrev bare_expr : Expr-F C T I P → Expr-F Create Expr Invocation Part
-bare_expr = map-Expr C T I P Create Expr Invocation Part (λ e. e.0) (λ e. e.0) (λ e. e.0) (λ e. e.0)
-
-abbrev bare_invocation : Invocation-F C T I P → Invocation-F Create Expr Invocation Part
-bare_invocation = map-Invocation C T I P Create Expr Invocation Part (λ e. e.0) (λ e. e.0) (λ e. e.0) (λ e. e.0)
-
-abbrev bare_part : Part-F C T I P → Part-F Create Expr Invocation Part
-bare_part = map-Part C T I P Create Expr Invocation Part (λ e. e.0) (λ e. e.0) (λ e. e.0) (λ e. e.0)
-
-abbrev create_of : Create-F Create Expr Invocation Part → Finds
-create_of x = create_step (map-Create Create Expr Invocation Part Finds Reads Finds Finds create_found expr_reads invocation_found part_found x)
-
-abbrev expr_of : Expr-F Create Expr Invocation Part → Reads
-expr_of x = expr_step (map-Expr Create Expr Invocation Part Finds Reads Finds Finds create_found expr_reads invocation_found part_found x)
-
-abbrev invocation_of : Invocation-F Create Expr Invocation Part → Finds
-invocation_of x = invocation_step (map-Invocation Create Expr Invocation Part Finds Reads Finds Finds create_found expr_reads invocation_found part_found x)
-
-abbrev part_of : Part-F Create Expr Invocation Part → Finds
-part_of x = part_step (map-Part Create Expr Invocation Part Finds Reads Finds Finds create_found expr_reads invocation_found part_found x)
-
-abbrev S : Type 0
-S = List Span
-
-abbrev create_spans : Create-F Create Expr Invocation Part → S
-create_spans x = create_names_step (map-Create Create Expr Invocation Part S S S S create_names expr_names invocation_names part_names x)
-
-abbrev expr_spans : Expr-F Create Expr Invocation Part → S
-expr_spans x = expr_names_step (map-Expr Create Expr Invocation Part S S S S create_names expr_names invocation_names part_names x)
-
-abbrev invocation_spans : Invocation-F Create Expr Invocation Part → S
-invocation_spans x = invocation_names_step (map-Invocation Create Expr Invocation Part S S S S create_names expr_names invocation_names part_names x)
-
-abbrev part_spans : Part-F Create Expr Invocation Part → S
-part_spans x = part_names_step (map-Part Create Expr Invocation Part S S S S create_names expr_names invocation_names part_names x)
-
 -- ---- each kind of tree from its parts
 
-create_good : (y : Create-F C T I P) (place : Place) (blocks : Blocks) → Among (create_of (bare_create y) place blocks) (create_spans (bare_create y))
+create_good : (y : CreateNode among) → Good (from_create expr_finding (bare_create among y)) (from_create expr_naming (bare_create among y))
 create_good (Create-F.Resource span resource arguments None) place blocks =
     both (qualified_among place blocks resource) (both (all_good place blocks arguments) (nothing {s = []}))
 create_good (Create-F.Resource span resource arguments (Some machine)) place blocks =
     both (qualified_among place blocks resource) (both (all_good place blocks arguments) (machine.1 place blocks))
 create_good (Create-F.Machine span) place blocks = nothing
 
-expr_good : (y : Expr-F C T I P) (place : Place) (blocks : Blocks) → Among (expr_of (bare_expr y) place blocks).found (expr_spans (bare_expr y))
+expr_good : (y : ExprNode among) → ExprGood (from_expr expr_finding (bare_expr among y)) (from_expr expr_naming (bare_expr among y))
 expr_good (Expr-F.Literal span literal) place blocks = nothing
 expr_good (Expr-F.Name name) place blocks = name_among place blocks name
 expr_good (Expr-F.BasicType span basic) place blocks = nothing
@@ -173,51 +126,35 @@ expr_good (Expr-F.Unary span operator operand) place blocks = operand.1 place bl
 expr_good (Expr-F.Pending span operation) place blocks = name_among place blocks operation
 expr_good (Expr-F.Binary span left operator right) place blocks = both (left.1 place blocks) (right.1 place blocks)
 
-invocation_good : (y : Invocation-F C T I P) (place : Place) (blocks : Blocks) → Among (invocation_of (bare_invocation y) place blocks) (invocation_spans (bare_invocation y))
+invocation_good : (y : InvocationNode among) → Good (from_invocation expr_finding (bare_invocation among y)) (from_invocation expr_naming (bare_invocation among y))
 invocation_good y place blocks = both (y.callee.1 place blocks) (all_good place blocks y.arguments)
 
-count_good : (span : Span) (count : Option T) (value : T) (place : Place) (blocks : Blocks)
-    → Among (part_of (bare_part (record { span = span; count = count; value = value })) place blocks) (part_spans (bare_part (record { span = span; count = count; value = value })))
-count_good span None value place blocks = both (nothing {s = []}) (value.1 place blocks)
-count_good span (Some count) value place blocks = both (count.1 place blocks) (value.1 place blocks)
-
-part_good : (y : Part-F C T I P) (place : Place) (blocks : Blocks) → Among (part_of (bare_part y) place blocks) (part_spans (bare_part y))
-part_good y = count_good y.span y.count y.value
+part_good : (y : PartNode among) → Good (from_part expr_finding (bare_part among y)) (from_part expr_naming (bare_part among y))
+part_good y place blocks = by y.count
+  where
+    by : (count : Option (Known among.expr))
+        → Among (from_part expr_finding (bare_part among (record y { count = count })) place blocks) (from_part expr_naming (bare_part among (record y { count = count })))
+    by None = both (nothing {s = []}) (y.value.1 place blocks)
+    by (Some count) = both (count.1 place blocks) (y.value.1 place blocks)
 
 -- ---- all trees
 
-step_create : (x : Create-F Create Expr Invocation Part) (y : Create-F C T I P) → bare_create y ≡ x → CreateGood (roll-Create x)
-step_create x y is = subst (λ z. CreateGood (roll-Create z)) is (λ place blocks.
-    subst (λ finds. Among (finds place blocks) (create_names (roll-Create (bare_create y)))) (sym (fold-roll-Create Finds Reads Finds Finds create_step expr_step invocation_step part_step (bare_create y)))
-    (subst (λ spans. Among (create_of (bare_create y) place blocks) spans) (sym (fold-roll-Create S S S S create_names_step expr_names_step invocation_names_step part_names_step (bare_create y)))
-    (create_good y place blocks)))
+by_parts : ByParts among
+by_parts = record {
+  create = λ y. subst (λ t. t) (λ i. Good (create_folds expr_finding (bare_create among y) i) (create_folds expr_naming (bare_create among y) i)) (create_good y);
+  expr = λ y. subst (λ t. t) (λ i. ExprGood (expr_folds expr_finding (bare_expr among y) i) (expr_folds expr_naming (bare_expr among y) i)) (expr_good y);
+  invocation = λ y. subst (λ t. t) (λ i. Good (invocation_folds expr_finding (bare_invocation among y) i) (invocation_folds expr_naming (bare_invocation among y) i)) (invocation_good y);
+  part = λ y. subst (λ t. t) (λ i. Good (part_folds expr_finding (bare_part among y) i) (part_folds expr_naming (bare_part among y) i)) (part_good y);
+}
 
-step_expr : (x : Expr-F Create Expr Invocation Part) (y : Expr-F C T I P) → bare_expr y ≡ x → Good (roll-Expr x)
-step_expr x y is = subst (λ z. Good (roll-Expr z)) is (λ place blocks.
-    subst (λ reads. Among (reads place blocks).found (expr_names (roll-Expr (bare_expr y)))) (sym (fold-roll-Expr Finds Reads Finds Finds create_step expr_step invocation_step part_step (bare_expr y)))
-    (subst (λ spans. Among (expr_of (bare_expr y) place blocks).found spans) (sym (fold-roll-Expr S S S S create_names_step expr_names_step invocation_names_step part_names_step (bare_expr y)))
-    (expr_good y place blocks)))
+pub expr_among : (tree : Expr) (place : Place) (blocks : Blocks) → Among (expr_found tree place blocks) (expr_names tree)
+expr_among = each_expr among by_parts
 
-step_invocation : (x : Invocation-F Create Expr Invocation Part) (y : Invocation-F C T I P) → bare_invocation y ≡ x → InvocationGood (roll-Invocation x)
-step_invocation x y is = subst (λ z. InvocationGood (roll-Invocation z)) is (λ place blocks.
-    subst (λ finds. Among (finds place blocks) (invocation_names (roll-Invocation (bare_invocation y)))) (sym (fold-roll-Invocation Finds Reads Finds Finds create_step expr_step invocation_step part_step (bare_invocation y)))
-    (subst (λ spans. Among (invocation_of (bare_invocation y) place blocks) spans) (sym (fold-roll-Invocation S S S S create_names_step expr_names_step invocation_names_step part_names_step (bare_invocation y)))
-    (invocation_good y place blocks)))
+pub create_among : (tree : Create) (place : Place) (blocks : Blocks) → Among (create_found tree place blocks) (create_names tree)
+create_among = each_create among by_parts
 
-step_part : (x : Part-F Create Expr Invocation Part) (y : Part-F C T I P) → bare_part y ≡ x → PartGood (roll-Part x)
-step_part x y is = subst (λ z. PartGood (roll-Part z)) is (λ place blocks.
-    subst (λ finds. Among (finds place blocks) (part_names (roll-Part (bare_part y)))) (sym (fold-roll-Part Finds Reads Finds Finds create_step expr_step invocation_step part_step (bare_part y)))
-    (subst (λ spans. Among (part_of (bare_part y) place blocks) spans) (sym (fold-roll-Part S S S S create_names_step expr_names_step invocation_names_step part_names_step (bare_part y)))
-    (part_good y place blocks)))
-
-pub expr_among : (tree : Expr) → Good tree
-expr_among = ind-Expr CreateGood Good InvocationGood PartGood step_create step_expr step_invocation step_part
-
-pub create_among : (tree : Create) → CreateGood tree
-create_among = ind-Create CreateGood Good InvocationGood PartGood step_create step_expr step_invocation step_part
-
-pub invocation_among : (tree : Invocation) → InvocationGood tree
-invocation_among = ind-Invocation CreateGood Good InvocationGood PartGood step_create step_expr step_invocation step_part
+pub invocation_among : (tree : Invocation) (place : Place) (blocks : Blocks) → Among (invocation_found tree place blocks) (invocation_names tree)
+invocation_among = each_invocation among by_parts
 
 pub maybe_expr_among : (tree : Option Expr) (place : Place) (blocks : Blocks) → Among (maybe_expr_found tree place blocks) (where_some expr_names tree)
 maybe_expr_among None place blocks = nothing

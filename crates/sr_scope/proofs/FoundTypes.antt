@@ -1,5 +1,5 @@
 -- The uses that are found in types and declarations are of the names in them.
-use Rattle.std.proofs.Common.{◌≡◌, sym, subst, List, [], ◌∷◌, ◌++◌, Option, Some, None, map, flat_map, append_assoc}
+use Rattle.std.proofs.Common.{subst, List, [], ◌∷◌, ◌++◌, Option, Some, None, map, flat_map, append_assoc}
 use Rattle.sr_value.specs.declared.place.Span.{Span}
 use Rattle.sr_names.specs.declared.meaning.Sort.TheVariants.{Variable, Quantifier as quantifier_sort}
 use Rattle.sr_names.specs.declared.place.Blocks.{Blocks}
@@ -13,22 +13,22 @@ use Rattle.sr_tree.specs.declared.declaration.VarDecl.{VarDecl}
 use Rattle.sr_tree.specs.declared.statement.Quantifier.{Quantifier}
 use Rattle.sr_tree.specs.declared.types.Decl.{Decl}
 use Rattle.sr_tree.specs.declared.types.DimsTree.{DimsTree}
-use Rattle.sr_tree.specs.declared.types.Formal.{Formal, roll-Formal}
+use Rattle.sr_tree.specs.declared.types.Formal.{Formal}
 use Rattle.sr_tree.specs.declared.types.RangeTree.{RangeTree}
 use Rattle.sr_tree.specs.declared.types.RangeTree.TheVariants as range
-use Rattle.sr_tree.specs.declared.types.Returned.{Returned, roll-Returned}
-use Rattle.sr_tree.specs.declared.types.Signature.{Signature, roll-Signature}
-use Rattle.sr_tree.specs.declared.types.TypeTree.{TypeTree, roll-TypeTree}
-use Rattle.sr_tree.specs.declared.types.TypeTree.TheFolds.{fold-roll-TypeTree, fold-roll-Formal, fold-roll-Returned, fold-roll-Signature, ind-TypeTree, ind-Formal, ind-Signature, map-TypeTree, map-Formal, map-Returned, map-Signature}
-use Rattle.sr_tree.specs.declared.types.TypeTree.TheOpen.{TypeTree-F, Formal-F, Returned-F, Signature-F}
-use Rattle.sr_order.specs.Names.{where_some, expr_names, range_names, dims_names, decl_names, type_names_step, formal_names_step, returned_names_step, signature_names_step, type_names, formal_names, returned_names, signature_names, const_names, op_item_names, var_names, semaphore_names, quantifier_names}
+use Rattle.sr_tree.specs.declared.types.Signature.{Signature}
+use Rattle.sr_tree.specs.declared.types.TypeTree.{TypeTree}
+use Rattle.sr_tree.specs.declared.types.TypeTree.TheOpen.{TypeTree-F}
+use Rattle.sr_order.specs.Names.{where_some, expr_names, range_names, dims_names, decl_names, type_names, formal_names, signature_names, const_names, op_item_names, var_names, semaphore_names, quantifier_names}
 use Rattle.sr_order.specs.Spans.{joined}
 use Rattle.sr_scope.specs.Declarations.{const_found, var_found, semaphores_found, op_item_found, op_items_found, quantifier_found, quantifiers_found, with_quantifier}
 use Rattle.sr_scope.specs.Declares.{names_declared}
-use Rattle.sr_scope.specs.Exprs.{Finds}
-use Rattle.sr_scope.specs.Types.{Formals, Signed, range_found, maybe_range_found, dims_found, maybe_dims_found, decls_found, formals_found, maybe_found, formals_declared, formals_twice, maybe_twice, signed_twice, signed_found, type_step, formal_step, returned_step, signature_step, type_found, formal_read, returned_read, signature_read, maybe_type_found}
+use Rattle.sr_scope.specs.Types.{Formals, Signed, range_found, maybe_range_found, dims_found, maybe_dims_found, decls_found, formals_found, maybe_found, formals_declared, formals_twice, maybe_twice, signed_twice, signed_found, type_found, formal_read, signature_read, maybe_type_found}
+use Rattle.sr_tree.proofs.TypeFolds.{FormalFits, FormalNode, KnownFormal, KnownReturned, Layers, Related, ReturnedFits, ReturnedNode, SignatureFits, SignatureNode, TypeFits, TypeNode, bare_signature, formal_related, signature_layer, signature_related, type_related}
+use Rattle.sr_order.proofs.NameFolds.{type_naming}
+use Rattle.sr_scope.proofs.FoundFolds.{type_finding}
 use Rattle.sr_scope.proofs.Among.{Among, nothing, both, besides, after_one, regrouped}
-use Rattle.sr_scope.proofs.FoundExprs.{expr_among, maybe_expr_among, exprs_among, qualified_among, names_twice_among, twice_among}
+use Rattle.sr_scope.proofs.FoundExprs.{Good, expr_among, maybe_expr_among, exprs_among, qualified_among, names_twice_among, twice_among}
 
 -- ---- bounds
 
@@ -73,77 +73,31 @@ signed_twice_among signed table =
 
 -- ---- types with what is known of them
 
-abbrev Good : TypeTree → Type 0
-Good tree = (place : Place) (blocks : Blocks) → Among (type_found tree place blocks) (type_names tree)
+abbrev FormalsGood : Formals → List Span → List Span → Type 0
+FormalsGood read names again = Good read.found names
 
-abbrev FormalGood : Formal → Type 0
-FormalGood tree = (place : Place) (blocks : Blocks) → Among ((formal_read tree).found place blocks) (formal_names tree)
+abbrev among : Related
+among = record {
+  first = type_finding;
+  second = type_naming;
+  third = type_naming;
+  Types = λ finds names again. Good finds names;
+  Formals = FormalsGood;
+  Returns = FormalsGood;
+  Signatures = λ signed names again. Good (signed_found signed) names;
+}
 
-abbrev ReturnedGood : Returned → Type 0
-ReturnedGood tree = (place : Place) (blocks : Blocks) → Among ((returned_read tree).found place blocks) (returned_names tree)
+abbrev read : SignatureNode among → Signed
+read y = signature_layer type_finding (bare_signature among y)
 
-abbrev SignatureGood : Signature → Type 0
-SignatureGood tree = (place : Place) (blocks : Blocks) → Among (signed_found (signature_read tree) place blocks) (signature_names tree)
-
-abbrev T : Type 0
-T = (tree : TypeTree) × Good tree
-
-abbrev F : Type 0
-F = (tree : Formal) × FormalGood tree
-
-abbrev R : Type 0
-R = (tree : Returned) × ReturnedGood tree
-
-abbrev G : Type 0
-G = (tree : Signature) × SignatureGood tree
-
-formals_good : (place : Place) (blocks : Blocks) (trees : List F)
+formals_good : (place : Place) (blocks : Blocks) (trees : List (KnownFormal among))
     → Among (formals_found (map formal_read (map (λ tree. tree.0) trees)) place blocks) (joined (map formal_names (map (λ tree. tree.0) trees)))
 formals_good place blocks [] = nothing
 formals_good place blocks (tree ∷ trees) = both (tree.1 place blocks) (formals_good place blocks trees)
 
-abbrev bare_type : TypeTree-F T F R G → TypeTree-F TypeTree Formal Returned Signature
-bare_type = map-TypeTree T F R G TypeTree Formal Returned Signature (λ e. e.0) (λ e. e.0) (λ e. e.0) (λ e. e.0)
-
-abbrev bare_formal : Formal-F T F R G → Formal-F TypeTree Formal Returned Signature
-bare_formal = map-Formal T F R G TypeTree Formal Returned Signature (λ e. e.0) (λ e. e.0) (λ e. e.0) (λ e. e.0)
-
-abbrev bare_returned : Returned-F T F R G → Returned-F TypeTree Formal Returned Signature
-bare_returned = map-Returned T F R G TypeTree Formal Returned Signature (λ e. e.0) (λ e. e.0) (λ e. e.0) (λ e. e.0)
-
-abbrev bare_signature : Signature-F T F R G → Signature-F TypeTree Formal Returned Signature
-bare_signature = map-Signature T F R G TypeTree Formal Returned Signature (λ e. e.0) (λ e. e.0) (λ e. e.0) (λ e. e.0)
-
-abbrev type_of : TypeTree-F TypeTree Formal Returned Signature → Finds
-type_of x = type_step (map-TypeTree TypeTree Formal Returned Signature Finds Formals Formals Signed type_found formal_read returned_read signature_read x)
-
-abbrev formal_of : Formal-F TypeTree Formal Returned Signature → Formals
-formal_of x = formal_step (map-Formal TypeTree Formal Returned Signature Finds Formals Formals Signed type_found formal_read returned_read signature_read x)
-
-abbrev returned_of : Returned-F TypeTree Formal Returned Signature → Formals
-returned_of x = returned_step (map-Returned TypeTree Formal Returned Signature Finds Formals Formals Signed type_found formal_read returned_read signature_read x)
-
-abbrev signature_of : Signature-F TypeTree Formal Returned Signature → Signed
-signature_of x = signature_step (map-Signature TypeTree Formal Returned Signature Finds Formals Formals Signed type_found formal_read returned_read signature_read x)
-
-abbrev S : Type 0
-S = List Span
-
-abbrev type_spans : TypeTree-F TypeTree Formal Returned Signature → S
-type_spans x = type_names_step (map-TypeTree TypeTree Formal Returned Signature S S S S type_names formal_names returned_names signature_names x)
-
-abbrev formal_spans : Formal-F TypeTree Formal Returned Signature → S
-formal_spans x = formal_names_step (map-Formal TypeTree Formal Returned Signature S S S S type_names formal_names returned_names signature_names x)
-
-abbrev returned_spans : Returned-F TypeTree Formal Returned Signature → S
-returned_spans x = returned_names_step (map-Returned TypeTree Formal Returned Signature S S S S type_names formal_names returned_names signature_names x)
-
-abbrev signature_spans : Signature-F TypeTree Formal Returned Signature → S
-signature_spans x = signature_names_step (map-Signature TypeTree Formal Returned Signature S S S S type_names formal_names returned_names signature_names x)
-
 -- ---- each kind of tree from its parts
 
-type_good : (y : TypeTree-F T F R G) (place : Place) (blocks : Blocks) → Among (type_of (bare_type y) place blocks) (type_spans (bare_type y))
+type_good : (y : TypeNode among) → TypeFits among y
 type_good (TypeTree-F.Int span) place blocks = nothing
 type_good (TypeTree-F.Bool span) place blocks = nothing
 type_good (TypeTree-F.Char span) place blocks = nothing
@@ -157,57 +111,35 @@ type_good (TypeTree-F.CapOperation span signature) place blocks = signature.1 pl
 type_good (TypeTree-F.Array span dims item) place blocks = both (dims_among dims place blocks) (item.1 place blocks)
 type_good (TypeTree-F.Named span name) place blocks = qualified_among place blocks name
 
-formal_good : (y : Formal-F T F R G) (place : Place) (blocks : Blocks) → Among ((formal_of (bare_formal y)).found place blocks) (formal_spans (bare_formal y))
+formal_good : (y : FormalNode among) → FormalFits among y
 formal_good y place blocks = both (decls_among y.decls place blocks) (y.ty.1 place blocks)
 
-returned_good : (y : Returned-F T F R G) (place : Place) (blocks : Blocks) → Among ((returned_of (bare_returned y)).found place blocks) (returned_spans (bare_returned y))
+returned_good : (y : ReturnedNode among) → ReturnedFits among y
 returned_good y place blocks = both (decl_among y.decl place blocks) (y.ty.1 place blocks)
 
-signature_good : (y : Signature-F T F R G) (place : Place) (blocks : Blocks) → Among (signed_found (signature_of (bare_signature y)) place blocks) (signature_spans (bare_signature y))
+signature_good : (y : SignatureNode among) → SignatureFits among y
 signature_good y place blocks =
-    besides (signed_twice_among (signature_of (bare_signature y)) []) (by y.returned)
+    besides (signed_twice_among (read y) []) (by y.returned)
   where
-    by : (returned : Option R)
-        → Among (formals_found (signature_of (bare_signature (record y { returned = returned }))).formals place blocks
-        ++ maybe_found (signature_of (bare_signature (record y { returned = returned }))).returned place blocks)
-        (signature_spans (bare_signature (record y { returned = returned })))
+    by : (returned : Option (KnownReturned among))
+        → Among (formals_found (read (record y { returned = returned })).formals place blocks ++ maybe_found (read (record y { returned = returned })).returned place blocks)
+        (signature_layer type_naming (bare_signature among (record y { returned = returned })))
     by None = both (formals_good place blocks y.formals) (nothing {s = []})
     by (Some returned) = both (formals_good place blocks y.formals) (returned.1 place blocks)
 
 -- ---- all trees
 
-step_type : (x : TypeTree-F TypeTree Formal Returned Signature) (y : TypeTree-F T F R G) → bare_type y ≡ x → Good (roll-TypeTree x)
-step_type x y is = subst (λ z. Good (roll-TypeTree z)) is (λ place blocks.
-    subst (λ finds. Among (finds place blocks) (type_names (roll-TypeTree (bare_type y)))) (sym (fold-roll-TypeTree Finds Formals Formals Signed type_step formal_step returned_step signature_step (bare_type y)))
-    (subst (λ spans. Among (type_of (bare_type y) place blocks) spans) (sym (fold-roll-TypeTree S S S S type_names_step formal_names_step returned_names_step signature_names_step (bare_type y)))
-    (type_good y place blocks)))
+layers : Layers among
+layers = record { types = type_good; formals = formal_good; returns = returned_good; signatures = signature_good }
 
-step_formal : (x : Formal-F TypeTree Formal Returned Signature) (y : Formal-F T F R G) → bare_formal y ≡ x → FormalGood (roll-Formal x)
-step_formal x y is = subst (λ z. FormalGood (roll-Formal z)) is (λ place blocks.
-    subst (λ (read : Formals). Among (read.found place blocks) (formal_names (roll-Formal (bare_formal y)))) (sym (fold-roll-Formal Finds Formals Formals Signed type_step formal_step returned_step signature_step (bare_formal y)))
-    (subst (λ spans. Among ((formal_of (bare_formal y)).found place blocks) spans) (sym (fold-roll-Formal S S S S type_names_step formal_names_step returned_names_step signature_names_step (bare_formal y)))
-    (formal_good y place blocks)))
+pub type_among : (tree : TypeTree) (place : Place) (blocks : Blocks) → Among (type_found tree place blocks) (type_names tree)
+type_among = type_related among layers
 
-step_returned : (x : Returned-F TypeTree Formal Returned Signature) (y : Returned-F T F R G) → bare_returned y ≡ x → ReturnedGood (roll-Returned x)
-step_returned x y is = subst (λ z. ReturnedGood (roll-Returned z)) is (λ place blocks.
-    subst (λ (read : Formals). Among (read.found place blocks) (returned_names (roll-Returned (bare_returned y)))) (sym (fold-roll-Returned Finds Formals Formals Signed type_step formal_step returned_step signature_step (bare_returned y)))
-    (subst (λ spans. Among ((returned_of (bare_returned y)).found place blocks) spans) (sym (fold-roll-Returned S S S S type_names_step formal_names_step returned_names_step signature_names_step (bare_returned y)))
-    (returned_good y place blocks)))
+formal_among : (tree : Formal) (place : Place) (blocks : Blocks) → Among ((formal_read tree).found place blocks) (formal_names tree)
+formal_among = formal_related among layers
 
-step_signature : (x : Signature-F TypeTree Formal Returned Signature) (y : Signature-F T F R G) → bare_signature y ≡ x → SignatureGood (roll-Signature x)
-step_signature x y is = subst (λ z. SignatureGood (roll-Signature z)) is (λ place blocks.
-    subst (λ signed. Among (signed_found signed place blocks) (signature_names (roll-Signature (bare_signature y)))) (sym (fold-roll-Signature Finds Formals Formals Signed type_step formal_step returned_step signature_step (bare_signature y)))
-    (subst (λ spans. Among (signed_found (signature_of (bare_signature y)) place blocks) spans) (sym (fold-roll-Signature S S S S type_names_step formal_names_step returned_names_step signature_names_step (bare_signature y)))
-    (signature_good y place blocks)))
-
-pub type_among : (tree : TypeTree) → Good tree
-type_among = ind-TypeTree Good FormalGood ReturnedGood SignatureGood step_type step_formal step_returned step_signature
-
-pub formal_among : (tree : Formal) → FormalGood tree
-formal_among = ind-Formal Good FormalGood ReturnedGood SignatureGood step_type step_formal step_returned step_signature
-
-pub signature_among : (tree : Signature) → SignatureGood tree
-signature_among = ind-Signature Good FormalGood ReturnedGood SignatureGood step_type step_formal step_returned step_signature
+pub signature_among : (tree : Signature) (place : Place) (blocks : Blocks) → Among (signed_found (signature_read tree) place blocks) (signature_names tree)
+signature_among = signature_related among layers
 
 pub formals_among : (formals : List Formal) (place : Place) (blocks : Blocks) → Among (formals_found (map formal_read formals) place blocks) (flat_map formal_names formals)
 formals_among [] place blocks = nothing

@@ -2,6 +2,7 @@ pub mod Among
 pub mod Findings
 pub mod FoundExprs
 pub mod FoundFiles
+pub mod FoundFolds
 pub mod FoundStatements
 pub mod FoundTypes
 pub mod LiteralLists
@@ -11,3 +12,4 @@ pub mod Operations
 pub mod OwnNames
 pub mod Served
 pub mod Tables
+pub mod TypeParts

@@ -1,1 +1,4 @@
+pub mod ExprFolds
 pub mod Nested
+pub mod StatementFolds
+pub mod TypeFolds
