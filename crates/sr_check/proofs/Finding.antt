@@ -19,13 +19,9 @@ use Rattle.sr_tree.specs.declared.expr.Expr.{Expr, out-Expr}
 use Rattle.sr_tree.specs.declared.expr.Invocation.{Invocation, out-Invocation}
 use Rattle.sr_tree.specs.declared.expr.Part.{Part}
 use Rattle.sr_tree.specs.declared.name.Name.{Name}
-use Rattle.sr_tree.specs.declared.statement.Arm.{Arm, roll-Arm}
-use Rattle.sr_tree.specs.declared.statement.BlockItem.{BlockItem, roll-BlockItem}
-use Rattle.sr_tree.specs.declared.statement.BlockItem.TheFolds.{map-BlockItem, map-Statement, map-Arm, map-Branch, map-CoArm, fold-roll-BlockItem, fold-roll-Statement, fold-roll-Arm, fold-roll-Branch, fold-roll-CoArm, ind-Statement}
-use Rattle.sr_tree.specs.declared.statement.BlockItem.TheOpen.{BlockItem-F, Statement-F, Arm-F, Branch-F, CoArm-F}
-use Rattle.sr_tree.specs.declared.statement.Branch.{Branch, roll-Branch}
-use Rattle.sr_tree.specs.declared.statement.CoArm.{CoArm, roll-CoArm}
-use Rattle.sr_tree.specs.declared.statement.Statement.{Statement, roll-Statement}
+use Rattle.sr_tree.specs.declared.statement.Arm.{Arm}
+use Rattle.sr_tree.specs.declared.statement.BlockItem.TheOpen.{BlockItem-F, Statement-F}
+use Rattle.sr_tree.specs.declared.statement.Statement.{Statement}
 use Rattle.sr_types.specs.declared.signature.Signature.{Signature}
 use Rattle.sr_types.specs.declared.ty.Ty.{Ty}
 use Rattle.sr_check_expr.specs.declared.facts.Facts.{Facts}
@@ -44,15 +40,17 @@ use Rattle.sr_check.specs.Procs.{Procs, proc_of}
 use Rattle.sr_check.specs.Quantifying.{expr_with, quantifiers_found, quantifiers_known}
 use Rattle.sr_check.specs.Receiving.{receive_found, receive_by, received_found, takes_all}
 use Rattle.sr_check.specs.Services.{operation_at, operation_named, decl_named, is_local_info, is_shared_info, is_local_name, is_shared_name, is_own, params_of, head_rule, proc_found, service_found, head_found, type_of}
-use Rattle.sr_check.specs.Servicing.{item_step as item_waiting, statement_step as statement_waiting, arm_step as arm_waiting, branch_step as branch_waiting, co_arm_step as co_arm_waiting, meant_at, expr_meant, first_meant, waits_by, layer_waits, Together, Waits, ArmWaits, joined, call_waits, arms_meant, arms_waits, statement_waits, block_item_waits, arm_waits, branch_waits, co_arm_waits}
-use Rattle.sr_check.specs.Statements.{ArmSteps, CoArmSteps, arm_context, guards_found, mixture_found, is_mixture, then_step, maybe_block, arms_at, co_arms_at, item_step, statement_step, arm_step, branch_step, co_arm_step, statement_read, block_item_read, arm_read, branch_read, co_arm_read}
+use Rattle.sr_check.specs.Servicing.{meant_at, expr_meant, first_meant, waits_by, layer_waits, Together, Waits, ArmWaits, joined, call_waits, arms_meant, arms_waits, statement_waits, block_item_waits, arm_waits, branch_waits, co_arm_waits}
+use Rattle.sr_check.specs.Statements.{ArmSteps, CoArmSteps, arm_context, guards_found, mixture_found, is_mixture, then_step, maybe_block, arms_at, co_arms_at, statement_read, block_item_read, arm_read, branch_read, co_arm_read}
 use Rattle.sr_check.specs.Uses.{condition_rule}
+use Rattle.sr_tree.proofs.StatementFolds.{ArmNode, BranchNode, ByParts, Claim, CoArmNode, ItemNode, Known, StatementNode, arm_folds, bare_arm, bare_branch, bare_co_arm, bare_item, bare_statement, branch_folds, co_arm_folds, each_statement, from_arm, from_branch, from_co_arm, from_item, from_statement, item_folds, statement_folds}
 use Rattle.sr_check.proofs.Each.{Each, each-append}
 use Rattle.sr_check.specs.ErrorFree.{ErrorFree}
 use Rattle.sr_check.proofs.ErrorFree.{rule_met, same_error_free, error_free_first, error_free_second}
 use Rattle.sr_check.proofs.Named.{Meant, meant_by, by_expr}
 use Rattle.sr_check.proofs.Owners.{Meets, Sound, known_now}
-use Rattle.sr_check.proofs.Reading.{read_item, read_statement, read_arm, read_branch, read_co_arm, keeps_service, keeps_quantifiers, keeps_block_item, keeps_branch, keeps_arm, keeps_co_arm}
+use Rattle.sr_check.proofs.ReadFolds.{reading, servicing}
+use Rattle.sr_check.proofs.Reading.{keeps_service, keeps_quantifiers, keeps_block_item, keeps_branch, keeps_arm, keeps_co_arm}
 
 -- ---- what is found where a rule is broken
 
@@ -164,20 +162,29 @@ module _ (P : Meets) (uses : Meanings) (component : Spot) (procs : Procs) where
       (meant_at uses arm.operation.span ≡ waits.0)
       × ((span : Span) (context : Context) → context.procs ≡ procs → Holds context.facts → ErrorFree ((arm.steps span context).found) → AtSome context.facts waits.0 × Each Right waits.1)
 
-  abbrev I : Type 0
-  I = (tree : BlockItem) × Finds (block_item_read tree) (block_item_waits uses tree)
+  abbrev CoArmFinds : CoArmSteps → Waits → Type 0
+  CoArmFinds arm waits = (span : Span) → Finds (arm span) waits
 
-  abbrev S : Type 0
-  S = (tree : Statement) × Finds (statement_read tree) (statement_waits uses tree)
+  abbrev served : Claim
+  served = record {
+    item = λ tree. Finds (block_item_read tree) (block_item_waits uses tree);
+    statement = λ tree. Finds (statement_read tree) (statement_waits uses tree);
+    arm = λ tree. ArmFinds (arm_read tree) (arm_waits uses tree);
+    branch = λ tree. Finds (branch_read tree) (branch_waits uses tree);
+    co_arm = λ tree. CoArmFinds (co_arm_read tree) (co_arm_waits uses tree);
+  }
+
+  abbrev I : Type 0
+  I = Known served.item
 
   abbrev A : Type 0
-  A = (tree : Arm) × ArmFinds (arm_read tree) (arm_waits uses tree)
+  A = Known served.arm
 
   abbrev B : Type 0
-  B = (tree : Branch) × Finds (branch_read tree) (branch_waits uses tree)
+  B = Known served.branch
 
   abbrev C : Type 0
-  C = (tree : CoArm) × ((span : Span) → Finds (co_arm_read tree span) (co_arm_waits uses tree))
+  C = Known served.co_arm
 
   finds_row : {X : Type 0} (read : X → Steps) (waits : X → Waits) → ((x : X) (context : Context) → Holds context.facts → Holds (read x context).facts) → (xs : List ((tree : X) × Finds (read tree) (waits tree)))
       → Finds (in_order (map read (map (λ x. x.0) xs))) (joined (map waits (map (λ x. x.0) xs)))
@@ -298,37 +305,7 @@ module _ (P : Meets) (uses : Meanings) (component : Spot) (procs : Procs) where
 
   -- ---- nodes of trees
 
-  abbrev first_item : BlockItem-F I S A B C → BlockItem-F BlockItem Statement Arm Branch CoArm
-  first_item = map-BlockItem I S A B C BlockItem Statement Arm Branch CoArm (λ x. x.0) (λ x. x.0) (λ x. x.0) (λ x. x.0) (λ x. x.0)
-
-  abbrev first_statement : Statement-F I S A B C → Statement-F BlockItem Statement Arm Branch CoArm
-  first_statement = map-Statement I S A B C BlockItem Statement Arm Branch CoArm (λ x. x.0) (λ x. x.0) (λ x. x.0) (λ x. x.0) (λ x. x.0)
-
-  abbrev first_arm : Arm-F I S A B C → Arm-F BlockItem Statement Arm Branch CoArm
-  first_arm = map-Arm I S A B C BlockItem Statement Arm Branch CoArm (λ x. x.0) (λ x. x.0) (λ x. x.0) (λ x. x.0) (λ x. x.0)
-
-  abbrev first_branch : Branch-F I S A B C → Branch-F BlockItem Statement Arm Branch CoArm
-  first_branch = map-Branch I S A B C BlockItem Statement Arm Branch CoArm (λ x. x.0) (λ x. x.0) (λ x. x.0) (λ x. x.0) (λ x. x.0)
-
-  abbrev first_co_arm : CoArm-F I S A B C → CoArm-F BlockItem Statement Arm Branch CoArm
-  first_co_arm = map-CoArm I S A B C BlockItem Statement Arm Branch CoArm (λ x. x.0) (λ x. x.0) (λ x. x.0) (λ x. x.0) (λ x. x.0)
-
-  abbrev wait_item : BlockItem-F BlockItem Statement Arm Branch CoArm → BlockItem-F Waits Waits ArmWaits Waits Waits
-  wait_item = map-BlockItem BlockItem Statement Arm Branch CoArm Waits Waits ArmWaits Waits Waits (block_item_waits uses) (statement_waits uses) (arm_waits uses) (branch_waits uses) (co_arm_waits uses)
-
-  abbrev wait_statement : Statement-F BlockItem Statement Arm Branch CoArm → Statement-F Waits Waits ArmWaits Waits Waits
-  wait_statement = map-Statement BlockItem Statement Arm Branch CoArm Waits Waits ArmWaits Waits Waits (block_item_waits uses) (statement_waits uses) (arm_waits uses) (branch_waits uses) (co_arm_waits uses)
-
-  abbrev wait_arm : Arm-F BlockItem Statement Arm Branch CoArm → Arm-F Waits Waits ArmWaits Waits Waits
-  wait_arm = map-Arm BlockItem Statement Arm Branch CoArm Waits Waits ArmWaits Waits Waits (block_item_waits uses) (statement_waits uses) (arm_waits uses) (branch_waits uses) (co_arm_waits uses)
-
-  abbrev wait_branch : Branch-F BlockItem Statement Arm Branch CoArm → Branch-F Waits Waits ArmWaits Waits Waits
-  wait_branch = map-Branch BlockItem Statement Arm Branch CoArm Waits Waits ArmWaits Waits Waits (block_item_waits uses) (statement_waits uses) (arm_waits uses) (branch_waits uses) (co_arm_waits uses)
-
-  abbrev wait_co_arm : CoArm-F BlockItem Statement Arm Branch CoArm → CoArm-F Waits Waits ArmWaits Waits Waits
-  wait_co_arm = map-CoArm BlockItem Statement Arm Branch CoArm Waits Waits ArmWaits Waits Waits (block_item_waits uses) (statement_waits uses) (arm_waits uses) (branch_waits uses) (co_arm_waits uses)
-
-  item_node : (y : BlockItem-F I S A B C) → Finds (item_step (read_item (first_item y))) (item_waiting (wait_item (first_item y)))
+  item_node : (y : ItemNode served) → Finds (from_item reading (bare_item served y)) (from_item (servicing uses) (bare_item served y))
   item_node (BlockItem-F.Const constant) context of h nothing = tt
   item_node (BlockItem-F.Var variables) context of h nothing = tt
   item_node (BlockItem-F.Statement statement) context of h nothing = statement.1 context of h nothing
@@ -393,7 +370,7 @@ module _ (P : Meets) (uses : Meanings) (component : Spot) (procs : Procs) where
       (fold_out-Expr Inferrer Inferrer CalledInferrer PartInferrer create_step expr_step invocation_step part_step callee) in
       subst (λ u. Each Right (call_waits u invocation)) h.1.0 (layer_node context span arguments (out-Expr callee) of h (same_error_free (sym layer) called))
 
-  statement_node : (y : Statement-F I S A B C) → Finds (statement_step (read_statement (first_statement y))) (statement_waiting uses (wait_statement (first_statement y)))
+  statement_node : (y : StatementNode served) → Finds (from_statement reading (bare_statement served y)) (from_statement (servicing uses) (bare_statement served y))
   statement_node (Statement-F.If span branches None) context of h nothing =
       finds_then (in_order (map branch_read (map (λ x. x.0) branches))) (maybe_block None) (joined (map (branch_waits uses) (map (λ x. x.0) branches))) [] (keeps_branches branches) (finds_branches branches) finds_none context of h nothing
   statement_node (Statement-F.If span branches (Some items)) context of h nothing =
@@ -417,10 +394,10 @@ module _ (P : Meets) (uses : Meanings) (component : Spot) (procs : Procs) where
   statement_node (Statement-F.Call span with_call invocation) context of h nothing = call_node context span invocation of h nothing
   statement_node _ context of h nothing = tt
 
-  arm_node : (y : Arm-F I S A B C) → ArmFinds (arm_step (read_arm (first_arm y))) (arm_waiting uses (wait_arm (first_arm y)))
+  arm_node : (y : ArmNode served) → ArmFinds (from_arm reading (bare_arm served y)) (from_arm (servicing uses) (bare_arm served y))
   arm_node y = (refl, by)
     where
-      by : (span : Span) (context : Context) → context.procs ≡ procs → Holds context.facts → ErrorFree (((arm_step (read_arm (first_arm y))).steps span context).found)
+      by : (span : Span) (context : Context) → context.procs ≡ procs → Holds context.facts → ErrorFree (((from_arm reading (bare_arm served y)).steps span context).found)
           → AtSome context.facts (meant_at uses y.operation.span) × Each Right (joined (map (block_item_waits uses) (map (λ x. x.0) y.block)))
       by span context of h nothing =
           let facts = context.facts in
@@ -436,12 +413,11 @@ module _ (P : Meets) (uses : Meanings) (component : Spot) (procs : Procs) where
                 (error_free_second guards inner.found (error_free_second head (guards ++ inner.found) nothing)),
           )
 
-  branch_node : (y : Branch-F I S A B C) → Finds (branch_step (read_branch (first_branch y))) (branch_waiting (wait_branch (first_branch y)))
+  branch_node : (y : BranchNode served) → Finds (from_branch reading (bare_branch served y)) (from_branch (servicing uses) (bare_branch served y))
   branch_node y context of h nothing =
       finds_items y.block context of h (error_free_second (expr_with condition_rule context.facts y.guard) (in_order (map block_item_read (map (λ x. x.0) y.block)) context).found nothing)
 
-  co_arm_by : (y : CoArm-F I S A B C) (block : Option (List I)) (span : Span)
-      → Finds (co_arm_step (read_co_arm (first_co_arm (record y { block = block }))) span) (co_arm_waiting (wait_co_arm (first_co_arm (record y { block = block }))))
+  co_arm_by : (y : CoArmNode served) (block : Option (List I)) → CoArmFinds (from_co_arm reading (bare_co_arm served (record y { block = block }))) (from_co_arm (servicing uses) (bare_co_arm served (record y { block = block })))
   co_arm_by y None span context of h nothing = tt
   co_arm_by y (Some items) span context of h nothing =
       let inside = with_facts context (quantifiers_known context.facts y.quantifiers) in
@@ -450,54 +426,18 @@ module _ (P : Meets) (uses : Meanings) (component : Spot) (procs : Procs) where
       finds_items items (looping inside) of (keeps_quantifiers P uses component y.quantifiers context.facts h)
       (error_free_second started inner.found (error_free_second (quantifiers_found context.facts y.quantifiers) (started ++ inner.found) nothing))
 
-  co_arm_node : (y : CoArm-F I S A B C) (span : Span) → Finds (co_arm_step (read_co_arm (first_co_arm y)) span) (co_arm_waiting (wait_co_arm (first_co_arm y)))
+  co_arm_node : (y : CoArmNode served) → CoArmFinds (from_co_arm reading (bare_co_arm served y)) (from_co_arm (servicing uses) (bare_co_arm served y))
   co_arm_node y = co_arm_by y y.block
 
-  finds_both : (a b : Steps) (c d : Waits) → a ≡ b → c ≡ d → Finds b d → Finds a c
-  finds_both a b c d e f finds = subst (λ steps. Finds steps c) (sym e) (subst (λ waits. Finds b waits) (sym f) finds)
-
-  finds_Item : (x : BlockItem-F BlockItem Statement Arm Branch CoArm) (y : BlockItem-F I S A B C) → first_item y ≡ x → Finds (block_item_read (roll-BlockItem x)) (block_item_waits uses (roll-BlockItem x))
-  finds_Item x y is =
-      let R : BlockItem-F BlockItem Statement Arm Branch CoArm → Type 0 = λ z. Finds (block_item_read (roll-BlockItem z)) (block_item_waits uses (roll-BlockItem z)) in
-      subst R is (finds_both _ _ _ _
-      (fold-roll-BlockItem Steps Steps ArmSteps Steps CoArmSteps item_step statement_step arm_step branch_step co_arm_step (first_item y))
-      (fold-roll-BlockItem Waits Waits ArmWaits Waits Waits item_waiting (statement_waiting uses) (arm_waiting uses) branch_waiting co_arm_waiting (first_item y)) (item_node y))
-
-  finds_Statement : (x : Statement-F BlockItem Statement Arm Branch CoArm) (y : Statement-F I S A B C) → first_statement y ≡ x → Finds (statement_read (roll-Statement x)) (statement_waits uses (roll-Statement x))
-  finds_Statement x y is =
-      let R : Statement-F BlockItem Statement Arm Branch CoArm → Type 0 = λ z. Finds (statement_read (roll-Statement z)) (statement_waits uses (roll-Statement z)) in
-      subst R is (finds_both _ _ _ _
-      (fold-roll-Statement Steps Steps ArmSteps Steps CoArmSteps item_step statement_step arm_step branch_step co_arm_step (first_statement y))
-      (fold-roll-Statement Waits Waits ArmWaits Waits Waits item_waiting (statement_waiting uses) (arm_waiting uses) branch_waiting co_arm_waiting (first_statement y)) (statement_node y))
-
-  finds_Arm : (x : Arm-F BlockItem Statement Arm Branch CoArm) (y : Arm-F I S A B C) → first_arm y ≡ x → ArmFinds (arm_read (roll-Arm x)) (arm_waits uses (roll-Arm x))
-  finds_Arm x y is =
-      let R : Arm-F BlockItem Statement Arm Branch CoArm → Type 0 = λ z. ArmFinds (arm_read (roll-Arm z)) (arm_waits uses (roll-Arm z)) in
-      let K : ArmSteps → Type 0 = λ arm. ArmFinds arm (arm_waits uses (roll-Arm (first_arm y))) in
-      let L : ArmWaits → Type 0 = λ waits. ArmFinds (arm_step (read_arm (first_arm y))) waits in
-      subst R is
-      (subst K (sym (fold-roll-Arm Steps Steps ArmSteps Steps CoArmSteps item_step statement_step arm_step branch_step co_arm_step (first_arm y)))
-      (subst L (sym (fold-roll-Arm Waits Waits ArmWaits Waits Waits item_waiting (statement_waiting uses) (arm_waiting uses) branch_waiting co_arm_waiting (first_arm y))) (arm_node y)))
-
-  finds_Branch : (x : Branch-F BlockItem Statement Arm Branch CoArm) (y : Branch-F I S A B C) → first_branch y ≡ x → Finds (branch_read (roll-Branch x)) (branch_waits uses (roll-Branch x))
-  finds_Branch x y is =
-      let R : Branch-F BlockItem Statement Arm Branch CoArm → Type 0 = λ z. Finds (branch_read (roll-Branch z)) (branch_waits uses (roll-Branch z)) in
-      subst R is (finds_both _ _ _ _
-      (fold-roll-Branch Steps Steps ArmSteps Steps CoArmSteps item_step statement_step arm_step branch_step co_arm_step (first_branch y))
-      (fold-roll-Branch Waits Waits ArmWaits Waits Waits item_waiting (statement_waiting uses) (arm_waiting uses) branch_waiting co_arm_waiting (first_branch y)) (branch_node y))
-
-  finds_CoArm : (x : CoArm-F BlockItem Statement Arm Branch CoArm) (y : CoArm-F I S A B C) → first_co_arm y ≡ x → (span : Span) → Finds (co_arm_read (roll-CoArm x) span) (co_arm_waits uses (roll-CoArm x))
-  finds_CoArm x y is =
-      let R : CoArm-F BlockItem Statement Arm Branch CoArm → Type 0 = λ z. (span : Span) → Finds (co_arm_read (roll-CoArm z) span) (co_arm_waits uses (roll-CoArm z)) in
-      let K : CoArmSteps → Type 0 = λ arm. (span : Span) → Finds (arm span) (co_arm_waits uses (roll-CoArm (first_co_arm y))) in
-      let L : Waits → Type 0 = λ waits. (span : Span) → Finds (co_arm_step (read_co_arm (first_co_arm y)) span) waits in
-      subst R is
-      (subst K (sym (fold-roll-CoArm Steps Steps ArmSteps Steps CoArmSteps item_step statement_step arm_step branch_step co_arm_step (first_co_arm y)))
-      (subst L (sym (fold-roll-CoArm Waits Waits ArmWaits Waits Waits item_waiting (statement_waiting uses) (arm_waiting uses) branch_waiting co_arm_waiting (first_co_arm y))) (co_arm_node y)))
+  by_parts : ByParts served
+  by_parts = record {
+    item = λ y. subst (λ t. t) (λ i. Finds (item_folds reading (bare_item served y) i) (item_folds (servicing uses) (bare_item served y) i)) (item_node y);
+    statement = λ y. subst (λ t. t) (λ i. Finds (statement_folds reading (bare_statement served y) i) (statement_folds (servicing uses) (bare_statement served y) i)) (statement_node y);
+    arm = λ y. subst (λ t. t) (λ i. ArmFinds (arm_folds reading (bare_arm served y) i) (arm_folds (servicing uses) (bare_arm served y) i)) (arm_node y);
+    branch = λ y. subst (λ t. t) (λ i. Finds (branch_folds reading (bare_branch served y) i) (branch_folds (servicing uses) (bare_branch served y) i)) (branch_node y);
+    co_arm = λ y. subst (λ t. t) (λ i. CoArmFinds (co_arm_folds reading (bare_co_arm served y) i) (co_arm_folds (servicing uses) (bare_co_arm served y) i)) (co_arm_node y);
+  }
 
   -- what statements service is right where nothing is found in them
   pub finds_statement : (tree : Statement) → Finds (statement_read tree) (statement_waits uses tree)
-  finds_statement =
-      ind-Statement (λ tree. Finds (block_item_read tree) (block_item_waits uses tree)) (λ tree. Finds (statement_read tree) (statement_waits uses tree)) (λ tree. ArmFinds (arm_read tree) (arm_waits uses tree))
-      (λ tree. Finds (branch_read tree) (branch_waits uses tree)) (λ tree. (span : Span) → Finds (co_arm_read tree span) (co_arm_waits uses tree))
-      finds_Item finds_Statement finds_Arm finds_Branch finds_CoArm
+  finds_statement = each_statement served by_parts

@@ -12,11 +12,10 @@ use Rattle.sr_check_decl.specs.Waiting.{files_waiting}
 use Rattle.sr_names.specs.declared.finding.Diagnostic.{Diagnostic}
 use Rattle.sr_names.specs.Noted.{Meanings}
 use Rattle.sr_names.specs.declared.spot.Spot.{Spot}
-use Rattle.sr_names.specs.Scopes.{or_else}
 use Rattle.sr_names.specs.Specs.{Specs}
 use Rattle.sr_text.specs.declared.refusal.Refusal.{Refusal}
 use Rattle.sr_tree.specs.declared.component.File.{File}
-use Rattle.sr_check.specs.Checked.{checked, first_in, first_refused, heads_found, verdict, verdict_by}
+use Rattle.sr_check.specs.Checked.{checked, first_refused, verdict, verdict_by}
 use Rattle.sr_check.specs.Components.{files_read}
 use Rattle.sr_check.specs.ErrorFree.{ErrorFree}
 use Rattle.sr_check.specs.Owners.{declared_operations, file_owned}
@@ -59,19 +58,10 @@ facts_known uses specs files facts e = those (first_refused uses specs files) (c
 pub none_refused : (uses : Meanings) (specs : Specs) (files : List File) (facts : Facts) → verdict uses specs files ≡ Ok facts → first_refused uses specs files ≡ None
 none_refused uses specs files facts e = none_first (first_refused uses specs files) (checked uses specs files).facts facts e
 
-first_none : (first other : Option Diagnostic) → or_else first other ≡ None → (first ≡ None) × (other ≡ None)
-first_none None other e = (refl, e)
-first_none (Some diagnostic) other e = cc
-
 -- where no rule is broken, nothing is found
 pub none_found : (uses : Meanings) (specs : Specs) (files : List File) → first_refused uses specs files ≡ None → ErrorFree (checked uses specs files).found
 none_found uses specs files none =
-    error_free (checked uses specs files).found (first_none (first_in (checked uses specs files).found) (first_in (heads_found uses specs files)) none).0
-
--- nor in the heads
-pub none_headed : (uses : Meanings) (specs : Specs) (files : List File) → first_refused uses specs files ≡ None → ErrorFree (heads_found uses specs files)
-none_headed uses specs files none =
-    error_free (heads_found uses specs files) (first_none (first_in (checked uses specs files).found) (first_in (heads_found uses specs files)) none).1
+    error_free (checked uses specs files).found none
 
 -- where no rule is broken each component services its own operations
 pub all_service_own : (uses : Meanings) (specs : Specs) (files : List File) → first_refused uses specs files ≡ None → AllServiceOwn uses files (program_known uses specs files)

@@ -5,5 +5,6 @@ pub mod Kept
 pub mod Named
 pub mod Owners
 pub mod Programs
+pub mod ReadFolds
 pub mod Reading
 pub mod ErrorFree

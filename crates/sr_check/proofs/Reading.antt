@@ -1,5 +1,5 @@
 -- What is known of operations is kept where statements, procs and components are read.
-use Rattle.std.proofs.Common.{◌≡◌, true, false, List, [], ◌∷◌, Option, Some, None, sym, subst, map}
+use Rattle.std.proofs.Common.{true, false, List, [], ◌∷◌, Option, Some, None, subst, map}
 use Rattle.sr_value.specs.declared.place.Span.{Span}
 use Rattle.sr_names.specs.declared.spot.Spot.{Spot}
 use Rattle.sr_names.specs.Noted.{Meanings}
@@ -10,13 +10,12 @@ use Rattle.sr_tree.specs.declared.declaration.ConstDecl.{ConstDecl}
 use Rattle.sr_tree.specs.declared.declaration.VarDecl.{VarDecl}
 use Rattle.sr_tree.specs.declared.name.Name.{Name}
 use Rattle.sr_tree.specs.declared.statement.Quantifier.{Quantifier}
-use Rattle.sr_tree.specs.declared.statement.Arm.{Arm, roll-Arm}
-use Rattle.sr_tree.specs.declared.statement.BlockItem.{BlockItem, roll-BlockItem}
-use Rattle.sr_tree.specs.declared.statement.BlockItem.TheFolds.{map-BlockItem, map-Statement, map-Arm, map-Branch, map-CoArm, fold-roll-BlockItem, fold-roll-Statement, fold-roll-Arm, fold-roll-Branch, fold-roll-CoArm, ind-BlockItem, ind-Statement, ind-Arm, ind-Branch, ind-CoArm}
-use Rattle.sr_tree.specs.declared.statement.BlockItem.TheOpen.{BlockItem-F, Statement-F, Arm-F, Branch-F, CoArm-F}
-use Rattle.sr_tree.specs.declared.statement.Branch.{Branch, roll-Branch}
-use Rattle.sr_tree.specs.declared.statement.CoArm.{CoArm, roll-CoArm}
-use Rattle.sr_tree.specs.declared.statement.Statement.{Statement, roll-Statement}
+use Rattle.sr_tree.specs.declared.statement.Arm.{Arm}
+use Rattle.sr_tree.specs.declared.statement.BlockItem.{BlockItem}
+use Rattle.sr_tree.specs.declared.statement.BlockItem.TheOpen.{BlockItem-F, Statement-F}
+use Rattle.sr_tree.specs.declared.statement.Branch.{Branch}
+use Rattle.sr_tree.specs.declared.statement.CoArm.{CoArm}
+use Rattle.sr_tree.specs.declared.statement.Statement.{Statement}
 use Rattle.sr_types.specs.declared.signature.Param.{Param}
 use Rattle.sr_types.specs.declared.ty.Ty.{Ty}
 use Rattle.sr_types.specs.declared.ty.Ty.TheVariants as ty
@@ -35,26 +34,12 @@ use Rattle.sr_check.specs.Contexts.{Context, Steps, with_facts, looping, in_orde
 use Rattle.sr_check.specs.Owners.{inner_owned, block_owned}
 use Rattle.sr_check.specs.Quantifying.{quantified, quantifiers_known}
 use Rattle.sr_check.specs.Services.{operation_named, type_of, names_bound, params_of, returned_bound, returns_of, type_or_none, service_bound}
-use Rattle.sr_check.specs.Statements.{ArmSteps, CoArmSteps, arm_context, arms_at, co_arms_at, item_step, statement_step, arm_step, branch_step, co_arm_step, statement_read, block_item_read, arm_read, branch_read, co_arm_read, const_read, var_read}
+use Rattle.sr_check.specs.Statements.{ArmSteps, CoArmSteps, arm_context, arms_at, co_arms_at, statement_read, block_item_read, arm_read, branch_read, co_arm_read, const_read, var_read}
+use Rattle.sr_tree.proofs.StatementFolds.{ArmNode, BranchNode, ByParts, Claim, CoArmNode, ItemNode, Known, StatementNode, arm_folds, bare_arm, bare_branch, bare_co_arm, bare_item, bare_statement, branch_folds, co_arm_folds, each_arm, each_branch, each_co_arm, each_item, each_statement, from_arm, from_branch, from_co_arm, from_item, from_statement, item_folds, statement_folds}
 use Rattle.sr_check.proofs.Each.{Each, each-parts}
 use Rattle.sr_check.proofs.Entered.{keeps_written, keeps_ops}
+use Rattle.sr_check.proofs.ReadFolds.{reading}
 use Rattle.sr_check.proofs.Owners.{Allows, Meets, Sound, sound_with, sound_signatures, sound_vars, sound_ops, sound_sems, sound_params}
-
--- the parts of trees as they are read
-abbrev pub read_item : BlockItem-F BlockItem Statement Arm Branch CoArm → BlockItem-F Steps Steps ArmSteps Steps CoArmSteps
-read_item = map-BlockItem BlockItem Statement Arm Branch CoArm Steps Steps ArmSteps Steps CoArmSteps block_item_read statement_read arm_read branch_read co_arm_read
-
-abbrev pub read_statement : Statement-F BlockItem Statement Arm Branch CoArm → Statement-F Steps Steps ArmSteps Steps CoArmSteps
-read_statement = map-Statement BlockItem Statement Arm Branch CoArm Steps Steps ArmSteps Steps CoArmSteps block_item_read statement_read arm_read branch_read co_arm_read
-
-abbrev pub read_arm : Arm-F BlockItem Statement Arm Branch CoArm → Arm-F Steps Steps ArmSteps Steps CoArmSteps
-read_arm = map-Arm BlockItem Statement Arm Branch CoArm Steps Steps ArmSteps Steps CoArmSteps block_item_read statement_read arm_read branch_read co_arm_read
-
-abbrev pub read_branch : Branch-F BlockItem Statement Arm Branch CoArm → Branch-F Steps Steps ArmSteps Steps CoArmSteps
-read_branch = map-Branch BlockItem Statement Arm Branch CoArm Steps Steps ArmSteps Steps CoArmSteps block_item_read statement_read arm_read branch_read co_arm_read
-
-abbrev pub read_co_arm : CoArm-F BlockItem Statement Arm Branch CoArm → CoArm-F Steps Steps ArmSteps Steps CoArmSteps
-read_co_arm = map-CoArm BlockItem Statement Arm Branch CoArm Steps Steps ArmSteps Steps CoArmSteps block_item_read statement_read arm_read branch_read co_arm_read
 
 module _ (P : Meets) (uses : Meanings) (component : Spot) where
   abbrev pub Holds : Facts → Type 0
@@ -113,55 +98,40 @@ module _ (P : Meets) (uses : Meanings) (component : Spot) where
 
   -- ---- statements
 
-  -- trees with what is known of them
-  abbrev I : Type 0
-  I = (tree : BlockItem) × Keeps (block_item_read tree)
+  -- what is known is kept through each tree
+  abbrev ArmKeeps : ArmSteps → Type 0
+  ArmKeeps arm = (span : Span) → Keeps (arm.steps span)
 
-  abbrev S : Type 0
-  S = (tree : Statement) × Keeps (statement_read tree)
+  abbrev CoArmKeeps : CoArmSteps → Type 0
+  CoArmKeeps arm = (span : Span) → Keeps (arm span)
 
-  abbrev A : Type 0
-  A = (tree : Arm) × ((span : Span) → Keeps ((arm_read tree).steps span))
-
-  abbrev B : Type 0
-  B = (tree : Branch) × Keeps (branch_read tree)
-
-  abbrev C : Type 0
-  C = (tree : CoArm) × ((span : Span) → Keeps (co_arm_read tree span))
+  abbrev kept : Claim
+  kept = record {
+    item = λ tree. Keeps (block_item_read tree);
+    statement = λ tree. Keeps (statement_read tree);
+    arm = λ tree. ArmKeeps (arm_read tree);
+    branch = λ tree. Keeps (branch_read tree);
+    co_arm = λ tree. CoArmKeeps (co_arm_read tree);
+  }
 
   keeps_row : {X : Type 0} (read : X → Steps) (xs : List ((tree : X) × Keeps (read tree))) → Keeps (in_order (map read (map (λ x. x.0) xs)))
   keeps_row read [] context h = h
   keeps_row read (x ∷ xs) context h = keeps_row read xs (with_facts context (read x.0 context).facts) (x.1 context h)
 
-  keeps_arms : (span : Span) (xs : List A) → Keeps (in_order (arms_at span (map arm_read (map (λ x. x.0) xs))))
+  keeps_arms : (span : Span) (xs : List (Known kept.arm)) → Keeps (in_order (arms_at span (map arm_read (map (λ x. x.0) xs))))
   keeps_arms span [] context h = h
   keeps_arms span (x ∷ xs) context h = keeps_arms span xs (with_facts context ((arm_read x.0).steps span context).facts) (x.1 span context h)
 
-  keeps_co_arms : (span : Span) (xs : List C) → Keeps (in_order (co_arms_at span (map co_arm_read (map (λ x. x.0) xs))))
+  keeps_co_arms : (span : Span) (xs : List (Known kept.co_arm)) → Keeps (in_order (co_arms_at span (map co_arm_read (map (λ x. x.0) xs))))
   keeps_co_arms span [] context h = h
   keeps_co_arms span (x ∷ xs) context h = keeps_co_arms span xs (with_facts context (co_arm_read x.0 span context).facts) (x.1 span context h)
 
-  abbrev first_item : BlockItem-F I S A B C → BlockItem-F BlockItem Statement Arm Branch CoArm
-  first_item = map-BlockItem I S A B C BlockItem Statement Arm Branch CoArm (λ x. x.0) (λ x. x.0) (λ x. x.0) (λ x. x.0) (λ x. x.0)
-
-  abbrev first_statement : Statement-F I S A B C → Statement-F BlockItem Statement Arm Branch CoArm
-  first_statement = map-Statement I S A B C BlockItem Statement Arm Branch CoArm (λ x. x.0) (λ x. x.0) (λ x. x.0) (λ x. x.0) (λ x. x.0)
-
-  abbrev first_arm : Arm-F I S A B C → Arm-F BlockItem Statement Arm Branch CoArm
-  first_arm = map-Arm I S A B C BlockItem Statement Arm Branch CoArm (λ x. x.0) (λ x. x.0) (λ x. x.0) (λ x. x.0) (λ x. x.0)
-
-  abbrev first_branch : Branch-F I S A B C → Branch-F BlockItem Statement Arm Branch CoArm
-  first_branch = map-Branch I S A B C BlockItem Statement Arm Branch CoArm (λ x. x.0) (λ x. x.0) (λ x. x.0) (λ x. x.0) (λ x. x.0)
-
-  abbrev first_co_arm : CoArm-F I S A B C → CoArm-F BlockItem Statement Arm Branch CoArm
-  first_co_arm = map-CoArm I S A B C BlockItem Statement Arm Branch CoArm (λ x. x.0) (λ x. x.0) (λ x. x.0) (λ x. x.0) (λ x. x.0)
-
-  item_node : (y : BlockItem-F I S A B C) → Keeps (item_step (read_item (first_item y)))
+  item_node : (y : ItemNode kept) → Keeps (from_item reading (bare_item kept y))
   item_node (BlockItem-F.Const constant) context h = keeps_const constant context.facts h
   item_node (BlockItem-F.Var variables) context h = keeps_var variables context.facts h
   item_node (BlockItem-F.Statement statement) context h = statement.1 context h
 
-  statement_node : (y : Statement-F I S A B C) → Keeps (statement_step (read_statement (first_statement y)))
+  statement_node : (y : StatementNode kept) → Keeps (from_statement reading (bare_statement kept y))
   statement_node (Statement-F.If span branches None) context h = keeps_row branch_read branches context h
   statement_node (Statement-F.If span branches (Some items)) context h = keeps_row block_item_read items _ (keeps_row branch_read branches context h)
   statement_node (Statement-F.Do span branches None) context h = keeps_row branch_read branches (looping context) h
@@ -173,76 +143,45 @@ module _ (P : Meets) (uses : Meanings) (component : Spot) where
   statement_node (Statement-F.Co span arms) context h = keeps_co_arms span arms context h
   statement_node _ context h = h
 
-  arm_node : (y : Arm-F I S A B C) (span : Span) → Keeps ((arm_step (read_arm (first_arm y))).steps span)
+  arm_node : (y : ArmNode kept) → ArmKeeps (from_arm reading (bare_arm kept y))
   arm_node y span context h =
       let operation = operation_named context.facts y.operation in
       keeps_row block_item_read y.block (arm_context context (spot_of y.operation.span) y.formals y.returned operation) (keeps_service y.formals y.returned (type_of operation) context.facts h)
 
-  branch_node : (y : Branch-F I S A B C) → Keeps (branch_step (read_branch (first_branch y)))
+  branch_node : (y : BranchNode kept) → Keeps (from_branch reading (bare_branch kept y))
   branch_node y context h = keeps_row block_item_read y.block context h
 
-  co_arm_by : (y : CoArm-F I S A B C) (block : Option (List I)) (span : Span) → Keeps (co_arm_step (read_co_arm (first_co_arm (record y { block = block }))) span)
+  co_arm_by : (y : CoArmNode kept) (block : Option (List (Known kept.item))) → CoArmKeeps (from_co_arm reading (bare_co_arm kept (record y { block = block })))
   co_arm_by y None span context h = keeps_quantifiers y.quantifiers context.facts h
   co_arm_by y (Some items) span context h =
       keeps_row block_item_read items (looping (with_facts context (quantifiers_known context.facts y.quantifiers))) (keeps_quantifiers y.quantifiers context.facts h)
 
-  co_arm_node : (y : CoArm-F I S A B C) (span : Span) → Keeps (co_arm_step (read_co_arm (first_co_arm y)) span)
+  co_arm_node : (y : CoArmNode kept) → CoArmKeeps (from_co_arm reading (bare_co_arm kept y))
   co_arm_node y = co_arm_by y y.block
 
-  keeps_Item : (x : BlockItem-F BlockItem Statement Arm Branch CoArm) (y : BlockItem-F I S A B C) → first_item y ≡ x → Keeps (block_item_read (roll-BlockItem x))
-  keeps_Item x y is =
-      let R : BlockItem-F BlockItem Statement Arm Branch CoArm → Type 0 = λ z. Keeps (block_item_read (roll-BlockItem z)) in
-      let K : Steps → Type 0 = λ steps. Keeps steps in
-      subst R is (subst K (sym (fold-roll-BlockItem Steps Steps ArmSteps Steps CoArmSteps item_step statement_step arm_step branch_step co_arm_step _)) (item_node y))
-
-  keeps_Statement : (x : Statement-F BlockItem Statement Arm Branch CoArm) (y : Statement-F I S A B C) → first_statement y ≡ x → Keeps (statement_read (roll-Statement x))
-  keeps_Statement x y is =
-      let R : Statement-F BlockItem Statement Arm Branch CoArm → Type 0 = λ z. Keeps (statement_read (roll-Statement z)) in
-      let K : Steps → Type 0 = λ steps. Keeps steps in
-      subst R is (subst K (sym (fold-roll-Statement Steps Steps ArmSteps Steps CoArmSteps item_step statement_step arm_step branch_step co_arm_step _)) (statement_node y))
-
-  keeps_Arm : (x : Arm-F BlockItem Statement Arm Branch CoArm) (y : Arm-F I S A B C) → first_arm y ≡ x → (span : Span) → Keeps ((arm_read (roll-Arm x)).steps span)
-  keeps_Arm x y is =
-      let R : Arm-F BlockItem Statement Arm Branch CoArm → Type 0 = λ z. (span : Span) → Keeps ((arm_read (roll-Arm z)).steps span) in
-      let K : ArmSteps → Type 0 = λ arm. (span : Span) → Keeps (arm.steps span) in
-      subst R is (subst K (sym (fold-roll-Arm Steps Steps ArmSteps Steps CoArmSteps item_step statement_step arm_step branch_step co_arm_step _)) (arm_node y))
-
-  keeps_Branch : (x : Branch-F BlockItem Statement Arm Branch CoArm) (y : Branch-F I S A B C) → first_branch y ≡ x → Keeps (branch_read (roll-Branch x))
-  keeps_Branch x y is =
-      let R : Branch-F BlockItem Statement Arm Branch CoArm → Type 0 = λ z. Keeps (branch_read (roll-Branch z)) in
-      let K : Steps → Type 0 = λ steps. Keeps steps in
-      subst R is (subst K (sym (fold-roll-Branch Steps Steps ArmSteps Steps CoArmSteps item_step statement_step arm_step branch_step co_arm_step _)) (branch_node y))
-
-  keeps_CoArm : (x : CoArm-F BlockItem Statement Arm Branch CoArm) (y : CoArm-F I S A B C) → first_co_arm y ≡ x → (span : Span) → Keeps (co_arm_read (roll-CoArm x) span)
-  keeps_CoArm x y is =
-      let R : CoArm-F BlockItem Statement Arm Branch CoArm → Type 0 = λ z. (span : Span) → Keeps (co_arm_read (roll-CoArm z) span) in
-      let K : CoArmSteps → Type 0 = λ arm. (span : Span) → Keeps (arm span) in
-      subst R is (subst K (sym (fold-roll-CoArm Steps Steps ArmSteps Steps CoArmSteps item_step statement_step arm_step branch_step co_arm_step _)) (co_arm_node y))
+  by_parts : ByParts kept
+  by_parts = record {
+    item = λ y. subst Keeps (item_folds reading (bare_item kept y)) (item_node y);
+    statement = λ y. subst Keeps (statement_folds reading (bare_statement kept y)) (statement_node y);
+    arm = λ y. subst ArmKeeps (arm_folds reading (bare_arm kept y)) (arm_node y);
+    branch = λ y. subst Keeps (branch_folds reading (bare_branch kept y)) (branch_node y);
+    co_arm = λ y. subst CoArmKeeps (co_arm_folds reading (bare_co_arm kept y)) (co_arm_node y);
+  }
 
   pub keeps_statement : (tree : Statement) → Keeps (statement_read tree)
-  keeps_statement =
-      ind-Statement (λ tree. Keeps (block_item_read tree)) (λ tree. Keeps (statement_read tree)) (λ tree. (span : Span) → Keeps ((arm_read tree).steps span)) (λ tree. Keeps (branch_read tree)) (λ tree. (span : Span) → Keeps (co_arm_read tree span))
-      keeps_Item keeps_Statement keeps_Arm keeps_Branch keeps_CoArm
+  keeps_statement = each_statement kept by_parts
 
   pub keeps_block_item : (tree : BlockItem) → Keeps (block_item_read tree)
-  keeps_block_item =
-      ind-BlockItem (λ tree. Keeps (block_item_read tree)) (λ tree. Keeps (statement_read tree)) (λ tree. (span : Span) → Keeps ((arm_read tree).steps span)) (λ tree. Keeps (branch_read tree)) (λ tree. (span : Span) → Keeps (co_arm_read tree span))
-      keeps_Item keeps_Statement keeps_Arm keeps_Branch keeps_CoArm
+  keeps_block_item = each_item kept by_parts
 
   pub keeps_arm : (tree : Arm) (span : Span) → Keeps ((arm_read tree).steps span)
-  keeps_arm =
-      ind-Arm (λ tree. Keeps (block_item_read tree)) (λ tree. Keeps (statement_read tree)) (λ tree. (span : Span) → Keeps ((arm_read tree).steps span)) (λ tree. Keeps (branch_read tree)) (λ tree. (span : Span) → Keeps (co_arm_read tree span))
-      keeps_Item keeps_Statement keeps_Arm keeps_Branch keeps_CoArm
+  keeps_arm = each_arm kept by_parts
 
   pub keeps_branch : (tree : Branch) → Keeps (branch_read tree)
-  keeps_branch =
-      ind-Branch (λ tree. Keeps (block_item_read tree)) (λ tree. Keeps (statement_read tree)) (λ tree. (span : Span) → Keeps ((arm_read tree).steps span)) (λ tree. Keeps (branch_read tree)) (λ tree. (span : Span) → Keeps (co_arm_read tree span))
-      keeps_Item keeps_Statement keeps_Arm keeps_Branch keeps_CoArm
+  keeps_branch = each_branch kept by_parts
 
   pub keeps_co_arm : (tree : CoArm) (span : Span) → Keeps (co_arm_read tree span)
-  keeps_co_arm =
-      ind-CoArm (λ tree. Keeps (block_item_read tree)) (λ tree. Keeps (statement_read tree)) (λ tree. (span : Span) → Keeps ((arm_read tree).steps span)) (λ tree. Keeps (branch_read tree)) (λ tree. (span : Span) → Keeps (co_arm_read tree span))
-      keeps_Item keeps_Statement keeps_Arm keeps_Branch keeps_CoArm
+  keeps_co_arm = each_co_arm kept by_parts
 
   -- ---- items of procs
 

@@ -4,16 +4,13 @@ use Rattle.sr_text.specs.declared.refusal.FrontFail.{FrontFail}
 use Rattle.sr_text.specs.declared.refusal.FrontFail.TheVariants.{Refused, NoMemory}
 use Rattle.sr_text.specs.declared.refusal.Refusal.{Refusal}
 use Rattle.sr_names.specs.declared.finding.Diagnostic.{Diagnostic}
-use Rattle.sr_names.specs.declared.finding.Finding.{Finding}
 use Rattle.sr_names.specs.Noted.{Meanings}
 use Rattle.sr_names.specs.Diagnostics.{nothing, all_noted}
-use Rattle.sr_names.specs.Scopes.{or_else}
 use Rattle.sr_names.specs.Specs.{Specs}
 use Rattle.sr_scope.specs.Resolved.{refusal_of}
 use Rattle.sr_tree.specs.declared.component.File.{File}
 use Rattle.sr_check_expr.specs.declared.facts.Facts.{Facts}
 use Rattle.sr_check_decl.specs.Cycles.{type_cycles_found, leads_left}
-use Rattle.sr_check_decl.specs.Heads.{files_headed}
 use Rattle.sr_check_decl.specs.Inferring.{program_inferred, program_known}
 use Rattle.sr_check_decl.specs.Waiting.{files_waiting}
 use Rattle.sr_check.specs.Components.{files_read}
@@ -24,16 +21,9 @@ abbrev pub checked : Meanings → Specs → List File → Step
 checked uses specs files =
     with_more (type_cycles_found (leads_left (program_inferred uses specs files) (files_waiting files))) (files_read files (program_known uses specs files))
 
--- the first of some broken rules by file and byte, and at one token by number
-abbrev pub first_in : List Finding → Option Diagnostic
-first_in found = (all_noted nothing found).first
-
--- where no other rule is broken, each operation is known by the type that its head makes
-abbrev pub heads_found : Meanings → Specs → List File → List Finding
-heads_found uses specs files = files_headed (program_known uses specs files) files
-
+-- the first of all broken rules by file and byte, and at one token by number
 abbrev pub first_refused : Meanings → Specs → List File → Option Diagnostic
-first_refused uses specs files = or_else (first_in (checked uses specs files).found) (first_in (heads_found uses specs files))
+first_refused uses specs files = (all_noted nothing (checked uses specs files).found).first
 
 -- a program is refused by the first rule that is broken; where none is broken it has what is declared in it
 abbrev pub verdict_by : Option Diagnostic → Facts → Result Facts Refusal

@@ -23,10 +23,9 @@ use Rattle.sr_check_expr.specs.declared.facts.Facts.{Facts}
 use Rattle.sr_check_expr.specs.Typings.{broken_unless}
 use Rattle.sr_check_decl.specs.declared.kind.NamedParam.{NamedParam}
 use Rattle.sr_check_decl.specs.declared.kind.Signed.{Signed}
-use Rattle.sr_check_decl.specs.Declarations.{sems_found, spec_item_found, spec_items_found}
+use Rattle.sr_check_decl.specs.Declarations.{ops_found, sems_found, spec_item_found, spec_items_found}
 use Rattle.sr_check_decl.specs.Declaring.{declare_name, ops_declared, sems_declared, params_declared, standing}
 use Rattle.sr_check_decl.specs.Entering.{ops_entered}
-use Rattle.sr_check_decl.specs.Heads.{local_ops_found, sems_headed}
 use Rattle.sr_check_decl.specs.Parts.{component_decl}
 use Rattle.sr_tree.specs.Parts.{spec_of, formals_of, body_of}
 use Rattle.sr_check_decl.specs.TypeTrees.{signature_read, formals_at, formal_read, formals_found}
@@ -43,13 +42,10 @@ use Rattle.sr_check.specs.Statements.{statement_read, const_read, var_read}
 -- ---- items of procs
 
 abbrev pub ops_read : List OpItem → Facts → Step
-ops_read operations facts = record { found = local_ops_found (ops_declared true operations facts) operations; facts = ops_declared true operations facts }
+ops_read operations facts = record { found = ops_found (ops_declared true operations facts) operations; facts = ops_declared true operations facts }
 
 abbrev pub sems_read : List Semaphore → Facts → Step
-sems_read semaphores facts = record {
-  found = sems_found facts semaphores ++ sems_headed (sems_declared true semaphores facts) semaphores;
-  facts = sems_declared true semaphores facts;
-}
+sems_read semaphores facts = record { found = sems_found facts semaphores; facts = sems_declared true semaphores facts }
 
 abbrev pub proc_item_read : ProcItem → Steps
 proc_item_read (inner.Const constant) context = const_read constant context.facts

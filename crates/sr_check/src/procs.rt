@@ -12,8 +12,7 @@ use crate::serving::Serving;
 use crate::statements::{local_const, local_var, statement};
 use sr_check_decl::{
     NamedParam, Signed, declare, declare_name, declare_operations, declare_params,
-    declare_semaphores, enter_operations, note_local_operations, note_semaphore_heads,
-    note_semaphores, signature, variable,
+    declare_semaphores, enter_operations, note_operations, note_semaphores, signature, variable,
 };
 use sr_check_expr::{Facts, note_unless};
 use sr_names::{Diagnostics, Rule, Spot};
@@ -39,13 +38,12 @@ fn proc_item(
         ProcItem::Op(tree) => {
             enter_operations(alloc, facts, tree.items.as_slice())?;
             declare_operations(alloc, facts, true, tree.items.as_slice())?;
-            note_local_operations(alloc, facts, diagnostics, tree.items.as_slice())
+            note_operations(alloc, facts, diagnostics, tree.items.as_slice())
         }
         ProcItem::Sem(tree) => {
             let semaphores = tree.semaphores.as_slice();
             note_semaphores(alloc, facts, diagnostics, semaphores)?;
-            declare_semaphores(alloc, facts, true, semaphores)?;
-            note_semaphore_heads(alloc, facts, diagnostics, semaphores)
+            declare_semaphores(alloc, facts, true, semaphores)
         }
         ProcItem::Statement(inner) => statement(alloc, inner, enclosing, facts, diagnostics),
     }

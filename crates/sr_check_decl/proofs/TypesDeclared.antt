@@ -1,18 +1,17 @@
 -- What is declared for the enumerations and records in a type, by the parts of the type.
-use Rattle.std.proofs.Common.{◌≡◌, ◌∙◌, ℕ, suc, ◌+◌, ◌<◌, List, [], ◌∷◌, ◌++◌, length, drop, get_or, Option, Some, None, map, flat_map, refl, sym, ap, arith}
-use Rattle.std.proofs.lemmas.List.Folds.{flat_map-map}
+use Rattle.std.proofs.Common.{◌≡◌, ◌∙◌, ℕ, suc, ◌+◌, ◌<◌, List, [], ◌∷◌, ◌++◌, length, drop, get_or, flat_map, refl, sym, ap, arith}
 use Rattle.std.proofs.Math.Seq.{drop-cons}
 use Rattle.sr_value.specs.declared.place.Span.{Span}
 use Rattle.sr_names.specs.Spots.{spot_of}
-use Rattle.sr_tree.specs.declared.types.Formal.{Formal, out-Formal, fold-Formal}
-use Rattle.sr_tree.specs.declared.types.Returned.{Returned, fold-Returned}
-use Rattle.sr_tree.specs.declared.types.Signature.{Signature, out-Signature, fold-Signature}
-use Rattle.sr_tree.specs.declared.types.TypeTree.{TypeTree, out-TypeTree, out-roll-TypeTree, fold-TypeTree}
-use Rattle.sr_tree.specs.declared.types.TypeTree.TheFolds.{map-Signature, fold-roll-TypeTree, fold_out-Formal, fold_out-Signature}
-use Rattle.sr_tree.specs.declared.types.TypeTree.TheOpen.{TypeTree-F, Signature-F}
+use Rattle.sr_tree.specs.declared.types.Formal.{Formal, out-Formal}
+use Rattle.sr_tree.specs.declared.types.Returned.{Returned}
+use Rattle.sr_tree.specs.declared.types.Signature.{Signature, out-Signature}
+use Rattle.sr_tree.specs.declared.types.TypeTree.{TypeTree, out-TypeTree}
+use Rattle.sr_tree.specs.declared.types.TypeTree.TheFolds.{fold_out-Formal}
 use Rattle.sr_tree.specs.declared.types.TypeTree.TheVariants as ty
-use Rattle.sr_tree.specs.Nested.{Holds, all_types, maybe_types, type_step, formal_step, returned_step, signature_step, types_within, formal_types, written_types, signature_types}
-use Rattle.sr_tree.proofs.Nested.{formal_read, same_fields}
+use Rattle.sr_tree.specs.Nested.{Holds, type_step, formal_step, returned_step, signature_step, types_within, formal_types, written_types, signature_types}
+use Rattle.sr_tree.proofs.Nested.{record_types, signature_parts}
+use Rattle.sr_tree.proofs.TypeFolds.{out-record}
 use Rattle.sr_check_expr.specs.declared.info.Info.TheVariants as info
 use Rattle.sr_check_decl.specs.declared.tally.Tally.{Tally}
 use Rattle.sr_check_decl.specs.Declaring.{at_facts, fields_of, layer_declared, types_declared}
@@ -24,9 +23,6 @@ types_declared_both [] b tally = refl
 types_declared_both (tree ∷ a) b tally = types_declared_both a b (layer_declared (out-TypeTree tree) tally)
 
 -- ---- formals
-
-types_of_formals : (formals : List Formal) → all_types (map formal_read formals) ≡ flat_map formal_types formals
-types_of_formals formals = flat_map-map (λ (part : Holds Formal). part.types) formal_read formals
 
 formal_types_of : (formal : Formal) → formal_types formal ≡ types_within (out-Formal formal).ty
 formal_types_of formal =
@@ -52,48 +48,20 @@ next_declared formals i formal tally within is =
 
 -- ---- records
 
-record_types : (span : Span) (fields : List Formal) → types_within (ty.Rec span fields) ≡ ty.Rec span fields ∷ flat_map formal_types fields
-record_types span fields =
-    ap types_within (sym (ty.rolls-Rec span fields))
-    ∙ ap (λ (held : Holds TypeTree). held.types)
-    (fold-roll-TypeTree (Holds TypeTree) (Holds Formal) (Holds Returned) (Holds Signature) type_step formal_step returned_step signature_step (TypeTree-F.Rec span fields))
-    ∙ (λ i. ty.Rec span (same_fields fields i) ∷ types_of_formals fields i)
-
-record_layer : (span : Span) (fields : List Formal) → out-TypeTree (ty.Rec span fields) ≡ TypeTree-F.Rec span fields
-record_layer span fields = ap out-TypeTree (sym (ty.rolls-Rec span fields)) ∙ out-roll-TypeTree (TypeTree-F.Rec span fields)
-
 -- a record is declared where it stands, and then what stands in its fields
 pub record_declared : (span : Span) (fields : List Formal) (tally : Tally)
     → types_declared (types_within (ty.Rec span fields)) tally
     ≡ types_declared (flat_map formal_types fields) (at_facts tally (declare tally.facts (spot_of span) (info.Record (fields_of tally.facts fields))))
 record_declared span fields tally =
     ap (λ types. types_declared types tally) (record_types span fields)
-    ∙ ap (λ layer. types_declared (flat_map formal_types fields) (layer_declared layer tally)) (record_layer span fields)
+    ∙ ap (λ layer. types_declared (flat_map formal_types fields) (layer_declared layer tally)) (out-record span fields)
 
 -- ---- signatures
-
-types_in_returned : (x : Signature-F TypeTree Formal Returned Signature) (returned : Option Returned)
-    → maybe_types
-    (map-Signature TypeTree Formal Returned Signature (Holds TypeTree) (Holds Formal) (Holds Returned) (Holds Signature)
-    (fold-TypeTree (Holds TypeTree) (Holds Formal) (Holds Returned) (Holds Signature) type_step formal_step returned_step signature_step)
-    (fold-Formal (Holds TypeTree) (Holds Formal) (Holds Returned) (Holds Signature) type_step formal_step returned_step signature_step)
-    (fold-Returned (Holds TypeTree) (Holds Formal) (Holds Returned) (Holds Signature) type_step formal_step returned_step signature_step)
-    (fold-Signature (Holds TypeTree) (Holds Formal) (Holds Returned) (Holds Signature) type_step formal_step returned_step signature_step)
-    (record x { returned = returned })).returned
-    ≡ written_types returned
-types_in_returned x None = refl
-types_in_returned x (Some returned) = refl
-
-types_in_signature : (tree : Signature) → signature_types tree ≡ flat_map formal_types (out-Signature tree).formals ++ written_types (out-Signature tree).returned
-types_in_signature tree =
-    ap (λ (held : Holds Signature). held.types)
-    (fold_out-Signature (Holds TypeTree) (Holds Formal) (Holds Returned) (Holds Signature) type_step formal_step returned_step signature_step tree)
-    ∙ (λ i. types_of_formals (out-Signature tree).formals i ++ types_in_returned (out-Signature tree) (out-Signature tree).returned i)
 
 -- a signature declares the types in its formals, and then those in what it returns
 pub signature_declared : (tree : Signature) (tally : Tally)
     → types_declared (signature_types tree) tally
     ≡ types_declared (written_types (out-Signature tree).returned) (types_declared (flat_map formal_types (out-Signature tree).formals) tally)
 signature_declared tree tally =
-    ap (λ types. types_declared types tally) (types_in_signature tree)
+    ap (λ types. types_declared types tally) (signature_parts tree)
     ∙ types_declared_both (flat_map formal_types (out-Signature tree).formals) (written_types (out-Signature tree).returned) tally

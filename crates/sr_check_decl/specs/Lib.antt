@@ -4,7 +4,6 @@ pub mod Constants
 pub mod Declarations
 pub mod Declaring
 pub mod Entering
-pub mod Heads
 pub mod Inferring
 pub mod NamesIn
 pub mod Needers

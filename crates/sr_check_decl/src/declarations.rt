@@ -17,7 +17,7 @@ use sr_value::NoMemory;
 use std::alloc::Global;
 
 /// Notes what is found in the declarations of operations.
-fn note_operations(
+pub fn note_operations(
     alloc: Global,
     facts: &Facts,
     diagnostics: &mut Diagnostics,

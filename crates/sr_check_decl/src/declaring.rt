@@ -309,7 +309,7 @@ pub fn declare_params(
 }
 
 /// What makes an instance takes arguments like an operation of these formals.
-pub(crate) fn making(params: Row<NamedParam>) -> Signed
+fn making(params: Row<NamedParam>) -> Signed
     ensures { result ≡ making params }
 {
     Signed {
@@ -357,7 +357,7 @@ fn with_formals(
     declare_made(alloc, facts, name, &making(params))
 }
 
-pub(crate) fn component_formals(
+fn component_formals(
     alloc: Global,
     facts: &Facts,
     trees: &[Formal],

@@ -85,7 +85,7 @@ pub(crate) fn op_type(
     }
 }
 
-pub(crate) fn op_item_name(item: &OpItem) -> &Name
+fn op_item_name(item: &OpItem) -> &Name
     ensures { result.now ≡ op_item_name item.now }
 {
     match item {
@@ -137,7 +137,7 @@ fn declare_entered(
 }
 
 /// The signature of a semaphore: it has no formals, and may be sent to alone.
-pub(crate) fn semaphore_signature(alloc: Global) -> sr_types::Signature
+fn semaphore_signature(alloc: Global) -> sr_types::Signature
     ensures { result ≡ semaphore_signature }
 {
     sr_types::Signature {
@@ -189,7 +189,7 @@ fn process_params(alloc: Global, quantifiers: &[Quantifier]) -> Result<Row<Param
 }
 
 /// The signature of the operation of a process: it may be sent to alone.
-pub(crate) fn process_signature(
+fn process_signature(
     alloc: Global,
     quantifiers: &[Quantifier],
 ) -> Result<sr_types::Signature, NoMemory>

@@ -166,7 +166,7 @@ fn numbered_type(number: Option<usize>) -> Ty
 }
 
 /// The type of the capabilities for operations of a signature, which keeps its number.
-pub(crate) fn operation_type(facts: &Facts, signature: &Signature) -> Ty
+fn operation_type(facts: &Facts, signature: &Signature) -> Ty
     ensures { result ≡ operation_type facts.now signature.now }
 {
     numbered_type(facts.signatures.number(signature))
