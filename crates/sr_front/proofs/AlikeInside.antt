@@ -1,5 +1,5 @@
 -- Where a component is checked, facts tell the same of names outside of code as before any statement is looked at.
-use Rattle.std.proofs.Common.{◌≡◌, ◌⊎◌, inl, inr, ℕ, true, false, List, Option, Some, None, is_some, refl, sym, ap, subst, ◌∙◌}
+use Rattle.std.proofs.Common.{◌≡◌, ℕ, Bool, true, List, Option, Some, None, is_some, refl, sym, ap, subst, ◌∙◌}
 use Rattle.std.proofs.lemmas.Bool.{false≢true}
 use Rattle.std.specs.Option.{option_and_then}
 use Rattle.sr_check_decl.specs.Declaring.{standing}
@@ -12,12 +12,11 @@ use Rattle.sr_check_expr.specs.Exprs.{infer_expr}
 use Rattle.sr_check_expr.specs.Infos.{info_at, name_spot}
 use Rattle.sr_check_expr.specs.Naming.{fields_of, operation_type}
 use Rattle.sr_check_expr.specs.PredefinedCalls.{info_shape}
-use Rattle.sr_names.proofs.Marking.{entry-other, entry-same, same_spot-cases}
 use Rattle.sr_names.specs.declared.meaning.Decl.{Decl}
 use Rattle.sr_names.specs.declared.meaning.Meaning.TheVariants.{Declared}
 use Rattle.sr_names.specs.declared.spot.Spot.{Spot}
 use Rattle.sr_names.specs.Components.{member_named}
-use Rattle.sr_names.specs.Spots.{same_spot, spot_of}
+use Rattle.sr_names.specs.Spots.{spot_of}
 use Rattle.sr_names.specs.Uses.{meaning_at}
 use Rattle.sr_scope.specs.Uses.{IsIn}
 use Rattle.sr_tree.specs.declared.expr.Expr.{Expr as Tree}
@@ -25,11 +24,13 @@ use Rattle.sr_types.specs.declared.signature.Signature.{Signature}
 use Rattle.sr_types.specs.declared.spot.Spot as types
 use Rattle.sr_types.specs.declared.ty.Ty.{Ty, out-Ty}
 use Rattle.sr_types.specs.declared.ty.Ty.TheOpen.{Ty-F}
+use Rattle.sr_types.specs.declared.typed.Typed.{Typed}
 use Rattle.sr_types.specs.Signatures.{layer_signature, signature_at}
 use Rattle.sr_value.specs.declared.place.Span.{Span}
 use Rattle.sr_front.proofs.InfosStay.{Fresh, Reads, Steady, same_elsewhere}
 use Rattle.sr_front.proofs.KeptNames.{Anywhere, all_fit}
 use Rattle.sr_front.proofs.Leading.{Leads, leads_on}
+use Rattle.sr_front.proofs.Put.{put_holds}
 use Rattle.sr_front.proofs.SameExprs.{Alike, SameNames}
 
 -- nothing, a value or an operation
@@ -44,11 +45,7 @@ module _ (spot : Spot) where
   QuietAt facts = IsQuiet (info_at facts.infos spot)
 
   quiet_with : (facts : Facts) (at : Spot) (one : Info) → IsQuiet (Some one) → QuietAt facts → QuietAt (declare facts at one)
-  quiet_with facts at one quiet h = by (same_spot-cases spot at)
-    where
-      by : (spot ≡ at) ⊎ (same_spot spot at ≡ false) → QuietAt (declare facts at one)
-      by (inl same) = subst (λ s. IsQuiet (info_at (declare facts at one).infos s)) (sym same) (subst IsQuiet (sym (entry-same facts.infos at one)) quiet)
-      by (inr apart) = subst IsQuiet (sym (entry-other facts.infos at one spot apart)) h
+  quiet_with facts at one quiet h = put_holds facts at one (λ other. IsQuiet) quiet spot (λ apart. h)
 
   quiet_steady : Steady QuietAt Anywhere Anywhere
   quiet_steady = record {
@@ -60,35 +57,12 @@ module _ (spot : Spot) where
     standing = λ facts component h. h;
   }
 
-quiet_fields : (found : Option Info) → IsQuiet found → fields_of found ≡ fields_of None
-quiet_fields None h = refl
-quiet_fields (Some (info.Value typed)) h = refl
-quiet_fields (Some (info.Operation type component is_local)) h = refl
-quiet_fields (Some (info.«Type» type)) h = absurd h
-quiet_fields (Some (info.Enumeration number literals)) h = absurd h
-quiet_fields (Some (info.Record fields)) h = absurd h
-quiet_fields (Some (info.OpType type)) h = absurd h
-quiet_fields (Some (info.Component type)) h = absurd h
-
-quiet_shape : (found : Option Info) → IsQuiet found → info_shape found ≡ info_shape None
-quiet_shape None h = refl
-quiet_shape (Some (info.Value typed)) h = refl
-quiet_shape (Some (info.Operation type component is_local)) h = refl
-quiet_shape (Some (info.«Type» type)) h = absurd h
-quiet_shape (Some (info.Enumeration number literals)) h = absurd h
-quiet_shape (Some (info.Record fields)) h = absurd h
-quiet_shape (Some (info.OpType type)) h = absurd h
-quiet_shape (Some (info.Component type)) h = absurd h
-
-quiet_component : (found : Option Info) → IsQuiet found → component_type found ≡ component_type None
-quiet_component None h = refl
-quiet_component (Some (info.Value typed)) h = refl
-quiet_component (Some (info.Operation type component is_local)) h = refl
-quiet_component (Some (info.«Type» type)) h = absurd h
-quiet_component (Some (info.Enumeration number literals)) h = absurd h
-quiet_component (Some (info.Record fields)) h = absurd h
-quiet_component (Some (info.OpType type)) h = absurd h
-quiet_component (Some (info.Component type)) h = absurd h
+quiet : {A : Type 0} (tell : Option Info → A) → ((typed : Typed) → tell (Some (info.Value typed)) ≡ tell None)
+    → ((type : Ty) (component : Spot) (is_local : Bool) → tell (Some (info.Operation type component is_local)) ≡ tell None) → (found : Option Info) → IsQuiet found → tell found ≡ tell None
+quiet tell value operation None h = refl
+quiet tell value operation (Some (info.Value typed)) h = value typed
+quiet tell value operation (Some (info.Operation type component is_local)) h = operation type component is_local
+quiet tell value operation (Some _) h = absurd h
 
 -- a type of operations has a signature in a table
 abbrev pub LayerHas : List Signature → Ty-F Ty → Type 0
@@ -110,10 +84,10 @@ module _ (names : List Span) (first facts : Facts) (reads : Reads names first fa
   quiet_after spot none = reads (QuietAt spot) Anywhere (quiet_steady spot) (all_fit (λ span. spot_of span) names) (subst IsQuiet (sym none) tt)
 
   told : {A : Type 0} (tell : Option Info → A) → ((found : Option Info) → IsQuiet found → tell found ≡ tell None) → (spot : Spot) → tell (info_at first.infos spot) ≡ tell (info_at facts.infos spot)
-  told tell quiet spot = by (info_at first.infos spot) refl
+  told tell same spot = by (info_at first.infos spot) refl
     where
       by : (found : Option Info) → info_at first.infos spot ≡ found → tell (info_at first.infos spot) ≡ tell (info_at facts.infos spot)
-      by None is = ap tell is ∙ sym (quiet (info_at facts.infos spot) (quiet_after spot is))
+      by None is = ap tell is ∙ sym (same (info_at facts.infos spot) (quiet_after spot is))
       by (Some one) is = ap tell (is ∙ sym (known_kept spot one is))
 
   -- where something is known, it is known after
@@ -149,12 +123,12 @@ module _ (names : List Span) (first facts : Facts) (reads : Reads names first fa
     inside_alike here = record {
       uses = leads.uses;
       here = here;
-      fields = λ spot. told fields_of quiet_fields (name_spot spot);
-      shapes = λ spot. told info_shape quiet_shape (name_spot spot);
+      fields = λ spot. told fields_of (quiet fields_of (λ typed. refl) (λ type component is_local. refl)) (name_spot spot);
+      shapes = λ spot. told info_shape (quiet info_shape (λ typed. refl) (λ type component is_local. refl)) (name_spot spot);
       operations = λ spot name.
           member_same spot name (member_named first.specs (name_spot spot) name) refl
           ∙ ap (λ specs. option_and_then (λ (decl : Decl). option_and_then operation_type (info_at facts.infos decl.spot)) (member_named specs (name_spot spot) name)) leads.specs;
-      components = λ decl. told component_type quiet_component decl.spot;
+      components = λ decl. told component_type (quiet component_type (λ typed. refl) (λ type component is_local. refl)) decl.spot;
       signatures = λ type numbered. layer_same (out-Ty type) (telling.has type numbered);
       numbered = telling.numbered;
       made = telling.made;

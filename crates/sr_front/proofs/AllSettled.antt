@@ -50,9 +50,10 @@ use Rattle.sr_tree.specs.declared.declaration.VarDecl.{VarDecl}
 use Rattle.sr_tree.specs.declared.expr.Expr.{Expr}
 use Rattle.sr_tree.specs.declared.name.Name.{Name}
 use Rattle.sr_value.specs.declared.place.Span.{Span}
-use Rattle.sr_front.proofs.ComponentsKnown.{Anywhere, IsKnown, UsesAre, files_free, known_declares, named_known, named_uses, uses_declares}
+use Rattle.sr_front.proofs.ComponentsKnown.{IsKnown, UsesAre, files_free, known_declares, named_known, named_uses, uses_declares}
 use Rattle.sr_front.proofs.Globals.{link_among}
 use Rattle.sr_front.proofs.KeptDeclared.{keeps_files}
+use Rattle.sr_front.proofs.KeptNames.{Anywhere}
 use Rattle.sr_front.proofs.KnownOrWaits.{KnownOrWaits, known_or_waits}
 use Rattle.sr_front.proofs.LinksBack.{LeadsTo, NoneBack, none_leads}
 use Rattle.sr_front.proofs.NamesAmong.{needs_among_names}

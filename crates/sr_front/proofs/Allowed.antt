@@ -1,5 +1,5 @@
 -- Where no rule is broken nothing stands in the core where it has nothing to leave or to answer.
-use Rattle.std.proofs.Common.{◌≡◌, refl, sym, subst, Bool, true, false, true≢false, List, [], ◌∷◌, ◌++◌, Option, Some, None, map}
+use Rattle.std.proofs.Common.{◌≡◌, refl, sym, subst, Bool, true, false, List, [], ◌∷◌, ◌++◌, Option, Some, None, map}
 use Rattle.std.specs.Prelude.{IsTrue, is_some, if◌then◌else◌}
 use Rattle.std.specs.List.{list_all}
 use Rattle.std.proofs.lemmas.List.{map-append}
@@ -12,12 +12,12 @@ use Rattle.sr_core.specs.declared.statement.Statement.TheFolds.{fold-Statement a
 use Rattle.sr_core.specs.declared.statement.Statement.TheOpen.{Statement-F as Core-F, CoArm-F as CoreArm-F}
 use Rattle.sr_core.specs.declared.statement.Statement.TheVariants as core
 use Rattle.sr_core.specs.Leaving.{Enclosing, Rule, all_allowed, block_allowed, within_arm, action_allowed, co_arm_allowed, guarded_allowed, statement_allowed}
-use Rattle.sr_check.specs.Contexts.{Context, Steps, in_order, with_facts, looping}
+use Rattle.sr_check.specs.Contexts.{Context, in_order, with_facts, looping}
 use Rattle.sr_check.specs.Invoking.{invoked_found, is_serving, may_reply, started_found}
 use Rattle.sr_check.specs.Quantifying.{expr_with, quantifiers_found, quantifiers_known}
 use Rattle.sr_check.specs.Services.{head_found, operation_named}
 use Rattle.sr_check.specs.Uses.{condition_rule}
-use Rattle.sr_check.specs.Statements.{ArmSteps, CoArmSteps, arm_context, arms_at, arm_read, arm_step, block_item_read, branch_read, branch_step, co_arms_at, co_arm_read, co_arm_step, guards_found, item_step, mixture_found, statement_read, statement_step}
+use Rattle.sr_check.specs.Statements.{arm_context, arms_at, arm_read, block_item_read, branch_read, co_arms_at, co_arm_read, guards_found, mixture_found, statement_read}
 use Rattle.sr_names.specs.declared.predefined.Predefined.{Predefined}
 use Rattle.sr_names.specs.declared.predefined.Predefined.TheVariants as predefined
 use Rattle.sr_names.specs.declared.spot.Spot.{Spot}
@@ -40,26 +40,24 @@ use Rattle.sr_desugar.specs.Declarations.{after_first, const_core, declare, firs
 use Rattle.sr_lower_expr.specs.Places.{site_number}
 use Rattle.sr_tree.specs.declared.expr.Expr.{Expr}
 use Rattle.sr_tree.specs.declared.expr.Invocation.{Invocation}
-use Rattle.sr_tree.specs.declared.statement.Arm.{Arm, roll-Arm}
-use Rattle.sr_tree.specs.declared.statement.BlockItem.{BlockItem, roll-BlockItem}
-use Rattle.sr_tree.specs.declared.statement.BlockItem.TheFolds.{fold-roll-Arm, fold-roll-BlockItem, fold-roll-Branch, fold-roll-CoArm, fold-roll-Statement, ind-Statement, map-Arm, map-BlockItem, map-Branch, map-CoArm, map-Statement}
-use Rattle.sr_tree.specs.declared.statement.BlockItem.TheOpen.{Arm-F, BlockItem-F, Branch-F, CoArm-F, Statement-F}
-use Rattle.sr_tree.specs.declared.statement.Branch.{Branch, roll-Branch}
-use Rattle.sr_tree.specs.declared.statement.CoArm.{CoArm, roll-CoArm}
-use Rattle.sr_tree.specs.declared.statement.Quantifier.{Quantifier}
-use Rattle.sr_tree.specs.declared.statement.Statement.{Statement, roll-Statement}
+use Rattle.sr_tree.specs.declared.statement.Arm.{Arm}
+use Rattle.sr_tree.specs.declared.statement.BlockItem.{BlockItem}
+use Rattle.sr_tree.specs.declared.statement.BlockItem.TheOpen.{BlockItem-F, Statement-F}
+use Rattle.sr_tree.specs.declared.statement.Branch.{Branch}
+use Rattle.sr_tree.specs.declared.statement.CoArm.{CoArm}
+use Rattle.sr_tree.specs.declared.statement.Statement.{Statement}
 use Rattle.sr_value.specs.declared.place.Place.{Place}
 use Rattle.sr_value.specs.declared.place.Span.{Span}
 use Rattle.sr_lower_expr.specs.declared.scene.Scene.{Scene}
-use Rattle.sr_desugar.specs.Statements.{LoweredArm, Block, WithSites, all_made, arm_made, block_made, blocks_of, branch_made, call_action, call_made, co_arm_made, core_arm, core_block_item, core_branch, core_co_arm, core_statement, item_made, named_action, quantifiers_core, receive_assign, receive_made, statement_made}
+use Rattle.sr_desugar.specs.Statements.{WithSites, all_made, block_made, blocks_of, call_action, call_made, core_arm, core_block_item, core_branch, core_co_arm, core_statement, named_action, quantifiers_core, receive_assign, receive_made}
 use Rattle.sr_desugar.proofs.Waits.{all_appended, both}
 use Rattle.sr_check.specs.ErrorFree.{ErrorFree}
 use Rattle.sr_check.proofs.ErrorFree.{rule_met, error_free_first, error_free_second}
+use Rattle.sr_desugar.proofs.CodeFold.{making}
+use Rattle.sr_check.proofs.ReadFolds.{reading}
+use Rattle.sr_tree.proofs.StatementFolds.{ArmNode, BranchNode, ByParts, Claim, CoArmNode, ItemNode, Known, StatementNode, arm_folds, bare_arm, bare_branch, bare_co_arm, bare_item, bare_statement, branch_folds, co_arm_folds, each_statement, from_arm, from_branch, from_co_arm, from_item, from_statement, item_folds, statement_folds}
 
 -- ---- lists of tests
-
-pub never : IsTrue false → ⊥
-never is = true≢false (sym is)
 
 -- ---- the core
 
@@ -155,23 +153,10 @@ BranchGood branch = (scene : Scene) (context : Context) → ErrorFree (branch_re
 abbrev CoArmGood : CoArm → Type 0
 CoArmGood arm = (scene : Scene) (context : Context) (span : Span) → ErrorFree (co_arm_read arm span context).found → IsTrue (arm_is_allowed (core_co_arm scene arm).made (enclosing_of context))
 
--- trees with what is known of them
-abbrev I : Type 0
-I = (tree : BlockItem) × ItemGood tree
+abbrev good : Claim
+good = record { item = ItemGood; statement = StatementGood; arm = ArmGood; branch = BranchGood; co_arm = CoArmGood }
 
-abbrev S : Type 0
-S = (tree : Statement) × StatementGood tree
-
-abbrev A : Type 0
-A = (tree : Arm) × ArmGood tree
-
-abbrev B : Type 0
-B = (tree : Branch) × BranchGood tree
-
-abbrev C : Type 0
-C = (tree : CoArm) × CoArmGood tree
-
-items_good : (scene : Scene) (context : Context) (items : List I)
+items_good : (scene : Scene) (context : Context) (items : List (Known ItemGood))
     → ErrorFree (in_order (map block_item_read (map (λ e. e.0) items)) context).found
     → IsTrue (block_allowed (block_made (map (core_block_item scene) (map (λ e. e.0) items))).made (enclosing_of context))
 items_good scene context [] whole = refl
@@ -180,7 +165,7 @@ items_good scene context (item ∷ items) whole =
     (item.1 scene context (error_free_first (block_item_read item.0 context).found _ whole))
     (items_good scene (with_facts context (block_item_read item.0 context).facts) items (error_free_second (block_item_read item.0 context).found _ whole))
 
-branches_good : (scene : Scene) (context : Context) (branches : List B)
+branches_good : (scene : Scene) (context : Context) (branches : List (Known BranchGood))
     → ErrorFree (in_order (map branch_read (map (λ e. e.0) branches)) context).found
     → IsTrue (all_allowed (map guarded_is_allowed (all_made (map (core_branch scene) (map (λ e. e.0) branches)))) (enclosing_of context))
 branches_good scene context [] whole = refl
@@ -189,7 +174,7 @@ branches_good scene context (branch ∷ branches) whole =
     (branch.1 scene context (error_free_first (branch_read branch.0 context).found _ whole))
     (branches_good scene (with_facts context (branch_read branch.0 context).facts) branches (error_free_second (branch_read branch.0 context).found _ whole))
 
-co_arms_good : (scene : Scene) (context : Context) (span : Span) (arms : List C)
+co_arms_good : (scene : Scene) (context : Context) (span : Span) (arms : List (Known CoArmGood))
     → ErrorFree (in_order (co_arms_at span (map co_arm_read (map (λ e. e.0) arms))) context).found
     → IsTrue (all_allowed (map arm_is_allowed (all_made (map (core_co_arm scene) (map (λ e. e.0) arms)))) (enclosing_of context))
 co_arms_good scene context span [] whole = refl
@@ -198,7 +183,7 @@ co_arms_good scene context span (arm ∷ arms) whole =
     (arm.1 scene context span (error_free_first (co_arm_read arm.0 span context).found _ whole))
     (co_arms_good scene (with_facts context (co_arm_read arm.0 span context).facts) span arms (error_free_second (co_arm_read arm.0 span context).found _ whole))
 
-arms_good : (scene : Scene) (context : Context) (span : Span) (arms : List A)
+arms_good : (scene : Scene) (context : Context) (span : Span) (arms : List (Known ArmGood))
     → ErrorFree (in_order (arms_at span (map arm_read (map (λ e. e.0) arms))) context).found
     → IsTrue (list_all (λ block. all_allowed block (within_arm (enclosing_of context))) (map (map allowed) (blocks_of (map (core_arm scene) (map (λ e. e.0) arms)))))
 arms_good scene context span [] whole = refl
@@ -209,29 +194,14 @@ arms_good scene context span (arm ∷ arms) whole =
 
 -- ---- the open trees
 
-abbrev read_statement : Statement-F BlockItem Statement Arm Branch CoArm → Statement-F Steps Steps ArmSteps Steps CoArmSteps
-read_statement = map-Statement BlockItem Statement Arm Branch CoArm Steps Steps ArmSteps Steps CoArmSteps block_item_read statement_read arm_read branch_read co_arm_read
-
-abbrev made_statement : Scene → Statement-F BlockItem Statement Arm Branch CoArm → Statement-F (WithSites Block) (WithSites CoreStatement) (WithSites LoweredArm) (WithSites Guarded) (WithSites CoreCoArm)
-made_statement scene =
-    map-Statement BlockItem Statement Arm Branch CoArm (WithSites Block) (WithSites CoreStatement) (WithSites LoweredArm) (WithSites Guarded) (WithSites CoreCoArm)
-    (core_block_item scene) (core_statement scene) (core_arm scene) (core_branch scene) (core_co_arm scene)
-
-abbrev bare : Statement-F I S A B C → Statement-F BlockItem Statement Arm Branch CoArm
-bare = map-Statement I S A B C BlockItem Statement Arm Branch CoArm (λ e. e.0) (λ e. e.0) (λ e. e.0) (λ e. e.0) (λ e. e.0)
-
-statement_good : (y : Statement-F I S A B C) (scene : Scene) (context : Context)
-    → ErrorFree (statement_step (read_statement (bare y)) context).found
-    → IsTrue (allowed (statement_made scene (made_statement scene (bare y))).made (enclosing_of context))
-statement_good (Statement-F.Skip span) scene context whole = act_allowed (enclosing_of context) _ _ refl
+statement_good : (y : StatementNode good) (scene : Scene) (context : Context)
+    → ErrorFree (from_statement reading (bare_statement good y) context).found
+    → IsTrue (allowed (from_statement (making scene) (bare_statement good y)).made (enclosing_of context))
 statement_good (Statement-F.Exit span) scene context whole = act_allowed (enclosing_of context) _ _ (rule_met context.in_loop _ _ whole)
 statement_good (Statement-F.Next span) scene context whole = act_allowed (enclosing_of context) _ _ (rule_met context.in_loop _ _ whole)
-statement_good (Statement-F.Return span) scene context whole = act_allowed (enclosing_of context) _ _ refl
 statement_good (Statement-F.Reply span) scene context whole = act_allowed (enclosing_of context) _ _ (rule_met (may_reply context.serving) _ _ whole)
-statement_good (Statement-F.Stop span status) scene context whole = act_allowed (enclosing_of context) _ _ refl
 statement_good (Statement-F.Call span with_call invocation) scene context whole =
     invocation_allowed scene (enclosing_of context) span invocation (function_called scene.facts invocation)
-statement_good (Statement-F.Send span invocation) scene context whole = act_allowed (enclosing_of context) _ _ refl
 statement_good (Statement-F.Forward span invocation) scene context whole =
     let called = infer_invocation invocation context.facts in
     act_allowed (enclosing_of context) _ _
@@ -239,10 +209,6 @@ statement_good (Statement-F.Forward span invocation) scene context whole =
     (error_free_first (broken_unless (is_serving context.serving) BadUse span) _
     (error_free_second (invoked_found context.facts span true called.callee.typed_expr (typed_exprs_of called.arguments)) _ (error_free_second (parts_found called) _ whole))))
 statement_good (Statement-F.Receive span operation places) scene context whole = receive_allowed scene (enclosing_of context) span (meant_by scene.facts operation) places
-statement_good (Statement-F.Assign span target value) scene context whole = act_allowed (enclosing_of context) _ _ refl
-statement_good (Statement-F.Exchange span left right) scene context whole = act_allowed (enclosing_of context) _ _ refl
-statement_good (Statement-F.Increment span target) scene context whole = act_allowed (enclosing_of context) _ _ refl
-statement_good (Statement-F.Decrement span target) scene context whole = act_allowed (enclosing_of context) _ _ refl
 statement_good (Statement-F.If span branches None) scene context whole =
     rolled (enclosing_of context) _ (Core-F.If (line_of span) (all_made (map (core_branch scene) (map (λ e. e.0) branches))) []) (core.rolls-If _ _ _)
     (both _ true (branches_good scene context branches (error_free_first (in_order (map branch_read (map (λ e. e.0) branches)) context).found _ whole)) refl)
@@ -274,21 +240,9 @@ statement_good (Statement-F.In span arms (Some otherwise)) scene context whole =
     (both _ _ (arms_good scene context span arms (error_free_first first.found _ after_first)) (items_good scene (with_facts context first.facts) otherwise (error_free_second first.found _ after_first)))
 statement_good (Statement-F.Co span arms) scene context whole =
     rolled (enclosing_of context) _ (Core-F.Co (line_of span) (all_made (map (core_co_arm scene) (map (λ e. e.0) arms)))) (core.rolls-Co _ _) (co_arms_good scene context span arms whole)
-statement_good (Statement-F.Destroy span target) scene context whole = act_allowed (enclosing_of context) _ _ refl
-statement_good (Statement-F.Create span create) scene context whole = act_allowed (enclosing_of context) _ _ refl
+statement_good _ scene context whole = act_allowed (enclosing_of context) _ _ refl
 
 -- ---- arms, branches and items
-
-abbrev read_item : BlockItem-F BlockItem Statement Arm Branch CoArm → BlockItem-F Steps Steps ArmSteps Steps CoArmSteps
-read_item = map-BlockItem BlockItem Statement Arm Branch CoArm Steps Steps ArmSteps Steps CoArmSteps block_item_read statement_read arm_read branch_read co_arm_read
-
-abbrev made_item : Scene → BlockItem-F BlockItem Statement Arm Branch CoArm → BlockItem-F (WithSites Block) (WithSites CoreStatement) (WithSites LoweredArm) (WithSites Guarded) (WithSites CoreCoArm)
-made_item scene =
-    map-BlockItem BlockItem Statement Arm Branch CoArm (WithSites Block) (WithSites CoreStatement) (WithSites LoweredArm) (WithSites Guarded) (WithSites CoreCoArm)
-    (core_block_item scene) (core_statement scene) (core_arm scene) (core_branch scene) (core_co_arm scene)
-
-abbrev bare_item : BlockItem-F I S A B C → BlockItem-F BlockItem Statement Arm Branch CoArm
-bare_item = map-BlockItem I S A B C BlockItem Statement Arm Branch CoArm (λ e. e.0) (λ e. e.0) (λ e. e.0) (λ e. e.0) (λ e. e.0)
 
 -- declarations are allowed everywhere
 declared_allowed : (enclosing : Enclosing) (scope : Scope) (place : Place) (scene : Scene) (spot : Spot) (setup : Setup) → IsTrue (allowed (declare scene scope place spot setup) enclosing)
@@ -326,115 +280,56 @@ var_allowed enclosing scene scope variables = by variables.ty
     by None = untyped_allowed enclosing scene scope (line_of variables.span) variables.decls variables.values
     by (Some ty) = typed_allowed enclosing scene scope (line_of variables.span) ty variables.decls variables.values
 
-item_good : (y : BlockItem-F I S A B C) (scene : Scene) (context : Context)
-    → ErrorFree (item_step (read_item (bare_item y)) context).found
-    → IsTrue (block_allowed (item_made scene (made_item scene (bare_item y))).made (enclosing_of context))
+item_good : (y : ItemNode good) (scene : Scene) (context : Context)
+    → ErrorFree (from_item reading (bare_item good y) context).found
+    → IsTrue (block_allowed (from_item (making scene) (bare_item good y)).made (enclosing_of context))
 item_good (BlockItem-F.Const constant) scene context whole = const_allowed (enclosing_of context) scene Own constant
 item_good (BlockItem-F.Var variables) scene context whole = var_allowed (enclosing_of context) scene Own variables
 item_good (BlockItem-F.Statement statement) scene context whole =
     both (allowed (core_statement scene statement.0).made (enclosing_of context)) true (statement.1 scene context whole) refl
 
-abbrev read_arm : Arm-F BlockItem Statement Arm Branch CoArm → Arm-F Steps Steps ArmSteps Steps CoArmSteps
-read_arm = map-Arm BlockItem Statement Arm Branch CoArm Steps Steps ArmSteps Steps CoArmSteps block_item_read statement_read arm_read branch_read co_arm_read
-
-abbrev made_arm : Scene → Arm-F BlockItem Statement Arm Branch CoArm → Arm-F (WithSites Block) (WithSites CoreStatement) (WithSites LoweredArm) (WithSites Guarded) (WithSites CoreCoArm)
-made_arm scene =
-    map-Arm BlockItem Statement Arm Branch CoArm (WithSites Block) (WithSites CoreStatement) (WithSites LoweredArm) (WithSites Guarded) (WithSites CoreCoArm)
-    (core_block_item scene) (core_statement scene) (core_arm scene) (core_branch scene) (core_co_arm scene)
-
-abbrev bare_arm : Arm-F I S A B C → Arm-F BlockItem Statement Arm Branch CoArm
-bare_arm = map-Arm I S A B C BlockItem Statement Arm Branch CoArm (λ e. e.0) (λ e. e.0) (λ e. e.0) (λ e. e.0) (λ e. e.0)
-
 -- the service of an arm is there to be answered
-arm_good : (y : Arm-F I S A B C) (scene : Scene) (context : Context) (span : Span)
-    → ErrorFree ((arm_step (read_arm (bare_arm y))).steps span context).found
-    → IsTrue (block_allowed (arm_made scene (made_arm scene (bare_arm y))).made.block (within_arm (enclosing_of context)))
+arm_good : (y : ArmNode good) (scene : Scene) (context : Context) (span : Span)
+    → ErrorFree ((from_arm reading (bare_arm good y)).steps span context).found
+    → IsTrue (block_allowed (from_arm (making scene) (bare_arm good y)).made.block (within_arm (enclosing_of context)))
 arm_good y scene context span whole =
     items_good scene (arm_context context (spot_of y.operation.span) y.formals y.returned (operation_named context.facts y.operation)) y.block
     (error_free_second (guards_found (arm_context context (spot_of y.operation.span) y.formals y.returned (operation_named context.facts y.operation)).facts y.condition y.order) _
     (error_free_second (head_found context.facts context.procs span y.formals (is_some y.returned) (operation_named context.facts y.operation)) _ whole))
 
-abbrev read_branch : Branch-F BlockItem Statement Arm Branch CoArm → Branch-F Steps Steps ArmSteps Steps CoArmSteps
-read_branch = map-Branch BlockItem Statement Arm Branch CoArm Steps Steps ArmSteps Steps CoArmSteps block_item_read statement_read arm_read branch_read co_arm_read
-
-abbrev made_branch : Scene → Branch-F BlockItem Statement Arm Branch CoArm → Branch-F (WithSites Block) (WithSites CoreStatement) (WithSites LoweredArm) (WithSites Guarded) (WithSites CoreCoArm)
-made_branch scene =
-    map-Branch BlockItem Statement Arm Branch CoArm (WithSites Block) (WithSites CoreStatement) (WithSites LoweredArm) (WithSites Guarded) (WithSites CoreCoArm)
-    (core_block_item scene) (core_statement scene) (core_arm scene) (core_branch scene) (core_co_arm scene)
-
-abbrev bare_branch : Branch-F I S A B C → Branch-F BlockItem Statement Arm Branch CoArm
-bare_branch = map-Branch I S A B C BlockItem Statement Arm Branch CoArm (λ e. e.0) (λ e. e.0) (λ e. e.0) (λ e. e.0) (λ e. e.0)
-
-branch_good : (y : Branch-F I S A B C) (scene : Scene) (context : Context)
-    → ErrorFree (branch_step (read_branch (bare_branch y)) context).found
-    → IsTrue (guarded_is_allowed (branch_made scene (made_branch scene (bare_branch y))).made (enclosing_of context))
+branch_good : (y : BranchNode good) (scene : Scene) (context : Context)
+    → ErrorFree (from_branch reading (bare_branch good y) context).found
+    → IsTrue (guarded_is_allowed (from_branch (making scene) (bare_branch good y)).made (enclosing_of context))
 branch_good y scene context whole =
     subst (λ rule. IsTrue (rule (enclosing_of context))) (sym (fold-roll-Guarded Rule Rule Rule statement_allowed co_arm_allowed guarded_allowed _))
     (items_good scene context y.block (error_free_second (expr_with condition_rule context.facts y.guard) _ whole))
 
-abbrev read_co_arm : CoArm-F BlockItem Statement Arm Branch CoArm → CoArm-F Steps Steps ArmSteps Steps CoArmSteps
-read_co_arm = map-CoArm BlockItem Statement Arm Branch CoArm Steps Steps ArmSteps Steps CoArmSteps block_item_read statement_read arm_read branch_read co_arm_read
-
-abbrev made_co_arm : Scene → CoArm-F BlockItem Statement Arm Branch CoArm → CoArm-F (WithSites Block) (WithSites CoreStatement) (WithSites LoweredArm) (WithSites Guarded) (WithSites CoreCoArm)
-made_co_arm scene =
-    map-CoArm BlockItem Statement Arm Branch CoArm (WithSites Block) (WithSites CoreStatement) (WithSites LoweredArm) (WithSites Guarded) (WithSites CoreCoArm)
-    (core_block_item scene) (core_statement scene) (core_arm scene) (core_branch scene) (core_co_arm scene)
-
-abbrev bare_co_arm : CoArm-F I S A B C → CoArm-F BlockItem Statement Arm Branch CoArm
-bare_co_arm = map-CoArm I S A B C BlockItem Statement Arm Branch CoArm (λ e. e.0) (λ e. e.0) (λ e. e.0) (λ e. e.0) (λ e. e.0)
-
-co_arm_parts_good : (span : Span) (quantifiers : List Quantifier) (target : Option Expr) (with_call : Bool) (invocation : Invocation) (block : Option (List I)) (scene : Scene) (context : Context) (at : Span)
-    → ErrorFree (co_arm_step (read_co_arm (bare_co_arm (record { span = span; quantifiers = quantifiers; target = target; with_call = with_call; invocation = invocation; block = block }))) at context).found
-    → IsTrue (co_arm_allowed (opened_arm (out-CoArm (co_arm_made scene (made_co_arm scene (bare_co_arm (record { span = span; quantifiers = quantifiers; target = target; with_call = with_call; invocation = invocation; block = block })))).made)) (enclosing_of context))
-co_arm_parts_good span quantifiers target with_call invocation None scene context at whole = refl
-co_arm_parts_good span quantifiers target with_call invocation (Some items) scene context at whole =
-    let known = quantifiers_known context.facts quantifiers in
+co_arm_by : (y : CoArmNode good) (block : Option (List (Known ItemGood))) (scene : Scene) (context : Context) (at : Span)
+    → ErrorFree (from_co_arm reading (bare_co_arm good (record y { block = block })) at context).found
+    → IsTrue (co_arm_allowed (opened_arm (out-CoArm (from_co_arm (making scene) (bare_co_arm good (record y { block = block }))).made)) (enclosing_of context))
+co_arm_by y None scene context at whole = refl
+co_arm_by y (Some items) scene context at whole =
+    let known = quantifiers_known context.facts y.quantifiers in
     items_good scene (looping (with_facts context known)) items
-    (error_free_second (started_found known at target (infer_invocation invocation known)) _ (error_free_second (quantifiers_found context.facts quantifiers) _ whole))
+    (error_free_second (started_found known at y.target (infer_invocation y.invocation known)) _ (error_free_second (quantifiers_found context.facts y.quantifiers) _ whole))
 
-co_arm_good : (y : CoArm-F I S A B C) (scene : Scene) (context : Context) (span : Span)
-    → ErrorFree (co_arm_step (read_co_arm (bare_co_arm y)) span context).found
-    → IsTrue (arm_is_allowed (co_arm_made scene (made_co_arm scene (bare_co_arm y))).made (enclosing_of context))
+co_arm_good : (y : CoArmNode good) (scene : Scene) (context : Context) (span : Span)
+    → ErrorFree (from_co_arm reading (bare_co_arm good y) span context).found
+    → IsTrue (arm_is_allowed (from_co_arm (making scene) (bare_co_arm good y)).made (enclosing_of context))
 co_arm_good y scene context span whole =
     subst (λ rule. IsTrue (rule (enclosing_of context))) (sym (fold_roll_core_arm Rule Rule Rule statement_allowed co_arm_allowed guarded_allowed _))
-    (co_arm_parts_good y.span y.quantifiers y.target y.with_call y.invocation y.block scene context span whole)
+    (co_arm_by y y.block scene context span whole)
 
 -- ---- all trees
 
-step_item : (x : BlockItem-F BlockItem Statement Arm Branch CoArm) (y : BlockItem-F I S A B C) → bare_item y ≡ x → ItemGood (roll-BlockItem x)
-step_item x y is = subst (λ z. ItemGood (roll-BlockItem z)) is (λ scene context whole.
-    subst (λ made. IsTrue (block_allowed made.made (enclosing_of context)))
-    (sym (fold-roll-BlockItem (WithSites Block) (WithSites CoreStatement) (WithSites LoweredArm) (WithSites Guarded) (WithSites CoreCoArm) (item_made scene) (statement_made scene) (arm_made scene) (branch_made scene) (co_arm_made scene) (bare_item y)))
-    (item_good y scene context
-    (subst (λ steps. ErrorFree (steps context).found) (fold-roll-BlockItem Steps Steps ArmSteps Steps CoArmSteps item_step statement_step arm_step branch_step co_arm_step (bare_item y)) whole)))
-
-step_statement : (x : Statement-F BlockItem Statement Arm Branch CoArm) (y : Statement-F I S A B C) → bare y ≡ x → StatementGood (roll-Statement x)
-step_statement x y is = subst (λ z. StatementGood (roll-Statement z)) is (λ scene context whole.
-    subst (λ made. IsTrue (allowed made.made (enclosing_of context)))
-    (sym (fold-roll-Statement (WithSites Block) (WithSites CoreStatement) (WithSites LoweredArm) (WithSites Guarded) (WithSites CoreCoArm) (item_made scene) (statement_made scene) (arm_made scene) (branch_made scene) (co_arm_made scene) (bare y)))
-    (statement_good y scene context
-    (subst (λ steps. ErrorFree (steps context).found) (fold-roll-Statement Steps Steps ArmSteps Steps CoArmSteps item_step statement_step arm_step branch_step co_arm_step (bare y)) whole)))
-
-step_arm : (x : Arm-F BlockItem Statement Arm Branch CoArm) (y : Arm-F I S A B C) → bare_arm y ≡ x → ArmGood (roll-Arm x)
-step_arm x y is = subst (λ z. ArmGood (roll-Arm z)) is (λ scene context span whole.
-    subst (λ made. IsTrue (block_allowed made.made.block (within_arm (enclosing_of context))))
-    (sym (fold-roll-Arm (WithSites Block) (WithSites CoreStatement) (WithSites LoweredArm) (WithSites Guarded) (WithSites CoreCoArm) (item_made scene) (statement_made scene) (arm_made scene) (branch_made scene) (co_arm_made scene) (bare_arm y)))
-    (arm_good y scene context span
-    (subst (λ steps. ErrorFree (steps.steps span context).found) (fold-roll-Arm Steps Steps ArmSteps Steps CoArmSteps item_step statement_step arm_step branch_step co_arm_step (bare_arm y)) whole)))
-
-step_branch : (x : Branch-F BlockItem Statement Arm Branch CoArm) (y : Branch-F I S A B C) → bare_branch y ≡ x → BranchGood (roll-Branch x)
-step_branch x y is = subst (λ z. BranchGood (roll-Branch z)) is (λ scene context whole.
-    subst (λ made. IsTrue (guarded_is_allowed made.made (enclosing_of context)))
-    (sym (fold-roll-Branch (WithSites Block) (WithSites CoreStatement) (WithSites LoweredArm) (WithSites Guarded) (WithSites CoreCoArm) (item_made scene) (statement_made scene) (arm_made scene) (branch_made scene) (co_arm_made scene) (bare_branch y)))
-    (branch_good y scene context
-    (subst (λ steps. ErrorFree (steps context).found) (fold-roll-Branch Steps Steps ArmSteps Steps CoArmSteps item_step statement_step arm_step branch_step co_arm_step (bare_branch y)) whole)))
-
-step_co_arm : (x : CoArm-F BlockItem Statement Arm Branch CoArm) (y : CoArm-F I S A B C) → bare_co_arm y ≡ x → CoArmGood (roll-CoArm x)
-step_co_arm x y is = subst (λ z. CoArmGood (roll-CoArm z)) is (λ scene context span whole.
-    subst (λ made. IsTrue (arm_is_allowed made.made (enclosing_of context)))
-    (sym (fold-roll-CoArm (WithSites Block) (WithSites CoreStatement) (WithSites LoweredArm) (WithSites Guarded) (WithSites CoreCoArm) (item_made scene) (statement_made scene) (arm_made scene) (branch_made scene) (co_arm_made scene) (bare_co_arm y)))
-    (co_arm_good y scene context span
-    (subst (λ (steps : CoArmSteps). ErrorFree (steps span context).found) (fold-roll-CoArm Steps Steps ArmSteps Steps CoArmSteps item_step statement_step arm_step branch_step co_arm_step (bare_co_arm y)) whole)))
+by_parts : ByParts good
+by_parts = record {
+  item = λ y scene context. subst (λ t. t) (λ i. ErrorFree (item_folds reading (bare_item good y) i context).found → IsTrue (block_allowed (item_folds (making scene) (bare_item good y) i).made (enclosing_of context))) (item_good y scene context);
+  statement = λ y scene context. subst (λ t. t) (λ i. ErrorFree (statement_folds reading (bare_statement good y) i context).found → IsTrue (allowed (statement_folds (making scene) (bare_statement good y) i).made (enclosing_of context))) (statement_good y scene context);
+  arm = λ y scene context span. subst (λ t. t) (λ i. ErrorFree ((arm_folds reading (bare_arm good y) i).steps span context).found → IsTrue (block_allowed (arm_folds (making scene) (bare_arm good y) i).made.block (within_arm (enclosing_of context)))) (arm_good y scene context span);
+  branch = λ y scene context. subst (λ t. t) (λ i. ErrorFree (branch_folds reading (bare_branch good y) i context).found → IsTrue (guarded_is_allowed (branch_folds (making scene) (bare_branch good y) i).made (enclosing_of context))) (branch_good y scene context);
+  co_arm = λ y scene context span. subst (λ t. t) (λ i. ErrorFree (co_arm_folds reading (bare_co_arm good y) i span context).found → IsTrue (arm_is_allowed (co_arm_folds (making scene) (bare_co_arm good y) i).made (enclosing_of context))) (co_arm_good y scene context span);
+}
 
 pub statement_is_allowed : (tree : Statement) → StatementGood tree
-statement_is_allowed = ind-Statement ItemGood StatementGood ArmGood BranchGood CoArmGood step_item step_statement step_arm step_branch step_co_arm
+statement_is_allowed = each_statement good by_parts

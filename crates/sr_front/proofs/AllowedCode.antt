@@ -1,6 +1,7 @@
 -- Where no rule is broken nothing in the initial code, the final code and the procs of a component stands where it has
 -- nothing to leave or to answer.
-use Rattle.std.proofs.Common.{◌≡◌, refl, ℕ, ◌+◌, Bool, true, false, ◌&&◌, List, [], ◌∷◌, ◌++◌, Option, Some, None, map}
+use Rattle.std.proofs.Common.{◌≡◌, refl, ℕ, ◌+◌, true, false, List, [], ◌∷◌, ◌++◌, Option, Some, None, map}
+use Rattle.std.proofs.lemmas.Bool.{and_parts}
 use Rattle.std.specs.Prelude.{IsTrue}
 use Rattle.std.specs.List.{list_all}
 use Rattle.sr_core.specs.declared.component.Body.{Body}
@@ -51,7 +52,7 @@ use Rattle.sr_desugar.specs.Bodies.{Output, all_code, all_finals, all_procs, fir
 use Rattle.sr_desugar.specs.Core.{LoweredComponent, all_components, core_of, procs_in, scene_of, spec_code, whole_in, whole_of, wholes_from}
 use Rattle.sr_desugar.specs.Statements.{block_made, semaphore_sends, semaphores_core, value_sends}
 use Rattle.sr_desugar.proofs.Waits.{all_appended, both}
-use Rattle.sr_front.proofs.Allowed.{act_allowed, allowed, enclosing_of, block_appended, const_allowed, never, rolled, sends_allowed, statement_is_allowed, var_allowed}
+use Rattle.sr_front.proofs.Allowed.{act_allowed, allowed, enclosing_of, block_appended, const_allowed, rolled, sends_allowed, statement_is_allowed, var_allowed}
 use Rattle.sr_check.specs.ErrorFree.{ErrorFree}
 use Rattle.sr_check.proofs.Kept.{none_found}
 use Rattle.sr_check.proofs.ErrorFree.{error_free_both, error_free_first, error_free_second}
@@ -93,13 +94,10 @@ abbrev setting_up : Enclosing
 setting_up = record { in_loop = false; may_reply = true; may_forward = false }
 
 spec_allowed : (scene : Scene) (declared : SpecItem) → IsTrue (block_allowed (spec_item_core scene declared) setting_up)
-spec_allowed scene (spec.Import imports) = refl
 spec_allowed scene (spec.Const constant) = const_allowed setting_up scene Shared constant
-spec_allowed scene (spec.Type named) = refl
-spec_allowed scene (spec.OpType named) = refl
-spec_allowed scene (spec.Op operations) = refl
 spec_allowed scene (spec.Var variables) = var_allowed setting_up scene Shared variables
 spec_allowed scene (spec.Sem semaphores) = semaphores_allowed scene setting_up semaphores.span semaphores.semaphores
+spec_allowed scene _ = refl
 
 specs_allowed : (scene : Scene) (items : List SpecItem) → IsTrue (block_allowed (spec_code scene items) setting_up)
 specs_allowed scene [] = refl
@@ -163,13 +161,9 @@ items_good scene procs facts (one ∷ items) whole =
 
 -- ---- components
 
-first_true : (a b : Bool) → IsTrue (a && b) → IsTrue a
-first_true true b whole = refl
-first_true false b whole = absurd (never whole)
-
 final_good : (finals : List Body) → IsTrue (list_all (body_allowed false false) finals) → IsTrue (if_some (body_allowed false false) (first_final finals))
 final_good [] all = refl
-final_good (final ∷ finals) all = first_true (body_allowed false false final) (list_all (body_allowed false false) finals) all
+final_good (final ∷ finals) all = (and_parts (body_allowed false false final) (list_all (body_allowed false false) finals) all).0
 
 -- what is in a component in the core
 pub record WholeGood (whole : LoweredComponent) : Type 0 where

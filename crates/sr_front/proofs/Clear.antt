@@ -1,14 +1,15 @@
 -- A call that waits by the facts of a program waits by what its names mean.
-use Rattle.std.proofs.Common.{◌≡◌, refl, ap, ◌∙◌, true, List, [], ◌∷◌, Option, Some, None, unwrap_or}
+use Rattle.std.proofs.Common.{◌≡◌, refl, ap, ◌∙◌, true, List, [], ◌∷◌, Option, Some, unwrap_or}
 use Rattle.std.specs.Prelude.{All}
 use Rattle.std.specs.Option.{option_map}
 use Rattle.std.proofs.lemmas.Bool.{false≢true}
 use Rattle.std.proofs.lemmas.List.Elements.{All-cons, All-nil}
+use Rattle.std.proofs.lemmas.Option.{none-some}
 use Rattle.sr_check.specs.Servicing.{first_meant, layer_meant, layer_waits, waits_by}
 use Rattle.sr_check_expr.specs.declared.facts.Facts.{Facts}
 use Rattle.sr_names.specs.declared.meaning.Decl.{Decl}
 use Rattle.sr_names.specs.declared.meaning.Meaning.{Meaning}
-use Rattle.sr_names.specs.declared.meaning.Meaning.TheVariants.{Predefined as MeansPredefined, Declared}
+use Rattle.sr_names.specs.declared.meaning.Meaning.TheVariants.{Predefined as MeansPredefined}
 use Rattle.sr_names.specs.declared.predefined.Predefined.TheVariants as predefined
 use Rattle.sr_names.specs.declared.spot.Spot.{Spot}
 use Rattle.sr_names.specs.Spots.{spot_of}
@@ -32,22 +33,14 @@ layer_same facts (Expr-F.Field span owner field) = refl
 layer_same facts _ = refl
 
 pub waits_for : (facts : Facts) (span : Span) (arguments : List Expr) (decl : Decl) → first_meant facts.uses arguments ≡ Some decl → waited_by facts span arguments ≡ decl.spot
-waits_for facts span [] decl is = absurd (none_some decl is)
-  where
-    none_some : (d : Decl) → None ≡ Some d → ⊥
-    none_some d e = cc
+waits_for facts span [] decl is = absurd (none-some decl is)
 waits_for facts span (argument ∷ []) decl is =
     ap (λ (found : Option Spot). unwrap_or found (spot_of span)) (layer_same facts (out-Expr argument) ∙ ap (option_map (λ d. d.spot)) is)
-waits_for facts span (argument ∷ (other ∷ more)) decl is = absurd (none_some decl is)
-  where
-    none_some : (d : Decl) → None ≡ Some d → ⊥
-    none_some d e = cc
+waits_for facts span (argument ∷ (other ∷ more)) decl is = absurd (none-some decl is)
 
 by_meaning : (uses : List (Spot × Meaning)) (arguments : List Expr) (meaning : Option Meaning) → is_p (predefined_in meaning) ≡ true → waits_by uses arguments meaning ≡ (first_meant uses arguments ∷ []) ∷ []
 by_meaning uses arguments (Some (MeansPredefined predefined.P)) is = refl
-by_meaning uses arguments (Some (MeansPredefined _)) is = absurd (false≢true is)
-by_meaning uses arguments (Some (Declared decl)) is = absurd (false≢true is)
-by_meaning uses arguments None is = absurd (false≢true is)
+by_meaning uses arguments _ is = absurd (false≢true is)
 
 by_layer : (facts : Facts) (arguments : List Expr) (layer : Expr-F Create Expr Invocation Part) → is_p (layer_function facts layer) ≡ true
     → layer_waits facts.uses arguments layer ≡ (first_meant facts.uses arguments ∷ []) ∷ []

@@ -1,23 +1,20 @@
 -- What code mentions passes a test that the scene passes, and all that the names in the code are in the core.
-use Rattle.std.proofs.Common.{◌≡◌, Bool, List, [], ◌∷◌, ◌++◌, Option, Some, None, IsTrue, flat_map, map, refl, sym, subst}
+use Rattle.std.proofs.Common.{Bool, List, [], ◌∷◌, ◌++◌, Option, Some, None, IsTrue, flat_map, map, refl, subst}
 use Rattle.std.proofs.lemmas.Bool.{and_from}
 use Rattle.std.specs.List.{list_all}
 use Rattle.sr_core.specs.declared.statement.Bump.TheVariants.{Increase, Decrease}
 use Rattle.sr_core.specs.declared.statement.Action.TheVariants as action
-use Rattle.sr_core.specs.declared.statement.CoArm.{CoArm}
-use Rattle.sr_core.specs.declared.statement.Guarded.{Guarded}
 use Rattle.sr_core.specs.declared.statement.Statement.{Statement}
 use Rattle.sr_names.specs.Spots.{spot_of}
-use Rattle.sr_order.specs.Names.{arm_names, arm_names_step, block_item_names, block_item_names_step, block_names, branch_names, branch_names_step, co_arm_names, co_arm_names_step, condition_names, expr_names, invocation_names, item_names, name_names, names_spans, proc_item_names, quantifier_names, spec_item_names, statement_names, statement_names_step, where_some}
+use Rattle.sr_order.specs.Names.{arm_names, block_item_names, block_names, branch_names, co_arm_names, condition_names, expr_names, invocation_names, item_names, name_names, names_spans, proc_item_names, quantifier_names, spec_item_names, statement_names, where_some}
 use Rattle.sr_order.specs.Spans.{joined}
-use Rattle.sr_tree.specs.declared.statement.Arm.{Arm as ArmTree, roll-Arm}
-use Rattle.sr_tree.specs.declared.statement.BlockItem.{BlockItem, roll-BlockItem}
-use Rattle.sr_tree.specs.declared.statement.BlockItem.TheFolds.{fold-roll-Arm, fold-roll-BlockItem, fold-roll-Branch, fold-roll-CoArm, fold-roll-Statement, ind-Statement, map-Arm, map-BlockItem, map-Branch, map-CoArm, map-Statement}
-use Rattle.sr_tree.specs.declared.statement.BlockItem.TheOpen.{BlockItem-F, Statement-F, Arm-F, Branch-F, CoArm-F}
-use Rattle.sr_tree.specs.declared.statement.Branch.{Branch, roll-Branch}
-use Rattle.sr_tree.specs.declared.statement.CoArm.{CoArm as CoArmTree, roll-CoArm}
+use Rattle.sr_tree.specs.declared.statement.Arm.{Arm as ArmTree}
+use Rattle.sr_tree.specs.declared.statement.BlockItem.{BlockItem}
+use Rattle.sr_tree.specs.declared.statement.BlockItem.TheOpen.{BlockItem-F, Statement-F}
+use Rattle.sr_tree.specs.declared.statement.Branch.{Branch}
+use Rattle.sr_tree.specs.declared.statement.CoArm.{CoArm as CoArmTree}
 use Rattle.sr_tree.specs.declared.statement.Quantifier.{Quantifier as QuantifierTree}
-use Rattle.sr_tree.specs.declared.statement.Statement.{Statement as StatementTree, roll-Statement}
+use Rattle.sr_tree.specs.declared.statement.Statement.{Statement as StatementTree}
 use Rattle.sr_value.specs.declared.place.Span.{Span}
 use Rattle.sr_check_expr.specs.Meanings.{function_called, meant_by}
 use Rattle.sr_tables.specs.Lists.{lists}
@@ -25,7 +22,7 @@ use Rattle.sr_tables.specs.Parts.{line_of, spot_named}
 use Rattle.sr_lower_expr.specs.declared.scene.Scene.{Scene}
 use Rattle.sr_lower_expr.specs.Expressions.{core_create, core_place, core_sending, core_value}
 use Rattle.sr_lower_expr.specs.Places.{site_number, operation_expr, own_place}
-use Rattle.sr_desugar.specs.Statements.{LoweredArm, Block, WithSites, all_made, arm_made, block_made, blocks_of, branch_made, co_arm_made, co_call, core_arm, core_block_item, core_branch, core_co_arm, core_statement, forward_of, item_made, quantifiers_core, send_of, statement_made, act}
+use Rattle.sr_desugar.specs.Statements.{Block, all_made, block_made, blocks_of, co_call, core_arm, core_block_item, core_branch, core_co_arm, core_statement, forward_of, quantifiers_core, send_of, act}
 use Rattle.sr_core.specs.declared.expression.Expr.TheVariants as core
 use Rattle.sr_core.specs.declared.statement.Scope.TheVariants.{Own, Shared}
 use Rattle.sr_core.specs.declared.statement.Statement.TheVariants.{Fa}
@@ -43,11 +40,13 @@ use Rattle.sr_desugar.specs.Core.{spec_code}
 use Rattle.sr_check.proofs.Each.{each-left, each-right}
 use Rattle.sr_lower_expr.proofs.Each.{both_pass, made_passes}
 use Rattle.sr_front.specs.Imports.{arguments_mentions}
+use Rattle.sr_desugar.proofs.CodeFold.{making}
+use Rattle.sr_order.proofs.NameFolds.{naming}
 use Rattle.sr_front.proofs.CodeRules.{arm_passes, arm_rule, block_passes, block_rule, branch_passes, branch_rule, co_rule, do_else_rule, do_rule, fa_rule, if_rule, in_rule, one_passes}
 use Rattle.sr_front.proofs.MentionRules.{argument_passes, load_rule, rows, val_rule}
-use Rattle.sr_front.proofs.KeptCode.{named_arm, named_branch, named_co_arm, named_item, named_statement}
 use Rattle.sr_front.proofs.Mentions.{Means, NamePasses, NamesPass, operation_expr_passes, own_place_passes}
 use Rattle.sr_front.proofs.PartMentions.{act_passes, call_made_passes, co_call_passes, const_passes, create_of, forward_passes, quantifiers_pass, receive_passes, semaphores_pass, send_passes, value_passes, vars_pass, written_passes}
+use Rattle.sr_tree.proofs.StatementFolds.{ArmNode, BranchNode, ByParts, Claim, CoArmNode, ItemNode, Known, StatementNode, arm_folds, bare_arm, bare_branch, bare_co_arm, bare_item, bare_statement, branch_folds, co_arm_folds, each_statement, from_arm, from_branch, from_co_arm, from_item, from_statement, item_folds, statement_folds}
 
 abbrev sends_by : Scene → Process → List QuantifierTree → Statement
 sends_by scene process [] = act process.span (process_send scene process)
@@ -81,103 +80,49 @@ module _ (scene : Scene) (test : Mention → Bool) (means : Means scene test) wh
   abbrev CoArmGood : CoArmTree → Type 0
   CoArmGood tree = Names (co_arm_names tree) → IsTrue (arm_passes test (core_co_arm scene tree).made)
 
-  abbrev I : Type 0
-  I = (tree : BlockItem) × ItemGood tree
-
-  abbrev S : Type 0
-  S = (tree : StatementTree) × StatementGood tree
-
-  abbrev A : Type 0
-  A = (tree : ArmTree) × ArmGood tree
-
-  abbrev B : Type 0
-  B = (tree : Branch) × BranchGood tree
-
-  abbrev C : Type 0
-  C = (tree : CoArmTree) × CoArmGood tree
-
-  -- ---- the trees of parts, and what is made of them
-
-  abbrev first_item : BlockItem-F I S A B C → BlockItem-F BlockItem StatementTree ArmTree Branch CoArmTree
-  first_item = map-BlockItem I S A B C BlockItem StatementTree ArmTree Branch CoArmTree (λ t. t.0) (λ t. t.0) (λ t. t.0) (λ t. t.0) (λ t. t.0)
-
-  abbrev first_statement : Statement-F I S A B C → Statement-F BlockItem StatementTree ArmTree Branch CoArmTree
-  first_statement = map-Statement I S A B C BlockItem StatementTree ArmTree Branch CoArmTree (λ t. t.0) (λ t. t.0) (λ t. t.0) (λ t. t.0) (λ t. t.0)
-
-  abbrev first_arm : Arm-F I S A B C → Arm-F BlockItem StatementTree ArmTree Branch CoArmTree
-  first_arm = map-Arm I S A B C BlockItem StatementTree ArmTree Branch CoArmTree (λ t. t.0) (λ t. t.0) (λ t. t.0) (λ t. t.0) (λ t. t.0)
-
-  abbrev first_branch : Branch-F I S A B C → Branch-F BlockItem StatementTree ArmTree Branch CoArmTree
-  first_branch = map-Branch I S A B C BlockItem StatementTree ArmTree Branch CoArmTree (λ t. t.0) (λ t. t.0) (λ t. t.0) (λ t. t.0) (λ t. t.0)
-
-  abbrev first_co_arm : CoArm-F I S A B C → CoArm-F BlockItem StatementTree ArmTree Branch CoArmTree
-  first_co_arm = map-CoArm I S A B C BlockItem StatementTree ArmTree Branch CoArmTree (λ t. t.0) (λ t. t.0) (λ t. t.0) (λ t. t.0) (λ t. t.0)
-
-  abbrev made_of_item : BlockItem-F BlockItem StatementTree ArmTree Branch CoArmTree → WithSites Block
-  made_of_item x =
-      item_made scene (map-BlockItem BlockItem StatementTree ArmTree Branch CoArmTree (WithSites Block) (WithSites Statement) (WithSites LoweredArm) (WithSites Guarded) (WithSites CoArm)
-      (core_block_item scene) (core_statement scene) (core_arm scene) (core_branch scene) (core_co_arm scene) x)
-
-  abbrev made_of_statement : Statement-F BlockItem StatementTree ArmTree Branch CoArmTree → WithSites Statement
-  made_of_statement x =
-      statement_made scene (map-Statement BlockItem StatementTree ArmTree Branch CoArmTree (WithSites Block) (WithSites Statement) (WithSites LoweredArm) (WithSites Guarded) (WithSites CoArm)
-      (core_block_item scene) (core_statement scene) (core_arm scene) (core_branch scene) (core_co_arm scene) x)
-
-  abbrev made_of_arm : Arm-F BlockItem StatementTree ArmTree Branch CoArmTree → WithSites LoweredArm
-  made_of_arm x =
-      arm_made scene (map-Arm BlockItem StatementTree ArmTree Branch CoArmTree (WithSites Block) (WithSites Statement) (WithSites LoweredArm) (WithSites Guarded) (WithSites CoArm)
-      (core_block_item scene) (core_statement scene) (core_arm scene) (core_branch scene) (core_co_arm scene) x)
-
-  abbrev made_of_branch : Branch-F BlockItem StatementTree ArmTree Branch CoArmTree → WithSites Guarded
-  made_of_branch x =
-      branch_made scene (map-Branch BlockItem StatementTree ArmTree Branch CoArmTree (WithSites Block) (WithSites Statement) (WithSites LoweredArm) (WithSites Guarded) (WithSites CoArm)
-      (core_block_item scene) (core_statement scene) (core_arm scene) (core_branch scene) (core_co_arm scene) x)
-
-  abbrev made_of_co_arm : CoArm-F BlockItem StatementTree ArmTree Branch CoArmTree → WithSites CoArm
-  made_of_co_arm x =
-      co_arm_made scene (map-CoArm BlockItem StatementTree ArmTree Branch CoArmTree (WithSites Block) (WithSites Statement) (WithSites LoweredArm) (WithSites Guarded) (WithSites CoArm)
-      (core_block_item scene) (core_statement scene) (core_arm scene) (core_branch scene) (core_co_arm scene) x)
+  abbrev good : Claim
+  good = record { item = ItemGood; statement = StatementGood; arm = ArmGood; branch = BranchGood; co_arm = CoArmGood }
 
   -- ---- lists of parts
 
-  abbrev items_names : List I → List Span
-  items_names items = joined (map block_item_names (map (λ (t : I). t.0) items))
+  abbrev items_names : List (Known ItemGood) → List Span
+  items_names items = joined (map block_item_names (map (λ (t : Known ItemGood). t.0) items))
 
-  abbrev branches_names : List B → List Span
-  branches_names branches = joined (map branch_names (map (λ (t : B). t.0) branches))
+  abbrev branches_names : List (Known BranchGood) → List Span
+  branches_names branches = joined (map branch_names (map (λ (t : Known BranchGood). t.0) branches))
 
-  abbrev arms_names : List A → List Span
-  arms_names arms = joined (map arm_names (map (λ (t : A). t.0) arms))
+  abbrev arms_names : List (Known ArmGood) → List Span
+  arms_names arms = joined (map arm_names (map (λ (t : Known ArmGood). t.0) arms))
 
-  items_good : (items : List I) → Names (items_names items) → AllOne (lists (all_made (map (core_block_item scene) (map (λ (t : I). t.0) items))))
+  items_good : (items : List (Known ItemGood)) → Names (items_names items) → AllOne (lists (all_made (map (core_block_item scene) (map (λ (t : Known ItemGood). t.0) items))))
   items_good [] names = refl
   items_good (item ∷ items) names =
-      both_pass (one_passes test) (core_block_item scene item.0).made (lists (all_made (map (core_block_item scene) (map (λ (t : I). t.0) items))))
+      both_pass (one_passes test) (core_block_item scene item.0).made (lists (all_made (map (core_block_item scene) (map (λ (t : Known ItemGood). t.0) items))))
       (item.1 (each-left Name (block_item_names item.0) _ names)) (items_good items (each-right Name (block_item_names item.0) _ names))
 
-  block_good : (items : List I) → Names (items_names items) → IsTrue (block_passes test (block_made (map (core_block_item scene) (map (λ (t : I). t.0) items))).made)
-  block_good items names = block_rule test (lists (all_made (map (core_block_item scene) (map (λ (t : I). t.0) items)))) (items_good items names)
+  block_good : (items : List (Known ItemGood)) → Names (items_names items) → IsTrue (block_passes test (block_made (map (core_block_item scene) (map (λ (t : Known ItemGood). t.0) items))).made)
+  block_good items names = block_rule test (lists (all_made (map (core_block_item scene) (map (λ (t : Known ItemGood). t.0) items)))) (items_good items names)
 
-  branches_good : (branches : List B) → Names (branches_names branches) → IsTrue (list_all (branch_passes test) (all_made (map (core_branch scene) (map (λ (t : B). t.0) branches))))
+  branches_good : (branches : List (Known BranchGood)) → Names (branches_names branches) → IsTrue (list_all (branch_passes test) (all_made (map (core_branch scene) (map (λ (t : Known BranchGood). t.0) branches))))
   branches_good [] names = refl
   branches_good (branch ∷ branches) names = and_from _ _ (branch.1 (each-left Name (branch_names branch.0) _ names)) (branches_good branches (each-right Name (branch_names branch.0) _ names))
 
-  arms_good : (arms : List A) → Names (arms_names arms) → IsTrue (list_all (block_passes test) (blocks_of (map (core_arm scene) (map (λ (t : A). t.0) arms))))
+  arms_good : (arms : List (Known ArmGood)) → Names (arms_names arms) → IsTrue (list_all (block_passes test) (blocks_of (map (core_arm scene) (map (λ (t : Known ArmGood). t.0) arms))))
   arms_good [] names = refl
   arms_good (arm ∷ arms) names = and_from _ _ (arm.1 (each-left Name (arm_names arm.0) _ names)) (arms_good arms (each-right Name (arm_names arm.0) _ names))
 
-  co_arms_good : (arms : List C) → Names (joined (map co_arm_names (map (λ (t : C). t.0) arms))) → IsTrue (list_all (arm_passes test) (all_made (map (core_co_arm scene) (map (λ (t : C). t.0) arms))))
+  co_arms_good : (arms : List (Known CoArmGood)) → Names (joined (map co_arm_names (map (λ (t : Known CoArmGood). t.0) arms))) → IsTrue (list_all (arm_passes test) (all_made (map (core_co_arm scene) (map (λ (t : Known CoArmGood). t.0) arms))))
   co_arms_good [] names = refl
   co_arms_good (arm ∷ arms) names = and_from _ _ (arm.1 (each-left Name (co_arm_names arm.0) _ names)) (co_arms_good arms (each-right Name (co_arm_names arm.0) _ names))
 
   -- ---- each tree, when its parts are so
 
-  item_good : (y : BlockItem-F I S A B C) → Names (block_item_names_step (named_item (first_item y))) → AllOne (made_of_item (first_item y)).made
+  item_good : (y : ItemNode good) → Names (from_item naming (bare_item good y)) → AllOne (from_item (making scene) (bare_item good y)).made
   item_good (BlockItem-F.Const constant) names = const_passes scene test means Own constant names
   item_good (BlockItem-F.Var variables) names = vars_pass scene test means Own variables names
   item_good (BlockItem-F.Statement statement) names = and_from _ _ (statement.1 names) refl
 
-  statement_good : (y : Statement-F I S A B C) → Names (statement_names_step (named_statement (first_statement y))) → IsTrue (one_passes test (made_of_statement (first_statement y)).made)
+  statement_good : (y : StatementNode good) → Names (from_statement naming (bare_statement good y)) → IsTrue (one_passes test (from_statement (making scene) (bare_statement good y)).made)
   statement_good (Statement-F.Skip span) names = act_passes scene test means span action.Skip refl
   statement_good (Statement-F.Exit span) names = act_passes scene test means span action.Exit refl
   statement_good (Statement-F.Next span) names = act_passes scene test means span action.Next refl
@@ -215,17 +160,17 @@ module _ (scene : Scene) (test : Mention → Bool) (means : Means scene test) wh
   statement_good (Statement-F.Destroy span target) names = act_passes scene test means span (action.Destroy (core_value scene target)) (value_passes scene test means target names)
   statement_good (Statement-F.Create span create) names = act_passes scene test means span (action.Evaluate (core_create scene create)) (create_of scene test means create names)
 
-  arm_good : (y : Arm-F I S A B C) → Names (arm_names_step (named_arm (first_arm y))) → IsTrue (block_passes test (made_of_arm (first_arm y)).made.block)
+  arm_good : (y : ArmNode good) → Names (from_arm naming (bare_arm good y)) → IsTrue (block_passes test (from_arm (making scene) (bare_arm good y)).made.block)
   arm_good y names =
       let after = each-right Name (where_some name_names y.returned) _ (each-right Name (names_spans y.formals) _ names.1) in
       block_good y.block (each-right Name (where_some expr_names y.order) _ (each-right Name (where_some condition_names y.condition) _ after))
 
-  branch_good : (y : Branch-F I S A B C) → Names (branch_names_step (named_branch (first_branch y))) → IsTrue (branch_passes test (made_of_branch (first_branch y)).made)
+  branch_good : (y : BranchNode good) → Names (from_branch naming (bare_branch good y)) → IsTrue (branch_passes test (from_branch (making scene) (bare_branch good y)).made)
   branch_good y names =
       branch_rule test (core_value scene y.guard) _ (value_passes scene test means y.guard (each-left Name (expr_names y.guard) _ names)) (block_good y.block (each-right Name (expr_names y.guard) _ names))
 
-  co_arm_by : (y : CoArm-F I S A B C) (block : Option (List I)) → Names (co_arm_names_step (named_co_arm (first_co_arm (record y { block = block }))))
-      → IsTrue (arm_passes test (made_of_co_arm (first_co_arm (record y { block = block }))).made)
+  co_arm_by : (y : CoArmNode good) (block : Option (List (Known ItemGood))) → Names (from_co_arm naming (bare_co_arm good (record y { block = block })))
+      → IsTrue (arm_passes test (from_co_arm (making scene) (bare_co_arm good (record y { block = block }))).made)
   co_arm_by y None names =
       let quantified = flat_map quantifier_names y.quantifiers in
       let after = each-right Name quantified _ names in
@@ -242,58 +187,22 @@ module _ (scene : Scene) (test : Mention → Bool) (means : Means scene test) wh
       (co_call_passes scene test means y.target y.invocation (each-left Name (where_some expr_names y.target) _ after) (each-left Name (invocation_names y.invocation) _ invoked))
       (block_good block (each-right Name (invocation_names y.invocation) _ invoked))
 
-  co_arm_good : (y : CoArm-F I S A B C) → Names (co_arm_names_step (named_co_arm (first_co_arm y))) → IsTrue (arm_passes test (made_of_co_arm (first_co_arm y)).made)
+  co_arm_good : (y : CoArmNode good) → Names (from_co_arm naming (bare_co_arm good y)) → IsTrue (arm_passes test (from_co_arm (making scene) (bare_co_arm good y)).made)
   co_arm_good y = co_arm_by y y.block
 
   -- ---- all trees
 
-  item_step : (x : BlockItem-F BlockItem StatementTree ArmTree Branch CoArmTree) (y : BlockItem-F I S A B C) → first_item y ≡ x → ItemGood (roll-BlockItem x)
-  item_step x y is = subst (λ z. ItemGood (roll-BlockItem z)) is
-      (subst (λ (spans : List Span). Names spans → AllOne (core_block_item scene (roll-BlockItem (first_item y))).made)
-      (sym (fold-roll-BlockItem (List Span) (List Span) (List Span) (List Span) (List Span) block_item_names_step statement_names_step arm_names_step branch_names_step co_arm_names_step (first_item y)))
-      (subst (λ (m : WithSites Block). Names (block_item_names_step (named_item (first_item y))) → AllOne m.made)
-      (sym (fold-roll-BlockItem (WithSites Block) (WithSites Statement) (WithSites LoweredArm) (WithSites Guarded) (WithSites CoArm)
-      (item_made scene) (statement_made scene) (arm_made scene) (branch_made scene) (co_arm_made scene) (first_item y)))
-      (item_good y)))
+  by_parts : ByParts good
+  by_parts = record {
+    item = λ y. subst (λ t. t) (λ i. Names (item_folds naming (bare_item good y) i) → AllOne (item_folds (making scene) (bare_item good y) i).made) (item_good y);
+    statement = λ y. subst (λ t. t) (λ i. Names (statement_folds naming (bare_statement good y) i) → IsTrue (one_passes test (statement_folds (making scene) (bare_statement good y) i).made)) (statement_good y);
+    arm = λ y. subst (λ t. t) (λ i. Names (arm_folds naming (bare_arm good y) i) → IsTrue (block_passes test (arm_folds (making scene) (bare_arm good y) i).made.block)) (arm_good y);
+    branch = λ y. subst (λ t. t) (λ i. Names (branch_folds naming (bare_branch good y) i) → IsTrue (branch_passes test (branch_folds (making scene) (bare_branch good y) i).made)) (branch_good y);
+    co_arm = λ y. subst (λ t. t) (λ i. Names (co_arm_folds naming (bare_co_arm good y) i) → IsTrue (arm_passes test (co_arm_folds (making scene) (bare_co_arm good y) i).made)) (co_arm_good y);
+  }
 
-  statement_step : (x : Statement-F BlockItem StatementTree ArmTree Branch CoArmTree) (y : Statement-F I S A B C) → first_statement y ≡ x → StatementGood (roll-Statement x)
-  statement_step x y is = subst (λ z. StatementGood (roll-Statement z)) is
-      (subst (λ (spans : List Span). Names spans → IsTrue (one_passes test (core_statement scene (roll-Statement (first_statement y))).made))
-      (sym (fold-roll-Statement (List Span) (List Span) (List Span) (List Span) (List Span) block_item_names_step statement_names_step arm_names_step branch_names_step co_arm_names_step (first_statement y)))
-      (subst (λ (m : WithSites Statement). Names (statement_names_step (named_statement (first_statement y))) → IsTrue (one_passes test m.made))
-      (sym (fold-roll-Statement (WithSites Block) (WithSites Statement) (WithSites LoweredArm) (WithSites Guarded) (WithSites CoArm)
-      (item_made scene) (statement_made scene) (arm_made scene) (branch_made scene) (co_arm_made scene) (first_statement y)))
-      (statement_good y)))
-
-  arm_step : (x : Arm-F BlockItem StatementTree ArmTree Branch CoArmTree) (y : Arm-F I S A B C) → first_arm y ≡ x → ArmGood (roll-Arm x)
-  arm_step x y is = subst (λ z. ArmGood (roll-Arm z)) is
-      (subst (λ (spans : List Span). Names spans → IsTrue (block_passes test (core_arm scene (roll-Arm (first_arm y))).made.block))
-      (sym (fold-roll-Arm (List Span) (List Span) (List Span) (List Span) (List Span) block_item_names_step statement_names_step arm_names_step branch_names_step co_arm_names_step (first_arm y)))
-      (subst (λ (m : WithSites LoweredArm). Names (arm_names_step (named_arm (first_arm y))) → IsTrue (block_passes test m.made.block))
-      (sym (fold-roll-Arm (WithSites Block) (WithSites Statement) (WithSites LoweredArm) (WithSites Guarded) (WithSites CoArm)
-      (item_made scene) (statement_made scene) (arm_made scene) (branch_made scene) (co_arm_made scene) (first_arm y)))
-      (arm_good y)))
-
-  branch_step : (x : Branch-F BlockItem StatementTree ArmTree Branch CoArmTree) (y : Branch-F I S A B C) → first_branch y ≡ x → BranchGood (roll-Branch x)
-  branch_step x y is = subst (λ z. BranchGood (roll-Branch z)) is
-      (subst (λ (spans : List Span). Names spans → IsTrue (branch_passes test (core_branch scene (roll-Branch (first_branch y))).made))
-      (sym (fold-roll-Branch (List Span) (List Span) (List Span) (List Span) (List Span) block_item_names_step statement_names_step arm_names_step branch_names_step co_arm_names_step (first_branch y)))
-      (subst (λ (m : WithSites Guarded). Names (branch_names_step (named_branch (first_branch y))) → IsTrue (branch_passes test m.made))
-      (sym (fold-roll-Branch (WithSites Block) (WithSites Statement) (WithSites LoweredArm) (WithSites Guarded) (WithSites CoArm)
-      (item_made scene) (statement_made scene) (arm_made scene) (branch_made scene) (co_arm_made scene) (first_branch y)))
-      (branch_good y)))
-
-  co_arm_step : (x : CoArm-F BlockItem StatementTree ArmTree Branch CoArmTree) (y : CoArm-F I S A B C) → first_co_arm y ≡ x → CoArmGood (roll-CoArm x)
-  co_arm_step x y is = subst (λ z. CoArmGood (roll-CoArm z)) is
-      (subst (λ (spans : List Span). Names spans → IsTrue (arm_passes test (core_co_arm scene (roll-CoArm (first_co_arm y))).made))
-      (sym (fold-roll-CoArm (List Span) (List Span) (List Span) (List Span) (List Span) block_item_names_step statement_names_step arm_names_step branch_names_step co_arm_names_step (first_co_arm y)))
-      (subst (λ (m : WithSites CoArm). Names (co_arm_names_step (named_co_arm (first_co_arm y))) → IsTrue (arm_passes test m.made))
-      (sym (fold-roll-CoArm (WithSites Block) (WithSites Statement) (WithSites LoweredArm) (WithSites Guarded) (WithSites CoArm)
-      (item_made scene) (statement_made scene) (arm_made scene) (branch_made scene) (co_arm_made scene) (first_co_arm y)))
-      (co_arm_good y)))
-
-  statement_mentions_pass : (tree : StatementTree) → Names (statement_names tree) → IsTrue (one_passes test (core_statement scene tree).made)
-  statement_mentions_pass tree = ind-Statement ItemGood StatementGood ArmGood BranchGood CoArmGood item_step statement_step arm_step branch_step co_arm_step tree
+  statement_mentions_pass : (tree : StatementTree) → StatementGood tree
+  statement_mentions_pass = each_statement good by_parts
 
   -- ---- blocks of procs and final code
 
@@ -351,11 +260,9 @@ module _ (scene : Scene) (test : Mention → Bool) (means : Means scene test) wh
 
   code_passes : (one : Item) → Names (item_names one) → IsTrue (list_all (one_passes test) (item_output scene one).code)
   code_passes (item.Spec declared) names = spec_passes declared names
-  code_passes (item.Proc proc) names = refl
-  code_passes (item.Procedure procedure) names = refl
   code_passes (item.Process process) names = and_from _ _ (process_sends_pass process (each-left Name (flat_map quantifier_names process.quantifiers) _ names.1)) refl
-  code_passes (item.Final final) names = refl
   code_passes (item.Statement statement) names = and_from _ _ (statement_mentions_pass statement names) refl
+  code_passes _ names = refl
 
   codes_pass : (items : List Item) → Names (flat_map item_names items) → IsTrue (list_all (one_passes test) (all_code (item_outputs scene items)))
   codes_pass [] names = refl

@@ -1,5 +1,5 @@
 -- Something is known at the names of components wherever a declaration is read.
-use Rattle.std.proofs.Common.{◌≡◌, ◌⊎◌, inl, inr, true, false, List, [], ◌∷◌, flat_map, is_some, refl, sym, ap, ◌∙◌}
+use Rattle.std.proofs.Common.{◌≡◌, ◌⊎◌, inl, inr, true, List, [], ◌∷◌, flat_map, is_some, refl, sym, ap, ◌∙◌}
 use Rattle.sr_check.proofs.Each.{Each}
 use Rattle.sr_check_decl.specs.Declaring.{components_named, files_named, no_facts}
 use Rattle.sr_check_decl.specs.Variables.{declare}
@@ -7,11 +7,11 @@ use Rattle.sr_check_expr.specs.declared.facts.Facts.{Facts}
 use Rattle.sr_check_expr.specs.declared.info.Info.{Info}
 use Rattle.sr_check_expr.specs.declared.info.Info.TheVariants as info
 use Rattle.sr_check_expr.specs.Infos.{info_at}
-use Rattle.sr_names.proofs.Marking.{entry-other, entry-same, same_spot-cases}
+use Rattle.sr_names.proofs.Marking.{entry-same}
 use Rattle.sr_names.specs.declared.spot.Spot.{Spot}
 use Rattle.sr_names.specs.Noted.{Meanings}
 use Rattle.sr_names.specs.Specs.{Specs}
-use Rattle.sr_names.specs.Spots.{same_spot, spot_of}
+use Rattle.sr_names.specs.Spots.{spot_of}
 use Rattle.sr_order.specs.Names.{formal_names}
 use Rattle.sr_scope.proofs.Findings.{in_either}
 use Rattle.sr_scope.specs.Uses.{IsIn}
@@ -25,14 +25,9 @@ use Rattle.sr_types.specs.declared.ty.Ty.TheVariants as ty
 use Rattle.sr_value.specs.declared.place.Span.{Span}
 use Rattle.sr_front.proofs.DeclaredThen.{KeepsInv}
 use Rattle.sr_front.proofs.KeptDeclared.{Declares, keeps_files_named, keeps_head, keeps_item, keeps_named, keeps_spec_item}
+use Rattle.sr_front.proofs.KeptNames.{Anywhere, anywhere}
 use Rattle.sr_front.proofs.PlainNames.{component_plain, item_plain, spec_plain}
-
-abbrev pub Anywhere : Spot → Type 0
-Anywhere spot = Unit {0}
-
-pub anywhere : (names : List Span) → Each (λ span. Anywhere (spot_of span)) names
-anywhere [] = tt
-anywhere (name ∷ names) = (tt, anywhere names)
+use Rattle.sr_front.proofs.Put.{put_holds}
 
 module _ (spot : Spot) where
   -- something is known there
@@ -40,11 +35,7 @@ module _ (spot : Spot) where
   IsKnown facts = is_some (info_at facts.infos spot) ≡ true
 
   pub known_with : (facts : Facts) (at : Spot) (one : Info) → IsKnown facts → IsKnown (declare facts at one)
-  known_with facts at one h = by (same_spot-cases spot at)
-    where
-      by : (spot ≡ at) ⊎ (same_spot spot at ≡ false) → IsKnown (declare facts at one)
-      by (inl same) = ap (λ s. is_some (info_at (declare facts at one).infos s)) same ∙ ap is_some (entry-same facts.infos at one)
-      by (inr apart) = ap is_some (entry-other facts.infos at one spot apart) ∙ h
+  known_with facts at one h = put_holds facts at one (λ other found. is_some found ≡ true) refl spot (λ apart. h)
 
   pub known_declares : Declares IsKnown Anywhere
   known_declares = record {

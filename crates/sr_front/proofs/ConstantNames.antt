@@ -47,13 +47,7 @@ IsComponentInfo one = ⊥
 
 component_info : (found : Option Info) → IsComponentInfo found → (ty : Ty) × (found ≡ Some (info.Component ty))
 component_info (Some (info.Component ty)) h = (ty, refl)
-component_info (Some (info.Value typed)) h = absurd h
-component_info (Some (info.«Type» ty)) h = absurd h
-component_info (Some (info.Enumeration number literals)) h = absurd h
-component_info (Some (info.Record fields)) h = absurd h
-component_info (Some (info.OpType ty)) h = absurd h
-component_info (Some (info.Operation ty component is_local)) h = absurd h
-component_info None h = absurd h
+component_info _ h = absurd h
 
 -- `Outer spot`: a name outside of code stands there
 module _ (files : List File) (components : List Span) (Fits : Spot → Info → Type 0) (Outer : Spot → Type 0) (last end : Facts) where
@@ -113,20 +107,13 @@ module _ (files : List File) (components : List Span) (Fits : Spot → Info → 
     info_words : (decl : Decl) (one : Info) → InfoBefore Word following decl.spot one → InfoThen here last end decl one
     info_words decl (info.«Type» ty) word = layer_words (out-Ty ty) word
     info_words decl (info.Enumeration number literals) word = word_then decl.spot word
-    info_words decl (info.Value typed) word = tt
-    info_words decl (info.Record fields) word = tt
-    info_words decl (info.OpType ty) word = tt
-    info_words decl (info.Operation ty component is_local) word = tt
-    info_words decl (info.Component ty) word = tt
+    info_words decl _ word = tt
 
     operation_types : (decl : Decl) (one : Info) → is_operation (Some one) ≡ true → SameTypes here end decl (Some one)
-    operation_types decl (info.Operation ty component is_local) h = tt
-    operation_types decl (info.Value typed) h = tt
-    operation_types decl (info.OpType ty) h = tt
-    operation_types decl (info.Component ty) h = tt
     operation_types decl (info.«Type» ty) h = absurd (false≢true h)
     operation_types decl (info.Enumeration number literals) h = absurd (false≢true h)
     operation_types decl (info.Record fields) h = absurd (false≢true h)
+    operation_types decl _ h = tt
 
     types_at : (decl : Decl) → Lasted here last end decl.spot → (one : Info) → info_at last.infos decl.spot ≡ Some one → SameTypes here end decl (Some one)
     types_at decl (inl same) one is = types_then here last end decl one (info_words decl one (declared.inv decl.spot one (sym (same_at decl.spot) ∙ sym same ∙ is)).0.1)

@@ -9,7 +9,6 @@ use Rattle.sr_check_decl.specs.Constants.{has_type_of, written_found, written_ki
 use Rattle.sr_check_decl.specs.TypeTrees.{fixed_bounds, type_kinding}
 use Rattle.sr_check_expr.specs.declared.facts.Facts.{Facts}
 use Rattle.sr_names.specs.declared.meaning.Sort.TheVariants.{Resource as resource_sort}
-use Rattle.sr_names.specs.declared.spot.Spot.{Spot}
 use Rattle.sr_names.specs.Specs.{Specs}
 use Rattle.sr_names.specs.Spots.{same_spot, spot_of}
 use Rattle.sr_names.specs.Uses.{meaning_at}
@@ -32,7 +31,7 @@ use Rattle.sr_types.specs.Equality.{same_type}
 use Rattle.sr_types.specs.Signatures.{number_of}
 use Rattle.sr_types.specs.Types.{are_nulls, fits_type, is_cap_type, is_no_type, is_null_type}
 use Rattle.sr_front.proofs.ConstantsChecked.{constant_written}
-use Rattle.sr_front.proofs.ConstantsMet.{anywhere, checked, constants_static, declaring, ends_here, first, here, here_uses, value, waves, whole}
+use Rattle.sr_front.proofs.ConstantsMet.{checked, constants_static, declaring, ends_here, first, here, here_uses, value, waves, whole}
 use Rattle.sr_front.proofs.KeptDeclared.{keeps_if}
 use Rattle.sr_front.proofs.NumbersStay.{Numbered, numbered_declares, numbered_steady}
 use Rattle.sr_front.proofs.OwnOrShared.{ConstantsStatic}
@@ -42,11 +41,9 @@ use Rattle.sr_front.proofs.Rising.{Rises}
 use Rattle.sr_front.proofs.StaticNames.{SameMeaning}
 use Rattle.sr_front.proofs.TypesRead.{type_then}
 use Rattle.sr_front.proofs.TypesThen.{SameOrNone, no_type}
-use Rattle.sr_front.proofs.UsableNames.{spec_name_right}
+use Rattle.sr_front.proofs.RightNames.{spec_names_right}
 use Rattle.sr_front.proofs.DeclaredThen.{names_of_components}
-
-abbrev Anywhere : Spot → Type 0
-Anywhere spot = Unit {0}
+use Rattle.sr_front.proofs.KeptNames.{Anywhere, anywhere}
 
 -- what has no type takes everything
 fits_none : (value : Ty) → fits_type value ty.Untyped ≡ true
@@ -84,7 +81,7 @@ module _ (files : List File) (names : Names) (named : resolved files ≡ Ok name
     names_mean : Each (λ used. SameMeaning now end (meaning_at end.uses (spot_of used))) (where_some type_names constant.ty)
     names_mean =
         meanings_then files names named distinct rises specs component there true constant (whole files names named distinct rises specs none component there constant among) end
-        (ends_here files names named distinct rises specs none component there) (here_uses files names named distinct rises specs none component there) (spec_name_right files names named distinct component there constant among)
+        (ends_here files names named distinct rises specs none component there) (here_uses files names named distinct rises specs none component there) (spec_names_right files names named distinct component there (spec.Const constant) refl among)
 
     same_uses : now.uses ≡ end.uses
     same_uses =

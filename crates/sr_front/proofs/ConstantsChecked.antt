@@ -4,7 +4,7 @@ use Rattle.std.proofs.Math.Path.{path_j, subst_refl}
 use Rattle.sr_check.proofs.Each.{Each, each-left, each-right}
 use Rattle.sr_check.proofs.ErrorFree.{error_free_first, error_free_second, rule_met}
 use Rattle.sr_check.proofs.Kept.{none_found}
-use Rattle.sr_check.specs.Checked.{first_refused}
+use Rattle.sr_check.specs.Checked.{checked, first_refused}
 use Rattle.sr_check.specs.Components.{component_read, components_read, files_read, head_found}
 use Rattle.sr_check.specs.ErrorFree.{ErrorFree}
 use Rattle.sr_check_decl.specs.Constants.{const_rule, written_found, written_kind}
@@ -54,6 +54,14 @@ checked_in all first (one ∷ components) facts among reads whole component (inr
     checked_in all first components (component_read one facts).facts (λ other h. among other (inr h))
     (λ Q Free steady free h. reads_component one facts Q Free steady (part_free Free all one (among one (inl refl)) free) (reads Q Free steady free h))
     (error_free_second (component_read one facts).found _ whole) component k
+
+-- each component of a program in which no rule is broken but for those of heads
+pub checked_whole : (uses : Meanings) (specs : Specs) (files : List File) → ErrorFree (checked uses specs files).found → (component : Component) → IsIn component (components_in files)
+    → CheckedAt (components_in files) (program_known uses specs files) component
+checked_whole uses specs files free =
+    let known = program_known uses specs files in
+    let whole = error_free_second (type_cycles_found (leads_left (program_inferred uses specs files) (files_waiting files))) (files_read files known).found free in
+    checked_in (components_in files) known (components_in files) known (λ one k. k) (λ Q Free steady free h. h) (files_error_free files known whole)
 
 -- each component of an accepted program
 pub checked_at : (uses : Meanings) (specs : Specs) (files : List File) → first_refused uses specs files ≡ None → (component : Component) → IsIn component (components_in files)

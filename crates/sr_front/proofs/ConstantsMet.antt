@@ -1,9 +1,8 @@
 -- The constants in the specs of an accepted program are static in the end, where their values have types and their types are the same where they are declared.
-use Rattle.std.proofs.Common.{◌≡◌, true, false, List, [], ◌∷◌, flat_map, map, Some, None, Ok, is_some, refl, sym, ap, subst, ◌∙◌}
+use Rattle.std.proofs.Common.{◌≡◌, true, false, List, flat_map, map, Some, None, Ok, is_some, refl, sym, ap, subst, ◌∙◌}
 use Rattle.std.proofs.lemmas.Bool.{false≢true}
 use Rattle.std.specs.List.{IsDistinct}
 use Rattle.std.specs.Option.{option_and_then}
-use Rattle.sr_check.proofs.Each.{Each}
 use Rattle.sr_check.specs.Checked.{first_refused}
 use Rattle.sr_check.specs.Components.{components_read}
 use Rattle.sr_check_decl.specs.Constants.{const_of, has_type_of, is_static, written_kind}
@@ -30,7 +29,7 @@ use Rattle.sr_tree.specs.declared.component.SpecItem.TheVariants as spec
 use Rattle.sr_tree.specs.declared.declaration.ConstDecl.{ConstDecl}
 use Rattle.sr_tree.specs.Parts.{spec_of}
 use Rattle.sr_types.specs.declared.typed.Static.{Static}
-use Rattle.sr_types.specs.declared.typed.Static.TheVariants.{Faults, Known, Unknown}
+use Rattle.sr_types.specs.declared.typed.Static.TheVariants.{Known}
 use Rattle.sr_types.specs.declared.typed.Typed.{Typed}
 use Rattle.sr_types.specs.Types.{is_no_type}
 use Rattle.sr_value.specs.declared.place.Span.{Span}
@@ -47,17 +46,11 @@ use Rattle.sr_front.proofs.OwnOrShared.{ConstantsStatic}
 use Rattle.sr_front.proofs.ReadsCode.{component_inside, reads_components}
 use Rattle.sr_front.proofs.Rising.{Rises}
 use Rattle.sr_front.proofs.StaticNames.{IsIdle}
-use Rattle.sr_front.proofs.UsableNames.{spec_name_right}
+use Rattle.sr_front.proofs.RightNames.{spec_names_right}
 use Rattle.sr_front.proofs.WavedEnds.{Outer, own_stands}
 use Rattle.sr_front.proofs.WavesIdle.{IsWaiting, Waved}
 use Rattle.sr_front.proofs.DeclaredThen.{ThenAt, names_of_components}
-
-abbrev pub Anywhere : Spot → Type 0
-Anywhere spot = Unit {0}
-
-pub anywhere : (names : List Span) → Each (λ span. Anywhere (spot_of span)) names
-anywhere [] = tt
-anywhere (name ∷ names) = (tt, anywhere names)
+use Rattle.sr_front.proofs.KeptNames.{Anywhere, anywhere}
 
 pub uses_steady : (uses : Meanings) → Steady (λ facts. facts.uses ≡ uses) Anywhere Anywhere
 uses_steady uses = record {
@@ -67,8 +60,7 @@ uses_steady uses = record {
 
 static_known : (value : Static) → is_static value ≡ true → is_some (known_value value) ≡ true
 static_known (Known value) h = refl
-static_known (Faults fault) h = absurd (false≢true h)
-static_known Unknown h = absurd (false≢true h)
+static_known _ h = absurd (false≢true h)
 
 constant_is : (facts : Facts) (spot : Spot) (typed : Typed) → info_at facts.infos spot ≡ Some (info.Value typed) → is_static typed.value ≡ true → is_constant facts spot ≡ true
 constant_is facts spot typed is static = ap (λ found. is_some (option_and_then info_constant found)) is ∙ static_known typed.value static
@@ -150,7 +142,7 @@ module _ (files : List File) (names : Names) (named : resolved files ≡ Ok name
       abbrev read : ReadThen base (names_of_components files) end_of_declarations true constant
       read =
           read_then files names named distinct rises specs component there true constant whole (firm_away files names named distinct rises specs name stands) stands
-          (spec_name_right files names named distinct component there constant among)
+          (spec_names_right files names named distinct component there (spec.Const constant) refl among)
 
       -- its value has a type, and its own type takes the value where it is declared, as where it is checked
       pub record HasTypes : Type 0 where
@@ -161,7 +153,7 @@ module _ (files : List File) (names : Names) (named : resolved files ≡ Ok name
       static_here types =
           let met = rule_is (written_kind here constant.ty) value types.typed (constant_met all first component checked constant among) in
           static_then declaring here constant (written_kind here constant.ty) met (types.takes met.fits)
-          (uses_same files names named distinct rises specs component there true constant whole here ends_here here_uses (spec_name_right files names named distinct component there constant among))
+          (uses_same files names named distinct rises specs component there true constant whole here ends_here here_uses (spec_names_right files names named distinct component there (spec.Const constant) refl among))
 
       -- so it is static in the end
       pub constant_static : (final : Facts) → Reads inside first final → HasTypes → is_constant final name ≡ true

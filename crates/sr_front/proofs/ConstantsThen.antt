@@ -14,9 +14,9 @@ use Rattle.sr_check_expr.specs.declared.info.Info.TheVariants as info
 use Rattle.sr_check_expr.specs.declared.typed_expr.TypedExpr.{TypedExpr}
 use Rattle.sr_check_expr.specs.Exprs.{infer_expr}
 use Rattle.sr_check_expr.specs.Infos.{info_at}
-use Rattle.sr_names.proofs.Marking.{entry-other, entry-same, same_spot-cases}
+use Rattle.sr_names.proofs.Marking.{entry-other, entry-same}
 use Rattle.sr_names.specs.declared.spot.Spot.{Spot}
-use Rattle.sr_names.specs.Spots.{same_spot, spot_of}
+use Rattle.sr_names.specs.Spots.{spot_of}
 use Rattle.sr_order.specs.Names.{expr_names, type_names, where_some}
 use Rattle.sr_tree.specs.declared.declaration.ConstDecl.{ConstDecl}
 use Rattle.sr_types.specs.declared.ty.Ty.{Ty}
@@ -28,6 +28,7 @@ use Rattle.sr_value.specs.declared.place.Span.{Span}
 use Rattle.sr_front.proofs.DeclaredThen.{ThenAt}
 use Rattle.sr_front.proofs.KeptDeclared.{Declares, keeps_if}
 use Rattle.sr_front.proofs.Lasting.{Away, Other, is_operation}
+use Rattle.sr_front.proofs.Put.{put_holds}
 use Rattle.sr_front.proofs.Rising.{BeforeAll, IsBefore, before_away}
 use Rattle.sr_front.proofs.StaticExprs.{SameUses, Told, expr_told, tells_by}
 
@@ -43,13 +44,7 @@ module _ (spot : Spot) (found : Option Info) where
   found_with facts at one apart (inr h) = inr (ap is_operation (entry-other facts.infos at one spot apart) ∙ h)
 
   found_operation : (facts : Facts) (at : Spot) (ty : Ty) (component : Spot) (is_local : Bool) → StillFound facts → StillFound (declare facts at (info.Operation ty component is_local))
-  found_operation facts at ty component is_local h = by (same_spot-cases spot at)
-    where
-      by : (spot ≡ at) ⊎ (same_spot spot at ≡ false) → StillFound (declare facts at (info.Operation ty component is_local))
-      by (inl same) =
-          let after = declare facts at (info.Operation ty component is_local) in
-          inr (ap (λ s. is_operation (info_at after.infos s)) same ∙ ap is_operation (entry-same facts.infos at (info.Operation ty component is_local)))
-      by (inr apart) = found_with facts at (info.Operation ty component is_local) apart h
+  found_operation facts at ty component is_local h = put_holds facts at (info.Operation ty component is_local) (λ other now. (now ≡ found) ⊎ (is_operation now ≡ true)) (inr refl) spot (λ apart. h)
 
   pub still_found : Declares StillFound (Other spot)
   still_found = record {

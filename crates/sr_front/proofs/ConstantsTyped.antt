@@ -18,10 +18,11 @@ use Rattle.sr_tree.specs.declared.component.SpecItem.TheVariants as spec
 use Rattle.sr_tree.specs.declared.declaration.ConstDecl.{ConstDecl}
 use Rattle.sr_tree.specs.Parts.{spec_of}
 use Rattle.sr_types.specs.Types.{is_no_type}
+use Rattle.sr_front.proofs.FreeBlocks.{FreeComponents}
 use Rattle.sr_front.proofs.ConstantsChecked.{checked_at, held_at}
-use Rattle.sr_front.proofs.OwnOrShared.{each_at}
+use Rattle.sr_front.proofs.Lists.{each_at}
 use Rattle.sr_front.proofs.TypedCode.{Good}
-use Rattle.sr_front.proofs.TypedItems.{FreeComponents, component_good}
+use Rattle.sr_front.proofs.TypedItems.{component_good}
 use Rattle.sr_front.proofs.TypedSpecs.{ConstTyped, component_typed}
 
 -- what is free and good from a component on

@@ -1,13 +1,13 @@
 -- A constant that waits for its type gets none that is static: its value would have been static where it is declared, and then it would be known.
-use Rattle.std.proofs.Common.{◌≡◌, inl, inr, Bool, true, false, ◌||◌, List, Some, None, is_some, refl, sym, subst, ◌∙◌}
-use Rattle.std.proofs.lemmas.Bool.{false≢true}
+use Rattle.std.proofs.Common.{◌≡◌, inl, inr, Bool, true, false, List, Some, None, is_some, refl, sym, subst, ◌∙◌}
+use Rattle.std.proofs.lemmas.Bool.{false≢true, or_right}
+use Rattle.std.proofs.lemmas.Option.{none-some}
 use Rattle.sr_check_decl.specs.Constants.{const_of, is_static}
 use Rattle.sr_check_decl.specs.Declaring.{standing}
 use Rattle.sr_check_decl.specs.Inferring.{info_by, waiting_info}
 use Rattle.sr_check_decl.specs.Parts.{component_decl}
 use Rattle.sr_check_decl.specs.Waiting.{Waiting, const_waiting, files_waiting}
 use Rattle.sr_check_expr.specs.declared.facts.Facts.{Facts}
-use Rattle.sr_check_expr.specs.declared.info.Info.{Info}
 use Rattle.sr_check_expr.specs.declared.info.Info.TheVariants as info
 use Rattle.sr_check_expr.specs.Exprs.{infer_expr}
 use Rattle.sr_check_expr.specs.Infos.{info_at}
@@ -30,13 +30,6 @@ use Rattle.sr_front.proofs.Lasting.{Away, is_operation}
 use Rattle.sr_front.proofs.StaticExprs.{SameUses}
 use Rattle.sr_front.proofs.WaitingConstants.{of_files}
 use Rattle.sr_front.proofs.WavesIdle.{GetsUnknown, IsUnknown, Waved}
-
-or_second : (x y : Bool) → y ≡ true → (x || y) ≡ true
-or_second true y h = refl
-or_second false y h = h
-
-none_some : (one : Info) → None ≡ Some one → ⊥
-none_some one e = cc
 
 -- where a constant is read, and what its value names there: the same as after waves, as far as it tells anything
 pub record ReadThen (Inv : List Span → Facts → Type 0) (components : List Span) (last : Facts) (in_spec : Bool) (constant : ConstDecl) : Type 1 where
@@ -62,7 +55,7 @@ module _ (Inv : List Span → Facts → Type 0) (components : List Span) (last :
     -- what is known of a constant is what it is, where that is static
     pub declared_static : is_static (const_of in_spec here constant).value ≡ true → info_at last.infos name ≡ Some (info.Value (const_of in_spec here constant))
     declared_static static =
-        by (name_then Inv components last in_spec constant read.declared read.away (or_second (is_some constant.ty) (is_static (const_of in_spec here constant).value) static))
+        by (name_then Inv components last in_spec constant read.declared read.away (or_right (is_some constant.ty) (is_static (const_of in_spec here constant).value) static))
       where
         by : StillFound name (Some (info.Value (const_of in_spec here constant))) last → info_at last.infos name ≡ Some (info.Value (const_of in_spec here constant))
         by (inl h) = h
@@ -72,7 +65,7 @@ module _ (Inv : List Span → Facts → Type 0) (components : List Span) (last :
     not_static none = by (is_static (const_of in_spec here constant).value) refl
       where
         by : (b : Bool) → is_static (const_of in_spec here constant).value ≡ b → is_static (const_of in_spec here constant).value ≡ false
-        by true is = absurd (none_some _ (sym none ∙ declared_static is))
+        by true is = absurd (none-some _ (sym none ∙ declared_static is))
         by false is = is
 
     constant_gets : (component : Decl) → constant.ty ≡ None → Gets (const_waiting in_spec component constant)

@@ -116,10 +116,8 @@ last_in (file ∷ next ∷ files) component e =
 main_made : (facts : Facts) (tables : Tables) (imports : List (List ℕ)) (number : ℕ) (component : Component) → can_be_main (Some component) ≡ true
     → wf.is_main (whole_of facts tables imports (number, component)).component ≡ true
 main_made facts tables imports number (Resource span name [] items) h = refl
-main_made facts tables imports number (Resource span name (formal ∷ formals) items) h = absurd (false≢true h)
 main_made facts tables imports number (SplitResource span name spec [] items) h = refl
-main_made facts tables imports number (SplitResource span name spec (formal ∷ formals) items) h = absurd (false≢true h)
-main_made facts tables imports number (Global span name spec body) h = absurd (false≢true h)
+main_made facts tables imports number _ h = absurd (false≢true h)
 
 pub main_is : (files : List File) (facts : Facts) → can_be_main (last_component files) ≡ true
     → tests.with_component (core_of files facts) (length (core_of files facts).components - 1) wf.is_main ≡ true
@@ -213,9 +211,8 @@ abbrev pub NoFinalInGlobals : List File → Type 0
 NoFinalInGlobals files = (component : Component) → IsIn component (components_in files) → kind_of component ≡ kind.Global → final_count (body_of component) ≡ 0
 
 kind_is_global : (component : Component) → sort_of component ≡ sort.Global → wf.is_global (kind_of component) ≡ true
-kind_is_global (Resource span name formals items) e = absurd cc
-kind_is_global (SplitResource span name spec formals items) e = absurd cc
 kind_is_global (Global span name spec body) e = refl
+kind_is_global _ e = absurd cc
 
 -- Globals are made in order, and none has final code.
 pub record GlobalsCanBeMade (files : List File) (imports : List (List ℕ)) : Type 0 where

@@ -4,9 +4,10 @@ use Rattle.sr_check_expr.specs.declared.facts.Facts.{Facts}
 use Rattle.sr_check_expr.specs.Meanings.{is_constant}
 use Rattle.sr_names.specs.declared.spot.Spot.{Spot}
 use Rattle.sr_names.specs.Spots.{spot_of}
+use Rattle.sr_order.proofs.Picked.{joined-map}
 use Rattle.sr_order.specs.Names as order
 use Rattle.sr_order.specs.Spans.{joined}
-use Rattle.sr_outline.specs.Numbers.{arm_in, arm_names, block_item_names, branch_in, co_arm_in, co_arm_names, const_names, formal_names, formal_spots, inner_names, item_in, names_in, quantifier_names, returned_names, signature_returned, statement_names, var_names}
+use Rattle.sr_outline.specs.Numbers.{arm_in, arm_names, block_item_names, branch_in, co_arm_in, co_arm_names, const_names, formal_names, formal_spots, inner_names, item_in, names_in, quantifier_names, returned_names, signature_returned, var_names}
 use Rattle.sr_scope.specs.Declares.{op_name}
 use Rattle.sr_scope.specs.Procs.{semaphore_names}
 use Rattle.sr_scope.specs.Uses.{IsIn}
@@ -20,14 +21,13 @@ use Rattle.sr_tree.specs.declared.component.ProcItem.TheVariants as inner
 use Rattle.sr_tree.specs.declared.declaration.ConstDecl.{ConstDecl}
 use Rattle.sr_tree.specs.declared.declaration.VarDecl.{VarDecl}
 use Rattle.sr_tree.specs.declared.name.Name.{Name}
-use Rattle.sr_tree.specs.declared.statement.Arm.{Arm, fold-Arm, roll-Arm}
-use Rattle.sr_tree.specs.declared.statement.BlockItem.{BlockItem, fold-BlockItem, roll-BlockItem}
-use Rattle.sr_tree.specs.declared.statement.BlockItem.TheFolds.{fold-roll-Arm, fold-roll-BlockItem, fold-roll-Branch, fold-roll-CoArm, fold-roll-Statement, ind-Statement, map-Arm, map-BlockItem, map-Branch, map-CoArm, map-Statement}
-use Rattle.sr_tree.specs.declared.statement.BlockItem.TheOpen.{Arm-F, BlockItem-F, Branch-F, CoArm-F, Statement-F}
-use Rattle.sr_tree.specs.declared.statement.Branch.{Branch, fold-Branch, roll-Branch}
-use Rattle.sr_tree.specs.declared.statement.CoArm.{CoArm, fold-CoArm, roll-CoArm}
+use Rattle.sr_tree.specs.declared.statement.Arm.{Arm, fold-Arm}
+use Rattle.sr_tree.specs.declared.statement.BlockItem.{BlockItem, fold-BlockItem}
+use Rattle.sr_tree.specs.declared.statement.BlockItem.TheOpen.{BlockItem-F, Statement-F}
+use Rattle.sr_tree.specs.declared.statement.Branch.{Branch, fold-Branch}
+use Rattle.sr_tree.specs.declared.statement.CoArm.{CoArm, fold-CoArm}
 use Rattle.sr_tree.specs.declared.statement.Quantifier.{Quantifier}
-use Rattle.sr_tree.specs.declared.statement.Statement.{Statement, fold-Statement, roll-Statement}
+use Rattle.sr_tree.specs.declared.statement.Statement.{Statement, fold-Statement}
 use Rattle.sr_tree.specs.declared.types.Decl.{Decl as DeclTree}
 use Rattle.sr_tree.specs.declared.types.Formal.{Formal, out-Formal}
 use Rattle.sr_tree.specs.declared.types.Returned.{Returned, out-Returned}
@@ -36,6 +36,9 @@ use Rattle.sr_tree.specs.declared.types.TypeTree.{TypeTree}
 use Rattle.sr_tree.specs.declared.types.TypeTree.TheFolds.{fold_out-Formal, fold_out-Returned, fold_out-Signature, map-Signature}
 use Rattle.sr_tree.specs.declared.types.TypeTree.TheOpen.{Signature-F}
 use Rattle.sr_value.specs.declared.place.Span.{Span}
+use Rattle.sr_outline.proofs.NumberFolds.{owned}
+use Rattle.sr_order.proofs.NameFolds.{naming}
+use Rattle.sr_tree.proofs.StatementFolds.{ArmNode, BranchNode, ByParts, Claim, CoArmNode, Fold, ItemNode, Known, StatementNode, arm_folds, bare_arm, bare_branch, bare_co_arm, bare_item, bare_statement, branch_folds, co_arm_folds, each_statement, from_arm, from_branch, from_co_arm, from_item, from_statement, item_folds, statement_folds}
 
 -- ---- the names that are declared as variables: the own variables but for those that a `receive` or `P` needs
 
@@ -121,10 +124,6 @@ after xs owns before spans a spot k = let one = a spot k in (one.0, stands_right
 same_both : (xs : List Spot) (spans : List Span) → ((spot : Spot) → IsIn spot xs → Stands spot spans) → AreBoth xs xs spans
 same_both xs spans stands spot k = (k, stands spot k)
 
-moved : {xs ys owns others : List Spot} {spans parts : List Span} → xs ≡ ys → owns ≡ others → spans ≡ parts → AreBoth ys others parts → AreBoth xs owns spans
-moved {ys = ys} {owns = owns} {others = others} {spans = spans} {parts = parts} first second third both =
-    subst (λ list. AreBoth list owns spans) (sym first) (subst (λ list. AreBoth ys list spans) (sym second) (subst (λ list. AreBoth ys others list) (sym third) both))
-
 lists_both : {X : Type 0} (declared owns : X → List Spot) (spans : X → List Span) (trees : List ((tree : X) × AreBoth (declared tree) (owns tree) (spans tree)))
     → AreBoth (lists (map declared (map (λ e. e.0) trees))) (lists (map owns (map (λ e. e.0) trees))) (joined (map spans (map (λ e. e.0) trees)))
 lists_both declared owns spans [] = none_both [] []
@@ -179,13 +178,7 @@ formals_stand (formal ∷ formals) spot k = by (in_either spot (formal_spots for
     by (inr h) more = stands_right spot (order.formal_names formal) _ (more h)
 
 joined_stand : (formals : List Formal) (spot : Spot) → IsIn spot (formal_names formals) → Stands spot (joined (map order.formal_names formals))
-joined_stand [] spot k = absurd k
-joined_stand (formal ∷ formals) spot k = by (in_either spot (formal_spots formal) (formal_names formals) k) (joined_stand formals spot)
-  where
-    by : IsIn spot (formal_spots formal) ⊎ IsIn spot (formal_names formals) → (IsIn spot (formal_names formals) → Stands spot (joined (map order.formal_names formals)))
-        → Stands spot (order.formal_names formal ++ joined (map order.formal_names formals))
-    by (inl h) more = stands_left spot (order.formal_names formal) _ (formal_stands formal spot h)
-    by (inr h) more = stands_right spot (order.formal_names formal) _ (more h)
+joined_stand formals spot k = subst (Stands spot) (sym (joined-map order.formal_names formals)) (formals_stand formals spot k)
 
 abbrev told_signature : Signature-F TypeTree Formal Returned Signature → Signature-F (List Span) (List Span) (List Span) (List Span)
 told_signature x = map-Signature TypeTree Formal Returned Signature (List Span) (List Span) (List Span) (List Span) order.type_names order.formal_names order.returned_names order.signature_names x
@@ -218,95 +211,27 @@ module _ (facts : Facts) where
   abbrev W : Type 0
   W = List Span
 
-  abbrev ItemGood : BlockItem → Type 0
-  ItemGood tree = AreBoth (item_declared facts tree) (item_in facts tree) (order.block_item_names tree)
+  -- the variables that trees declare
+  abbrev pub declared : Fold L L L L L
+  declared = record { item = block_item_names facts; statement = statement_declared; arm = arm_names; branch = λ branch. lists branch.block; co_arm = co_arm_names }
 
-  abbrev Good : Statement → Type 0
-  Good tree = AreBoth (declared_in facts tree) (names_in facts tree) (order.statement_names tree)
-
-  abbrev ArmGood : Arm → Type 0
-  ArmGood tree = AreBoth (arm_declared facts tree) (arm_in facts tree) (order.arm_names tree)
-
-  abbrev BranchGood : Branch → Type 0
-  BranchGood tree = AreBoth (branch_declared facts tree) (branch_in facts tree) (order.branch_names tree)
-
-  abbrev CoArmGood : CoArm → Type 0
-  CoArmGood tree = AreBoth (co_arm_declared facts tree) (co_arm_in facts tree) (order.co_arm_names tree)
+  abbrev are_both : Claim
+  are_both = record {
+    item = λ tree. AreBoth (item_declared facts tree) (item_in facts tree) (order.block_item_names tree);
+    statement = λ tree. AreBoth (declared_in facts tree) (names_in facts tree) (order.statement_names tree);
+    arm = λ tree. AreBoth (arm_declared facts tree) (arm_in facts tree) (order.arm_names tree);
+    branch = λ tree. AreBoth (branch_declared facts tree) (branch_in facts tree) (order.branch_names tree);
+    co_arm = λ tree. AreBoth (co_arm_declared facts tree) (co_arm_in facts tree) (order.co_arm_names tree);
+  }
 
   abbrev I : Type 0
-  I = (tree : BlockItem) × ItemGood tree
-
-  abbrev T : Type 0
-  T = (tree : Statement) × Good tree
+  I = Known are_both.item
 
   abbrev A : Type 0
-  A = (tree : Arm) × ArmGood tree
+  A = Known are_both.arm
 
   abbrev B : Type 0
-  B = (tree : Branch) × BranchGood tree
-
-  abbrev C : Type 0
-  C = (tree : CoArm) × CoArmGood tree
-
-  abbrev bare_item : BlockItem-F I T A B C → BlockItem-F BlockItem Statement Arm Branch CoArm
-  bare_item = map-BlockItem I T A B C BlockItem Statement Arm Branch CoArm (λ e. e.0) (λ e. e.0) (λ e. e.0) (λ e. e.0) (λ e. e.0)
-
-  abbrev bare : Statement-F I T A B C → Statement-F BlockItem Statement Arm Branch CoArm
-  bare = map-Statement I T A B C BlockItem Statement Arm Branch CoArm (λ e. e.0) (λ e. e.0) (λ e. e.0) (λ e. e.0) (λ e. e.0)
-
-  abbrev bare_arm : Arm-F I T A B C → Arm-F BlockItem Statement Arm Branch CoArm
-  bare_arm = map-Arm I T A B C BlockItem Statement Arm Branch CoArm (λ e. e.0) (λ e. e.0) (λ e. e.0) (λ e. e.0) (λ e. e.0)
-
-  abbrev bare_branch : Branch-F I T A B C → Branch-F BlockItem Statement Arm Branch CoArm
-  bare_branch = map-Branch I T A B C BlockItem Statement Arm Branch CoArm (λ e. e.0) (λ e. e.0) (λ e. e.0) (λ e. e.0) (λ e. e.0)
-
-  abbrev bare_co_arm : CoArm-F I T A B C → CoArm-F BlockItem Statement Arm Branch CoArm
-  bare_co_arm = map-CoArm I T A B C BlockItem Statement Arm Branch CoArm (λ e. e.0) (λ e. e.0) (λ e. e.0) (λ e. e.0) (λ e. e.0)
-
-  abbrev declared_of : Statement-F BlockItem Statement Arm Branch CoArm → L
-  declared_of x = statement_declared (map-Statement BlockItem Statement Arm Branch CoArm L L L L L (item_declared facts) (declared_in facts) (arm_declared facts) (branch_declared facts) (co_arm_declared facts) x)
-
-  abbrev owns_of : Statement-F BlockItem Statement Arm Branch CoArm → L
-  owns_of x = statement_names facts (map-Statement BlockItem Statement Arm Branch CoArm L L L L L (item_in facts) (names_in facts) (arm_in facts) (branch_in facts) (co_arm_in facts) x)
-
-  abbrev spans_of : Statement-F BlockItem Statement Arm Branch CoArm → W
-  spans_of x = order.statement_names_step (map-Statement BlockItem Statement Arm Branch CoArm W W W W W order.block_item_names order.statement_names order.arm_names order.branch_names order.co_arm_names x)
-
-  abbrev item_declared_of : BlockItem-F BlockItem Statement Arm Branch CoArm → L
-  item_declared_of x = block_item_names facts (map-BlockItem BlockItem Statement Arm Branch CoArm L L L L L (item_declared facts) (declared_in facts) (arm_declared facts) (branch_declared facts) (co_arm_declared facts) x)
-
-  abbrev item_owns_of : BlockItem-F BlockItem Statement Arm Branch CoArm → L
-  item_owns_of x = block_item_names facts (map-BlockItem BlockItem Statement Arm Branch CoArm L L L L L (item_in facts) (names_in facts) (arm_in facts) (branch_in facts) (co_arm_in facts) x)
-
-  abbrev item_spans_of : BlockItem-F BlockItem Statement Arm Branch CoArm → W
-  item_spans_of x = order.block_item_names_step (map-BlockItem BlockItem Statement Arm Branch CoArm W W W W W order.block_item_names order.statement_names order.arm_names order.branch_names order.co_arm_names x)
-
-  abbrev arm_declared_of : Arm-F BlockItem Statement Arm Branch CoArm → L
-  arm_declared_of x = arm_names (map-Arm BlockItem Statement Arm Branch CoArm L L L L L (item_declared facts) (declared_in facts) (arm_declared facts) (branch_declared facts) (co_arm_declared facts) x)
-
-  abbrev arm_owns_of : Arm-F BlockItem Statement Arm Branch CoArm → L
-  arm_owns_of x = arm_names (map-Arm BlockItem Statement Arm Branch CoArm L L L L L (item_in facts) (names_in facts) (arm_in facts) (branch_in facts) (co_arm_in facts) x)
-
-  abbrev arm_spans_of : Arm-F BlockItem Statement Arm Branch CoArm → W
-  arm_spans_of x = order.arm_names_step (map-Arm BlockItem Statement Arm Branch CoArm W W W W W order.block_item_names order.statement_names order.arm_names order.branch_names order.co_arm_names x)
-
-  abbrev branch_declared_of : Branch-F BlockItem Statement Arm Branch CoArm → L
-  branch_declared_of x = lists (map-Branch BlockItem Statement Arm Branch CoArm L L L L L (item_declared facts) (declared_in facts) (arm_declared facts) (branch_declared facts) (co_arm_declared facts) x).block
-
-  abbrev branch_owns_of : Branch-F BlockItem Statement Arm Branch CoArm → L
-  branch_owns_of x = lists (map-Branch BlockItem Statement Arm Branch CoArm L L L L L (item_in facts) (names_in facts) (arm_in facts) (branch_in facts) (co_arm_in facts) x).block
-
-  abbrev branch_spans_of : Branch-F BlockItem Statement Arm Branch CoArm → W
-  branch_spans_of x = order.branch_names_step (map-Branch BlockItem Statement Arm Branch CoArm W W W W W order.block_item_names order.statement_names order.arm_names order.branch_names order.co_arm_names x)
-
-  abbrev co_arm_declared_of : CoArm-F BlockItem Statement Arm Branch CoArm → L
-  co_arm_declared_of x = co_arm_names (map-CoArm BlockItem Statement Arm Branch CoArm L L L L L (item_declared facts) (declared_in facts) (arm_declared facts) (branch_declared facts) (co_arm_declared facts) x)
-
-  abbrev co_arm_owns_of : CoArm-F BlockItem Statement Arm Branch CoArm → L
-  co_arm_owns_of x = co_arm_names (map-CoArm BlockItem Statement Arm Branch CoArm L L L L L (item_in facts) (names_in facts) (arm_in facts) (branch_in facts) (co_arm_in facts) x)
-
-  abbrev co_arm_spans_of : CoArm-F BlockItem Statement Arm Branch CoArm → W
-  co_arm_spans_of x = order.co_arm_names_step (map-CoArm BlockItem Statement Arm Branch CoArm W W W W W order.block_item_names order.statement_names order.arm_names order.branch_names order.co_arm_names x)
+  B = Known are_both.branch
 
   -- ---- each kind of statement from its parts
 
@@ -319,7 +244,7 @@ module _ (facts : Facts) where
   arms_both : (arms : List A) → AreBoth (lists (map (arm_declared facts) (map (λ (e : A). e.0) arms))) (lists (map (arm_in facts) (map (λ (e : A). e.0) arms))) (joined (map order.arm_names (map (λ (e : A). e.0) arms)))
   arms_both = lists_both (arm_declared facts) (arm_in facts) order.arm_names
 
-  item_good : (y : BlockItem-F I T A B C) → AreBoth (item_declared_of (bare_item y)) (item_owns_of (bare_item y)) (item_spans_of (bare_item y))
+  item_good : (y : ItemNode are_both) → AreBoth (from_item declared (bare_item are_both y)) (from_item (owned facts) (bare_item are_both y)) (from_item naming (bare_item are_both y))
   item_good (BlockItem-F.Const constant) = same_both (const_names facts constant) (order.const_names constant) (const_stands facts constant)
   item_good (BlockItem-F.Var variables) = same_both (var_names variables) (order.var_names variables) (var_stands variables)
   item_good (BlockItem-F.Statement statement) = statement.1
@@ -336,7 +261,7 @@ module _ (facts : Facts) where
       both (quantifier_names quantifiers) (quantifier_names quantifiers) (flat_map order.quantifier_names quantifiers) ys more others
       (same_both (quantifier_names quantifiers) (flat_map order.quantifier_names quantifiers) (quantifier_stands quantifiers))
 
-  statement_good : (y : Statement-F I T A B C) → AreBoth (declared_of (bare y)) (owns_of (bare y)) (spans_of (bare y))
+  statement_good : (y : StatementNode are_both) → AreBoth (from_statement declared (bare_statement are_both y)) (from_statement (owned facts) (bare_statement are_both y)) (from_statement naming (bare_statement are_both y))
   statement_good (Statement-F.If span branches None) = both _ _ (joined (map order.branch_names (map (λ (e : B). e.0) branches))) [] [] [] (branches_both branches) (none_both [] [])
   statement_good (Statement-F.If span branches (Some items)) = branched branches items
   statement_good (Statement-F.Do span branches None) = both _ _ (joined (map order.branch_names (map (λ (e : B). e.0) branches))) [] [] [] (branches_both branches) (none_both [] [])
@@ -347,7 +272,7 @@ module _ (facts : Facts) where
   statement_good (Statement-F.Co span arms) = lists_both (co_arm_declared facts) (co_arm_in facts) order.co_arm_names arms
   statement_good _ = λ spot k. absurd k
 
-  arm_good : (y : Arm-F I T A B C) → AreBoth (arm_declared_of (bare_arm y)) (arm_owns_of (bare_arm y)) (arm_spans_of (bare_arm y))
+  arm_good : (y : ArmNode are_both) → AreBoth (from_arm declared (bare_arm are_both y)) (from_arm (owned facts) (bare_arm are_both y)) (from_arm naming (bare_arm are_both y))
   arm_good y =
       let spans = order.names_spans y.formals in
       let returned = order.where_some order.name_names y.returned in
@@ -358,51 +283,27 @@ module _ (facts : Facts) where
       (both (returned_names y.returned) (returned_names y.returned) returned _ _ _ (same_both (returned_names y.returned) returned (returned_stands y.returned))
       (after _ _ condition _ (after _ _ by _ (items_both y.block)))))
 
-  branch_good : (y : Branch-F I T A B C) → AreBoth (branch_declared_of (bare_branch y)) (branch_owns_of (bare_branch y)) (branch_spans_of (bare_branch y))
+  branch_good : (y : BranchNode are_both) → AreBoth (from_branch declared (bare_branch are_both y)) (from_branch (owned facts) (bare_branch are_both y)) (from_branch naming (bare_branch are_both y))
   branch_good y = after _ _ (order.expr_names y.guard) _ (items_both y.block)
 
-  co_arm_by : (y : CoArm-F I T A B C) (block : Option (List I))
-      → AreBoth (co_arm_declared_of (bare_co_arm (record y { block = block }))) (co_arm_owns_of (bare_co_arm (record y { block = block }))) (co_arm_spans_of (bare_co_arm (record y { block = block })))
+  co_arm_by : (y : CoArmNode are_both) (block : Option (List I)) → AreBoth (from_co_arm declared (bare_co_arm are_both (record y { block = block }))) (from_co_arm (owned facts) (bare_co_arm are_both (record y { block = block }))) (from_co_arm naming (bare_co_arm are_both (record y { block = block })))
   co_arm_by y None = quantified y.quantifiers _ _ _ (λ spot k. absurd k)
   co_arm_by y (Some items) = quantified y.quantifiers _ _ _ (after _ _ (order.where_some order.expr_names y.target) _ (after _ _ (order.invocation_names y.invocation) _ (items_both items)))
 
-  co_arm_good : (y : CoArm-F I T A B C) → AreBoth (co_arm_declared_of (bare_co_arm y)) (co_arm_owns_of (bare_co_arm y)) (co_arm_spans_of (bare_co_arm y))
+  co_arm_good : (y : CoArmNode are_both) → AreBoth (from_co_arm declared (bare_co_arm are_both y)) (from_co_arm (owned facts) (bare_co_arm are_both y)) (from_co_arm naming (bare_co_arm are_both y))
   co_arm_good y = co_arm_by y y.block
 
-  -- ---- all statements
+  by_parts : ByParts are_both
+  by_parts = record {
+    item = λ y. subst (λ t. t) (λ i. AreBoth (item_folds declared (bare_item are_both y) i) (item_folds (owned facts) (bare_item are_both y) i) (item_folds naming (bare_item are_both y) i)) (item_good y);
+    statement = λ y. subst (λ t. t) (λ i. AreBoth (statement_folds declared (bare_statement are_both y) i) (statement_folds (owned facts) (bare_statement are_both y) i) (statement_folds naming (bare_statement are_both y) i)) (statement_good y);
+    arm = λ y. subst (λ t. t) (λ i. AreBoth (arm_folds declared (bare_arm are_both y) i) (arm_folds (owned facts) (bare_arm are_both y) i) (arm_folds naming (bare_arm are_both y) i)) (arm_good y);
+    branch = λ y. subst (λ t. t) (λ i. AreBoth (branch_folds declared (bare_branch are_both y) i) (branch_folds (owned facts) (bare_branch are_both y) i) (branch_folds naming (bare_branch are_both y) i)) (branch_good y);
+    co_arm = λ y. subst (λ t. t) (λ i. AreBoth (co_arm_folds declared (bare_co_arm are_both y) i) (co_arm_folds (owned facts) (bare_co_arm are_both y) i) (co_arm_folds naming (bare_co_arm are_both y) i)) (co_arm_good y);
+  }
 
-  step_item : (x : BlockItem-F BlockItem Statement Arm Branch CoArm) (y : BlockItem-F I T A B C) → bare_item y ≡ x → ItemGood (roll-BlockItem x)
-  step_item x y is = subst (λ z. ItemGood (roll-BlockItem z)) is
-      (moved (fold-roll-BlockItem L L L L L (block_item_names facts) statement_declared arm_names (λ branch. lists branch.block) co_arm_names (bare_item y))
-      (fold-roll-BlockItem L L L L L (block_item_names facts) (statement_names facts) arm_names (λ branch. lists branch.block) co_arm_names (bare_item y))
-      (fold-roll-BlockItem W W W W W order.block_item_names_step order.statement_names_step order.arm_names_step order.branch_names_step order.co_arm_names_step (bare_item y)) (item_good y))
-
-  step_statement : (x : Statement-F BlockItem Statement Arm Branch CoArm) (y : Statement-F I T A B C) → bare y ≡ x → Good (roll-Statement x)
-  step_statement x y is = subst (λ z. Good (roll-Statement z)) is
-      (moved (fold-roll-Statement L L L L L (block_item_names facts) statement_declared arm_names (λ branch. lists branch.block) co_arm_names (bare y))
-      (fold-roll-Statement L L L L L (block_item_names facts) (statement_names facts) arm_names (λ branch. lists branch.block) co_arm_names (bare y))
-      (fold-roll-Statement W W W W W order.block_item_names_step order.statement_names_step order.arm_names_step order.branch_names_step order.co_arm_names_step (bare y)) (statement_good y))
-
-  step_arm : (x : Arm-F BlockItem Statement Arm Branch CoArm) (y : Arm-F I T A B C) → bare_arm y ≡ x → ArmGood (roll-Arm x)
-  step_arm x y is = subst (λ z. ArmGood (roll-Arm z)) is
-      (moved (fold-roll-Arm L L L L L (block_item_names facts) statement_declared arm_names (λ branch. lists branch.block) co_arm_names (bare_arm y))
-      (fold-roll-Arm L L L L L (block_item_names facts) (statement_names facts) arm_names (λ branch. lists branch.block) co_arm_names (bare_arm y))
-      (fold-roll-Arm W W W W W order.block_item_names_step order.statement_names_step order.arm_names_step order.branch_names_step order.co_arm_names_step (bare_arm y)) (arm_good y))
-
-  step_branch : (x : Branch-F BlockItem Statement Arm Branch CoArm) (y : Branch-F I T A B C) → bare_branch y ≡ x → BranchGood (roll-Branch x)
-  step_branch x y is = subst (λ z. BranchGood (roll-Branch z)) is
-      (moved (fold-roll-Branch L L L L L (block_item_names facts) statement_declared arm_names (λ branch. lists branch.block) co_arm_names (bare_branch y))
-      (fold-roll-Branch L L L L L (block_item_names facts) (statement_names facts) arm_names (λ branch. lists branch.block) co_arm_names (bare_branch y))
-      (fold-roll-Branch W W W W W order.block_item_names_step order.statement_names_step order.arm_names_step order.branch_names_step order.co_arm_names_step (bare_branch y)) (branch_good y))
-
-  step_co_arm : (x : CoArm-F BlockItem Statement Arm Branch CoArm) (y : CoArm-F I T A B C) → bare_co_arm y ≡ x → CoArmGood (roll-CoArm x)
-  step_co_arm x y is = subst (λ z. CoArmGood (roll-CoArm z)) is
-      (moved (fold-roll-CoArm L L L L L (block_item_names facts) statement_declared arm_names (λ branch. lists branch.block) co_arm_names (bare_co_arm y))
-      (fold-roll-CoArm L L L L L (block_item_names facts) (statement_names facts) arm_names (λ branch. lists branch.block) co_arm_names (bare_co_arm y))
-      (fold-roll-CoArm W W W W W order.block_item_names_step order.statement_names_step order.arm_names_step order.branch_names_step order.co_arm_names_step (bare_co_arm y)) (co_arm_good y))
-
-  statement_both : (tree : Statement) → Good tree
-  statement_both = ind-Statement ItemGood Good ArmGood BranchGood CoArmGood step_item step_statement step_arm step_branch step_co_arm
+  statement_both : (tree : Statement) → AreBoth (declared_in facts tree) (names_in facts tree) (order.statement_names tree)
+  statement_both = each_statement are_both by_parts
 
   -- ---- items of components
 
@@ -437,28 +338,25 @@ module _ (facts : Facts) where
       by (inl h) = (in_left spot (formal_names (out-Signature signature).formals) _ h, stands_left spot (order.signature_names signature) others (signature_formals_stand signature spot h))
       by (inr h) = last (in_either spot (signature_returned signature) ys h)
 
-  -- the variables that the code of an item declares
+  -- the variables of an item, by those of what stands in its block, and of a statement
+  abbrev variables : (ProcItem → List Spot) → (Statement → List Spot) → Item → List Spot
+  variables inner code (item.Spec _) = []
+  variables inner code (item.Proc proc) = map spot_named proc.formals ++ (returned_names proc.returned ++ flat_map inner proc.block)
+  variables inner code (item.Procedure procedure) = formal_names (out-Signature procedure.signature).formals ++ (signature_returned procedure.signature ++ flat_map inner procedure.block)
+  variables inner code (item.Process process) = quantifier_names process.quantifiers ++ flat_map inner process.block
+  variables inner code (item.Final final) = flat_map inner final.block
+  variables inner code (item.Statement statement) = code statement
+
+  -- those that its code declares
   abbrev pub item_variables : Item → List Spot
-  item_variables (item.Spec declared) = []
-  item_variables (item.Proc proc) = map spot_named proc.formals ++ (returned_names proc.returned ++ flat_map (inner_declared facts) proc.block)
-  item_variables (item.Procedure procedure) =
-      formal_names (out-Signature procedure.signature).formals ++ (signature_returned procedure.signature ++ flat_map (inner_declared facts) procedure.block)
-  item_variables (item.Process process) = quantifier_names process.quantifiers ++ flat_map (inner_declared facts) process.block
-  item_variables (item.Final final) = flat_map (inner_declared facts) final.block
-  item_variables (item.Statement statement) = declared_in facts statement
+  item_variables = variables (inner_declared facts) (declared_in facts)
 
   -- all of its own variables
   abbrev pub all_variables : Item → List Spot
-  all_variables (item.Spec declared) = []
-  all_variables (item.Proc proc) = map spot_named proc.formals ++ (returned_names proc.returned ++ flat_map (inner_names facts) proc.block)
-  all_variables (item.Procedure procedure) =
-      formal_names (out-Signature procedure.signature).formals ++ (signature_returned procedure.signature ++ flat_map (inner_names facts) procedure.block)
-  all_variables (item.Process process) = quantifier_names process.quantifiers ++ flat_map (inner_names facts) process.block
-  all_variables (item.Final final) = flat_map (inner_names facts) final.block
-  all_variables (item.Statement statement) = names_in facts statement
+  all_variables = variables (inner_names facts) (names_in facts)
 
   pub variables_both : (one : Item) → AreBoth (item_variables one) (all_variables one) (order.item_names one)
-  variables_both (item.Spec declared) = λ spot k. absurd k
+  variables_both (item.Spec _) = λ spot k. absurd k
   variables_both (item.Proc proc) =
       let spans = order.names_spans proc.formals in
       let returned = order.where_some order.name_names proc.returned in

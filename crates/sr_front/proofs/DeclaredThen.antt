@@ -36,19 +36,11 @@ module _ (Free : Spot → Type 0) where
   pub spec_plain_free : (one : SpecItem) → AllFree (spec_item_names one) → AllFree (spec_plain one)
   spec_plain_free (spec.Op declared) free = tt
   spec_plain_free (spec.Sem declared) free = tt
-  spec_plain_free (spec.Import declared) free = free
-  spec_plain_free (spec.Const declared) free = free
-  spec_plain_free (spec.«Type» declared) free = free
-  spec_plain_free (spec.OpType declared) free = free
-  spec_plain_free (spec.Var declared) free = free
+  spec_plain_free _ free = free
 
   pub item_plain_free : (one : Item) → AllFree (item_names one) → AllFree (item_plain one)
   item_plain_free (item.Spec declared) free = spec_plain_free declared free
-  item_plain_free (item.Proc proc) free = tt
-  item_plain_free (item.Procedure procedure) free = tt
-  item_plain_free (item.Process process) free = tt
-  item_plain_free (item.Final final) free = tt
-  item_plain_free (item.Statement statement) free = tt
+  item_plain_free _ free = tt
 
   pub parts_free : {A : Type 0} (names plain : A → List Span) → ((one : A) → AllFree (names one) → AllFree (plain one)) → (all : List A) → AllFree (flat_map names all) → AllFree (flat_map plain all)
   parts_free names plain each [] free = tt

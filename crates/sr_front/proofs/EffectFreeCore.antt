@@ -19,7 +19,7 @@ use Rattle.sr_front.specs.Reading.{AreRead}
 use Rattle.sr_check.proofs.Each.{Each, each-weaker}
 use Rattle.sr_front.proofs.EffectFreeCode.{component_code, core_effect_free}
 use Rattle.sr_front.proofs.PlainNames.{component_plain}
-use Rattle.sr_front.proofs.Shares.{files_share, shares_apart}
+use Rattle.sr_front.proofs.Shares.{code_apart}
 use Rattle.sr_front.proofs.SpotsApart.{spots-apart}
 use Rattle.sr_front.proofs.Staying.{AllFree, Free}
 use Rattle.sr_front.proofs.TypeSpots.{Elsewhere, free_known}
@@ -31,7 +31,7 @@ pub code_free : (uses : Meanings) (specs : Specs) (files : List File) → IsDist
 code_free uses specs files distinct =
     each-weaker (λ one. Each (Elsewhere (spot_of one)) (flat_map component_plain (components_in files))) (Free (program_known uses specs files))
     (λ one apart. free_known (spot_of one) uses specs files apart)
-    (flat_map component_code (components_in files)) (shares_apart (files_share files) distinct)
+    (flat_map component_code (components_in files)) (code_apart files distinct)
 
 -- where no rule of kinds is broken all guards are side-effect-free
 effect_free_with : (uses : Meanings) (specs : Specs) (files : List File) → IsDistinct same_spot (map spot_of (flat_map file_names files)) → first_refused uses specs files ≡ None

@@ -11,7 +11,7 @@ use Rattle.sr_check_expr.specs.declared.typed_expr.Named.TheVariants as named
 use Rattle.sr_check_expr.specs.Arguments.{all_found, all_valued, invoked_found, is_callable}
 use Rattle.sr_check_expr.specs.Calls.{Called, call_typing, called_by, invocation_found, parts_found as called_found}
 use Rattle.sr_check_expr.specs.Creating.{formals_found, instance_typing, machine_found, machine_of, machine_valued, made_found, resource_named, resource_type}
-use Rattle.sr_check_expr.specs.Exprs.{Inferrer, CalledInferrer, PartInferrer, create_step, expr_step, field_typing, invocation_step, infer_create, infer_expr, infer_invocation, infer_part, part_found, part_step, parts_found, prefix_of}
+use Rattle.sr_check_expr.specs.Exprs.{Inferrer, PartInferrer, field_typing, infer_create, infer_expr, infer_invocation, infer_part, part_found, parts_found, prefix_of}
 use Rattle.sr_check_expr.specs.Infos.{info_at}
 use Rattle.sr_check_expr.specs.Typings.{Typing, broken_unless, typed_exprs_of, value_found}
 use Rattle.sr_check_expr.specs.LiteralTypes.{literal_named, literal_typed}
@@ -37,12 +37,11 @@ use Rattle.sr_names.specs.Spots.{spot_of}
 use Rattle.sr_names.specs.Uses.{meaning_at}
 use Rattle.sr_tree.specs.declared.expr.BinaryOperator.{BinaryOperator}
 use Rattle.sr_tree.specs.declared.expr.BinaryOperator.TheVariants as binary
-use Rattle.sr_tree.specs.declared.expr.Create.{Create, roll-Create}
-use Rattle.sr_tree.specs.declared.expr.Create.TheFolds.{fold-roll-Create, fold-roll-Expr, fold-roll-Invocation, fold-roll-Part, ind-Expr, map-Create, map-Expr, map-Invocation, map-Part}
-use Rattle.sr_tree.specs.declared.expr.Create.TheOpen.{Create-F, Expr-F, Invocation-F, Part-F}
-use Rattle.sr_tree.specs.declared.expr.Expr.{Expr as Tree, roll-Expr}
-use Rattle.sr_tree.specs.declared.expr.Invocation.{Invocation, roll-Invocation}
-use Rattle.sr_tree.specs.declared.expr.Part.{Part as PartTree, roll-Part}
+use Rattle.sr_tree.specs.declared.expr.Create.{Create}
+use Rattle.sr_tree.specs.declared.expr.Create.TheOpen.{Create-F, Expr-F}
+use Rattle.sr_tree.specs.declared.expr.Expr.{Expr as Tree}
+use Rattle.sr_tree.specs.declared.expr.Invocation.{Invocation}
+use Rattle.sr_tree.specs.declared.expr.Part.{Part as PartTree}
 use Rattle.sr_tree.specs.declared.name.Name.{Name}
 use Rattle.sr_tree.specs.declared.name.QualifiedName.{QualifiedName}
 use Rattle.sr_types.specs.declared.ty.Ty.{Ty, out-Ty}
@@ -56,11 +55,13 @@ use Rattle.sr_lower_expr.specs.Operators.{binary_core, conversion_function}
 use Rattle.sr_lower_expr.specs.Shapes.{shape_of_type}
 use Rattle.sr_lower_expr.specs.declared.scene.Lowered.{Lowered}
 use Rattle.sr_lower_expr.specs.declared.scene.Scene.{Scene}
-use Rattle.sr_lower_expr.specs.Expressions.{LoweredTree, LoweredInvocation, call_core, call_of, constant_or_nothing, core_expr, core_value, lowered_of, create_core, create_lowered, end_or_nothing, end_value, ends_core, expr_core, expr_lowered, field_core, field_number, function_core, invocation_lowered, is_second, layer_member, literals_in, meaning_core, name_core, named_core, named_types, part_lowered, spec_operation, told, trees_of, values, without_number}
+use Rattle.sr_lower_expr.specs.Expressions.{LoweredTree, LoweredInvocation, call_core, call_of, constant_or_nothing, core_expr, core_value, lowered_of, end_or_nothing, end_value, ends_core, field_core, field_number, function_core, is_second, layer_member, literals_in, meaning_core, name_core, named_core, named_types, spec_operation, told, trees_of, values, without_number}
 use Rattle.sr_lower_expr.specs.Places.{operation_at, root_of, value_of, whose_by}
 use Rattle.sr_lower_expr.proofs.Each.{one_taken, turned_passes}
 use Rattle.sr_lower_expr.proofs.Trees.{of_create, of_invocation, of_part, told_is}
-use Rattle.sr_front.proofs.ExprParts.{inferred_create, inferred_expr, inferred_invocation, inferred_part, lowered_create, lowered_expr, lowered_invocation, lowered_part}
+use Rattle.sr_tree.proofs.ExprFolds.{ByParts, Claim, CreateNode, ExprNode, InvocationNode, Known, PartNode, bare_create, bare_expr, bare_invocation, bare_part, create_folds, each_expr, expr_folds, from_create, from_expr, from_invocation, from_part, invocation_folds, part_folds}
+use Rattle.sr_lower_expr.proofs.LowerFold.{lowering}
+use Rattle.sr_front.proofs.TypingFolds.{inferring}
 use Rattle.sr_front.proofs.EffectFreeRules.{and_rule, apply_rule, array_rule, at2_rule, at_rule, binary_rule, lowered_is_effect_free, field_rule, leaf_rule, member_rule, naming_effect_free, nothing_effect_free, one_rule, or_rule, part_is_effect_free, part_of_effect_free, place_at_effect_free, repeated_rule, unary_rule, value_of_effect_free}
 use Rattle.sr_check.specs.ErrorFree.{ErrorFree}
 use Rattle.sr_check.proofs.ErrorFree.{rule_met, error_free_first, error_free_second}
@@ -69,14 +70,11 @@ use Rattle.sr_check.proofs.ErrorFree.{rule_met, error_free_first, error_free_sec
 
 -- what a name is, where it is no value and no operation, it still is
 abbrev pub StaysInfo : Option Info → Option Info → Type 0
-StaysInfo None later = Unit {0}
-StaysInfo (Some (info.Value typed)) later = Unit {0}
 StaysInfo (Some (info.«Type» ty)) later = later ≡ Some (info.«Type» ty)
 StaysInfo (Some (info.Enumeration number literals)) later = later ≡ Some (info.Enumeration number literals)
 StaysInfo (Some (info.Record fields)) later = later ≡ Some (info.Record fields)
-StaysInfo (Some (info.OpType ty)) later = Unit {0}
-StaysInfo (Some (info.Operation ty component is_local)) later = Unit {0}
 StaysInfo (Some (info.Component ty)) later = later ≡ Some (info.Component ty)
+StaysInfo _ later = Unit {0}
 
 -- names mean the same, and types and components stay what they are
 pub record Stay (known later : Facts) : Type 0 where
@@ -99,14 +97,11 @@ stays_itself _ = tt
 module _ (known : Facts) (later : Facts) (stay : Stay known later) where
   declared_stays : (span span2 : Span) (decl : Decl) (first second : Option Info) → StaysInfo first second
       → StaysNamed (declared_typing span decl first).typed_expr.named (declared_typing span2 decl second).typed_expr.named
-  declared_stays span span2 decl None second is = tt
-  declared_stays span span2 decl (Some (info.Value typed)) second is = tt
   declared_stays span span2 decl (Some (info.«Type» ty)) second is = ap (λ one. (declared_typing span2 decl one).typed_expr.named) is
   declared_stays span span2 decl (Some (info.Enumeration number literals)) second is = ap (λ one. (declared_typing span2 decl one).typed_expr.named) is
   declared_stays span span2 decl (Some (info.Record fields)) second is = ap (λ one. (declared_typing span2 decl one).typed_expr.named) is
-  declared_stays span span2 decl (Some (info.OpType ty)) second is = tt
-  declared_stays span span2 decl (Some (info.Operation ty component is_local)) second is = tt
   declared_stays span span2 decl (Some (info.Component ty)) second is = ap (λ one. (declared_typing span2 decl one).typed_expr.named) is
+  declared_stays span span2 decl _ second is = tt
 
   predefined_stays : (span span2 : Span) (name : Predefined) → StaysNamed (predefined_at span name).named (predefined_at span2 name).named
   predefined_stays span span2 Eof = tt
@@ -270,60 +265,39 @@ module _ (scene : Scene) (known : Facts) (guard : known.here.in_guard ≡ true) 
   abbrev PartGood : PartTree → Type 0
   PartGood tree = ErrorFree (part_found (infer_part tree known)) → IsTrue (part_is_effect_free (of_part scene tree).1)
 
-  abbrev C : Type 0
-  C = (tree : Create) × CreateGood tree
+  abbrev good : Claim
+  good = record { create = CreateGood; expr = TreeGood; invocation = InvocationGood; part = PartGood }
 
-  abbrev T : Type 0
-  T = (tree : Tree) × TreeGood tree
-
-  abbrev I : Type 0
-  I = (tree : Invocation) × InvocationGood tree
-
-  abbrev P : Type 0
-  P = (tree : PartTree) × PartGood tree
-
-  abbrev first_create : Create-F C T I P → Create-F Create Tree Invocation PartTree
-  first_create = map-Create C T I P Create Tree Invocation PartTree (λ c. c.0) (λ e. e.0) (λ s. s.0) (λ p. p.0)
-
-  abbrev first_expr : Expr-F C T I P → Expr-F Create Tree Invocation PartTree
-  first_expr = map-Expr C T I P Create Tree Invocation PartTree (λ c. c.0) (λ e. e.0) (λ s. s.0) (λ p. p.0)
-
-  abbrev first_invocation : Invocation-F C T I P → Invocation-F Create Tree Invocation PartTree
-  first_invocation = map-Invocation C T I P Create Tree Invocation PartTree (λ c. c.0) (λ e. e.0) (λ s. s.0) (λ p. p.0)
-
-  abbrev first_part : Part-F C T I P → Part-F Create Tree Invocation PartTree
-  first_part = map-Part C T I P Create Tree Invocation PartTree (λ c. c.0) (λ e. e.0) (λ s. s.0) (λ p. p.0)
-
-  all_good : (trees : List T) → ErrorFree (all_found (map (λ (infer : Inferrer). infer known) (map infer_expr (map (λ (tree : T). tree.0) trees))))
-      → AllEffectFree scene (map (λ (one : LoweredTree). one.1) (map (told scene) (map (λ (tree : T). tree.0) trees)))
+  all_good : (trees : List (Known TreeGood)) → ErrorFree (all_found (map (λ (infer : Inferrer). infer known) (map infer_expr (map (λ (tree : Known TreeGood). tree.0) trees))))
+      → AllEffectFree scene (map (λ (one : LoweredTree). one.1) (map (told scene) (map (λ (tree : Known TreeGood). tree.0) trees)))
   all_good [] whole = refl
   all_good (tree ∷ trees) whole =
       and_from _ _ (tree.1.1 (error_free_first (infer_expr tree.0 known).found _ whole)) (all_good trees (error_free_second (infer_expr tree.0 known).found _ whole))
 
-  parts_good : (parts : List P) → ErrorFree (parts_found (map (λ (infer : PartInferrer). infer known) (map infer_part (map (λ (part : P). part.0) parts))))
-      → IsTrue (list_all part_is_effect_free (map (λ (part : PartTree × Part). part.1) (map (of_part scene) (map (λ (part : P). part.0) parts))))
+  parts_good : (parts : List (Known PartGood)) → ErrorFree (parts_found (map (λ (infer : PartInferrer). infer known) (map infer_part (map (λ (part : Known PartGood). part.0) parts))))
+      → IsTrue (list_all part_is_effect_free (map (λ (part : PartTree × Part). part.1) (map (of_part scene) (map (λ (part : Known PartGood). part.0) parts))))
   parts_good [] whole = refl
   parts_good (part ∷ parts) whole =
       and_from _ _ (part.1 (error_free_first (part_found (infer_part part.0 known)) _ whole)) (parts_good parts (error_free_second (part_found (infer_part part.0 known)) _ whole))
 
-  create_good : (y : Create-F C T I P)
-      → Good (create_step (inferred_create (first_create y)) known) (create_step (inferred_create (first_create y)) scene.facts).typed_expr.named (is_effect_free (create_core scene (lowered_create scene (first_create y))))
+  create_good : (y : CreateNode good)
+      → Good (from_create inferring (bare_create good y) known) (from_create inferring (bare_create good y) scene.facts).typed_expr.named (is_effect_free (from_create (lowering scene) (bare_create good y)).1)
   create_good (Create-F.Resource span resource arguments None) = (
     tt,
     λ whole.
-        let typings = map (λ (infer : Inferrer). infer known) (map infer_expr (map (λ (tree : T). tree.0) arguments)) in
+        let typings = map (λ (infer : Inferrer). infer known) (map infer_expr (map (λ (tree : Known TreeGood). tree.0) arguments)) in
         made_nowhere span resource typings None (error_free_second (all_found typings ++ machine_found None) _ whole),
   )
   create_good (Create-F.Resource span resource arguments (Some machine)) = (
     tt,
     λ whole.
-        let typings = map (λ (infer : Inferrer). infer known) (map infer_expr (map (λ (tree : T). tree.0) arguments)) in
+        let typings = map (λ (infer : Inferrer). infer known) (map infer_expr (map (λ (tree : Known TreeGood). tree.0) arguments)) in
         made_nowhere span resource typings (Some (infer_expr machine.0 known)) (error_free_second (all_found typings ++ machine_found (Some (infer_expr machine.0 known))) _ whole),
   )
   create_good (Create-F.Machine span) = (tt, λ whole. absurd (guarded span whole))
 
-  expr_good : (y : Expr-F C T I P)
-      → Good (expr_step (inferred_expr (first_expr y)) known) (expr_step (inferred_expr (first_expr y)) scene.facts).typed_expr.named (lowered_is_effect_free (expr_core scene (lowered_expr scene (first_expr y))))
+  expr_good : (y : ExprNode good)
+      → Good (from_expr inferring (bare_expr good y) known) (from_expr inferring (bare_expr good y) scene.facts).typed_expr.named (lowered_is_effect_free (from_expr (lowering scene) (bare_expr good y)).1)
   expr_good (Expr-F.Literal span literal) = (stays_itself (literal_named literal), λ whole. constant_effect_free scene (known_value (literal_typed literal).value))
   expr_good (Expr-F.Name name) = (name_stays known scene.facts stay name.span name.span name.span, λ whole. name_effect_free scene name.span)
   expr_good (Expr-F.BasicType span basic) = (refl, λ whole. nothing_effect_free)
@@ -334,7 +308,7 @@ module _ (scene : Scene) (known : Facts) (guard : known.here.in_guard ≡ true) 
         (and_from _ _ (value_of_effect_free (core_expr scene value.0) (value.1.1 (error_free_first (infer_expr value.0 known).found _ whole))) refl),
   )
   expr_good (Expr-F.Group span inner) = (tt, λ whole. value_of_effect_free (core_expr scene inner.0) (inner.1.1 (error_free_first (infer_expr inner.0 known).found _ whole)))
-  expr_good (Expr-F.Parts span parts) = (tt, λ whole. array_rule _ (parts_good parts (error_free_first (parts_found (map (λ (infer : PartInferrer). infer known) (map infer_part (map (λ (part : P). part.0) parts)))) _ whole)))
+  expr_good (Expr-F.Parts span parts) = (tt, λ whole. array_rule _ (parts_good parts (error_free_first (parts_found (map (λ (infer : PartInferrer). infer known) (map infer_part (map (λ (part : Known PartGood). part.0) parts)))) _ whole)))
   expr_good (Expr-F.Field span owner field) =
       let before = (infer_expr owner.0 known).typed_expr in
       let after = (infer_expr owner.0 scene.facts).typed_expr in (
@@ -381,67 +355,42 @@ module _ (scene : Scene) (known : Facts) (guard : known.here.in_guard ≡ true) 
         (value_of_effect_free (core_expr scene right.0) (right.1.1 (error_free_second (infer_expr left.0 known).found _ found))),
   )
 
-  invocation_good : (y : Invocation-F C T I P)
-      → ErrorFree (call_typing known (invocation_step (inferred_invocation (first_invocation y)) known)).found → IsTrue (is_effect_free (call_of scene (invocation_lowered (lowered_invocation scene (first_invocation y)))))
+  invocation_good : (y : InvocationNode good)
+      → ErrorFree (call_typing known (from_invocation inferring (bare_invocation good y) known)).found → IsTrue (is_effect_free (call_of scene (from_invocation (lowering scene) (bare_invocation good y))))
   invocation_good y whole =
-      let called = invocation_step (inferred_invocation (first_invocation y)) known in
-      let sending = invocation_lowered (lowered_invocation scene (first_invocation y)) in
+      let called = from_invocation inferring (bare_invocation good y) known in
+      let sending = from_invocation (lowering scene) (bare_invocation good y) in
       let first = error_free_first (called_found called) _ whole in
       called_effect_free called.span called.callee.typed_expr (typed_exprs_of called.arguments) sending called.callee.typed_expr.named (typed_expr scene.facts sending.callee.0).named
       (subst (λ (one : LoweredTree). StaysNamed called.callee.typed_expr.named (typed_expr scene.facts one.0).named) (sym (told_is scene y.callee.0)) y.callee.1.0)
       (error_free_second (called_found called) _ whole)
       (all_good y.arguments (error_free_second called.callee.found _ first))
 
-  parts_of_good : (span : Span) (count : Option T) (value : T)
-      → ErrorFree (part_found (part_step (inferred_part (first_part (record { span = span; count = count; value = value }))) known))
-      → IsTrue (part_is_effect_free (part_lowered (lowered_part scene (first_part (record { span = span; count = count; value = value })))).1)
-  parts_of_good span None value whole =
-      one_rule (core_value scene value.0) (value_of_effect_free (core_expr scene value.0) (value.1.1 (error_free_first (infer_expr value.0 known).found _ whole)))
-  parts_of_good span (Some count) value whole =
-      let found = error_free_first ((infer_expr count.0 known).found ++ (infer_expr value.0 known).found) _ whole in
-      repeated_rule (core_value scene count.0) (core_value scene value.0)
+  part_by : (y : PartNode good) (count : Option (Known TreeGood)) → ErrorFree (part_found (from_part inferring (bare_part good (record y { count = count })) known))
+      → IsTrue (part_is_effect_free (from_part (lowering scene) (bare_part good (record y { count = count }))).1)
+  part_by y None whole =
+      one_rule (core_value scene y.value.0) (value_of_effect_free (core_expr scene y.value.0) (y.value.1.1 (error_free_first (infer_expr y.value.0 known).found _ whole)))
+  part_by y (Some count) whole =
+      let found = error_free_first ((infer_expr count.0 known).found ++ (infer_expr y.value.0 known).found) _ whole in
+      repeated_rule (core_value scene count.0) (core_value scene y.value.0)
       (value_of_effect_free (core_expr scene count.0) (count.1.1 (error_free_first (infer_expr count.0 known).found _ found)))
-      (value_of_effect_free (core_expr scene value.0) (value.1.1 (error_free_second (infer_expr count.0 known).found _ found)))
+      (value_of_effect_free (core_expr scene y.value.0) (y.value.1.1 (error_free_second (infer_expr count.0 known).found _ found)))
 
-  part_good : (y : Part-F C T I P) → ErrorFree (part_found (part_step (inferred_part (first_part y)) known)) → IsTrue (part_is_effect_free (part_lowered (lowered_part scene (first_part y))).1)
-  part_good y = parts_of_good y.span y.count y.value
+  part_good : (y : PartNode good) → ErrorFree (part_found (from_part inferring (bare_part good y) known)) → IsTrue (part_is_effect_free (from_part (lowering scene) (bare_part good y)).1)
+  part_good y = part_by y y.count
 
   -- ---- all trees
 
-  step_create : (x : Create-F Create Tree Invocation PartTree) (y : Create-F C T I P) → first_create y ≡ x → CreateGood (roll-Create x)
-  step_create x y is = subst (λ z. CreateGood (roll-Create z)) is
-      (subst (λ (infer : Inferrer). Good (infer known) (infer scene.facts).typed_expr.named (is_effect_free (of_create scene (roll-Create (first_create y))).1))
-      (sym (fold-roll-Create Inferrer Inferrer CalledInferrer PartInferrer create_step expr_step invocation_step part_step (first_create y)))
-      (subst (λ (one : Create × Expr). Good (create_step (inferred_create (first_create y)) known) (create_step (inferred_create (first_create y)) scene.facts).typed_expr.named (is_effect_free one.1))
-      (sym (fold-roll-Create (Create × Expr) LoweredTree LoweredInvocation (PartTree × Part) (create_lowered scene) (expr_lowered scene) invocation_lowered part_lowered (first_create y)))
-      (create_good y)))
-
-  step_expr : (x : Expr-F Create Tree Invocation PartTree) (y : Expr-F C T I P) → first_expr y ≡ x → TreeGood (roll-Expr x)
-  step_expr x y is = subst (λ z. TreeGood (roll-Expr z)) is
-      (subst (λ (infer : Inferrer). Good (infer known) (infer scene.facts).typed_expr.named (lowered_is_effect_free (core_expr scene (roll-Expr (first_expr y)))))
-      (sym (fold-roll-Expr Inferrer Inferrer CalledInferrer PartInferrer create_step expr_step invocation_step part_step (first_expr y)))
-      (subst (λ (one : LoweredTree). Good (expr_step (inferred_expr (first_expr y)) known) (expr_step (inferred_expr (first_expr y)) scene.facts).typed_expr.named (lowered_is_effect_free one.1))
-      (sym (fold-roll-Expr (Create × Expr) LoweredTree LoweredInvocation (PartTree × Part) (create_lowered scene) (expr_lowered scene) invocation_lowered part_lowered (first_expr y)))
-      (expr_good y)))
-
-  step_invocation : (x : Invocation-F Create Tree Invocation PartTree) (y : Invocation-F C T I P) → first_invocation y ≡ x → InvocationGood (roll-Invocation x)
-  step_invocation x y is = subst (λ z. InvocationGood (roll-Invocation z)) is
-      (subst (λ (infer : CalledInferrer). ErrorFree (call_typing known (infer known)).found → IsTrue (is_effect_free (call_of scene (of_invocation scene (roll-Invocation (first_invocation y))))))
-      (sym (fold-roll-Invocation Inferrer Inferrer CalledInferrer PartInferrer create_step expr_step invocation_step part_step (first_invocation y)))
-      (subst (λ (one : LoweredInvocation). ErrorFree (call_typing known (invocation_step (inferred_invocation (first_invocation y)) known)).found → IsTrue (is_effect_free (call_of scene one)))
-      (sym (fold-roll-Invocation (Create × Expr) LoweredTree LoweredInvocation (PartTree × Part) (create_lowered scene) (expr_lowered scene) invocation_lowered part_lowered (first_invocation y)))
-      (invocation_good y)))
-
-  step_part : (x : Part-F Create Tree Invocation PartTree) (y : Part-F C T I P) → first_part y ≡ x → PartGood (roll-Part x)
-  step_part x y is = subst (λ z. PartGood (roll-Part z)) is
-      (subst (λ (infer : PartInferrer). ErrorFree (part_found (infer known)) → IsTrue (part_is_effect_free (of_part scene (roll-Part (first_part y))).1))
-      (sym (fold-roll-Part Inferrer Inferrer CalledInferrer PartInferrer create_step expr_step invocation_step part_step (first_part y)))
-      (subst (λ (one : PartTree × Part). ErrorFree (part_found (part_step (inferred_part (first_part y)) known)) → IsTrue (part_is_effect_free one.1))
-      (sym (fold-roll-Part (Create × Expr) LoweredTree LoweredInvocation (PartTree × Part) (create_lowered scene) (expr_lowered scene) invocation_lowered part_lowered (first_part y)))
-      (part_good y)))
+  by_parts : ByParts good
+  by_parts = record {
+    create = λ y. subst (λ t. t) (λ i. Good (create_folds inferring (bare_create good y) i known) (create_folds inferring (bare_create good y) i scene.facts).typed_expr.named (is_effect_free (create_folds (lowering scene) (bare_create good y) i).1)) (create_good y);
+    expr = λ y. subst (λ t. t) (λ i. Good (expr_folds inferring (bare_expr good y) i known) (expr_folds inferring (bare_expr good y) i scene.facts).typed_expr.named (lowered_is_effect_free (expr_folds (lowering scene) (bare_expr good y) i).1)) (expr_good y);
+    invocation = λ y. subst (λ t. t) (λ i. ErrorFree (call_typing known (invocation_folds inferring (bare_invocation good y) i known)).found → IsTrue (is_effect_free (call_of scene (invocation_folds (lowering scene) (bare_invocation good y) i)))) (invocation_good y);
+    part = λ y. subst (λ t. t) (λ i. ErrorFree (part_found (part_folds inferring (bare_part good y) i known)) → IsTrue (part_is_effect_free (part_folds (lowering scene) (bare_part good y) i).1)) (part_good y);
+  }
 
   tree_good : (tree : Tree) → TreeGood tree
-  tree_good = ind-Expr CreateGood TreeGood InvocationGood PartGood step_create step_expr step_invocation step_part
+  tree_good = each_expr good by_parts
 
   -- where no rule is broken in a guard it is side-effect-free
   pub expr_is_effect_free : (tree : Tree) → ErrorFree (infer_expr tree known).found → IsTrue (is_effect_free (core_value scene tree))

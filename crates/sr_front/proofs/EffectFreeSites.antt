@@ -1,13 +1,11 @@
 -- Where no rule is broken the guards and orders of the arms of all sites are side-effect-free: statements.
-use Rattle.std.proofs.Common.{◌≡◌, refl, sym, subst, Bool, true, false, List, [], ◌∷◌, ◌++◌, Option, Some, None, map, flat_map, is_some}
+use Rattle.std.proofs.Common.{refl, sym, subst, Bool, true, false, List, [], ◌∷◌, ◌++◌, Option, Some, None, map, flat_map, is_some}
 use Rattle.std.specs.Prelude.{IsTrue, if◌then◌else◌}
 use Rattle.std.specs.List.{list_all}
 use Rattle.std.specs.Option.{option_map}
 use Rattle.std.proofs.lemmas.Bool.{and_from}
 use Rattle.std.proofs.lemmas.List.Folds.{list_all-append}
 use Rattle.sr_core.specs.declared.site.Site.{Site}
-use Rattle.sr_core.specs.declared.statement.CoArm.{CoArm as CoreCoArm}
-use Rattle.sr_core.specs.declared.statement.Guarded.{Guarded}
 use Rattle.sr_core.specs.declared.statement.Statement.{Statement as CoreStatement}
 use Rattle.sr_core.specs.EffectFree.{is_effect_free}
 use Rattle.sr_core.specs.Tests.{if_some}
@@ -16,33 +14,36 @@ use Rattle.sr_check.specs.Invoking.{started_found}
 use Rattle.sr_check.specs.Quantifying.{expr_with, maybe_with, quantifiers_found, quantifiers_known}
 use Rattle.sr_check.specs.Services.{head_found, operation_named, type_of}
 use Rattle.sr_check.specs.Uses.{choice_rule, condition_rule}
-use Rattle.sr_check.specs.Statements.{ArmSteps, CoArmSteps, arm_context, arm_read, arm_step, arms_at, block_item_read, branch_read, branch_step, co_arms_at, co_arm_read, co_arm_step, condition_found, guarding, guards_found, item_step, mixture_found, statement_read, statement_step}
+use Rattle.sr_check.specs.Statements.{arm_context, arm_read, arms_at, block_item_read, branch_read, co_arms_at, co_arm_read, condition_found, guarding, guards_found, mixture_found, statement_read}
 use Rattle.sr_check_expr.specs.declared.facts.Facts.{Facts}
 use Rattle.sr_check_expr.specs.Exprs.{infer_expr, infer_invocation}
 use Rattle.sr_check_expr.specs.Typings.{value_found, valued}
 use Rattle.sr_names.specs.declared.predefined.Predefined.{Predefined}
 use Rattle.sr_names.specs.Spots.{spot_of}
-use Rattle.sr_order.specs.Names.{arm_names, arm_names_step, block_item_names, block_item_names_step, branch_names, branch_names_step, co_arm_names, co_arm_names_step, condition_names, expr_names, invocation_names, name_names, names_spans, quantifier_names, statement_names, statement_names_step, where_some}
+use Rattle.sr_order.specs.Names.{arm_names, block_item_names, branch_names, co_arm_names, condition_names, expr_names, invocation_names, name_names, names_spans, quantifier_names, statement_names, where_some}
 use Rattle.sr_order.specs.Spans.{joined}
 use Rattle.sr_check_expr.specs.Meanings.{function_called}
 use Rattle.sr_outline.specs.Numbers.{is_p}
 use Rattle.sr_tree.specs.declared.expr.Expr.{Expr}
 use Rattle.sr_tree.specs.declared.expr.Invocation.{Invocation}
-use Rattle.sr_tree.specs.declared.statement.Arm.{Arm, roll-Arm}
+use Rattle.sr_tree.specs.declared.statement.Arm.{Arm}
 use Rattle.sr_tree.specs.declared.statement.ArmCondition.{ArmCondition}
-use Rattle.sr_tree.specs.declared.statement.BlockItem.{BlockItem, roll-BlockItem}
-use Rattle.sr_tree.specs.declared.statement.BlockItem.TheFolds.{fold-roll-Arm, fold-roll-BlockItem, fold-roll-Branch, fold-roll-CoArm, fold-roll-Statement, ind-Statement, map-Arm, map-BlockItem, map-Branch, map-CoArm, map-Statement}
-use Rattle.sr_tree.specs.declared.statement.BlockItem.TheOpen.{Arm-F, BlockItem-F, Branch-F, CoArm-F, Statement-F}
-use Rattle.sr_tree.specs.declared.statement.Branch.{Branch, roll-Branch}
-use Rattle.sr_tree.specs.declared.statement.CoArm.{CoArm, roll-CoArm}
-use Rattle.sr_tree.specs.declared.statement.Statement.{Statement, roll-Statement}
+use Rattle.sr_tree.specs.declared.statement.BlockItem.{BlockItem}
+use Rattle.sr_tree.specs.declared.statement.BlockItem.TheOpen.{BlockItem-F, Statement-F}
+use Rattle.sr_tree.specs.declared.statement.Branch.{Branch}
+use Rattle.sr_tree.specs.declared.statement.CoArm.{CoArm}
+use Rattle.sr_tree.specs.declared.statement.Statement.{Statement}
 use Rattle.sr_value.specs.declared.place.Span.{Span}
 use Rattle.sr_lower_expr.specs.declared.scene.Scene.{Scene}
 use Rattle.sr_lower_expr.specs.Expressions.{core_value}
-use Rattle.sr_desugar.specs.Statements.{LoweredArm, Block, WithSites, all_sites, arm_made, arms_of, block_made, branch_made, call_made, co_arm_made, condition_of, core_arm, core_block_item, core_branch, core_co_arm, core_statement, item_made, statement_made}
+use Rattle.sr_desugar.specs.Statements.{LoweredArm, WithSites, all_sites, arms_of, block_made, call_made, condition_of, core_arm, core_block_item, core_branch, core_co_arm, core_statement}
 use Rattle.sr_front.proofs.Serviced.{arm_effect_free}
 use Rattle.sr_check.proofs.Each.{each-left, each-right}
+use Rattle.sr_desugar.proofs.CodeFold.{making}
+use Rattle.sr_order.proofs.NameFolds.{naming}
+use Rattle.sr_check.proofs.ReadFolds.{reading}
 use Rattle.sr_front.proofs.EffectFreeExprs.{Stay, expr_is_effect_free}
+use Rattle.sr_tree.proofs.StatementFolds.{ArmNode, BranchNode, ByParts, Claim, CoArmNode, ItemNode, Known, StatementNode, arm_folds, bare_arm, bare_branch, bare_co_arm, bare_item, bare_statement, branch_folds, co_arm_folds, each_statement, from_arm, from_branch, from_co_arm, from_item, from_statement, item_folds, statement_folds}
 use Rattle.sr_front.proofs.Staying.{AllFree, Free, Same, same_const, same_quantifiers, same_service, same_var, stay_through}
 use Rattle.sr_check.specs.ErrorFree.{ErrorFree}
 use Rattle.sr_check.proofs.ErrorFree.{error_free_first, error_free_second}
@@ -108,21 +109,8 @@ module _ (known : Facts) (scene : Scene) (later : Stay known scene.facts) where
   abbrev CoArmGood : CoArm → Type 0
   CoArmGood arm = AllFree known (co_arm_names arm) → (span : Span) (context : Context) → Same known context.facts → Good known (co_arm_read arm span context) (core_co_arm scene arm).sites
 
-  -- trees with what is known of them
-  abbrev I : Type 0
-  I = (tree : BlockItem) × ItemGood tree
-
-  abbrev S : Type 0
-  S = (tree : Statement) × StatementGood tree
-
-  abbrev A : Type 0
-  A = (tree : Arm) × ArmGood tree
-
-  abbrev B : Type 0
-  B = (tree : Branch) × BranchGood tree
-
-  abbrev C : Type 0
-  C = (tree : CoArm) × CoArmGood tree
+  abbrev good : Claim
+  good = record { item = ItemGood; statement = StatementGood; arm = ArmGood; branch = BranchGood; co_arm = CoArmGood }
 
   -- one after another
   row_good : {X M : Type 0} (read : X → Steps) (names : X → List Span) (make : X → WithSites M)
@@ -139,15 +127,15 @@ module _ (known : Facts) (scene : Scene) (later : Stay known scene.facts) where
             (first.effect_free (error_free_first (read x.0 context).found _ whole)) (rest.effect_free (error_free_second (read x.0 context).found _ whole));
       }
 
-  items_good : (items : List I) → AllFree known (joined (map block_item_names (map (λ e. e.0) items))) → (context : Context) → Same known context.facts
+  items_good : (items : List (Known ItemGood)) → AllFree known (joined (map block_item_names (map (λ e. e.0) items))) → (context : Context) → Same known context.facts
       → Good known (in_order (map block_item_read (map (λ e. e.0) items)) context) (block_made (map (core_block_item scene) (map (λ e. e.0) items))).sites
   items_good items = row_good block_item_read block_item_names (core_block_item scene) items
 
-  branches_good : (branches : List B) → AllFree known (joined (map branch_names (map (λ e. e.0) branches))) → (context : Context) → Same known context.facts
+  branches_good : (branches : List (Known BranchGood)) → AllFree known (joined (map branch_names (map (λ e. e.0) branches))) → (context : Context) → Same known context.facts
       → Good known (in_order (map branch_read (map (λ e. e.0) branches)) context) (all_sites (map (core_branch scene) (map (λ e. e.0) branches)))
   branches_good branches = row_good branch_read branch_names (core_branch scene) branches
 
-  co_arms_good : (span : Span) (arms : List C) → AllFree known (joined (map co_arm_names (map (λ e. e.0) arms))) → (context : Context) → Same known context.facts
+  co_arms_good : (span : Span) (arms : List (Known CoArmGood)) → AllFree known (joined (map co_arm_names (map (λ e. e.0) arms))) → (context : Context) → Same known context.facts
       → Good known (in_order (co_arms_at span (map co_arm_read (map (λ e. e.0) arms))) context) (all_sites (map (core_co_arm scene) (map (λ e. e.0) arms)))
   co_arms_good span [] free context same = record { same = same; effect_free = λ whole. refl }
   co_arms_good span (arm ∷ arms) free context same =
@@ -166,7 +154,7 @@ module _ (known : Facts) (scene : Scene) (later : Stay known scene.facts) where
     pub guards : ErrorFree step.found → IsTrue (list_all arm_effect_free (arms_of made))
     pub effect_free : ErrorFree step.found → IsTrue (all_effect_free (all_sites made))
 
-  arms_good : (span : Span) (arms : List A) → AllFree known (joined (map arm_names (map (λ e. e.0) arms))) → (context : Context) → Same known context.facts
+  arms_good : (span : Span) (arms : List (Known ArmGood)) → AllFree known (joined (map arm_names (map (λ e. e.0) arms))) → (context : Context) → Same known context.facts
       → ArmsGoodIn (in_order (arms_at span (map arm_read (map (λ e. e.0) arms))) context) (map (core_arm scene) (map (λ e. e.0) arms))
   arms_good span [] free context same = record { same = same; guards = λ whole. refl; effect_free = λ whole. refl }
   arms_good span (arm ∷ arms) free context same =
@@ -182,21 +170,6 @@ module _ (known : Facts) (scene : Scene) (later : Stay known scene.facts) where
 
   -- ---- the open trees
 
-  abbrev read_statement : Statement-F BlockItem Statement Arm Branch CoArm → Statement-F Steps Steps ArmSteps Steps CoArmSteps
-  read_statement = map-Statement BlockItem Statement Arm Branch CoArm Steps Steps ArmSteps Steps CoArmSteps block_item_read statement_read arm_read branch_read co_arm_read
-
-  abbrev made_statement : Statement-F BlockItem Statement Arm Branch CoArm → Statement-F (WithSites Block) (WithSites CoreStatement) (WithSites LoweredArm) (WithSites Guarded) (WithSites CoreCoArm)
-  made_statement =
-      map-Statement BlockItem Statement Arm Branch CoArm (WithSites Block) (WithSites CoreStatement) (WithSites LoweredArm) (WithSites Guarded) (WithSites CoreCoArm)
-      (core_block_item scene) (core_statement scene) (core_arm scene) (core_branch scene) (core_co_arm scene)
-
-  abbrev named_statement : Statement-F BlockItem Statement Arm Branch CoArm → Statement-F (List Span) (List Span) (List Span) (List Span) (List Span)
-  named_statement =
-      map-Statement BlockItem Statement Arm Branch CoArm (List Span) (List Span) (List Span) (List Span) (List Span) block_item_names statement_names arm_names branch_names co_arm_names
-
-  abbrev bare : Statement-F I S A B C → Statement-F BlockItem Statement Arm Branch CoArm
-  bare = map-Statement I S A B C BlockItem Statement Arm Branch CoArm (λ e. e.0) (λ e. e.0) (λ e. e.0) (λ e. e.0) (λ e. e.0)
-
   either_effect_free : (test : Bool) (one other : WithSites CoreStatement) → IsTrue (all_effect_free one.sites) → IsTrue (all_effect_free other.sites) → IsTrue (all_effect_free (if test then one else other).sites)
   either_effect_free true one other first second = first
   either_effect_free false one other first second = second
@@ -205,8 +178,8 @@ module _ (known : Facts) (scene : Scene) (later : Stay known scene.facts) where
   call_effect_free : (span : Span) (invocation : Invocation) (function : Option Predefined) → IsTrue (all_effect_free (call_made scene span invocation function).sites)
   call_effect_free span invocation function = either_effect_free (is_p function) _ _ refl refl
 
-  statement_good : (y : Statement-F I S A B C) → AllFree known (statement_names_step (named_statement (bare y))) → (context : Context) → Same known context.facts
-      → Good known (statement_step (read_statement (bare y)) context) (statement_made scene (made_statement (bare y))).sites
+  statement_good : (y : StatementNode good) → AllFree known (from_statement naming (bare_statement good y)) → (context : Context) → Same known context.facts
+      → Good known (from_statement reading (bare_statement good y) context) (from_statement (making scene) (bare_statement good y)).sites
   statement_good (Statement-F.Call span with_call invocation) free context same =
       record { same = same; effect_free = λ whole. call_effect_free span invocation (function_called scene.facts invocation) }
   statement_good (Statement-F.Receive span operation places) free context same = record { same = same; effect_free = λ whole. refl }
@@ -267,22 +240,8 @@ module _ (known : Facts) (scene : Scene) (later : Stay known scene.facts) where
 
   -- ---- arms, branches and items
 
-  abbrev bare_arm : Arm-F I S A B C → Arm-F BlockItem Statement Arm Branch CoArm
-  bare_arm = map-Arm I S A B C BlockItem Statement Arm Branch CoArm (λ e. e.0) (λ e. e.0) (λ e. e.0) (λ e. e.0) (λ e. e.0)
-
-  abbrev read_arm : Arm-F BlockItem Statement Arm Branch CoArm → Arm-F Steps Steps ArmSteps Steps CoArmSteps
-  read_arm = map-Arm BlockItem Statement Arm Branch CoArm Steps Steps ArmSteps Steps CoArmSteps block_item_read statement_read arm_read branch_read co_arm_read
-
-  abbrev made_arm : Arm-F BlockItem Statement Arm Branch CoArm → Arm-F (WithSites Block) (WithSites CoreStatement) (WithSites LoweredArm) (WithSites Guarded) (WithSites CoreCoArm)
-  made_arm =
-      map-Arm BlockItem Statement Arm Branch CoArm (WithSites Block) (WithSites CoreStatement) (WithSites LoweredArm) (WithSites Guarded) (WithSites CoreCoArm)
-      (core_block_item scene) (core_statement scene) (core_arm scene) (core_branch scene) (core_co_arm scene)
-
-  abbrev named_arm : Arm-F BlockItem Statement Arm Branch CoArm → Arm-F (List Span) (List Span) (List Span) (List Span) (List Span)
-  named_arm = map-Arm BlockItem Statement Arm Branch CoArm (List Span) (List Span) (List Span) (List Span) (List Span) block_item_names statement_names arm_names branch_names co_arm_names
-
-  arm_good : (y : Arm-F I S A B C) → AllFree known (arm_names_step (named_arm (bare_arm y))) → (span : Span) (context : Context) → Same known context.facts
-      → ArmGoodIn ((arm_step (read_arm (bare_arm y))).steps span context) (arm_made scene (made_arm (bare_arm y)))
+  arm_good : (y : ArmNode good) → AllFree known (from_arm naming (bare_arm good y)) → (span : Span) (context : Context) → Same known context.facts
+      → ArmGoodIn ((from_arm reading (bare_arm good y)).steps span context) (from_arm (making scene) (bare_arm good y))
   arm_good y free span context same =
       let operation = operation_named context.facts y.operation in
       let inside = arm_context context (spot_of y.operation.span) y.formals y.returned operation in
@@ -304,42 +263,14 @@ module _ (known : Facts) (scene : Scene) (later : Stay known scene.facts) where
         effect_free = λ whole. inner.effect_free (error_free_second guards _ (error_free_second head _ whole));
       }
 
-  abbrev bare_branch : Branch-F I S A B C → Branch-F BlockItem Statement Arm Branch CoArm
-  bare_branch = map-Branch I S A B C BlockItem Statement Arm Branch CoArm (λ e. e.0) (λ e. e.0) (λ e. e.0) (λ e. e.0) (λ e. e.0)
-
-  abbrev read_branch : Branch-F BlockItem Statement Arm Branch CoArm → Branch-F Steps Steps ArmSteps Steps CoArmSteps
-  read_branch = map-Branch BlockItem Statement Arm Branch CoArm Steps Steps ArmSteps Steps CoArmSteps block_item_read statement_read arm_read branch_read co_arm_read
-
-  abbrev made_branch : Branch-F BlockItem Statement Arm Branch CoArm → Branch-F (WithSites Block) (WithSites CoreStatement) (WithSites LoweredArm) (WithSites Guarded) (WithSites CoreCoArm)
-  made_branch =
-      map-Branch BlockItem Statement Arm Branch CoArm (WithSites Block) (WithSites CoreStatement) (WithSites LoweredArm) (WithSites Guarded) (WithSites CoreCoArm)
-      (core_block_item scene) (core_statement scene) (core_arm scene) (core_branch scene) (core_co_arm scene)
-
-  abbrev named_branch : Branch-F BlockItem Statement Arm Branch CoArm → Branch-F (List Span) (List Span) (List Span) (List Span) (List Span)
-  named_branch = map-Branch BlockItem Statement Arm Branch CoArm (List Span) (List Span) (List Span) (List Span) (List Span) block_item_names statement_names arm_names branch_names co_arm_names
-
-  branch_good : (y : Branch-F I S A B C) → AllFree known (branch_names_step (named_branch (bare_branch y))) → (context : Context) → Same known context.facts
-      → Good known (branch_step (read_branch (bare_branch y)) context) (branch_made scene (made_branch (bare_branch y))).sites
+  branch_good : (y : BranchNode good) → AllFree known (from_branch naming (bare_branch good y)) → (context : Context) → Same known context.facts
+      → Good known (from_branch reading (bare_branch good y) context) (from_branch (making scene) (bare_branch good y)).sites
   branch_good y free context same =
       let inner = items_good y.block (each-right (Free known) (expr_names y.guard) _ free) context same in
       record { same = inner.same; effect_free = λ whole. inner.effect_free (error_free_second (expr_with condition_rule context.facts y.guard) _ whole) }
 
-  abbrev bare_co_arm : CoArm-F I S A B C → CoArm-F BlockItem Statement Arm Branch CoArm
-  bare_co_arm = map-CoArm I S A B C BlockItem Statement Arm Branch CoArm (λ e. e.0) (λ e. e.0) (λ e. e.0) (λ e. e.0) (λ e. e.0)
-
-  abbrev read_co_arm : CoArm-F BlockItem Statement Arm Branch CoArm → CoArm-F Steps Steps ArmSteps Steps CoArmSteps
-  read_co_arm = map-CoArm BlockItem Statement Arm Branch CoArm Steps Steps ArmSteps Steps CoArmSteps block_item_read statement_read arm_read branch_read co_arm_read
-
-  abbrev made_co_arm : CoArm-F BlockItem Statement Arm Branch CoArm → CoArm-F (WithSites Block) (WithSites CoreStatement) (WithSites LoweredArm) (WithSites Guarded) (WithSites CoreCoArm)
-  made_co_arm =
-      map-CoArm BlockItem Statement Arm Branch CoArm (WithSites Block) (WithSites CoreStatement) (WithSites LoweredArm) (WithSites Guarded) (WithSites CoreCoArm)
-      (core_block_item scene) (core_statement scene) (core_arm scene) (core_branch scene) (core_co_arm scene)
-
-  abbrev named_co_arm : CoArm-F BlockItem Statement Arm Branch CoArm → CoArm-F (List Span) (List Span) (List Span) (List Span) (List Span)
-  named_co_arm = map-CoArm BlockItem Statement Arm Branch CoArm (List Span) (List Span) (List Span) (List Span) (List Span) block_item_names statement_names arm_names branch_names co_arm_names
-
-  co_arm_by : (y : CoArm-F I S A B C) (block : Option (List I)) → AllFree known (co_arm_names_step (named_co_arm (bare_co_arm (record y { block = block })))) → (span : Span) (context : Context) → Same known context.facts
-      → Good known (co_arm_step (read_co_arm (bare_co_arm (record y { block = block }))) span context) (co_arm_made scene (made_co_arm (bare_co_arm (record y { block = block })))).sites
+  co_arm_by : (y : CoArmNode good) (block : Option (List (Known ItemGood))) → AllFree known (from_co_arm naming (bare_co_arm good (record y { block = block }))) → (span : Span) (context : Context) → Same known context.facts
+      → Good known (from_co_arm reading (bare_co_arm good (record y { block = block })) span context) (from_co_arm (making scene) (bare_co_arm good (record y { block = block }))).sites
   co_arm_by y None free span context same =
       record { same = same_quantifiers known y.quantifiers context.facts (each-left (Free known) (flat_map quantifier_names y.quantifiers) _ free) same; effect_free = λ whole. refl }
   co_arm_by y (Some items) free span context same =
@@ -354,81 +285,26 @@ module _ (known : Facts) (scene : Scene) (later : Stay known scene.facts) where
             (error_free_second (started_found inside span y.target (infer_invocation y.invocation inside)) _ (error_free_second (quantifiers_found context.facts y.quantifiers) _ whole));
       }
 
-  co_arm_good : (y : CoArm-F I S A B C) → AllFree known (co_arm_names_step (named_co_arm (bare_co_arm y))) → (span : Span) (context : Context) → Same known context.facts
-      → Good known (co_arm_step (read_co_arm (bare_co_arm y)) span context) (co_arm_made scene (made_co_arm (bare_co_arm y))).sites
+  co_arm_good : (y : CoArmNode good) → AllFree known (from_co_arm naming (bare_co_arm good y)) → (span : Span) (context : Context) → Same known context.facts
+      → Good known (from_co_arm reading (bare_co_arm good y) span context) (from_co_arm (making scene) (bare_co_arm good y)).sites
   co_arm_good y = co_arm_by y y.block
 
-  abbrev bare_item : BlockItem-F I S A B C → BlockItem-F BlockItem Statement Arm Branch CoArm
-  bare_item = map-BlockItem I S A B C BlockItem Statement Arm Branch CoArm (λ e. e.0) (λ e. e.0) (λ e. e.0) (λ e. e.0) (λ e. e.0)
-
-  abbrev read_item : BlockItem-F BlockItem Statement Arm Branch CoArm → BlockItem-F Steps Steps ArmSteps Steps CoArmSteps
-  read_item = map-BlockItem BlockItem Statement Arm Branch CoArm Steps Steps ArmSteps Steps CoArmSteps block_item_read statement_read arm_read branch_read co_arm_read
-
-  abbrev made_item : BlockItem-F BlockItem Statement Arm Branch CoArm → BlockItem-F (WithSites Block) (WithSites CoreStatement) (WithSites LoweredArm) (WithSites Guarded) (WithSites CoreCoArm)
-  made_item =
-      map-BlockItem BlockItem Statement Arm Branch CoArm (WithSites Block) (WithSites CoreStatement) (WithSites LoweredArm) (WithSites Guarded) (WithSites CoreCoArm)
-      (core_block_item scene) (core_statement scene) (core_arm scene) (core_branch scene) (core_co_arm scene)
-
-  abbrev named_item : BlockItem-F BlockItem Statement Arm Branch CoArm → BlockItem-F (List Span) (List Span) (List Span) (List Span) (List Span)
-  named_item = map-BlockItem BlockItem Statement Arm Branch CoArm (List Span) (List Span) (List Span) (List Span) (List Span) block_item_names statement_names arm_names branch_names co_arm_names
-
-  item_good : (y : BlockItem-F I S A B C) → AllFree known (block_item_names_step (named_item (bare_item y))) → (context : Context) → Same known context.facts
-      → Good known (item_step (read_item (bare_item y)) context) (item_made scene (made_item (bare_item y))).sites
+  item_good : (y : ItemNode good) → AllFree known (from_item naming (bare_item good y)) → (context : Context) → Same known context.facts
+      → Good known (from_item reading (bare_item good y) context) (from_item (making scene) (bare_item good y)).sites
   item_good (BlockItem-F.Const constant) free context same = record { same = same_const known constant context.facts free same; effect_free = λ whole. refl }
   item_good (BlockItem-F.Var variables) free context same = record { same = same_var known variables context.facts free same; effect_free = λ whole. refl }
   item_good (BlockItem-F.Statement statement) free context same = statement.1 free context same
 
   -- ---- all trees
 
-  step_item : (x : BlockItem-F BlockItem Statement Arm Branch CoArm) (y : BlockItem-F I S A B C) → bare_item y ≡ x → ItemGood (roll-BlockItem x)
-  step_item x y is = subst (λ z. ItemGood (roll-BlockItem z)) is (λ free context same.
-      subst (λ (steps : Steps). Good known (steps context) (core_block_item scene (roll-BlockItem (bare_item y))).sites)
-      (sym (fold-roll-BlockItem Steps Steps ArmSteps Steps CoArmSteps item_step statement_step arm_step branch_step co_arm_step (bare_item y)))
-      (subst (λ made. Good known (item_step (read_item (bare_item y)) context) made.sites)
-      (sym (fold-roll-BlockItem (WithSites Block) (WithSites CoreStatement) (WithSites LoweredArm) (WithSites Guarded) (WithSites CoreCoArm) (item_made scene) (statement_made scene) (arm_made scene) (branch_made scene) (co_arm_made scene) (bare_item y)))
-      (item_good y
-      (subst (AllFree known) (fold-roll-BlockItem (List Span) (List Span) (List Span) (List Span) (List Span) block_item_names_step statement_names_step arm_names_step branch_names_step co_arm_names_step (bare_item y)) free)
-      context same)))
-
-  step_statement : (x : Statement-F BlockItem Statement Arm Branch CoArm) (y : Statement-F I S A B C) → bare y ≡ x → StatementGood (roll-Statement x)
-  step_statement x y is = subst (λ z. StatementGood (roll-Statement z)) is (λ free context same.
-      subst (λ (steps : Steps). Good known (steps context) (core_statement scene (roll-Statement (bare y))).sites)
-      (sym (fold-roll-Statement Steps Steps ArmSteps Steps CoArmSteps item_step statement_step arm_step branch_step co_arm_step (bare y)))
-      (subst (λ made. Good known (statement_step (read_statement (bare y)) context) made.sites)
-      (sym (fold-roll-Statement (WithSites Block) (WithSites CoreStatement) (WithSites LoweredArm) (WithSites Guarded) (WithSites CoreCoArm) (item_made scene) (statement_made scene) (arm_made scene) (branch_made scene) (co_arm_made scene) (bare y)))
-      (statement_good y
-      (subst (AllFree known) (fold-roll-Statement (List Span) (List Span) (List Span) (List Span) (List Span) block_item_names_step statement_names_step arm_names_step branch_names_step co_arm_names_step (bare y)) free)
-      context same)))
-
-  step_arm : (x : Arm-F BlockItem Statement Arm Branch CoArm) (y : Arm-F I S A B C) → bare_arm y ≡ x → ArmGood (roll-Arm x)
-  step_arm x y is = subst (λ z. ArmGood (roll-Arm z)) is (λ free span context same.
-      subst (λ (steps : ArmSteps). ArmGoodIn (steps.steps span context) (core_arm scene (roll-Arm (bare_arm y))))
-      (sym (fold-roll-Arm Steps Steps ArmSteps Steps CoArmSteps item_step statement_step arm_step branch_step co_arm_step (bare_arm y)))
-      (subst (λ made. ArmGoodIn ((arm_step (read_arm (bare_arm y))).steps span context) made)
-      (sym (fold-roll-Arm (WithSites Block) (WithSites CoreStatement) (WithSites LoweredArm) (WithSites Guarded) (WithSites CoreCoArm) (item_made scene) (statement_made scene) (arm_made scene) (branch_made scene) (co_arm_made scene) (bare_arm y)))
-      (arm_good y
-      (subst (AllFree known) (fold-roll-Arm (List Span) (List Span) (List Span) (List Span) (List Span) block_item_names_step statement_names_step arm_names_step branch_names_step co_arm_names_step (bare_arm y)) free)
-      span context same)))
-
-  step_branch : (x : Branch-F BlockItem Statement Arm Branch CoArm) (y : Branch-F I S A B C) → bare_branch y ≡ x → BranchGood (roll-Branch x)
-  step_branch x y is = subst (λ z. BranchGood (roll-Branch z)) is (λ free context same.
-      subst (λ (steps : Steps). Good known (steps context) (core_branch scene (roll-Branch (bare_branch y))).sites)
-      (sym (fold-roll-Branch Steps Steps ArmSteps Steps CoArmSteps item_step statement_step arm_step branch_step co_arm_step (bare_branch y)))
-      (subst (λ made. Good known (branch_step (read_branch (bare_branch y)) context) made.sites)
-      (sym (fold-roll-Branch (WithSites Block) (WithSites CoreStatement) (WithSites LoweredArm) (WithSites Guarded) (WithSites CoreCoArm) (item_made scene) (statement_made scene) (arm_made scene) (branch_made scene) (co_arm_made scene) (bare_branch y)))
-      (branch_good y
-      (subst (AllFree known) (fold-roll-Branch (List Span) (List Span) (List Span) (List Span) (List Span) block_item_names_step statement_names_step arm_names_step branch_names_step co_arm_names_step (bare_branch y)) free)
-      context same)))
-
-  step_co_arm : (x : CoArm-F BlockItem Statement Arm Branch CoArm) (y : CoArm-F I S A B C) → bare_co_arm y ≡ x → CoArmGood (roll-CoArm x)
-  step_co_arm x y is = subst (λ z. CoArmGood (roll-CoArm z)) is (λ free span context same.
-      subst (λ (steps : CoArmSteps). Good known (steps span context) (core_co_arm scene (roll-CoArm (bare_co_arm y))).sites)
-      (sym (fold-roll-CoArm Steps Steps ArmSteps Steps CoArmSteps item_step statement_step arm_step branch_step co_arm_step (bare_co_arm y)))
-      (subst (λ made. Good known (co_arm_step (read_co_arm (bare_co_arm y)) span context) made.sites)
-      (sym (fold-roll-CoArm (WithSites Block) (WithSites CoreStatement) (WithSites LoweredArm) (WithSites Guarded) (WithSites CoreCoArm) (item_made scene) (statement_made scene) (arm_made scene) (branch_made scene) (co_arm_made scene) (bare_co_arm y)))
-      (co_arm_good y
-      (subst (AllFree known) (fold-roll-CoArm (List Span) (List Span) (List Span) (List Span) (List Span) block_item_names_step statement_names_step arm_names_step branch_names_step co_arm_names_step (bare_co_arm y)) free)
-      span context same)))
+  by_parts : ByParts good
+  by_parts = record {
+    item = λ y. subst (λ t. t) (λ i. AllFree known (item_folds naming (bare_item good y) i) → (context : Context) → Same known context.facts → Good known (item_folds reading (bare_item good y) i context) (item_folds (making scene) (bare_item good y) i).sites) (item_good y);
+    statement = λ y. subst (λ t. t) (λ i. AllFree known (statement_folds naming (bare_statement good y) i) → (context : Context) → Same known context.facts → Good known (statement_folds reading (bare_statement good y) i context) (statement_folds (making scene) (bare_statement good y) i).sites) (statement_good y);
+    arm = λ y. subst (λ t. t) (λ i. AllFree known (arm_folds naming (bare_arm good y) i) → (span : Span) (context : Context) → Same known context.facts → ArmGoodIn ((arm_folds reading (bare_arm good y) i).steps span context) (arm_folds (making scene) (bare_arm good y) i)) (arm_good y);
+    branch = λ y. subst (λ t. t) (λ i. AllFree known (branch_folds naming (bare_branch good y) i) → (context : Context) → Same known context.facts → Good known (branch_folds reading (bare_branch good y) i context) (branch_folds (making scene) (bare_branch good y) i).sites) (branch_good y);
+    co_arm = λ y. subst (λ t. t) (λ i. AllFree known (co_arm_folds naming (bare_co_arm good y) i) → (span : Span) (context : Context) → Same known context.facts → Good known (co_arm_folds reading (bare_co_arm good y) i span context) (co_arm_folds (making scene) (bare_co_arm good y) i).sites) (co_arm_good y);
+  }
 
   pub statement_effect_free : (tree : Statement) → StatementGood tree
-  statement_effect_free = ind-Statement ItemGood StatementGood ArmGood BranchGood CoArmGood step_item step_statement step_arm step_branch step_co_arm
+  statement_effect_free = each_statement good by_parts

@@ -1,15 +1,13 @@
 -- What is written in a declaration is entered once: where its names mean the same and its signatures have numbers, entering
 -- it again changes nothing, and reads the same.
-use Rattle.std.proofs.Common.{◌≡◌, ◌||◌, ◌+◌, ℕ, Bool, true, false, List, [], ◌∷◌, ◌++◌, map, Option, Some, None, refl, sym, ap, subst, ◌∙◌, if◌then◌else◌}
+use Rattle.std.proofs.Common.{◌≡◌, ◌||◌, ◌+◌, ℕ, Bool, true, false, List, [], ◌∷◌, ◌++◌, map, Option, Some, None, refl, sym, ap, ◌∙◌, if◌then◌else◌}
 use Rattle.std.specs.List.{list_any, position_from}
 use Rattle.std.proofs.lemmas.Iterator.Adapters.{position_from-zero}
+use Rattle.std.proofs.lemmas.Option.{none-some}
 use Rattle.sr_tree.specs.declared.name.QualifiedName.{QualifiedName}
-use Rattle.sr_tree.specs.declared.types.Formal.{Formal, roll-Formal}
-use Rattle.sr_tree.specs.declared.types.Returned.{Returned, roll-Returned}
-use Rattle.sr_tree.specs.declared.types.Signature.{Signature as SignatureTree, roll-Signature}
-use Rattle.sr_tree.specs.declared.types.TypeTree.{TypeTree, roll-TypeTree}
-use Rattle.sr_tree.specs.declared.types.TypeTree.TheFolds.{map-TypeTree, map-Formal, map-Returned, map-Signature, fold-roll-TypeTree, fold-roll-Formal, fold-roll-Returned, fold-roll-Signature, ind-TypeTree, ind-Formal}
-use Rattle.sr_tree.specs.declared.types.TypeTree.TheOpen.{TypeTree-F, Formal-F, Returned-F, Signature-F}
+use Rattle.sr_tree.specs.declared.types.Formal.{Formal}
+use Rattle.sr_tree.specs.declared.types.TypeTree.{TypeTree}
+use Rattle.sr_tree.specs.declared.types.TypeTree.TheOpen.{TypeTree-F}
 use Rattle.sr_types.specs.declared.signature.Signature.{Signature}
 use Rattle.sr_types.specs.declared.ty.Ty.{Ty}
 use Rattle.sr_types.specs.declared.ty.Ty.TheVariants as ty
@@ -20,19 +18,17 @@ use Rattle.sr_check_expr.specs.declared.facts.Facts.{Facts}
 use Rattle.sr_check_expr.specs.Infos.{type_spot}
 use Rattle.sr_check_decl.specs.declared.kind.NamedParam.{NamedParam}
 use Rattle.sr_check_decl.specs.declared.kind.Signed.{Signed}
-use Rattle.sr_check_decl.specs.Entering.{Entered, EntersFormals, EntersReturned, EntersSignature, EntersType, after_formals, after_params, after_returned, array_after, entered, formal_read_in, formals_entered, in_turn, operation_after, param_after, params_after, read_in, returned_read_in, signature_read_in, signed_entered, some_after, type_entered, type_read_in, type_step as enter_type, formal_step as enter_formal, returned_step as enter_returned, signature_step as enter_signature}
+use Rattle.sr_check_decl.specs.Entering.{Entered, EntersFormals, EntersReturned, EntersSignature, EntersType, after_formals, after_params, after_returned, array_after, entered, formal_read_in, formals_entered, in_turn, operation_after, param_after, params_after, read_in, returned_read_in, signature_read_in, signed_entered, some_after, type_entered, type_read_in}
 use Rattle.sr_check_decl.specs.TypeTrees.{forms_of, is_refused, kinding, mode_of, whole_signature}
 use Rattle.sr_check.proofs.Each.{Each, each-left, each-right}
-use Rattle.sr_check.proofs.Entered.{keeps_formals, keeps_signed, keeps_type}
-use Rattle.sr_front.proofs.TypedTypes.{Agrees, Counts, all_uses, counts_itself, counts_through, entered_counts, entered_number, enters_formal, enters_returned, enters_signature, enters_type, formal_uses, formal_uses_step, returned_uses, returned_uses_step, same_signed, signature_uses, signature_uses_step, type_uses, type_uses_step, uses_formal, uses_returned, uses_signature, uses_type}
+use Rattle.sr_check.proofs.Entered.{entering, keeps_formals, keeps_signed, keeps_type}
+use Rattle.sr_tree.proofs.TypeFolds.{FormalFits, FormalNode, KnownFormal, KnownReturned, Layers, Related, ReturnedFits, ReturnedNode, SignatureFits, SignatureNode, TypeFits, TypeNode, formal_related, type_related}
+use Rattle.sr_front.proofs.TypedTypes.{Agrees, Counts, all_uses, counts_itself, counts_through, entered_counts, entered_number, formal_uses, returned_uses, same_signed, type_uses, uses_fold}
 
 -- ---- a signature that has a number
 
-none_some : {A : Type 0} {a : A} → None ≡ Some a → ⊥
-none_some e = cc
-
 any_from : {X : Type 0} (test : X → Bool) (xs : List X) (i n : ℕ) → position_from test i xs ≡ Some n → list_any test xs ≡ true
-any_from test [] i n at = absurd (none_some at)
+any_from test [] i n at = absurd (none-some _ at)
 any_from test (x ∷ xs) i n at = by (test x) at (any_from test xs (i + 1) n)
   where
     by : (passes : Bool) → (if passes then Some i else position_from test (i + 1) xs) ≡ Some n → (position_from test (i + 1) xs ≡ Some n → list_any test xs ≡ true) → (passes || list_any test xs) ≡ true
@@ -68,31 +64,18 @@ pub record SignedAgain (names : List QualifiedName) (enters : EntersSignature) :
   pub same : Again names enters
   pub numbered : (facts : Facts) → is_refused (enters facts).read ≡ false → (n : ℕ) × (number_of (enters facts).facts.signatures (whole_signature (enters facts).read) ≡ Some n)
 
-abbrev T : Type 0
-T = (tree : TypeTree) × Again (type_uses tree) (type_read_in tree)
+abbrev related : Related
+related = record {
+  first = uses_fold;
+  second = entering;
+  third = uses_fold;
+  Types = λ names (enters : EntersType) others. Again names enters;
+  Formals = λ names (enters : EntersFormals) others. Again names enters;
+  Returns = λ names (enters : EntersReturned) others. ((facts : Facts) → Counts facts (enters facts).facts) × Again names enters;
+  Signatures = λ names (enters : EntersSignature) others. SignedAgain names enters;
+}
 
-abbrev F : Type 0
-F = (tree : Formal) × Again (formal_uses tree) (formal_read_in tree)
-
-abbrev R : Type 0
-R = (tree : Returned) × (((facts : Facts) → Counts facts (returned_read_in tree facts).facts) × Again (returned_uses tree) (returned_read_in tree))
-
-abbrev S : Type 0
-S = (tree : SignatureTree) × SignedAgain (signature_uses tree) (signature_read_in tree)
-
-abbrev first_type : TypeTree-F T F R S → TypeTree-F TypeTree Formal Returned SignatureTree
-first_type = map-TypeTree T F R S TypeTree Formal Returned SignatureTree (λ t. t.0) (λ f. f.0) (λ r. r.0) (λ s. s.0)
-
-abbrev first_formal : Formal-F T F R S → Formal-F TypeTree Formal Returned SignatureTree
-first_formal = map-Formal T F R S TypeTree Formal Returned SignatureTree (λ t. t.0) (λ f. f.0) (λ r. r.0) (λ s. s.0)
-
-abbrev first_returned : Returned-F T F R S → Returned-F TypeTree Formal Returned SignatureTree
-first_returned = map-Returned T F R S TypeTree Formal Returned SignatureTree (λ t. t.0) (λ f. f.0) (λ r. r.0) (λ s. s.0)
-
-abbrev first_signature : Signature-F T F R S → Signature-F TypeTree Formal Returned SignatureTree
-first_signature = map-Signature T F R S TypeTree Formal Returned SignatureTree (λ t. t.0) (λ f. f.0) (λ r. r.0) (λ s. s.0)
-
-formal_node : (y : Formal-F T F R S) → Again (formal_uses_step (uses_formal (first_formal y))) (enter_formal (enters_formal (first_formal y)))
+formal_node : (y : FormalNode related) → FormalFits related y
 formal_node y facts later agree more = ap (params_after (mode_of y.mode) y.decls) (y.ty.1 facts later agree more)
 
 -- formals in a row, when each is so
@@ -108,11 +91,11 @@ row_both formal trees one others facts later agree more =
     let rest = others first later (keeps_formals (λ now. Each (Agrees now later) names) (λ now signature h. h) (formal ∷ []) facts (each-right (Agrees facts later) (formal_uses formal) names agree)) more in
     ap (λ (entered : Entered (List NamedParam)). after_params entered.read (in_turn (map formal_read_in trees) entered.facts)) here ∙ ap (after_params (formal_read_in formal facts).read) rest
 
-row_node : (formals : List F) → RowAgain (map (λ (f : F). f.0) formals)
+row_node : (formals : List (KnownFormal related)) → RowAgain (map (λ (f : KnownFormal related). f.0) formals)
 row_node [] facts later agree more = refl
-row_node (formal ∷ formals) facts later agree more = row_both formal.0 (map (λ (f : F). f.0) formals) formal.1 (row_node formals) facts later agree more
+row_node (formal ∷ formals) facts later agree more = row_both formal.0 (map (λ (f : KnownFormal related). f.0) formals) formal.1 (row_node formals) facts later agree more
 
-returned_node : (y : Returned-F T F R S) → ((facts : Facts) → Counts facts (enter_returned (enters_returned (first_returned y)) facts).facts) × Again (returned_uses_step (uses_returned (first_returned y))) (enter_returned (enters_returned (first_returned y)))
+returned_node : (y : ReturnedNode related) → ReturnedFits related y
 returned_node y = (
   λ facts. keeps_type (Counts facts) (entered_counts facts) y.ty.0 facts (counts_itself facts),
   λ facts later agree more. ap (param_after y.decl) (y.ty.1 facts later agree more),
@@ -131,10 +114,10 @@ signed_again later facts signed more =
     let number = signed_number facts signed kept in
     (number.0, more (whole_signature signed) number.0 number.1)))
 
-signature_by : (y : Signature-F T F R S) (returned : Option R) → SignedAgain (signature_uses_step (uses_signature (first_signature (record y { returned = returned })))) (enter_signature (enters_signature (first_signature (record y { returned = returned }))))
+signature_by : (y : SignatureNode related) (returned : Option (KnownReturned related)) → SignatureFits related (record y { returned = returned })
 signature_by y None = record {
   same = λ facts later agree more.
-      let trees = map (λ (f : F). f.0) y.formals in
+      let trees = map (λ (f : KnownFormal related). f.0) y.formals in
       let params = in_turn (map formal_read_in trees) facts in
       let signed : Signed = record { params = params.read; returned = None; forms = forms_of y.kinds } in
       let after : Counts params.facts later =
@@ -142,12 +125,12 @@ signature_by y None = record {
       ap (after_formals (forms_of y.kinds) None) (row_node y.formals facts later (each-left (Agrees facts later) (all_uses (map formal_uses trees)) [] agree) after)
       ∙ signed_again later params.facts signed more;
   numbered = λ facts kept.
-      let params = in_turn (map formal_read_in (map (λ (f : F). f.0) y.formals)) facts in
+      let params = in_turn (map formal_read_in (map (λ (f : KnownFormal related). f.0) y.formals)) facts in
       signed_number params.facts (record { params = params.read; returned = None; forms = forms_of y.kinds }) kept;
 }
 signature_by y (Some returned) = record {
   same = λ facts later agree more.
-      let trees = map (λ (f : F). f.0) y.formals in
+      let trees = map (λ (f : KnownFormal related). f.0) y.formals in
       let names = all_uses (map formal_uses trees) in
       let back_names = returned_uses returned.0 in
       let params = in_turn (map formal_read_in trees) facts in
@@ -161,15 +144,12 @@ signature_by y (Some returned) = record {
       (row_node y.formals facts later (each-left (Agrees facts later) names back_names agree) (counts_through params.facts back.facts later (returned.1.0 params.facts) after))
       ∙ (ap (λ entered. after_returned (forms_of y.kinds) params.read (some_after entered)) one ∙ signed_again later back.facts signed more);
   numbered = λ facts kept.
-      let params = in_turn (map formal_read_in (map (λ (f : F). f.0) y.formals)) facts in
+      let params = in_turn (map formal_read_in (map (λ (f : KnownFormal related). f.0) y.formals)) facts in
       let back = returned_read_in returned.0 params.facts in
       signed_number back.facts (record { params = params.read; returned = Some back.read; forms = forms_of y.kinds }) kept;
 }
 
-signature_node : (y : Signature-F T F R S) → SignedAgain (signature_uses_step (uses_signature (first_signature y))) (enter_signature (enters_signature (first_signature y)))
-signature_node y = signature_by y y.returned
-
-type_node : (y : TypeTree-F T F R S) → Again (type_uses_step (uses_type (first_type y))) (enter_type (enters_type (first_type y)))
+type_node : (y : TypeNode related) → TypeFits related y
 type_node (TypeTree-F.Int span) facts later agree more = refl
 type_node (TypeTree-F.Bool span) facts later agree more = refl
 type_node (TypeTree-F.Char span) facts later agree more = refl
@@ -187,56 +167,16 @@ type_node (TypeTree-F.Named span name) facts later agree more = ap (λ named. re
 
 -- ---- all trees
 
-abbrev TypeAt : TypeTree → Type 0
-TypeAt tree = Again (type_uses tree) (type_read_in tree)
-
-abbrev FormalAt : Formal → Type 0
-FormalAt tree = Again (formal_uses tree) (formal_read_in tree)
-
-abbrev ReturnedAt : Returned → Type 0
-ReturnedAt tree = ((facts : Facts) → Counts facts (returned_read_in tree facts).facts) × Again (returned_uses tree) (returned_read_in tree)
-
-abbrev SignatureAt : SignatureTree → Type 0
-SignatureAt tree = SignedAgain (signature_uses tree) (signature_read_in tree)
-
-step_type : (x : TypeTree-F TypeTree Formal Returned SignatureTree) (y : TypeTree-F T F R S) → first_type y ≡ x → TypeAt (roll-TypeTree x)
-step_type x y is = subst (λ z. TypeAt (roll-TypeTree z)) is
-    (subst (λ (names : List QualifiedName). Again names (type_read_in (roll-TypeTree (first_type y))))
-    (sym (fold-roll-TypeTree (List QualifiedName) (List QualifiedName) (List QualifiedName) (List QualifiedName) type_uses_step formal_uses_step returned_uses_step signature_uses_step (first_type y)))
-    (subst (λ (enters : EntersType). Again (type_uses_step (uses_type (first_type y))) enters)
-    (sym (fold-roll-TypeTree EntersType EntersFormals EntersReturned EntersSignature enter_type enter_formal enter_returned enter_signature (first_type y))) (type_node y)))
-
-step_formal : (x : Formal-F TypeTree Formal Returned SignatureTree) (y : Formal-F T F R S) → first_formal y ≡ x → FormalAt (roll-Formal x)
-step_formal x y is = subst (λ z. FormalAt (roll-Formal z)) is
-    (subst (λ (names : List QualifiedName). Again names (formal_read_in (roll-Formal (first_formal y))))
-    (sym (fold-roll-Formal (List QualifiedName) (List QualifiedName) (List QualifiedName) (List QualifiedName) type_uses_step formal_uses_step returned_uses_step signature_uses_step (first_formal y)))
-    (subst (λ (enters : EntersFormals). Again (formal_uses_step (uses_formal (first_formal y))) enters)
-    (sym (fold-roll-Formal EntersType EntersFormals EntersReturned EntersSignature enter_type enter_formal enter_returned enter_signature (first_formal y))) (formal_node y)))
-
-abbrev ReturnedBy : List QualifiedName → EntersReturned → Type 0
-ReturnedBy names enters = ((facts : Facts) → Counts facts (enters facts).facts) × Again names enters
-
-step_returned : (x : Returned-F TypeTree Formal Returned SignatureTree) (y : Returned-F T F R S) → first_returned y ≡ x → ReturnedAt (roll-Returned x)
-step_returned x y is = subst (λ z. ReturnedAt (roll-Returned z)) is
-    (subst (λ (names : List QualifiedName). ReturnedBy names (returned_read_in (roll-Returned (first_returned y))))
-    (sym (fold-roll-Returned (List QualifiedName) (List QualifiedName) (List QualifiedName) (List QualifiedName) type_uses_step formal_uses_step returned_uses_step signature_uses_step (first_returned y)))
-    (subst (λ (enters : EntersReturned). ReturnedBy (returned_uses_step (uses_returned (first_returned y))) enters)
-    (sym (fold-roll-Returned EntersType EntersFormals EntersReturned EntersSignature enter_type enter_formal enter_returned enter_signature (first_returned y))) (returned_node y)))
-
-step_signature : (x : Signature-F TypeTree Formal Returned SignatureTree) (y : Signature-F T F R S) → first_signature y ≡ x → SignatureAt (roll-Signature x)
-step_signature x y is = subst (λ z. SignatureAt (roll-Signature z)) is
-    (subst (λ (names : List QualifiedName). SignedAgain names (signature_read_in (roll-Signature (first_signature y))))
-    (sym (fold-roll-Signature (List QualifiedName) (List QualifiedName) (List QualifiedName) (List QualifiedName) type_uses_step formal_uses_step returned_uses_step signature_uses_step (first_signature y)))
-    (subst (λ (enters : EntersSignature). SignedAgain (signature_uses_step (uses_signature (first_signature y))) enters)
-    (sym (fold-roll-Signature EntersType EntersFormals EntersReturned EntersSignature enter_type enter_formal enter_returned enter_signature (first_signature y))) (signature_node y)))
+layers : Layers related
+layers = record { types = type_node; formals = formal_node; returns = returned_node; signatures = λ y. signature_by y y.returned }
 
 -- a type that is entered again
 pub type_again : (tree : TypeTree) → Again (type_uses tree) (type_read_in tree)
-type_again = ind-TypeTree TypeAt FormalAt ReturnedAt SignatureAt step_type step_formal step_returned step_signature
+type_again = type_related related layers
 
 -- a formal
 pub formal_again : (tree : Formal) → Again (formal_uses tree) (formal_read_in tree)
-formal_again = ind-Formal TypeAt FormalAt ReturnedAt SignatureAt step_type step_formal step_returned step_signature
+formal_again = formal_related related layers
 
 -- formals in a row
 pub formals_again : (formals : List Formal) → Again (all_uses (map formal_uses formals)) (in_turn (map formal_read_in formals))

@@ -4,12 +4,11 @@ use Rattle.std.proofs.Common.{◌≡◌, List, [], ◌∷◌, ◌++◌, map, Opt
 use Rattle.sr_value.specs.declared.place.Span.{Span}
 use Rattle.sr_names.specs.Spots.{spot_of}
 use Rattle.sr_names.specs.Uses.{meaning_at}
-use Rattle.sr_tree.specs.declared.expr.Create.{Create, roll-Create}
-use Rattle.sr_tree.specs.declared.expr.Create.TheFolds.{fold-roll-Create, fold-roll-Expr, fold-roll-Invocation, fold-roll-Part, ind-Expr, map-Create, map-Expr, map-Invocation, map-Part}
-use Rattle.sr_tree.specs.declared.expr.Create.TheOpen.{Create-F, Expr-F, Invocation-F, Part-F}
-use Rattle.sr_tree.specs.declared.expr.Expr.{Expr as Tree, roll-Expr}
-use Rattle.sr_tree.specs.declared.expr.Invocation.{Invocation, roll-Invocation}
-use Rattle.sr_tree.specs.declared.expr.Part.{Part as PartTree, roll-Part}
+use Rattle.sr_tree.specs.declared.expr.Create.{Create}
+use Rattle.sr_tree.specs.declared.expr.Create.TheOpen.{Create-F, Expr-F}
+use Rattle.sr_tree.specs.declared.expr.Expr.{Expr as Tree}
+use Rattle.sr_tree.specs.declared.expr.Invocation.{Invocation}
+use Rattle.sr_tree.specs.declared.expr.Part.{Part as PartTree}
 use Rattle.sr_tree.specs.declared.name.Name.{Name}
 use Rattle.sr_tree.specs.declared.name.QualifiedName.{QualifiedName}
 use Rattle.sr_tree.specs.declared.expr.Conversion.{Conversion}
@@ -30,13 +29,14 @@ use Rattle.sr_check_expr.specs.declared.typed_expr.TypedExpr.{TypedExpr}
 use Rattle.sr_check_expr.specs.Arguments.{all_found}
 use Rattle.sr_check_expr.specs.Calls.{Called, called_by, parts_found as called_found}
 use Rattle.sr_check_expr.specs.Creating.{instance_type, instance_typing, made_of, resource_named, resource_type}
-use Rattle.sr_check_expr.specs.Exprs.{CalledInferrer, Inferrer, PartInferrer, around, between, conversion_outcome, create_step, expr_step, field_typing, indexed, infer_all, infer_create, infer_expr, infer_invocation, infer_part, infer_parts, inferred_repeated, invocation_step, operator_of, part_found, part_step, parts_found, prefix_of, repeated}
+use Rattle.sr_check_expr.specs.Exprs.{around, between, conversion_outcome, field_typing, indexed, infer_all, infer_create, infer_expr, infer_invocation, infer_part, infer_parts, inferred_repeated, operator_of, part_found, parts_found, prefix_of, repeated}
 use Rattle.sr_check_expr.specs.Naming.{decl_of, deciding, field_outcome}
 use Rattle.sr_check_expr.specs.Typings.{Typing, settled_typed, typed_exprs_of, value_at, value_found}
 use Rattle.sr_check.specs.ErrorFree.{ErrorFree}
 use Rattle.sr_check.proofs.ErrorFree.{error_free_first, error_free_second}
-use Rattle.sr_front.proofs.ExprParts.{inferred_create, inferred_expr, inferred_invocation, inferred_part}
+use Rattle.sr_tree.proofs.ExprFolds.{ByParts, Claim, CreateNode, ExprNode, InvocationNode, Known, PartNode, bare_create, bare_expr, bare_invocation, bare_part, create_folds, each_expr, expr_folds, from_create, from_expr, from_invocation, from_part, invocation_folds, part_folds}
 use Rattle.sr_front.proofs.Placeless.{binary_loose, bracketed_loose, called_loose, conversion_loose, field_loose, index_loose, placeless, placeless_part, takes_loose, unary_loose}
+use Rattle.sr_front.proofs.TypingFolds.{inferring}
 use Rattle.sr_front.proofs.TypesStay.{Alike, Grows, called_alike, field_alike, made_alike, name_alike, pending_alike, settled_alike}
 
 module _ (now end : Facts) (grows : Grows now end) where
@@ -66,44 +66,23 @@ module _ (now end : Facts) (grows : Grows now end) where
   abbrev PartGood : PartTree → Type 0
   PartGood tree = PartAlike (infer_part tree now) (infer_part tree end)
 
-  abbrev C : Type 0
-  C = (tree : Create) × CreateGood tree
+  abbrev good : Claim
+  good = record { create = CreateGood; expr = TreeGood; invocation = InvocationGood; part = PartGood }
 
-  abbrev T : Type 0
-  T = (tree : Tree) × TreeGood tree
+  abbrev typings : List (Known TreeGood) → Facts → List Typing
+  typings xs facts = infer_all (map infer_expr (map (λ (x : Known TreeGood). x.0) xs)) facts
 
-  abbrev I : Type 0
-  I = (tree : Invocation) × InvocationGood tree
+  abbrev part_typings : List (Known PartGood) → Facts → List (Option Typing × Typing)
+  part_typings xs facts = infer_parts (map infer_part (map (λ (x : Known PartGood). x.0) xs)) facts
 
-  abbrev P : Type 0
-  P = (tree : PartTree) × PartGood tree
-
-  abbrev first_create : Create-F C T I P → Create-F Create Tree Invocation PartTree
-  first_create = map-Create C T I P Create Tree Invocation PartTree (λ c. c.0) (λ e. e.0) (λ s. s.0) (λ p. p.0)
-
-  abbrev first_expr : Expr-F C T I P → Expr-F Create Tree Invocation PartTree
-  first_expr = map-Expr C T I P Create Tree Invocation PartTree (λ c. c.0) (λ e. e.0) (λ s. s.0) (λ p. p.0)
-
-  abbrev first_invocation : Invocation-F C T I P → Invocation-F Create Tree Invocation PartTree
-  first_invocation = map-Invocation C T I P Create Tree Invocation PartTree (λ c. c.0) (λ e. e.0) (λ s. s.0) (λ p. p.0)
-
-  abbrev first_part : Part-F C T I P → Part-F Create Tree Invocation PartTree
-  first_part = map-Part C T I P Create Tree Invocation PartTree (λ c. c.0) (λ e. e.0) (λ s. s.0) (λ p. p.0)
-
-  abbrev typings : List T → Facts → List Typing
-  typings xs facts = infer_all (map infer_expr (map (λ (x : T). x.0) xs)) facts
-
-  abbrev part_typings : List P → Facts → List (Option Typing × Typing)
-  part_typings xs facts = infer_parts (map infer_part (map (λ (x : P). x.0) xs)) facts
-
-  all_alike : (xs : List T) → ErrorFree (all_found (typings xs now)) → map placeless (typed_exprs_of (typings xs now)) ≡ map placeless (typed_exprs_of (typings xs end))
+  all_alike : (xs : List (Known TreeGood)) → ErrorFree (all_found (typings xs now)) → map placeless (typed_exprs_of (typings xs now)) ≡ map placeless (typed_exprs_of (typings xs end))
   all_alike [] whole = refl
   all_alike (x ∷ xs) whole =
       let one = x.1 (error_free_first (infer_expr x.0 now).found _ whole) in
       let more = all_alike xs (error_free_second (infer_expr x.0 now).found _ whole) in
       ap (λ (e : TypedExpr). e ∷ map placeless (typed_exprs_of (typings xs now))) one ∙ ap (λ (es : List TypedExpr). placeless (infer_expr x.0 end).typed_expr ∷ es) more
 
-  parts_alike : (xs : List P) → ErrorFree (parts_found (part_typings xs now)) → map placeless_part (map repeated (part_typings xs now)) ≡ map placeless_part (map repeated (part_typings xs end))
+  parts_alike : (xs : List (Known PartGood)) → ErrorFree (parts_found (part_typings xs now)) → map placeless_part (map repeated (part_typings xs now)) ≡ map placeless_part (map repeated (part_typings xs end))
   parts_alike [] whole = refl
   parts_alike (x ∷ xs) whole =
       let one = x.1 (error_free_first (part_found (infer_part x.0 now)) _ whole) in
@@ -147,7 +126,7 @@ module _ (now end : Facts) (grows : Grows now end) where
       ∙ (ap (λ (arguments : List TypedExpr). placeless (value_at span (settled_typed (made_of end arguments instance formals)))) same
       ∙ sym (formals_loose span instance formals there))
 
-  create_good : (y : Create-F C T I P) → Alike (create_step (inferred_create (first_create y)) now) (create_step (inferred_create (first_create y)) end)
+  create_good : (y : CreateNode good) → Alike (from_create inferring (bare_create good y) now) (from_create inferring (bare_create good y) end)
   create_good (Create-F.Resource span resource arguments None) whole =
       let found = error_free_first (all_found (typings arguments now) ++ []) _ whole in
       made_alike now end grows span (resource_named now resource) (typed_exprs_of (typings arguments now)) None (error_free_second (all_found (typings arguments now) ++ []) _ whole)
@@ -161,15 +140,15 @@ module _ (now end : Facts) (grows : Grows now end) where
       ∙ made_loose span resource (typed_exprs_of (typings arguments now)) (typed_exprs_of (typings arguments end)) (Some on.typed_expr) (all_alike arguments (error_free_first (all_found (typings arguments now)) _ found)))
   create_good (Create-F.Machine span) whole = refl
 
-  invocation_good : (y : Invocation-F C T I P) → CalledAlike (invocation_step (inferred_invocation (first_invocation y)) now) (invocation_step (inferred_invocation (first_invocation y)) end)
+  invocation_good : (y : InvocationNode good) → CalledAlike (from_invocation inferring (bare_invocation good y) now) (from_invocation inferring (bare_invocation good y) end)
   invocation_good y whole = record {
     span = refl;
     callee = y.callee.1 (error_free_first (infer_expr y.callee.0 now).found _ whole);
     arguments = all_alike y.arguments (error_free_second (infer_expr y.callee.0 now).found _ whole);
   }
 
-  part_by : (y : Part-F C T I P) (count : Option T)
-      → PartAlike (part_step (inferred_part (first_part (record y { count = count }))) now) (part_step (inferred_part (first_part (record y { count = count }))) end)
+  part_by : (y : PartNode good) (count : Option (Known TreeGood))
+      → PartAlike (from_part inferring (bare_part good (record y { count = count })) now) (from_part inferring (bare_part good (record y { count = count })) end)
   part_by y None whole =
       let found = error_free_first ([] ++ (infer_expr y.value.0 now).found) _ whole in
       ap (λ (e : TypedExpr). placeless_part (inferred_repeated None e)) (y.value.1 found)
@@ -178,7 +157,7 @@ module _ (now end : Facts) (grows : Grows now end) where
       ap (λ (e : TypedExpr). placeless_part (inferred_repeated (Some e) (infer_expr y.value.0 now).typed_expr)) (count.1 (error_free_first (infer_expr count.0 now).found _ found))
       ∙ ap (λ (e : TypedExpr). placeless_part (inferred_repeated (Some (infer_expr count.0 end).typed_expr) e)) (y.value.1 (error_free_second (infer_expr count.0 now).found _ found))
 
-  part_good : (y : Part-F C T I P) → PartAlike (part_step (inferred_part (first_part y)) now) (part_step (inferred_part (first_part y)) end)
+  part_good : (y : PartNode good) → PartAlike (from_part inferring (bare_part good y) now) (from_part inferring (bare_part good y) end)
   part_good y = part_by y y.count
 
   -- the types of two constructs are the same where those of their parts are
@@ -218,7 +197,7 @@ module _ (now end : Facts) (grows : Grows now end) where
       ∙ (ap (λ (one : Option TypedExpr). placeless (indexed span (placeless array2) (placeless first2) one).typed_expr) c
       ∙ sym (index_loose span array2 first2 second2))))
 
-  expr_good : (y : Expr-F C T I P) → Alike (expr_step (inferred_expr (first_expr y)) now) (expr_step (inferred_expr (first_expr y)) end)
+  expr_good : (y : ExprNode good) → Alike (from_expr inferring (bare_expr good y) now) (from_expr inferring (bare_expr good y) end)
   expr_good (Expr-F.Literal span literal) whole = refl
   expr_good (Expr-F.Name name) whole = name_alike now end grows name.span name.span whole
   expr_good (Expr-F.BasicType span basic) whole = refl
@@ -262,22 +241,14 @@ module _ (now end : Facts) (grows : Grows now end) where
 
   -- ---- all trees
 
-  step_create : (x : Create-F Create Tree Invocation PartTree) (y : Create-F C T I P) → first_create y ≡ x → CreateGood (roll-Create x)
-  step_create x y is = subst (λ z. CreateGood (roll-Create z)) is
-      (subst (λ (infer : Inferrer). Alike (infer now) (infer end)) (sym (fold-roll-Create Inferrer Inferrer CalledInferrer PartInferrer create_step expr_step invocation_step part_step (first_create y))) (create_good y))
-
-  step_expr : (x : Expr-F Create Tree Invocation PartTree) (y : Expr-F C T I P) → first_expr y ≡ x → TreeGood (roll-Expr x)
-  step_expr x y is = subst (λ z. TreeGood (roll-Expr z)) is
-      (subst (λ (infer : Inferrer). Alike (infer now) (infer end)) (sym (fold-roll-Expr Inferrer Inferrer CalledInferrer PartInferrer create_step expr_step invocation_step part_step (first_expr y))) (expr_good y))
-
-  step_invocation : (x : Invocation-F Create Tree Invocation PartTree) (y : Invocation-F C T I P) → first_invocation y ≡ x → InvocationGood (roll-Invocation x)
-  step_invocation x y is = subst (λ z. InvocationGood (roll-Invocation z)) is
-      (subst (λ (infer : CalledInferrer). CalledAlike (infer now) (infer end)) (sym (fold-roll-Invocation Inferrer Inferrer CalledInferrer PartInferrer create_step expr_step invocation_step part_step (first_invocation y))) (invocation_good y))
-
-  step_part : (x : Part-F Create Tree Invocation PartTree) (y : Part-F C T I P) → first_part y ≡ x → PartGood (roll-Part x)
-  step_part x y is = subst (λ z. PartGood (roll-Part z)) is
-      (subst (λ (infer : PartInferrer). PartAlike (infer now) (infer end)) (sym (fold-roll-Part Inferrer Inferrer CalledInferrer PartInferrer create_step expr_step invocation_step part_step (first_part y))) (part_good y))
+  by_parts : ByParts good
+  by_parts = record {
+    create = λ y. subst (λ t. t) (λ i. Alike (create_folds inferring (bare_create good y) i now) (create_folds inferring (bare_create good y) i end)) (create_good y);
+    expr = λ y. subst (λ t. t) (λ i. Alike (expr_folds inferring (bare_expr good y) i now) (expr_folds inferring (bare_expr good y) i end)) (expr_good y);
+    invocation = λ y. subst (λ t. t) (λ i. CalledAlike (invocation_folds inferring (bare_invocation good y) i now) (invocation_folds inferring (bare_invocation good y) i end)) (invocation_good y);
+    part = λ y. subst (λ t. t) (λ i. PartAlike (part_folds inferring (bare_part good y) i now) (part_folds inferring (bare_part good y) i end)) (part_good y);
+  }
 
   -- what an expression is here, it is in the end, but for whether it is a place
   pub expr_stays : (tree : Tree) → ErrorFree (infer_expr tree now).found → placeless (infer_expr tree now).typed_expr ≡ placeless (infer_expr tree end).typed_expr
-  expr_stays tree = ind-Expr CreateGood TreeGood InvocationGood PartGood step_create step_expr step_invocation step_part tree
+  expr_stays = each_expr good by_parts

@@ -1,6 +1,6 @@
 -- In an accepted program the names in what is declared outside of code mean where they stand what they mean where they are
 -- checked, and signatures keep their numbers: the walk over files.
-use Rattle.std.proofs.Common.{◌≡◌, ◌⊎◌, inl, inr, Bool, true, false, List, [], ◌∷◌, ◌++◌, append_assoc, flat_map, map, None, Ok, refl, sym, ap, subst, ◌∙◌}
+use Rattle.std.proofs.Common.{◌≡◌, inl, inr, Bool, true, false, List, [], ◌∷◌, ◌++◌, append_assoc, flat_map, map, None, Ok, refl, sym, ap, subst, ◌∙◌}
 use Rattle.std.specs.List.{IsDistinct}
 use Rattle.sr_check.proofs.Each.{Each, each-left, each-right}
 use Rattle.sr_check_decl.specs.declared.tally.Tally.{Tally}
@@ -12,7 +12,7 @@ use Rattle.sr_check_expr.specs.declared.info.Info.TheVariants as info
 use Rattle.sr_names.specs.declared.spot.Spot.{Spot}
 use Rattle.sr_names.specs.Specs.{Specs}
 use Rattle.sr_names.specs.Spots.{same_spot, spot_of}
-use Rattle.sr_names.proofs.Marking.{entry-other, entry-same, same_spot-cases}
+use Rattle.sr_names.proofs.Marking.{entry-other}
 use Rattle.sr_order.specs.Names.{component_names, file_names, formal_names, item_names, spec_item_names}
 use Rattle.sr_scope.proofs.Findings.{in_left, in_right}
 use Rattle.sr_scope.specs.declared.program.Names.{Names}
@@ -39,6 +39,7 @@ use Rattle.sr_front.proofs.KeptDeclared.{Declares, keeps_components, keeps_files
 use Rattle.sr_front.proofs.Lasting.{Away}
 use Rattle.sr_front.proofs.PlainNames.{item_plain, spec_plain}
 use Rattle.sr_front.proofs.ProgramReads.{Fits, Whole, Word, first_whole, fits, keeps}
+use Rattle.sr_front.proofs.Put.{put_holds}
 use Rattle.sr_front.proofs.Rising.{BeforeAll, IsBefore, Rises, before_other, rises_right}
 use Rattle.sr_front.proofs.Shares.{other_way}
 use Rattle.sr_front.proofs.TypeSites.{last, part_at, reached}
@@ -48,12 +49,12 @@ use Rattle.sr_front.proofs.TypesInOrder.{type_in_order}
 
 -- ---- names that follow stand elsewhere
 
-before_stands : (at : Spot) (names : List Span) → BeforeAll at names → (spot : Spot) → Stands spot names → IsBefore at spot
+pub before_stands : (at : Spot) (names : List Span) → BeforeAll at names → (spot : Spot) → Stands spot names → IsBefore at spot
 before_stands at [] before spot k = absurd k
 before_stands at (name ∷ names) before spot (inl e) = subst (IsBefore at) e before.0
 before_stands at (name ∷ names) before spot (inr k) = before_stands at names before.1 spot k
 
-rises_apart : (names after : List Span) → Rises (names ++ after) → (spot : Spot) → Stands spot after → Away spot names
+pub rises_apart : (names after : List Span) → Rises (names ++ after) → (spot : Spot) → Stands spot after → Away spot names
 rises_apart [] after rises spot stands = tt
 rises_apart (name ∷ names) after rises spot stands = (
   other_way (spot_of name) spot (before_other (spot_of name) spot (before_stands (spot_of name) after (each-right (λ span. IsBefore (spot_of name) (spot_of span)) names after rises.0) spot stands)),
@@ -72,15 +73,9 @@ module _ (spot : Spot) where
   none_with facts at one apart h = ap type_part (entry-other facts.infos at one spot apart) ∙ h
 
   none_operation : (facts : Facts) (at : Spot) (type : Ty) (component : Spot) (is_local : Bool) → NoPart facts → NoPart (declare facts at (info.Operation type component is_local))
-  none_operation facts at type component is_local h = by (same_spot-cases spot at)
-    where
-      by : (spot ≡ at) ⊎ (same_spot spot at ≡ false) → NoPart (declare facts at (info.Operation type component is_local))
-      by (inl same) =
-          let after = declare facts at (info.Operation type component is_local) in
-          ap (λ s. part_at after s) same ∙ ap type_part (entry-same facts.infos at (info.Operation type component is_local))
-      by (inr apart) = none_with facts at (info.Operation type component is_local) apart h
+  none_operation facts at type component is_local h = put_holds facts at (info.Operation type component is_local) (λ other found. type_part found ≡ None) refl spot (λ apart. h)
 
-  none_declares : Declares NoPart Other
+  pub none_declares : Declares NoPart Other
   none_declares = record { entered = λ facts signature h. h; put = none_with; operation = none_operation; standing = λ facts component h. h }
 
   named_none : (all : List Component) (facts : Facts) → ((one : Component) → IsIn one all → Other (spot_of (name_of one).span)) → NoPart facts → NoPart (components_named all facts)
@@ -94,44 +89,44 @@ module _ (spot : Spot) where
       files_none files _ (λ one k. other one (in_right one file.components (components_in files) k)) (named_none file.components facts (λ one k. other one (in_left one file.components (components_in files) k)) h)
 
 module _ (files : List File) (names : Names) (named : resolved files ≡ Ok names) (distinct : IsDistinct same_spot (map spot_of (flat_map file_names files))) (rises : Rises (flat_map file_names files)) (specs : Specs) where
-  abbrev all : List Component
+  abbrev pub all : List Component
   all = components_in files
 
-  abbrev components : List Span
+  abbrev pub components : List Span
   components = names_of_components files
 
-  abbrev final : Facts
+  abbrev pub final : Facts
   final = last files names named distinct rises specs
 
-  abbrev Ends : Facts → Type 1
+  abbrev pub Ends : Facts → Type 1
   Ends = Ending names.uses specs files
 
-  abbrev Leading : List Span → Facts → Type 1
+  abbrev pub Leading : List Span → Facts → Type 1
   Leading = Leads files names named distinct rises specs
 
-  abbrev Base : List Span → Facts → Type 0
+  abbrev pub Base : List Span → Facts → Type 0
   Base = Whole files names named distinct rises specs
 
-  abbrev SpecFine : SpecItem → Type 0
+  abbrev pub SpecFine : SpecItem → Type 0
   SpecFine = SpecGood (Word files names named distinct rises specs) (Fits files names named distinct rises specs)
 
-  abbrev ItemFine : Item → Type 0
+  abbrev pub ItemFine : Item → Type 0
   ItemFine = ItemGood (Word files names named distinct rises specs) (Fits files names named distinct rises specs)
 
-  abbrev HeadFine : Component → Type 0
+  abbrev pub HeadFine : Component → Type 0
   HeadFine component = HeadFits (Fits files names named distinct rises specs) component × IsIn (name_of component).span components
 
   -- no type is known where names stand that follow, but components
-  abbrev Unknown : List Span → Facts → Type 0
+  abbrev pub Unknown : List Span → Facts → Type 0
   Unknown after facts = (spot : Spot) → Stands spot after → Away spot components → part_at facts spot ≡ None
 
-  abbrev Inv : List Span → Facts → Type 0
+  abbrev pub Inv : List Span → Facts → Type 0
   Inv after facts = Base after facts × Unknown after facts
 
   abbrev base_kept : KeepsInv Base SpecFine ItemFine (HeadFits (Fits files names named distinct rises specs))
   base_kept = keeps files names named distinct rises specs
 
-  abbrev kept : KeepsInv Inv SpecFine ItemFine HeadFine
+  abbrev pub kept : KeepsInv Inv SpecFine ItemFine HeadFine
   kept = record {
     spec_item = λ in_spec one tally after fine rising inv. (
       base_kept.spec_item in_spec one tally after fine rising inv.0,
@@ -155,7 +150,7 @@ module _ (files : List File) (names : Names) (named : resolved files ≡ Ok name
     name = λ facts name after inv. (base_kept.name facts name after inv.0, λ spot stands away. inv.1 spot (inr stands) away);
   }
 
-  abbrev Fit : Component → Type 0
+  abbrev pub Fit : Component → Type 0
   Fit = ComponentFits Inv SpecFine ItemFine HeadFine kept components final
 
   fit_each : (some : List Component) → ((one : Component) → IsIn one some → IsIn (name_of one).span components) → Each (ComponentFits Base SpecFine ItemFine (HeadFits (Fits files names named distinct rises specs)) base_kept components final) some → Each Fit some
@@ -163,10 +158,10 @@ module _ (files : List File) (names : Names) (named : resolved files ≡ Ok name
   fit_each (one ∷ some) among each =
       (record { specs = each.0.specs; head = (each.0.head, among one (inl refl)); items = each.0.items }, fit_each some (λ other k. among other (inr k)) each.1)
 
-  all_fit : Each Fit all
+  pub all_fit : Each Fit all
   all_fit = fit_each all (in_map all) (fits files names named distinct rises specs)
 
-  first_inv : Inv (flat_map file_names files) (files_named files (no_facts names.uses specs))
+  pub first_inv : Inv (flat_map file_names files) (files_named files (no_facts names.uses specs))
   first_inv = (
     first_whole files names named distinct rises specs,
     λ spot stands away. files_none spot files (no_facts names.uses specs) (λ one k. one_free (Other spot) components (name_of one).span (in_map all one k) away) refl,
@@ -175,22 +170,20 @@ module _ (files : List File) (names : Names) (named : resolved files ≡ Ok name
   -- ---- a component
 
   module _ (here : Component) (there : IsIn here all) where
-    abbrev SitesOf : SpecItem → Type 0
+    abbrev pub SitesOf : SpecItem → Type 0
     SitesOf = Sites files names named distinct rises specs here there
 
     spec_agrees : (in_spec : Bool) (one : SpecItem) (tally : Tally) (rest : List Span) → SitesOf one → Inv (spec_item_names one ++ rest) tally.facts → Rises (spec_item_names one ++ rest) → Leading rest (spec_item_declared in_spec one tally).facts
         → SpecAgrees Ends one tally
-    spec_agrees in_spec (spec.Import imports) tally rest sites inv rising leads = tt
     spec_agrees in_spec (spec.Const constant) tally rest sites inv rising leads =
         const_agrees files names named distinct rises specs here there in_spec constant tally.facts rest sites (reached files names named distinct rises specs (spec_item_names (spec.Const constant) ++ rest) tally.facts inv.0) rising leads
     spec_agrees in_spec (spec.«Type» named_type) tally rest sites inv rising leads =
         type_in_order files names named distinct rises specs here there named_type tally rest sites (reached files names named distinct rises specs (spec_item_names (spec.«Type» named_type) ++ rest) tally.facts inv.0) inv.1 rising leads
     spec_agrees in_spec (spec.OpType named_type) tally rest sites inv rising leads =
         optype_agrees files names named distinct rises specs here there named_type tally.facts rest sites (reached files names named distinct rises specs (spec_item_names (spec.OpType named_type) ++ rest) tally.facts inv.0) rising leads
-    spec_agrees in_spec (spec.Op operations) tally rest sites inv rising leads = tt
     spec_agrees in_spec (spec.Var variables) tally rest sites inv rising leads =
         var_agrees files names named distinct rises specs here there variables tally.facts rest sites (reached files names named distinct rises specs (spec_item_names (spec.Var variables) ++ rest) tally.facts inv.0) rising leads
-    spec_agrees in_spec (spec.Sem semaphores) tally rest sites inv rising leads = tt
+    spec_agrees in_spec _ tally rest sites inv rising leads = tt
 
     specs_agree : (items : List SpecItem) (tally : Tally) (after : List Span) → ((one : SpecItem) → IsIn one items → SitesOf one) → Each SpecFine items → Inv (flat_map spec_item_names items ++ after) tally.facts
         → Rises (flat_map spec_item_names items ++ after) → Leading after (spec_items_declared items tally).facts → SpecsAgree Ends items tally
@@ -210,11 +203,7 @@ module _ (files : List File) (names : Names) (named : resolved files ≡ Ok name
     item_agrees : (one : Item) (tally : Tally) (rest : List Span) → ((inner : SpecItem) → item.Spec inner ≡ one → SitesOf inner) → Inv (item_names one ++ rest) tally.facts → Rises (item_names one ++ rest) → Leading rest (item_declared one tally).facts
         → ItemAgrees Ends one tally
     item_agrees (item.Spec inner) tally rest sites inv rising leads = spec_agrees false inner tally rest (sites inner refl) inv rising leads
-    item_agrees (item.Proc proc) tally rest sites inv rising leads = tt
-    item_agrees (item.Procedure procedure) tally rest sites inv rising leads = tt
-    item_agrees (item.Process process) tally rest sites inv rising leads = tt
-    item_agrees (item.Final code) tally rest sites inv rising leads = tt
-    item_agrees (item.Statement statement) tally rest sites inv rising leads = tt
+    item_agrees _ tally rest sites inv rising leads = tt
 
     items_agree : (items : List Item) (tally : Tally) (after : List Span) → ((inner : SpecItem) → IsIn (item.Spec inner) items → SitesOf inner) → Each ItemFine items → Inv (flat_map item_names items ++ after) tally.facts
         → Rises (flat_map item_names items ++ after) → Leading after (items_declared items tally).facts → ItemsAgree Ends items tally

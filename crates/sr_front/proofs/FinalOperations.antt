@@ -1,13 +1,11 @@
 -- In the end each operation of an accepted program is known.
-use Rattle.std.proofs.Common.{◌≡◌, ◌⊎◌, inl, inr, true, false, List, [], ◌∷◌, ◌++◌, Option, Some, None, is_some, map, flat_map, refl, ap, ◌∙◌}
+use Rattle.std.proofs.Common.{◌≡◌, true, List, [], ◌∷◌, ◌++◌, Option, Some, None, is_some, map, flat_map, refl, ap}
 use Rattle.std.proofs.lemmas.Bool.{and_parts, false≢true}
 use Rattle.sr_names.specs.declared.finding.Rule.TheVariants.{BadType}
 use Rattle.sr_names.specs.declared.spot.Spot.{Spot}
-use Rattle.sr_names.specs.Spots.{same_spot, spot_of}
-use Rattle.sr_names.proofs.Marking.{entry-same, entry-other, same_spot-cases}
+use Rattle.sr_names.specs.Spots.{spot_of}
+use Rattle.sr_names.proofs.Marking.{entry-same}
 use Rattle.sr_order.specs.Spans.{block_operations, component_operations, inner_operations, item_operations, op_item_span, spec_operations}
-use Rattle.sr_outline.specs.Heads.{Heads, block_opened, inner_opened, item_opened}
-use Rattle.sr_tables.specs.Shapes.{Shapes}
 use Rattle.sr_tree.specs.declared.component.Component.{Component}
 use Rattle.sr_tree.specs.declared.component.Item.{Item}
 use Rattle.sr_tree.specs.declared.component.Item.TheVariants as item
@@ -29,23 +27,23 @@ use Rattle.sr_check_expr.specs.declared.info.Info.TheVariants as info
 use Rattle.sr_check_expr.specs.Infos.{info_at}
 use Rattle.sr_check_decl.specs.Declaring.{op_item_name, op_type, ops_declared, process_signature, semaphore_signature, sems_declared, standing, written_type}
 use Rattle.sr_check_decl.specs.Entering.{entered, ops_entered}
-use Rattle.sr_check_decl.specs.Heads.{component_headed, declared_type, head_found, is_known_as, is_of, item_headed, items_headed, making_type, ops_headed, sems_headed, spec_item_headed, spec_items_headed}
+use Rattle.sr_front.proofs.ReadsCode.{code_operations, keeps_block, keeps_item, keeps_items}
+use Rattle.sr_front.proofs.Heads.{component_headed, declared_type, head_found, is_known_as, is_of, item_headed, items_headed, making_type, ops_headed, sems_headed, spec_item_headed, spec_items_headed}
 use Rattle.sr_check_decl.specs.Parts.{component_decl}
 use Rattle.sr_check_decl.specs.TypeTrees.{operation_type, signature_read}
 use Rattle.sr_check_decl.specs.Variables.{declare}
 use Rattle.sr_check.specs.declared.serving.Serving.TheVariants.{Ends, Serves}
-use Rattle.sr_check.specs.Components.{beginning, block_read, component_read, components_read, head_found as component_found, item_read, items_procs, items_read, proc_item_read, proc_rules, quantifiers_formal, signed_declared}
+use Rattle.sr_check.specs.Components.{beginning, block_read, component_read, components_read, item_read, items_procs, items_read, proc_item_read, quantifiers_formal, signed_declared}
 use Rattle.sr_check.specs.Contexts.{Context, with_facts}
 use Rattle.sr_check.specs.ErrorFree.{ErrorFree}
 use Rattle.sr_check.specs.Procs.{Procs}
-use Rattle.sr_check.specs.Quantifying.{quantifiers_found, quantifiers_known}
+use Rattle.sr_check.specs.Quantifying.{quantifiers_known}
 use Rattle.sr_check.specs.Services.{operation_named, service_bound, spot_or, type_of}
 use Rattle.sr_check.proofs.Each.{Each, each-append, each-left, each-right, each-weaker}
 use Rattle.sr_check.proofs.ErrorFree.{error_free_first, error_free_second, rule_met}
-use Rattle.sr_front.proofs.KeptBy.{KeptIn, Names}
-use Rattle.sr_front.proofs.KeptNames.{Anywhere, Closed}
+use Rattle.sr_front.proofs.KeptNames.{Anywhere, Closed, anywhere}
 use Rattle.sr_front.proofs.PlainNames.{block_plain, code_plain}
-use Rattle.sr_front.proofs.KeptProcs.{closed_in, keeps_block, keeps_item, keeps_items}
+use Rattle.sr_front.proofs.Put.{put_holds}
 
 -- something is known at a spot, or at a name
 abbrev pub Has : Spot → Facts → Type 0
@@ -54,23 +52,8 @@ Has spot facts = is_some (info_at facts.infos spot) ≡ true
 abbrev pub HasAll : Facts → List Span → Type 0
 HasAll facts = Each (λ span. Has (spot_of span) facts)
 
-anywhere : (spans : List Span) → Names Anywhere spans
-anywhere [] = tt
-anywhere (span ∷ spans) = (tt, anywhere spans)
-
-abbrev Anything : {A : Type 0} → A → Type 0
-Anything one = Unit {0}
-
-anything : {A : Type 0} (all : List A) → Each Anything all
-anything [] = tt
-anything (one ∷ all) = (tt, anything all)
-
 has_with : (spot : Spot) (facts : Facts) (at : Spot) (one : Info) → Has spot facts → Has spot (declare facts at one)
-has_with spot facts at one has = by (same_spot-cases spot at)
-  where
-    by : (spot ≡ at) ⊎ (same_spot spot at ≡ false) → Has spot (declare facts at one)
-    by (inl same) = ap (λ s. is_some (info_at (declare facts at one).infos s)) same ∙ ap is_some (entry-same facts.infos at one)
-    by (inr apart) = ap is_some (entry-other facts.infos at one spot apart) ∙ has
+has_with spot facts at one has = put_holds facts at one (λ other found. is_some found ≡ true) refl spot (λ apart. has)
 
 has_here : (facts : Facts) (at : Spot) (one : Info) → Has at (declare facts at one)
 has_here facts at one = ap is_some (entry-same facts.infos at one)
@@ -111,11 +94,7 @@ sems_known facts (semaphore ∷ more) whole =
 spec_item_known : (facts : Facts) (one : SpecItem) → ErrorFree (spec_item_headed facts one) → HasAll facts (spec_operations one)
 spec_item_known facts (spec.Op operations) whole = ops_known facts operations.items whole
 spec_item_known facts (spec.Sem semaphores) whole = sems_known facts semaphores.semaphores whole
-spec_item_known facts (spec.Import imports) whole = tt
-spec_item_known facts (spec.Const constant) whole = tt
-spec_item_known facts (spec.«Type» named) whole = tt
-spec_item_known facts (spec.OpType named) whole = tt
-spec_item_known facts (spec.Var variables) whole = tt
+spec_item_known facts _ whole = tt
 
 specs_known : (facts : Facts) (items : List SpecItem) → ErrorFree (spec_items_headed facts items) → HasAll facts (flat_map spec_operations items)
 specs_known facts [] whole = tt
@@ -133,9 +112,7 @@ outer_known : (facts : Facts) (one : Item) → ErrorFree (item_headed facts one)
 outer_known facts (item.Spec declared) whole = spec_item_known facts declared whole
 outer_known facts (item.Procedure procedure) whole = (name_known facts procedure.name (written_type procedure.signature facts) whole, tt)
 outer_known facts (item.Process process) whole = (name_known facts process.name (operation_type facts (process_signature process.quantifiers)) whole, tt)
-outer_known facts (item.Proc proc) whole = tt
-outer_known facts (item.Final final) whole = tt
-outer_known facts (item.Statement statement) whole = tt
+outer_known facts _ whole = tt
 
 items_outer : (facts : Facts) (items : List Item) → ErrorFree (items_headed facts items) → HasAll facts (flat_map outer items)
 items_outer facts [] whole = tt
@@ -164,112 +141,100 @@ sems_declare (semaphore ∷ more) facts = (sems_keep (spot_of semaphore.name.spa
 inner_declares : (one : ProcItem) (context : Context) → HasAll (proc_item_read one context).facts (inner_operations one)
 inner_declares (inner.Op operations) context = ops_declare operations.items (ops_entered operations.items context.facts)
 inner_declares (inner.Sem semaphores) context = sems_declare semaphores.semaphores context.facts
-inner_declares (inner.Const constant) context = tt
-inner_declares (inner.Var variables) context = tt
-inner_declares (inner.Statement statement) context = tt
+inner_declares _ context = tt
 
-module _ (outline : Facts) (shapes : Shapes) (heads : Heads) where
-  stays : (spot : Spot) → KeptIn (inner_opened outline shapes heads) (Has spot) Anywhere Anything
-  stays spot = closed_in outline shapes heads (Has spot) Anywhere Anywhere (has_closed spot) Anything (λ one opened. tt)
+-- what a block knows it still knows at its end
+block_keeps : (block : List ProcItem) (context : Context) → (spans : List Span) → HasAll context.facts spans → HasAll (block_read block context).facts spans
+block_keeps block context =
+    each-weaker (λ span. Has (spot_of span) context.facts) (λ span. Has (spot_of span) (block_read block context).facts)
+    (λ span has. keeps_block (Has (spot_of span)) Anywhere Anywhere (has_closed (spot_of span)) block context (anywhere (block_plain block)) (anywhere (block_operations block)) has)
 
-  -- what a block knows it still knows at its end
-  block_keeps : (block : List ProcItem) (context : Context) → ErrorFree (block_read block context).found → (spans : List Span) → HasAll context.facts spans → HasAll (block_read block context).facts spans
-  block_keeps block context whole =
-      each-weaker (λ span. Has (spot_of span) context.facts) (λ span. Has (spot_of span) (block_read block context).facts)
-      (λ span has. keeps_block outline shapes heads (Has (spot_of span)) Anywhere Anything (stays (spot_of span)) block (anywhere (block_plain block)) (anything (block_opened outline shapes heads block)) context has whole)
+block_declares : (block : List ProcItem) (context : Context) → HasAll (block_read block context).facts (block_operations block)
+block_declares [] context = tt
+block_declares (one ∷ block) context =
+    let step = proc_item_read one context in
+    each-append (λ span. Has (spot_of span) (block_read (one ∷ block) context).facts) (inner_operations one) (block_operations block)
+    (block_keeps block (with_facts context step.facts) (inner_operations one) (inner_declares one context)) (block_declares block (with_facts context step.facts))
 
-  block_declares : (block : List ProcItem) (context : Context) → ErrorFree (block_read block context).found → HasAll (block_read block context).facts (block_operations block)
-  block_declares [] context whole = tt
-  block_declares (one ∷ block) context whole =
-      let step = proc_item_read one context in
-      let after = error_free_second step.found _ whole in
-      each-append (λ span. Has (spot_of span) (block_read (one ∷ block) context).facts) (inner_operations one) (block_operations block)
-      (block_keeps block (with_facts context step.facts) after (inner_operations one) (inner_declares one context)) (block_declares block (with_facts context step.facts) after)
+item_keeps : (procs : Procs) (one : Item) (facts : Facts) → (spans : List Span) → HasAll facts spans → HasAll (item_read procs one facts).facts spans
+item_keeps procs one facts =
+    each-weaker (λ span. Has (spot_of span) facts) (λ span. Has (spot_of span) (item_read procs one facts).facts)
+    (λ span has. keeps_item (Has (spot_of span)) Anywhere Anywhere (has_closed (spot_of span)) procs one facts (anywhere (code_plain one)) (anywhere (code_operations one)) has)
 
-  item_keeps : (procs : Procs) (one : Item) (facts : Facts) → ErrorFree (item_read procs one facts).found → (spans : List Span) → HasAll facts spans → HasAll (item_read procs one facts).facts spans
-  item_keeps procs one facts whole =
-      each-weaker (λ span. Has (spot_of span) facts) (λ span. Has (spot_of span) (item_read procs one facts).facts)
-      (λ span has. keeps_item outline shapes heads (Has (spot_of span)) Anywhere Anything (stays (spot_of span)) procs one facts (anywhere (code_plain one)) (anything (item_opened outline shapes heads one)) has whole)
+item_declares : (procs : Procs) (one : Item) (facts : Facts) → HasAll facts (outer one) → HasAll (item_read procs one facts).facts (item_operations one)
+item_declares procs (item.Spec declared) facts known = known
+item_declares procs (item.Proc proc) facts known =
+    let served = operation_named facts proc.name in
+    block_declares proc.block (beginning procs (Serves (spot_or (spot_of proc.name.span) served)) (service_bound proc.formals proc.returned (type_of served) facts))
+item_declares procs (item.Procedure procedure) facts known =
+    let signed = (signature_read procedure.signature facts).signed in (
+      (item_keeps procs (item.Procedure procedure) facts (procedure.name.span ∷ []) known).0,
+      block_declares procedure.block (beginning procs (Serves (spot_of procedure.name.span)) (signed_declared signed facts)),
+    )
+item_declares procs (item.Process process) facts known = (
+  (item_keeps procs (item.Process process) facts (process.name.span ∷ []) known).0,
+  block_declares process.block (beginning procs (Serves (spot_of process.name.span)) (quantifiers_formal process.quantifiers (quantifiers_known facts process.quantifiers))),
+)
+item_declares procs (item.Final final) facts known = block_declares final.block (beginning procs Ends facts)
+item_declares procs (item.Statement statement) facts known = tt
 
-  item_declares : (procs : Procs) (one : Item) (facts : Facts) → HasAll facts (outer one) → ErrorFree (item_read procs one facts).found → HasAll (item_read procs one facts).facts (item_operations one)
-  item_declares procs (item.Spec declared) facts known whole = known
-  item_declares procs (item.Proc proc) facts known whole =
-      let served = operation_named facts proc.name in
-      block_declares proc.block (beginning procs (Serves (spot_or (spot_of proc.name.span) served)) (service_bound proc.formals proc.returned (type_of served) facts)) (error_free_second (proc_rules facts proc served) _ whole)
-  item_declares procs (item.Procedure procedure) facts known whole =
-      let signed = (signature_read procedure.signature facts).signed in (
-        (item_keeps procs (item.Procedure procedure) facts whole (procedure.name.span ∷ []) known).0,
-        block_declares procedure.block (beginning procs (Serves (spot_of procedure.name.span)) (signed_declared signed facts)) (error_free_second (signature_read procedure.signature facts).found _ whole),
-      )
-  item_declares procs (item.Process process) facts known whole = (
-    (item_keeps procs (item.Process process) facts whole (process.name.span ∷ []) known).0,
-    block_declares process.block (beginning procs (Serves (spot_of process.name.span)) (quantifiers_formal process.quantifiers (quantifiers_known facts process.quantifiers))) (error_free_second (quantifiers_found facts process.quantifiers) _ whole),
-  )
-  item_declares procs (item.Final final) facts known whole = block_declares final.block (beginning procs Ends facts) whole
-  item_declares procs (item.Statement statement) facts known whole = tt
+items_keep : (procs : Procs) (items : List Item) (facts : Facts) → (spans : List Span) → HasAll facts spans → HasAll (items_read procs items facts).facts spans
+items_keep procs items facts =
+    each-weaker (λ span. Has (spot_of span) facts) (λ span. Has (spot_of span) (items_read procs items facts).facts)
+    (λ span has. keeps_items (Has (spot_of span)) Anywhere Anywhere (has_closed (spot_of span)) procs items facts (anywhere (flat_map code_plain items)) (anywhere (flat_map code_operations items)) has)
 
-  items_keep : (procs : Procs) (items : List Item) (facts : Facts) → ErrorFree (items_read procs items facts).found → (spans : List Span) → HasAll facts spans → HasAll (items_read procs items facts).facts spans
-  items_keep procs items facts whole =
-      each-weaker (λ span. Has (spot_of span) facts) (λ span. Has (spot_of span) (items_read procs items facts).facts)
-      (λ span has. keeps_items outline shapes heads (Has (spot_of span)) Anywhere Anything (stays (spot_of span)) procs items facts (anywhere (flat_map code_plain items)) (anything (flat_map (item_opened outline shapes heads) items)) has whole)
+items_declare : (procs : Procs) (items : List Item) (facts : Facts) → HasAll facts (flat_map outer items) → HasAll (items_read procs items facts).facts (flat_map item_operations items)
+items_declare procs [] facts known = tt
+items_declare procs (one ∷ items) facts known =
+    let step = item_read procs one facts in
+    let P = λ (span : Span). Has (spot_of span) facts in
+    each-append (λ span. Has (spot_of span) (items_read procs (one ∷ items) facts).facts) (item_operations one) (flat_map item_operations items)
+    (items_keep procs items step.facts (item_operations one) (item_declares procs one facts (each-left P (outer one) _ known)))
+    (items_declare procs items step.facts (item_keeps procs one facts (flat_map outer items) (each-right P (outer one) _ known)))
 
-  items_declare : (procs : Procs) (items : List Item) (facts : Facts) → HasAll facts (flat_map outer items) → ErrorFree (items_read procs items facts).found → HasAll (items_read procs items facts).facts (flat_map item_operations items)
-  items_declare procs [] facts known whole = tt
-  items_declare procs (one ∷ items) facts known whole =
-      let step = item_read procs one facts in
-      let P = λ (span : Span). Has (spot_of span) facts in
-      let found = error_free_first step.found _ whole in
-      let after = error_free_second step.found _ whole in
-      each-append (λ span. Has (spot_of span) (items_read procs (one ∷ items) facts).facts) (item_operations one) (flat_map item_operations items)
-      (items_keep procs items step.facts after (item_operations one) (item_declares procs one facts (each-left P (outer one) _ known) found))
-      (items_declare procs items step.facts (item_keeps procs one facts found (flat_map outer items) (each-right P (outer one) _ known)) after)
+-- ---- components
 
-  -- ---- components
+component_keeps : (component : Component) (facts : Facts) → (spans : List Span) → HasAll facts spans → HasAll (component_read component facts).facts spans
+component_keeps component facts =
+    let at = standing facts (component_decl component) in
+    items_keep (items_procs at (body_of component) []) (body_of component) at
 
-  component_keeps : (component : Component) (facts : Facts) → ErrorFree (component_read component facts).found → (spans : List Span) → HasAll facts spans → HasAll (component_read component facts).facts spans
-  component_keeps component facts whole =
-      let at = standing facts (component_decl component) in
-      items_keep (items_procs at (body_of component) []) (body_of component) at (error_free_second (component_found component at) _ whole)
+component_declares : (component : Component) (facts : Facts) → HasAll facts (flat_map spec_operations (spec_of component) ++ flat_map outer (body_of component))
+    → HasAll (component_read component facts).facts (component_operations component)
+component_declares component facts known =
+    let at = standing facts (component_decl component) in
+    let procs = items_procs at (body_of component) [] in
+    let specs = flat_map spec_operations (spec_of component) in
+    let P = λ (span : Span). Has (spot_of span) facts in
+    each-append (λ span. Has (spot_of span) (component_read component facts).facts) specs (flat_map item_operations (body_of component))
+    (items_keep procs (body_of component) at specs (each-left P specs _ known)) (items_declare procs (body_of component) at (each-right P specs _ known))
 
-  component_declares : (component : Component) (facts : Facts) → HasAll facts (flat_map spec_operations (spec_of component) ++ flat_map outer (body_of component)) → ErrorFree (component_read component facts).found
-      → HasAll (component_read component facts).facts (component_operations component)
-  component_declares component facts known whole =
-      let at = standing facts (component_decl component) in
-      let procs = items_procs at (body_of component) [] in
-      let specs = flat_map spec_operations (spec_of component) in
-      let found = error_free_second (component_found component at) _ whole in
-      let P = λ (span : Span). Has (spot_of span) facts in
-      each-append (λ span. Has (spot_of span) (component_read component facts).facts) specs (flat_map item_operations (body_of component))
-      (items_keep procs (body_of component) at found specs (each-left P specs _ known)) (items_declare procs (body_of component) at (each-right P specs _ known) found)
+abbrev outer_of : Component → List Span
+outer_of component = flat_map spec_operations (spec_of component) ++ flat_map outer (body_of component)
 
-  abbrev outer_of : Component → List Span
-  outer_of component = flat_map spec_operations (spec_of component) ++ flat_map outer (body_of component)
+components_keep : (components : List Component) (facts : Facts) → (spans : List Span) → HasAll facts spans → HasAll (components_read components facts).facts spans
+components_keep [] facts spans known = known
+components_keep (component ∷ more) facts spans known =
+    let step = component_read component facts in
+    components_keep more step.facts spans (component_keeps component facts spans known)
 
-  components_keep : (components : List Component) (facts : Facts) → ErrorFree (components_read components facts).found → (spans : List Span) → HasAll facts spans → HasAll (components_read components facts).facts spans
-  components_keep [] facts whole spans known = known
-  components_keep (component ∷ more) facts whole spans known =
-      let step = component_read component facts in
-      components_keep more step.facts (error_free_second step.found _ whole) spans (component_keeps component facts (error_free_first step.found _ whole) spans known)
+pub components_declare : (components : List Component) (facts : Facts) → HasAll facts (flat_map outer_of components)
+    → HasAll (components_read components facts).facts (flat_map component_operations components)
+components_declare [] facts known = tt
+components_declare (component ∷ more) facts known =
+    let step = component_read component facts in
+    let P = λ (span : Span). Has (spot_of span) facts in
+    each-append (λ span. Has (spot_of span) (components_read (component ∷ more) facts).facts) (component_operations component) (flat_map component_operations more)
+    (components_keep more step.facts (component_operations component) (component_declares component facts (each-left P (outer_of component) _ known)))
+    (components_declare more step.facts (component_keeps component facts (flat_map outer_of more) (each-right P (outer_of component) _ known)))
 
-  pub components_declare : (components : List Component) (facts : Facts) → HasAll facts (flat_map outer_of components) → ErrorFree (components_read components facts).found
-      → HasAll (components_read components facts).facts (flat_map component_operations components)
-  components_declare [] facts known whole = tt
-  components_declare (component ∷ more) facts known whole =
-      let step = component_read component facts in
-      let P = λ (span : Span). Has (spot_of span) facts in
-      let found = error_free_first step.found _ whole in
-      let after = error_free_second step.found _ whole in
-      each-append (λ span. Has (spot_of span) (components_read (component ∷ more) facts).facts) (component_operations component) (flat_map component_operations more)
-      (components_keep more step.facts after (component_operations component) (component_declares component facts (each-left P (outer_of component) _ known) found))
-      (components_declare more step.facts (component_keeps component facts found (flat_map outer_of more) (each-right P (outer_of component) _ known)) after)
-
-  -- what is declared before any statement is looked at is known
-  pub outer_headed : (facts : Facts) (components : List Component) → Each (λ component. ErrorFree (component_headed facts component)) components → HasAll facts (flat_map outer_of components)
-  outer_headed facts [] whole = tt
-  outer_headed facts (component ∷ more) whole =
-      let P = λ (span : Span). Has (spot_of span) facts in
-      let after = error_free_second (head_found facts (name_of component) (making_type facts component)) _ whole.0 in
-      each-append P (outer_of component) (flat_map outer_of more)
-      (each-append P (flat_map spec_operations (spec_of component)) (flat_map outer (body_of component)) (specs_known facts (spec_of component) (error_free_first (spec_items_headed facts (spec_of component)) _ after))
-      (items_outer facts (body_of component) (error_free_second (spec_items_headed facts (spec_of component)) _ after)))
-      (outer_headed facts more whole.1)
+-- what is declared before any statement is looked at is known
+pub outer_headed : (facts : Facts) (components : List Component) → Each (λ component. ErrorFree (component_headed facts component)) components → HasAll facts (flat_map outer_of components)
+outer_headed facts [] whole = tt
+outer_headed facts (component ∷ more) whole =
+    let P = λ (span : Span). Has (spot_of span) facts in
+    let after = error_free_second (head_found facts (name_of component) (making_type facts component)) _ whole.0 in
+    each-append P (outer_of component) (flat_map outer_of more)
+    (each-append P (flat_map spec_operations (spec_of component)) (flat_map outer (body_of component)) (specs_known facts (spec_of component) (error_free_first (spec_items_headed facts (spec_of component)) _ after))
+    (items_outer facts (body_of component) (error_free_second (spec_items_headed facts (spec_of component)) _ after)))
+    (outer_headed facts more whole.1)

@@ -1,6 +1,5 @@
 -- Of the names of a program those of constants and types stand elsewhere than those of variables, formals and operations, and both elsewhere than those of components.
-use Rattle.std.proofs.Common.{List, [], ◌∷◌, ◌++◌, flat_map, map, sym, subst}
-use Rattle.std.proofs.lemmas.List.Concat.{flat_map-append}
+use Rattle.std.proofs.Common.{List, [], ◌∷◌, ◌++◌, flat_map, map}
 use Rattle.std.specs.List.{IsDistinct}
 use Rattle.sr_check.proofs.Each.{Each}
 use Rattle.sr_names.specs.Spots.{same_spot, spot_of}
@@ -15,12 +14,13 @@ use Rattle.sr_tree.specs.declared.component.SpecItem.{SpecItem}
 use Rattle.sr_tree.specs.declared.component.SpecItem.TheVariants as spec
 use Rattle.sr_tree.specs.declared.declaration.Semaphore.{Semaphore}
 use Rattle.sr_tree.specs.declared.types.Decl.{Decl as DeclTree}
+use Rattle.sr_tree.specs.declared.types.TypeTree.{TypeTree}
 use Rattle.sr_tree.specs.Parts.{body_of, formals_of, name_of, spec_of}
 use Rattle.sr_value.specs.declared.place.Span.{Span}
 use Rattle.sr_front.proofs.Lasting.{Away}
 use Rattle.sr_front.proofs.ReadsCode.{component_inside, item_inside, ops_share, parts_share, sems_share}
-use Rattle.sr_front.proofs.Shares.{shares_apart}
-use Rattle.sr_front.proofs.Sharing.{Shares, all_first, all_left_out, all_second, both_share, in_first, in_second, left_out, none}
+use Rattle.sr_front.proofs.Shares.{apart_in}
+use Rattle.sr_front.proofs.Sharing.{Shares, all_first, all_left_out, all_second, both_share, in_first, in_second, left_out, none, second_only, turned}
 
 -- ---- the names
 
@@ -31,12 +31,23 @@ spec_loose (spec.Sem declared) = map (λ (semaphore : Semaphore). semaphore.name
 spec_loose (spec.Var variables) = map (λ (decl : DeclTree). decl.name.span) variables.decls
 spec_loose one = []
 
--- of constants, types, their words and literals, and types of operations
+-- of constants, types and types of operations, and what is given of each type
+abbrev pub spec_with : (TypeTree → List Span) → SpecItem → List Span
+spec_with inside (spec.Const constant) = constant.name.span ∷ []
+spec_with inside (spec.«Type» named) = named.name.span ∷ inside named.ty
+spec_with inside (spec.OpType named) = named.name.span ∷ []
+spec_with inside one = []
+
+abbrev pub item_with : (TypeTree → List Span) → Item → List Span
+item_with inside (item.Spec declared) = spec_with inside declared
+item_with inside one = []
+
+abbrev pub component_with : (TypeTree → List Span) → Component → List Span
+component_with inside component = flat_map (spec_with inside) (spec_of component) ++ flat_map (item_with inside) (body_of component)
+
+-- with the words and literals of types
 abbrev pub spec_firm : SpecItem → List Span
-spec_firm (spec.Const constant) = constant.name.span ∷ []
-spec_firm (spec.«Type» named) = named.name.span ∷ type_names named.ty
-spec_firm (spec.OpType named) = named.name.span ∷ []
-spec_firm one = []
+spec_firm = spec_with type_names
 
 abbrev pub item_loose : Item → List Span
 item_loose (item.Spec declared) = spec_loose declared
@@ -45,15 +56,14 @@ item_loose (item.Process process) = process.name.span ∷ []
 item_loose one = []
 
 abbrev pub item_firm : Item → List Span
-item_firm (item.Spec declared) = spec_firm declared
-item_firm one = []
+item_firm = item_with type_names
 
 -- all names in formals are among the loose ones
 abbrev pub component_loose : Component → List Span
 component_loose component = flat_map spec_loose (spec_of component) ++ (flat_map formal_names (formals_of component) ++ flat_map item_loose (body_of component))
 
 abbrev pub component_firm : Component → List Span
-component_firm component = flat_map spec_firm (spec_of component) ++ flat_map item_firm (body_of component)
+component_firm = component_with type_names
 
 abbrev pub component_own : Component → List Span
 component_own component = (name_of component).span ∷ []
@@ -84,27 +94,12 @@ item_share : (one : Item) → Shares (item_names one) (item_loose one) (item_fir
 item_share (item.Spec declared) = spec_share declared
 item_share (item.Procedure procedure) = in_first procedure.name.span (all_left_out _)
 item_share (item.Process process) = in_first process.name.span (all_left_out _)
-item_share (item.Proc proc) = all_left_out _
-item_share (item.Final final) = all_left_out _
-item_share (item.Statement statement) = all_left_out _
+item_share _ = all_left_out _
 
 component_share : (component : Component) → Shares (component_names component) (component_loose component) (component_firm component)
 component_share component =
     left_out (name_of component).span (both_share (parts_share spec_item_names spec_loose spec_firm spec_share (spec_of component))
     (both_share (all_first (flat_map formal_names (formals_of component))) (parts_share item_names item_loose item_firm item_share (body_of component))))
-
--- the others than the names of components
-pub second_only : {xs ys zs : List Span} → Shares xs ys zs → Shares xs [] zs
-second_only none = none
-second_only (left_out x shares) = left_out x (second_only shares)
-second_only (in_first x shares) = left_out x (second_only shares)
-second_only (in_second x shares) = in_second x (second_only shares)
-
-pub turned : {xs ys zs : List Span} → Shares xs ys zs → Shares xs zs ys
-turned none = none
-turned (left_out x shares) = left_out x (turned shares)
-turned (in_first x shares) = in_second x (turned shares)
-turned (in_second x shares) = in_first x (turned shares)
 
 inner_share : (component : Component) → Shares (flat_map spec_item_names (spec_of component) ++ (flat_map formal_names (formals_of component) ++ flat_map item_names (body_of component))) (component_loose component) (component_firm component)
 inner_share component =
@@ -118,18 +113,6 @@ own_loose_share : (component : Component) → Shares (component_names component)
 own_loose_share component = in_first (name_of component).span (second_only (turned (inner_share component)))
 
 -- ---- of all files
-
-module _ (first second : Component → List Span) (share : (component : Component) → Shares (component_names component) (first component) (second component)) where
-  files_share : (files : List File) → Shares (flat_map file_names files) (flat_map first (components_in files)) (flat_map second (components_in files))
-  files_share [] = none
-  files_share (file ∷ files) =
-      subst (λ names. Shares (flat_map file_names (file ∷ files)) names (flat_map second (components_in (file ∷ files)))) (sym (flat_map-append first file.components (components_in files)))
-      (subst (λ more. Shares (flat_map file_names (file ∷ files)) (flat_map first file.components ++ flat_map first (components_in files)) more)
-      (sym (flat_map-append second file.components (components_in files)))
-      (both_share (parts_share component_names first second share file.components) (files_share files)))
-
-  pub apart_in : (files : List File) → IsDistinct same_spot (map spot_of (flat_map file_names files)) → Each (λ span. Away (spot_of span) (flat_map first (components_in files))) (flat_map second (components_in files))
-  apart_in files distinct = shares_apart (files_share files) distinct
 
 -- the names of constants and types stand elsewhere than those of variables and operations
 pub firm_from_loose : (files : List File) → IsDistinct same_spot (map spot_of (flat_map file_names files))
@@ -157,27 +140,21 @@ loose_from_firm = apart_in component_firm component_loose (λ component. turned 
 
 code_firm : (one : Item) → Shares (item_names one) (item_inside one) (item_firm one)
 code_firm (item.Spec declared) = second_only (spec_share declared)
-code_firm (item.Proc proc) = all_first _
 code_firm (item.Procedure procedure) = left_out procedure.name.span (all_first _)
 code_firm (item.Process process) = left_out process.name.span (all_first _)
-code_firm (item.Final final) = all_first _
-code_firm (item.Statement statement) = all_first _
+code_firm _ = all_first _
 
 code_loose : (one : Item) → Shares (item_names one) (item_inside one) (item_loose one)
 code_loose (item.Spec declared) = second_only (turned (spec_share declared))
-code_loose (item.Proc proc) = all_first _
 code_loose (item.Procedure procedure) = in_second procedure.name.span (all_first _)
 code_loose (item.Process process) = in_second process.name.span (all_first _)
-code_loose (item.Final final) = all_first _
-code_loose (item.Statement statement) = all_first _
+code_loose _ = all_first _
 
 code_only : (one : Item) → Shares (item_names one) (item_inside one) []
 code_only (item.Spec declared) = all_left_out _
-code_only (item.Proc proc) = all_first _
 code_only (item.Procedure procedure) = left_out procedure.name.span (all_first _)
 code_only (item.Process process) = left_out process.name.span (all_first _)
-code_only (item.Final final) = all_first _
-code_only (item.Statement statement) = all_first _
+code_only _ = all_first _
 
 codes_only : (items : List Item) → Shares (flat_map item_names items) (flat_map item_inside items) []
 codes_only [] = none

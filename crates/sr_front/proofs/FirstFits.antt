@@ -1,5 +1,5 @@
 -- Before any statement is looked at, what is known at a spot fits it, where each declaration outside of code does, and no value that is known faults.
-use Rattle.std.proofs.Common.{◌≡◌, ◌⊎◌, inl, inr, ℕ, ◌+◌, Bool, true, false, List, [], ◌∷◌, flat_map, Option, Some, None, refl, sym, ap, subst, ◌∙◌}
+use Rattle.std.proofs.Common.{◌≡◌, ℕ, ◌+◌, Bool, true, false, List, [], ◌∷◌, flat_map, Option, Some, None, refl, ap, ◌∙◌}
 use Rattle.sr_check.proofs.Each.{Each, each-left, each-right}
 use Rattle.sr_check.proofs.Entered.{keeps_formals, keeps_ops, keeps_signature, keeps_signed, keeps_type, keeps_written}
 use Rattle.sr_check_decl.specs.Constants.{const_of, const_rule, const_typed, is_fault, known_if, written_kind}
@@ -16,12 +16,11 @@ use Rattle.sr_check_expr.specs.declared.info.Info.{Info}
 use Rattle.sr_check_expr.specs.declared.info.Info.TheVariants as info
 use Rattle.sr_check_expr.specs.Exprs.{infer_expr}
 use Rattle.sr_check_expr.specs.Infos.{info_at}
-use Rattle.sr_names.proofs.Marking.{entry-other, entry-same, same_spot-cases}
 use Rattle.sr_names.specs.declared.meaning.Decl.{Decl}
 use Rattle.sr_names.specs.declared.meaning.Meaning.{Meaning}
 use Rattle.sr_names.specs.declared.meaning.Meaning.TheVariants.{Declared, Predefined as MeansPredefined}
 use Rattle.sr_names.specs.declared.spot.Spot.{Spot}
-use Rattle.sr_names.specs.Spots.{same_spot, spot_of}
+use Rattle.sr_names.specs.Spots.{spot_of}
 use Rattle.sr_names.specs.Uses.{meaning_at}
 use Rattle.sr_order.specs.Names.{expr_names, formal_names, names_spans, type_names}
 use Rattle.sr_tree.specs.declared.component.Component.{Component}
@@ -54,6 +53,7 @@ use Rattle.sr_types.specs.Types.{is_no_type}
 use Rattle.sr_value.specs.declared.place.Span.{Span}
 use Rattle.sr_front.proofs.ConstantsThen.{fault_broken}
 use Rattle.sr_front.proofs.KeptFormals.{component_params_free}
+use Rattle.sr_front.proofs.Put.{put_known}
 use Rattle.sr_front.proofs.Sharing.{first_each}
 use Rattle.sr_front.proofs.StaticExprs.{SameUses, expr_told}
 use Rattle.sr_front.proofs.StaticNames.{IsSound, SameMeaning, SameTypes, name_told, same_known}
@@ -80,9 +80,6 @@ const_sound in_spec kind value typed = by value.value refl
     by (Known one) is = known rule value.value (ap is_fault is)
     by (Faults fault) is = ap (λ b. is_fault (known_if b value.value)) (fault_broken in_spec kind value (ap is_fault is) (typed (ap is_fault is)))
 
-some_info : (a b : Info) → Some a ≡ Some b → a ≡ b
-some_info a b e = cc
-
 -- ---- what fits
 
 module _ (Fits : Spot → Info → Type 0) where
@@ -98,14 +95,10 @@ module _ (Fits : Spot → Info → Type 0) where
       by (Some one) is = (fit spot one is).1
 
   itself_types : (facts : Facts) (decl : Decl) (one : Option Info) → SameTypes facts facts decl one
-  itself_types facts decl None = tt
   itself_types facts decl (Some (info.«Type» ty)) = refl
   itself_types facts decl (Some (info.Enumeration number literals)) = refl
   itself_types facts decl (Some (info.Record fields)) = refl
-  itself_types facts decl (Some (info.Value typed)) = tt
-  itself_types facts decl (Some (info.OpType ty)) = tt
-  itself_types facts decl (Some (info.Operation ty component is_local)) = tt
-  itself_types facts decl (Some (info.Component ty)) = tt
+  itself_types facts decl _ = tt
 
   itself_meaning : (facts : Facts) → AllFit facts → (meaning : Option Meaning) → SameMeaning facts facts meaning
   itself_meaning facts fit None = tt
@@ -122,13 +115,7 @@ module _ (Fits : Spot → Info → Type 0) where
       const_sound in_spec kind (infer_expr constant.value facts).typed_expr.typed (expr_told facts facts constant.value (itself_uses facts fit (expr_names constant.value))).typed
 
   pub fits_with : (facts : Facts) (spot : Spot) (one : Info) → Fits spot one → IsSound (Some one) → AllFit facts → AllFit (declare facts spot one)
-  fits_with facts spot one fits sound h other known is = by (same_spot-cases other spot)
-    where
-      by : (other ≡ spot) ⊎ (same_spot other spot ≡ false) → Fits other known × IsSound (Some known)
-      by (inl same) =
-          let entry : Some one ≡ Some known = sym (entry-same facts.infos spot one) ∙ ap (λ s. info_at (declare facts spot one).infos s) (sym same) ∙ is in
-          subst (λ s. Fits s known × IsSound (Some known)) (sym same) (subst (λ it. Fits spot it × IsSound (Some it)) (some_info one known entry) (fits, sound))
-      by (inr apart) = h other known (sym (entry-other facts.infos spot one other apart) ∙ is)
+  fits_with facts spot one fits sound h other known is = put_known facts spot one (λ at it. Fits at it × IsSound (Some it)) (fits, sound) other known is (h other known)
 
   fits_signatures : (facts : Facts) (signature : Signature) → AllFit facts → AllFit (entered signature facts)
   fits_signatures facts signature h = h
@@ -179,9 +166,7 @@ module _ (Fits : Spot → Info → Type 0) where
   ItemFits (item.Spec declared) = SpecFits declared
   ItemFits (item.Procedure procedure) = OperationAt (spot_of procedure.name.span)
   ItemFits (item.Process process) = OperationAt (spot_of process.name.span)
-  ItemFits (item.Proc proc) = Unit {0}
-  ItemFits (item.Final final) = Unit {0}
-  ItemFits (item.Statement statement) = Unit {0}
+  ItemFits _ = Unit {0}
 
   abbrev pub HeadFits : Component → Type 0
   HeadFits component = ComponentAt (spot_of (name_of component).span) × Each VarName (flat_map formal_names (formals_of component))
@@ -263,9 +248,7 @@ module _ (Fits : Spot → Info → Type 0) where
   fit_item (item.Procedure procedure) tally fits h =
       fits_with (signature_entered procedure.signature tally.facts) (spot_of procedure.name.span) _ (fits _ _ _) tt (keeps_signature AllFit fits_signatures procedure.signature tally.facts h)
   fit_item (item.Process process) tally fits h = fits_with (entered (process_signature process.quantifiers) tally.facts) (spot_of process.name.span) _ (fits _ _ _) tt h
-  fit_item (item.Proc proc) tally fits h = h
-  fit_item (item.Final final) tally fits h = h
-  fit_item (item.Statement statement) tally fits h = h
+  fit_item _ tally fits h = h
 
   fit_params : (params : List NamedParam) (facts : Facts) → Each (λ (param : NamedParam). VarAt param.spot) params → AllFit facts → AllFit (params_declared params facts)
   fit_params [] facts fits h = h

@@ -1,12 +1,11 @@
 -- Before any statement is looked at operations and types of operations are known at the names of their declarations alone,
 -- and no operation of a block is.
-use Rattle.std.proofs.Common.{◌≡◌, ◌⊎◌, inl, inr, ℕ, suc, zero, ◌+◌, Bool, true, false, List, [], ◌∷◌, Option, Some, None, refl, sym, ap, ◌∙◌, subst, length}
+use Rattle.std.proofs.Common.{◌≡◌, ℕ, suc, zero, ◌+◌, Bool, true, false, List, [], ◌∷◌, Option, Some, None, refl, length}
 use Rattle.std.specs.List.{filter}
 use Rattle.sr_names.specs.declared.spot.Spot.{Spot}
 use Rattle.sr_names.specs.Noted.{Meanings}
 use Rattle.sr_names.specs.Specs.{Specs}
-use Rattle.sr_names.specs.Spots.{same_spot, spot_of}
-use Rattle.sr_names.proofs.Marking.{entry-same, entry-other, same_spot-cases}
+use Rattle.sr_names.specs.Spots.{spot_of}
 use Rattle.sr_tables.specs.Parts.{components_in}
 use Rattle.sr_tree.specs.declared.component.Component.{Component}
 use Rattle.sr_tree.specs.declared.component.File.{File}
@@ -46,6 +45,7 @@ use Rattle.sr_check_decl.specs.Variables.{declare, variable, vars_declared}
 use Rattle.sr_check_decl.specs.Waiting.{Waiting, files_waiting}
 use Rattle.sr_check.proofs.Each.{Each, each-parts}
 use Rattle.sr_check.proofs.Entered.{keeps_signed, keeps_type, keeps_signature, keeps_written, keeps_formals, keeps_ops}
+use Rattle.sr_front.proofs.Put.{put_known}
 
 module _ (Op Optype : Spot → Type 0) where
   -- what may be known at a spot
@@ -73,17 +73,8 @@ module _ (Op Optype : Spot → Type 0) where
   abbrev pub ComponentRight : Component → Type 0
   ComponentRight component = Each SpecRight (spec_of component) × Each ItemRight (body_of component)
 
-  some_info : (a b : Info) → Some a ≡ Some b → a ≡ b
-  some_info a b e = cc
-
   right_with : (facts : Facts) (spot : Spot) (one : Info) → Right spot one → Knows facts → Knows (declare facts spot one)
-  right_with facts spot one right h other known is = by (same_spot-cases other spot)
-    where
-      by : (other ≡ spot) ⊎ (same_spot other spot ≡ false) → Right other known
-      by (inl same) =
-          let entry : Some one ≡ Some known = sym (entry-same facts.infos spot one) ∙ ap (λ s. info_at (declare facts spot one).infos s) (sym same) ∙ is in
-          subst (λ s. Right s known) (sym same) (subst (Right spot) (some_info one known entry) right)
-      by (inr apart) = h other known (sym (entry-other facts.infos spot one other apart) ∙ is)
+  right_with facts spot one right h other known is = put_known facts spot one Right right other known is (h other known)
 
   knows_signatures : (facts : Facts) (signature : Signature) → Knows facts → Knows (entered signature facts)
   knows_signatures facts signature h = h
@@ -158,9 +149,7 @@ module _ (Op Optype : Spot → Type 0) where
   knows_item (item.Procedure procedure) tally right h =
       right_with (signature_entered procedure.signature tally.facts) (spot_of procedure.name.span) _ (refl, right) (keeps_signature Knows knows_signatures procedure.signature tally.facts h)
   knows_item (item.Process process) tally right h = right_with (entered (process_signature process.quantifiers) tally.facts) (spot_of process.name.span) _ (refl, right) h
-  knows_item (item.Proc proc) tally right h = h
-  knows_item (item.Final final) tally right h = h
-  knows_item (item.Statement statement) tally right h = h
+  knows_item _ tally right h = h
 
   knows_spec : (items : List SpecItem) (tally : Tally) → Each SpecRight items → Knows tally.facts → Knows (spec_items_declared items tally).facts
   knows_spec [] tally right h = h

@@ -1,7 +1,6 @@
 -- Of the names of a program some are of components, others of operations and of types of operations: each stands at a
 -- spot of its own.
 use Rattle.std.proofs.Common.{◌≡◌, ℕ, zero, false, true≢false, List, [], ◌∷◌, ◌++◌, map, flat_map, refl, sym, ap, ◌∙◌, subst}
-use Rattle.std.proofs.lemmas.List.Concat.{flat_map-append}
 use Rattle.std.proofs.lemmas.List.{map-append}
 use Rattle.std.specs.List.{AllByRecursion, IsDistinct}
 use Rattle.sr_names.specs.Searches.{At}
@@ -28,7 +27,7 @@ use Rattle.sr_outline.specs.Outline.{all_optypes}
 use Rattle.sr_tables.specs.Parts.{components_in, in_component, in_item}
 use Rattle.sr_front.proofs.FirstNames.{IsFirst, component_first, item_first, spec_item_first}
 use Rattle.sr_front.proofs.Members.{Among, among_each, among_parts, map_parts}
-use Rattle.sr_front.proofs.Shares.{shares_apart}
+use Rattle.sr_front.proofs.Shares.{files_share, shares_apart}
 use Rattle.sr_front.proofs.Sharing.{Shares, none, left_out, in_first, in_second, both_share, all_left_out}
 use Rattle.sr_front.proofs.TypeSpots.{Elsewhere}
 
@@ -53,10 +52,7 @@ spec_item_shares : (one : SpecItem) → Shares (spec_item_names one) [] (spec_it
 spec_item_shares (spec.OpType named) = in_second named.name.span (all_left_out _)
 spec_item_shares (spec.Op operations) = ops_share operations.items
 spec_item_shares (spec.Sem semaphores) = sems_share semaphores.semaphores
-spec_item_shares (spec.Import declared) = all_left_out _
-spec_item_shares (spec.Const declared) = all_left_out _
-spec_item_shares (spec.«Type» declared) = all_left_out _
-spec_item_shares (spec.Var declared) = all_left_out _
+spec_item_shares _ = all_left_out _
 
 specs_share : (items : List SpecItem) → Shares (flat_map spec_item_names items) [] (flat_map spec_item_first items)
 specs_share [] = none
@@ -66,9 +62,7 @@ item_shares : (one : Item) → Shares (item_names one) [] (item_first one)
 item_shares (item.Spec declared) = spec_item_shares declared
 item_shares (item.Procedure procedure) = in_second procedure.name.span (all_left_out _)
 item_shares (item.Process process) = in_second process.name.span (all_left_out _)
-item_shares (item.Proc proc) = all_left_out _
-item_shares (item.Final final) = all_left_out _
-item_shares (item.Statement statement) = all_left_out _
+item_shares _ = all_left_out _
 
 items_share : (items : List Item) → Shares (flat_map item_names items) [] (flat_map item_first items)
 items_share [] = none
@@ -77,24 +71,12 @@ items_share (one ∷ more) = both_share (item_shares one) (items_share more)
 component_shares : (tree : Component) → Shares (component_names tree) (own_name tree) (component_first tree)
 component_shares tree = in_first _ (both_share (specs_share (spec_of tree)) (both_share (all_left_out (flat_map formal_names (formals_of tree))) (items_share (body_of tree))))
 
-components_share : (components : List Component) → Shares (flat_map component_names components) (flat_map own_name components) (flat_map component_first components)
-components_share [] = none
-components_share (tree ∷ more) = both_share (component_shares tree) (components_share more)
-
-files_share : (files : List File) → Shares (flat_map file_names files) (flat_map own_name (components_in files)) (flat_map component_first (components_in files))
-files_share [] = none
-files_share (file ∷ files) =
-    subst (λ names. Shares (flat_map file_names (file ∷ files)) names (flat_map component_first (components_in (file ∷ files)))) (sym (flat_map-append own_name file.components (components_in files)))
-    (subst (λ first. Shares (flat_map file_names (file ∷ files)) (flat_map own_name file.components ++ flat_map own_name (components_in files)) first)
-    (sym (flat_map-append component_first file.components (components_in files)))
-    (both_share (components_share file.components) (files_share files)))
-
 -- no operation and no type of operations has its name where a component has
 pub first_apart : (files : List File) → IsDistinct same_spot (map spot_of (flat_map file_names files)) → (number : ℕ) (tree : Component) → At (components_in files) number tree → IsFirst files (component_at tree) → ⊥
 first_apart files distinct number tree there first =
     let names = flat_map own_name (components_in files) in
     let own : Among names (name_of tree).span = among_parts own_name (components_in files) number tree (name_of tree).span there (zero, refl) in
-    let each = among_each (λ one. Each (Elsewhere (spot_of one)) names) (flat_map component_first (components_in files)) first.1.0 first.0 (shares_apart (files_share files) distinct) first.1.1 in
+    let each = among_each (λ one. Each (Elsewhere (spot_of one)) names) (flat_map component_first (components_in files)) first.1.0 first.0 (shares_apart (files_share own_name component_first component_shares files) distinct) first.1.1 in
     let apart : same_spot (spot_of first.0) (component_at tree) ≡ false = among_each (Elsewhere (spot_of first.0)) names own.0 (name_of tree).span each own.1 in
     true≢false (sym (same_spot-refl (component_at tree)) ∙ ap (λ spot. same_spot spot (component_at tree)) (sym first.2) ∙ apart)
 
@@ -119,12 +101,7 @@ component_named_is tree =
 
 spec_item_has : (one : SpecItem) → Shares (spec_item_names one) (spec_item_named one) []
 spec_item_has (spec.OpType named) = in_first named.name.span (all_left_out _)
-spec_item_has (spec.Op declared) = all_left_out _
-spec_item_has (spec.Sem declared) = all_left_out _
-spec_item_has (spec.Import declared) = all_left_out _
-spec_item_has (spec.Const declared) = all_left_out _
-spec_item_has (spec.«Type» declared) = all_left_out _
-spec_item_has (spec.Var declared) = all_left_out _
+spec_item_has _ = all_left_out _
 
 specs_have : (items : List SpecItem) → Shares (flat_map spec_item_names items) (flat_map spec_item_named items) []
 specs_have [] = none
@@ -132,11 +109,7 @@ specs_have (one ∷ more) = both_share (spec_item_has one) (specs_have more)
 
 item_has : (one : Item) → Shares (item_names one) (item_named one) []
 item_has (item.Spec declared) = spec_item_has declared
-item_has (item.Procedure procedure) = all_left_out _
-item_has (item.Process process) = all_left_out _
-item_has (item.Proc proc) = all_left_out _
-item_has (item.Final final) = all_left_out _
-item_has (item.Statement statement) = all_left_out _
+item_has _ = all_left_out _
 
 items_have : (items : List Item) → Shares (flat_map item_names items) (flat_map item_named items) []
 items_have [] = none
@@ -144,16 +117,6 @@ items_have (one ∷ more) = both_share (item_has one) (items_have more)
 
 component_has : (tree : Component) → Shares (component_names tree) (component_named tree) []
 component_has tree = left_out _ (both_share (specs_have (spec_of tree)) (both_share (all_left_out (flat_map formal_names (formals_of tree))) (items_have (body_of tree))))
-
-components_have : (components : List Component) → Shares (flat_map component_names components) (flat_map component_named components) []
-components_have [] = none
-components_have (tree ∷ more) = both_share (component_has tree) (components_have more)
-
-files_have : (files : List File) → Shares (flat_map file_names files) (flat_map component_named (components_in files)) []
-files_have [] = none
-files_have (file ∷ files) =
-    subst (λ names. Shares (flat_map file_names (file ∷ files)) names []) (sym (flat_map-append component_named file.components (components_in files)))
-    (both_share (components_have file.components) (files_have files))
 
 -- some of different spots are different
 after_first : {xs ys zs : List Span} (span : Span) → Shares xs ys zs → AllByRecursion (λ other. same_spot (spot_of span) other ≡ false) (map spot_of xs)
@@ -174,4 +137,4 @@ first_distinct (in_second x shares) distinct = first_distinct shares distinct.1
 pub optypes_apart : (files : List File) → IsDistinct same_spot (map spot_of (flat_map file_names files)) → IsDistinct same_spot (map spot_of (map (λ (named : OpTypeDecl). named.name.span) (all_optypes (components_in files))))
 optypes_apart files distinct =
     subst (λ names. IsDistinct same_spot (map spot_of names)) (sym (map_parts name_span (in_component spec_item_optypes) component_named component_named_is (components_in files)))
-    (first_distinct (files_have files) distinct)
+    (first_distinct (files_share component_named (λ tree. []) component_has files) distinct)

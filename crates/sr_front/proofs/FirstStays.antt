@@ -1,13 +1,12 @@
 -- What is known before any statement is looked at stays as it is: no name in procs and statements stands where it is known.
-use Rattle.std.proofs.Common.{◌≡◌, ◌⊎◌, inl, inr, Bool, false, List, [], ◌∷◌, ◌++◌, Some, None, refl, sym, subst, ◌∙◌, ap, map, flat_map}
-use Rattle.std.proofs.lemmas.List.Concat.{flat_map-append}
+use Rattle.std.proofs.Common.{◌≡◌, Bool, false, List, [], ◌∷◌, ◌++◌, Some, refl, ◌∙◌, ap, map, flat_map}
+use Rattle.std.proofs.lemmas.Option.{none-some}
 use Rattle.std.specs.List.{AllByRecursion, IsDistinct}
 use Rattle.sr_value.specs.declared.place.Span.{Span}
 use Rattle.sr_names.specs.declared.spot.Spot.{Spot}
 use Rattle.sr_names.specs.Noted.{Meanings}
 use Rattle.sr_names.specs.Specs.{Specs}
 use Rattle.sr_names.specs.Spots.{same_spot, spot_of}
-use Rattle.sr_names.proofs.Marking.{entry-same, entry-other, same_spot-cases}
 use Rattle.sr_order.specs.Names.{component_names, file_names, formal_names, item_names, spec_item_names}
 use Rattle.sr_order.specs.Spans.{op_item_span, spec_operations}
 use Rattle.sr_tables.specs.Parts.{components_in}
@@ -37,8 +36,9 @@ use Rattle.sr_front.proofs.KeptDeclared.{Declares, keeps_known}
 use Rattle.sr_front.proofs.KeptNames.{Anywhere}
 use Rattle.sr_front.proofs.Lasting.{Away}
 use Rattle.sr_front.proofs.PlainNames.{component_plain, item_plain, spec_plain}
+use Rattle.sr_front.proofs.Put.{put_known}
 use Rattle.sr_front.proofs.ReadsCode.{component_inside, item_inside, ops_share, parts_share, sems_share}
-use Rattle.sr_front.proofs.Shares.{shares_apart}
+use Rattle.sr_front.proofs.Shares.{files_share, shares_apart}
 use Rattle.sr_front.proofs.Sharing.{Shares, all_first, all_left_out, all_second, both_share, first_each, in_first, in_second, left_out, none}
 
 -- ---- the names outside of procs and statements
@@ -62,60 +62,38 @@ item_outer _ = []
 -- the names in code, and those outside
 item_shares : (one : Item) → Shares (item_names one) (item_inside one) (item_outside one)
 item_shares (item.Spec declared) = all_second _
-item_shares (item.Proc proc) = all_first _
 item_shares (item.Procedure procedure) = in_second procedure.name.span (all_first _)
 item_shares (item.Process process) = in_second process.name.span (all_first _)
-item_shares (item.Final final) = all_first _
-item_shares (item.Statement statement) = all_first _
+item_shares _ = all_first _
 
 component_shares : (component : Component) → Shares (component_names component) (component_inside component) (component_outside component)
 component_shares component =
     in_second _ (both_share (all_second (flat_map spec_item_names (spec_of component))) (both_share (all_second (flat_map formal_names (formals_of component)))
     (parts_share item_names item_inside item_outside item_shares (body_of component))))
 
-files_share : (files : List File) → Shares (flat_map file_names files) (flat_map component_inside (components_in files)) (flat_map component_outside (components_in files))
-files_share [] = none
-files_share (file ∷ files) =
-    subst (λ names. Shares (flat_map file_names (file ∷ files)) names (flat_map component_outside (components_in (file ∷ files)))) (sym (flat_map-append component_inside file.components (components_in files)))
-    (subst (λ more. Shares (flat_map file_names (file ∷ files)) (flat_map component_inside file.components ++ flat_map component_inside (components_in files)) more)
-    (sym (flat_map-append component_outside file.components (components_in files)))
-    (both_share (parts_share component_names component_inside component_outside component_shares file.components) (files_share files)))
-
 -- ---- plain names and operations among the names outside
 
 spec_plain_share : (one : SpecItem) → Shares (spec_item_names one) (spec_plain one) []
 spec_plain_share (spec.Op declared) = all_left_out _
 spec_plain_share (spec.Sem declared) = all_left_out _
-spec_plain_share (spec.Import declared) = all_first _
-spec_plain_share (spec.Const declared) = all_first _
-spec_plain_share (spec.«Type» declared) = all_first _
-spec_plain_share (spec.OpType declared) = all_first _
-spec_plain_share (spec.Var declared) = all_first _
+spec_plain_share _ = all_first _
 
 spec_operations_share : (one : SpecItem) → Shares (spec_item_names one) (spec_operations one) []
 spec_operations_share (spec.Op declared) = ops_share declared.items
 spec_operations_share (spec.Sem declared) = sems_share declared.semaphores
-spec_operations_share (spec.Import declared) = all_left_out _
-spec_operations_share (spec.Const declared) = all_left_out _
-spec_operations_share (spec.«Type» declared) = all_left_out _
-spec_operations_share (spec.OpType declared) = all_left_out _
-spec_operations_share (spec.Var declared) = all_left_out _
+spec_operations_share _ = all_left_out _
 
 outside_plain : (one : Item) → Shares (item_outside one) (item_plain one) []
 outside_plain (item.Spec declared) = spec_plain_share declared
 outside_plain (item.Procedure procedure) = left_out procedure.name.span none
 outside_plain (item.Process process) = left_out process.name.span none
-outside_plain (item.Proc proc) = none
-outside_plain (item.Final final) = none
-outside_plain (item.Statement statement) = none
+outside_plain _ = none
 
 outside_outer : (one : Item) → Shares (item_outside one) (item_outer one) []
 outside_outer (item.Spec declared) = spec_operations_share declared
 outside_outer (item.Procedure procedure) = in_first procedure.name.span none
 outside_outer (item.Process process) = in_first process.name.span none
-outside_outer (item.Proc proc) = none
-outside_outer (item.Final final) = none
-outside_outer (item.Statement statement) = none
+outside_outer _ = none
 
 module _ (P : Spot → Type 0) where
   abbrev AtName : Span → Type 0
@@ -159,19 +137,13 @@ module _ (P : Spot → Type 0) where
   spec_right : (one : SpecItem) → Each AtName (spec_operations one) → SpecRight P Anywhere one
   spec_right (spec.Op operations) h = ops_right operations.items h
   spec_right (spec.Sem semaphores) h = sems_right semaphores.semaphores h
-  spec_right (spec.Import declared) h = tt
-  spec_right (spec.Const declared) h = tt
-  spec_right (spec.«Type» declared) h = tt
-  spec_right (spec.OpType declared) h = tt
-  spec_right (spec.Var declared) h = tt
+  spec_right _ h = tt
 
   item_right : (one : Item) → Each AtName (item_outer one) → ItemRight P Anywhere one
   item_right (item.Spec declared) h = spec_right declared h
   item_right (item.Procedure procedure) h = h.0
   item_right (item.Process process) h = h.0
-  item_right (item.Proc proc) h = tt
-  item_right (item.Final final) h = tt
-  item_right (item.Statement statement) h = tt
+  item_right _ h = tt
 
   parts_right : {A : Type 0} (xs : A → List Span) (Right : A → Type 0) → ((a : A) → Each AtName (xs a) → Right a) → (all : List A) → Each AtName (flat_map xs all) → Each Right all
   parts_right xs Right right [] h = tt
@@ -190,39 +162,17 @@ module _ (P : Spot → Type 0) where
 
   abbrev PlainRight : Spot → Info → Type 0
   PlainRight spot (info.Operation ty component is_local) = Unit {0}
-  PlainRight spot (info.Value typed) = P spot
-  PlainRight spot (info.«Type» ty) = P spot
-  PlainRight spot (info.Enumeration number literals) = P spot
-  PlainRight spot (info.Record fields) = P spot
-  PlainRight spot (info.OpType ty) = P spot
-  PlainRight spot (info.Component ty) = P spot
+  PlainRight spot _ = P spot
 
   plain_right : (spot : Spot) (one : Info) → P spot → PlainRight spot one
   plain_right spot (info.Operation ty component is_local) h = tt
-  plain_right spot (info.Value typed) h = h
-  plain_right spot (info.«Type» ty) h = h
-  plain_right spot (info.Enumeration number literals) h = h
-  plain_right spot (info.Record fields) h = h
-  plain_right spot (info.OpType ty) h = h
-  plain_right spot (info.Component ty) h = h
+  plain_right spot _ h = h
 
   abbrev KnowsPlain : Facts → Type 0
   KnowsPlain facts = (spot : Spot) (one : Info) → info_at facts.infos spot ≡ Some one → PlainRight spot one
 
-  some_info : (a b : Info) → Some a ≡ Some b → a ≡ b
-  some_info a b e = cc
-
   plain_with : (facts : Facts) (spot : Spot) (one : Info) → PlainRight spot one → KnowsPlain facts → KnowsPlain (declare facts spot one)
-  plain_with facts spot one right h other known is = by (same_spot-cases other spot)
-    where
-      by : (other ≡ spot) ⊎ (same_spot other spot ≡ false) → PlainRight other known
-      by (inl same) =
-          let entry : Some one ≡ Some known = sym (entry-same facts.infos spot one) ∙ ap (λ s. info_at (declare facts spot one).infos s) (sym same) ∙ is in
-          subst (λ s. PlainRight s known) (sym same) (subst (PlainRight spot) (some_info one known entry) right)
-      by (inr apart) = h other known (sym (entry-other facts.infos spot one other apart) ∙ is)
-
-  none_some : (one : Info) → None ≡ Some one → ⊥
-  none_some one e = cc
+  plain_with facts spot one right h other known is = put_known facts spot one PlainRight right other known is (h other known)
 
   plain_declares : Declares KnowsPlain P
   plain_declares = record {
@@ -234,18 +184,13 @@ module _ (P : Spot → Type 0) where
 
   known_right : (spot : Spot) (one : Info) → PlainRight spot one → ((ty : Ty) (component : Spot) (is_local : Bool) → one ≡ info.Operation ty component is_local → P spot) → P spot
   known_right spot (info.Operation ty component is_local) plain operation = operation ty component is_local refl
-  known_right spot (info.Value typed) plain operation = plain
-  known_right spot (info.«Type» ty) plain operation = plain
-  known_right spot (info.Enumeration number literals) plain operation = plain
-  known_right spot (info.Record fields) plain operation = plain
-  known_right spot (info.OpType ty) plain operation = plain
-  known_right spot (info.Component ty) plain operation = plain
+  known_right spot _ plain operation = plain
 
   -- what holds of the names outside of code holds of all spots where something is known at first
   pub first_in : (uses : Meanings) (specs : Specs) (files : List File) → Each AtName (flat_map component_outside (components_in files)) → KnownIn P (program_known uses specs files)
   first_in uses specs files outside spot one is =
       let operations : Knows P Anywhere (program_known uses specs files) = first_known P Anywhere uses specs files (parts_right component_outside (ComponentRight P Anywhere) component_right (components_in files) outside) in
-      let plain : KnowsPlain (program_known uses specs files) = keeps_known KnowsPlain P plain_declares uses specs files (plain_each (components_in files) outside) (λ other known at. absurd (none_some known at)) in
+      let plain : KnowsPlain (program_known uses specs files) = keeps_known KnowsPlain P plain_declares uses specs files (plain_each (components_in files) outside) (λ other known at. absurd (none-some known at)) in
       known_right spot one (plain spot one is) (λ ty component is_local same. (operations spot (info.Operation ty component is_local) (is ∙ ap Some same)).1)
 
 -- ---- it stays
@@ -273,12 +218,12 @@ module _ (uses : Meanings) (specs : Specs) (files : List File) (distinct : IsDis
 
   -- nothing is known at first where a name in code stands
   pub inside_fresh : Fresh inside first
-  inside_fresh = first_in (λ spot. Away spot inside) uses specs files (shares_apart (files_share files) distinct)
+  inside_fresh = first_in (λ spot. Away spot inside) uses specs files (shares_apart (files_share component_inside component_outside component_shares files) distinct)
 
   -- what is known at first is known in the end, and so on for each part of the code
   pub all_settled : Settled (components_read (components_in files) first).facts inside first (components_read (components_in files) first).facts
   all_settled = record {
-    apart = first_distinct (files_share files) distinct;
+    apart = first_distinct (files_share component_inside component_outside component_shares files) distinct;
     fresh = inside_fresh;
     stays = stays_itself (components_read (components_in files) first).facts;
   }

@@ -2,6 +2,7 @@
 -- of these nothing is known by the end but them, and no value that isn't static.
 use Rattle.std.proofs.Common.{◌≡◌, ◌⊎◌, inl, inr, Bool, true, false, List, [], ◌∷◌, ◌++◌, flat_map, map, Option, Some, None, Ok, is_some, refl, sym, ap, subst, ◌∙◌}
 use Rattle.std.proofs.lemmas.Bool.{false≢true}
+use Rattle.std.proofs.lemmas.Option.{none-some}
 use Rattle.std.specs.List.{IsDistinct}
 use Rattle.std.specs.Option.{option_and_then}
 use Rattle.sr_check.proofs.Each.{Each, each-left, each-right}
@@ -46,7 +47,7 @@ use Rattle.sr_value.specs.declared.place.Span.{Span}
 use Rattle.sr_front.proofs.DeclaredIn.{Stands, stands_left, stands_right}
 use Rattle.sr_front.proofs.DeclaredThen.{ComponentFits, KeepsInv, inv_declared, names_of_components}
 use Rattle.sr_front.proofs.EffectFreeCode.{files_facts}
-use Rattle.sr_front.proofs.FirmNames.{apart_in, ended, second_only, turned, vars_share}
+use Rattle.sr_front.proofs.FirmNames.{ended, vars_share}
 use Rattle.sr_front.proofs.FirstFits.{AllFit, HeadFits, ItemFits, OperationAt, SpecFits, VarAt, WordAt, fit_head, fit_item, fit_spec_item, fits_with}
 use Rattle.sr_front.proofs.FirstStays.{inside_fresh}
 use Rattle.sr_front.proofs.InfosStay.{same_elsewhere}
@@ -58,7 +59,8 @@ use Rattle.sr_front.proofs.ProgramReads.{known_waved, whole_last}
 use Rattle.sr_front.proofs.ReadsCode.{component_inside, ops_share, parts_share, reads_components, sems_share}
 use Rattle.sr_front.proofs.Rising.{Rises}
 use Rattle.sr_front.proofs.RootedParts.{means_value}
-use Rattle.sr_front.proofs.Sharing.{Shares, all_left_out, all_second, both_share, in_first, in_second}
+use Rattle.sr_front.proofs.Shares.{apart_in}
+use Rattle.sr_front.proofs.Sharing.{Shares, all_left_out, all_second, both_share, in_first, in_second, second_only, turned}
 use Rattle.sr_front.proofs.WaitingItems.{Stands as WaitingStands, WaitsAs, as_const, as_var, of_body, of_spec, waiting_stands}
 use Rattle.sr_front.proofs.WavedEnds.{not_away}
 use Rattle.sr_front.proofs.WordsApart.{type_shares}
@@ -109,9 +111,7 @@ item_share : (one : Item) → Shares (item_names one) (item_fixed one) (item_oth
 item_share (item.Spec declared) = spec_share declared
 item_share (item.Procedure procedure) = in_second procedure.name.span (all_left_out _)
 item_share (item.Process process) = in_second process.name.span (all_left_out _)
-item_share (item.Proc proc) = all_left_out _
-item_share (item.Final final) = all_left_out _
-item_share (item.Statement statement) = all_left_out _
+item_share _ = all_left_out _
 
 component_share : (component : Component) → Shares (component_names component) (component_fixed component) (component_others component)
 component_share component =
@@ -175,9 +175,7 @@ module _ (fixed : List Span) where
   item_fits (item.Spec declared) away = spec_fits declared away
   item_fits (item.Procedure procedure) away = λ type component is_local. inr away.0
   item_fits (item.Process process) away = λ type component is_local. inr away.0
-  item_fits (item.Proc proc) away = tt
-  item_fits (item.Final final) away = tt
-  item_fits (item.Statement statement) away = tt
+  item_fits _ away = tt
 
   parts_fit : {A : Type 0} (names : A → List Span) (Good : A → Type 0) → ((one : A) → Each AwayAt (names one) → Good one) → (all : List A) → Each AwayAt (flat_map names all) → Each Good all
   parts_fit names Good good [] away = tt
@@ -218,13 +216,10 @@ module _ (fixed : List Span) where
           items = parts_fit item_others (ItemFits Fits) item_fits (body_of component) (each-right AwayAt formals _ after);
         }
 
-    none_known : (one : Info) → None ≡ Some one → ⊥
-    none_known one e = cc
-
     declared_fit : Each AwayAt (flat_map component_others (components_in files)) → Rises (flat_map file_names files) → AllFit Fits (program_declared uses specs files)
     declared_fit away rises =
         inv_declared Inv (SpecFits Fits) (ItemFits Fits) (HeadFits Fits) keeps uses specs files (parts_fit component_others Fit component_fits (components_in files) away)
-        (files_fit files (no_facts uses specs) (λ spot one is. absurd (none_known one is))) rises
+        (files_fit files (no_facts uses specs) (λ spot one is. absurd (none-some one is))) rises
 
 -- ---- what waits stands at one of the others
 
@@ -280,11 +275,7 @@ module _ (files : List File) (names : Names) (named : resolved files ≡ Ok name
   fixed_no : (spot : Spot) (one : Info) → info_at facts.infos spot ≡ Some one → IsFixed one → NoVariable spot
   fixed_no spot (info.Value typed) is static = λ value constant. false≢true (sym (ap is_some (sym (ap (λ found. option_and_then info_constant found) is) ∙ constant)) ∙ static)
   fixed_no spot (info.Operation ty component is_local) is h = absurd h
-  fixed_no spot (info.«Type» ty) is h = no_value spot _ is refl
-  fixed_no spot (info.Enumeration number literals) is h = no_value spot _ is refl
-  fixed_no spot (info.Record fields) is h = no_value spot _ is refl
-  fixed_no spot (info.OpType ty) is h = no_value spot _ is refl
-  fixed_no spot (info.Component ty) is h = no_value spot _ is refl
+  fixed_no spot _ is h = no_value spot _ is refl
 
   known_no : (spot : Spot) → Stands spot fixed → is_some (info_at last.infos spot) ≡ true → NoVariable spot
   known_no spot stands = by (info_at last.infos spot) refl

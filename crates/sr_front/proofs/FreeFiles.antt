@@ -1,6 +1,6 @@
 -- In a program that breaks no rule no type is known where its code declares operations, and where its procedures are read
 -- their signatures have their numbers.
-use Rattle.std.proofs.Common.{◌≡◌, ℕ, inl, inr, Bool, List, [], ◌∷◌, map, flat_map, None, is_some, refl, sym, subst, ap}
+use Rattle.std.proofs.Common.{◌≡◌, ℕ, inl, inr, Bool, List, [], ◌∷◌, map, flat_map, is_some, refl, sym, subst, ap}
 use Rattle.std.proofs.lemmas.Bool.{and_parts}
 use Rattle.std.specs.List.{IsDistinct}
 use Rattle.sr_names.specs.declared.finding.Rule.TheVariants.{BadType}
@@ -24,24 +24,25 @@ use Rattle.sr_types.specs.Signatures.{signature_of}
 use Rattle.sr_check_expr.specs.declared.facts.Facts.{Facts}
 use Rattle.sr_check_decl.specs.Declaring.{written_type}
 use Rattle.sr_check_decl.specs.Entering.{signature_entered}
-use Rattle.sr_check_decl.specs.Heads.{component_headed, head_found, is_known_as, item_headed, items_headed, making_type, spec_items_headed}
+use Rattle.sr_front.proofs.OpsPass.{OptypesSigned}
+use Rattle.sr_front.proofs.Rising.{Rises}
+use Rattle.sr_front.proofs.FreeBlocks.{FreeComponents}
+use Rattle.sr_front.proofs.Heads.{component_headed, head_found, heads_found, is_known_as, item_headed, items_headed, making_type, spec_items_headed}
 use Rattle.sr_check_decl.specs.Inferring.{program_known}
 use Rattle.sr_check_decl.specs.TypeTrees.{signature_read}
-use Rattle.sr_check.specs.Checked.{first_refused}
 use Rattle.sr_check.specs.ErrorFree.{ErrorFree}
 use Rattle.sr_check.proofs.Each.{Each}
 use Rattle.sr_check.proofs.ErrorFree.{error_free_first, error_free_second, rule_met}
-use Rattle.sr_check.proofs.Kept.{none_headed}
 use Rattle.sr_front.specs.Phases.{AllPass}
 use Rattle.sr_front.specs.Reading.{HasTree}
 use Rattle.sr_front.proofs.KnownHeaded.{files_each}
 use Rattle.sr_front.proofs.NoTypesInCode.{AllAgain, SignedAgain, code_free}
+use Rattle.sr_front.proofs.Options.{some_of}
 use Rattle.sr_front.proofs.SignaturesAgain.{numbered_typed, signature_again}
 use Rattle.sr_front.proofs.Spelled.{spelled}
 use Rattle.sr_front.proofs.Typed.{not_untyped}
-use Rattle.sr_front.proofs.TypedItems.{FreeComponents}
-use Rattle.sr_front.proofs.TypedOps.{signed_is_typed, some_is}
-use Rattle.sr_front.proofs.TypedTypes.{Later, later_itself}
+use Rattle.sr_front.proofs.TypedOps.{signed_is_typed}
+use Rattle.sr_front.proofs.TypedTypes.{InfosTyped, Later, later_itself}
 
 -- ---- the signatures of procedures are spelled by some tokens
 
@@ -50,12 +51,8 @@ SignatureSpelled (item.Procedure procedure) = (tokens : List Token) × SpellsSig
 SignatureSpelled _ = Unit {0}
 
 item_spelled : {one : Item} {tokens : List Token} → SpellsItem one tokens → SignatureSpelled one
-item_spelled (c.spec d) = tt
-item_spelled (c.proc d) = tt
 item_spelled (c.procedure (c.procedure {u = u} t n h j spells block end)) = (u, spells)
-item_spelled (c.process d) = tt
-item_spelled (c.final d) = tt
-item_spelled (c.a_statement d) = tt
+item_spelled _ = tt
 
 items_spelled : {may_begin : Bool} {items : List Item} {tokens : List Token} → SpellsList SpellsItem may_begin items tokens → Each SignatureSpelled items
 items_spelled c.stop_here = tt
@@ -77,18 +74,14 @@ module _ (known : Facts) where
   procedure_again procedure spells whole now later =
       let type = written_type procedure.signature known in
       let met = rule_met (is_known_as known procedure.name type) BadType procedure.name.span whole in
-      let has = some_is (signature_of known.signatures type) (and_parts (is_some (signature_of known.signatures type)) _ met).0 in
+      let has = some_of (signature_of known.signatures type) (and_parts (is_some (signature_of known.signatures type)) _ met).0 in
       let numbered = numbered_typed known (signature_read procedure.signature known).signed (not_untyped type (signed_is_typed known type has)) in
       let same : signature_entered procedure.signature now ≡ now = ap (λ entered. entered.facts) (signature_again known now later spells.1 numbered) in
       subst (λ (facts : Facts). Later facts now) (sym same) (later_itself now)
 
   item_again : (one : Item) → SignatureSpelled one → ErrorFree (item_headed known one) → SignedAgain known one
   item_again (item.Procedure procedure) spells whole = procedure_again procedure spells whole
-  item_again (item.Spec declared) spells whole = tt
-  item_again (item.Proc proc) spells whole = tt
-  item_again (item.Process process) spells whole = tt
-  item_again (item.Final final) spells whole = tt
-  item_again (item.Statement statement) spells whole = tt
+  item_again _ spells whole = tt
 
   items_again : (items : List Item) → Each SignatureSpelled items → ErrorFree (items_headed known items) → Each (SignedAgain known) items
   items_again [] spells whole = tt
@@ -107,14 +100,15 @@ module _ (known : Facts) where
   components_again [] spells whole = tt
   components_again (component ∷ more) spells whole = (component_again component (spells component (inl refl)) whole.0, components_again more (λ one there. spells one (inr there)) whole.1)
 
-module _ (uses : Meanings) (specs : Specs) (files : List File) (distinct : IsDistinct same_spot (map spot_of (flat_map file_names files))) (none : first_refused uses specs files ≡ None)
+module _ (uses : Meanings) (specs : Specs) (files : List File) (distinct : IsDistinct same_spot (map spot_of (flat_map file_names files))) (headed : ErrorFree (heads_found uses specs files))
+    (rises : Rises (flat_map file_names files)) (typed : InfosTyped (program_known uses specs files)) (optypes : OptypesSigned (program_known uses specs files))
     {number : ℕ} {tokens : List (List Token)} (parsed : AllPass HasTree number tokens files) where
   abbrev known : Facts
   known = program_known uses specs files
 
   all_again : Each (AllAgain known) (components_in files)
-  all_again = components_again known (components_in files) (λ component there. component_spelled (spelled parsed component there).1) (files_each known files (none_headed uses specs files none))
+  all_again = components_again known (components_in files) (λ component there. component_spelled (spelled parsed component there).1) (files_each known files headed)
 
   -- what `components_good` asks for
   pub free_components : FreeComponents (components_in files) known
-  free_components = code_free uses specs files distinct all_again
+  free_components = code_free uses specs files distinct rises typed optypes all_again

@@ -41,27 +41,11 @@ use Rattle.sr_tree.specs.declared.name.Name.{Name}
 use Rattle.sr_tree.specs.Parts.{spec_of, body_of}
 use Rattle.sr_scope.specs.Uses.{IsIn}
 use Rattle.sr_scope.proofs.Findings.{in_left, in_right, in_either}
+use Rattle.sr_scope.proofs.Operations.{from_flat}
+use Rattle.sr_front.proofs.Lists.{from_mapped, place_of}
 use Rattle.sr_front.proofs.Numbered.{number_at}
 
 -- ---- lists
-
-in_flat_map : {A B : Type 0} (f : A → List B) (xs : List A) (b : B) → IsIn b (flat_map f xs) → (a : A) × IsIn a xs × IsIn b (f a)
-in_flat_map f [] b h = absurd h
-in_flat_map {A = A} f (x ∷ xs) b h = by (in_either b (f x) (flat_map f xs) h) (in_flat_map f xs b)
-  where
-    by : IsIn b (f x) ⊎ IsIn b (flat_map f xs) → (IsIn b (flat_map f xs) → (a : A) × IsIn a xs × IsIn b (f a)) → (a : A) × IsIn a (x ∷ xs) × IsIn b (f a)
-    by (inl k) more = (x, inl refl, k)
-    by (inr k) more = let found = more k in (found.0, inr found.1, found.2)
-
-in_map : {A B : Type 0} (f : A → B) (xs : List A) (b : B) → IsIn b (map f xs) → (a : A) × IsIn a xs × (f a ≡ b)
-in_map f [] b h = absurd h
-in_map f (x ∷ xs) b (inl e) = (x, inl refl, e)
-in_map f (x ∷ xs) b (inr h) = let found = in_map f xs b h in (found.0, inr found.1, found.2)
-
-place_of : {A : Type 0} (xs : List A) (a : A) → IsIn a xs → (i : ℕ) × (slice_get xs i ≡ Some a)
-place_of [] a h = absurd h
-place_of (x ∷ xs) a (inl e) = (0, ap Some e)
-place_of (x ∷ xs) a (inr h) = let found = place_of xs a h in (suc found.0, found.1)
 
 pub in_at : {A : Type 0} (xs : List A) (i : ℕ) (a : A) → slice_get xs i ≡ Some a → IsIn a xs
 in_at [] i a e = absurd (cc)
@@ -127,7 +111,7 @@ declared_component files name d e =
 -- what is of a component's imports is of the names that it imports
 names_at : {A : Type 0} (of : Name → List A) (item : SpecItem) (a : A) → IsIn a (flat_map of (spec_item_imports item))
     → (name : Name) × IsIn name (imported_names item) × IsIn a (of name)
-names_at of (spec.Import imports) a h = in_flat_map of imports.names a h
+names_at of (spec.Import imports) a h = from_flat of a imports.names h
 names_at of (spec.Const constant) a h = absurd h
 names_at of (spec.«Type» named) a h = absurd h
 names_at of (spec.OpType named) a h = absurd h
@@ -164,7 +148,7 @@ names_in of component a h = by (in_either a (flat_map (λ inner. flat_map of (sp
         ⊎ IsIn a (flat_map (in_item (λ inner. flat_map of (spec_item_imports inner))) (body_of component))
         → (name : Name) × IsIn name (imports_of component) × IsIn a (of name)
     by (inl k) =
-        let item = in_flat_map (λ inner. flat_map of (spec_item_imports inner)) (spec_of component) a k in
+        let item = from_flat (λ inner. flat_map of (spec_item_imports inner)) a (spec_of component) k in
         let found = names_at of item.0 a item.2 in
         (found.0, in_left found.0 (specs_imports (spec_of component)) _ (name_in_specs (spec_of component) item.0 found.0 item.1 found.1), found.2)
     by (inr k) = let found = names_in_body of (body_of component) a k in (found.0, in_right found.0 (specs_imports (spec_of component)) _ found.1, found.2)
@@ -245,7 +229,7 @@ module _ (files : List File) (facts : Facts) (apart : IsDistinct same_spot (map 
       named = subst (λ meaning. IsIn to (map (number_in (map component_spot (components_in files))) (global_spot (decl_meant meaning)))) meant.2 k
 
       spot : (at : Spot) × IsIn at (global_spot (Some meant.0)) × (number_in (map component_spot (components_in files)) at ≡ to)
-      spot = in_map (number_in (map component_spot (components_in files))) (global_spot (Some meant.0)) to named
+      spot = from_mapped (number_in (map component_spot (components_in files))) (global_spot (Some meant.0)) to named
 
       global : (meant.0.sort ≡ sort.Global) × (meant.0.spot ≡ spot.0)
       global = global_at meant.0.sort meant.0.spot spot.0 spot.1

@@ -1,6 +1,6 @@
 -- Each number in the guards of a site, and in its lists, names something where its statement stands, and each global among its
 -- names is imported there.
-use Rattle.std.proofs.Common.{◌≡◌, ℕ, ◌==◌, Bool, true, false, ◌&&◌, cond, List, [], ◌∷◌, ◌++◌, Option, Some, None, IsTrue, flat_map, length, map, if◌then◌else◌, refl, sym, subst, arith}
+use Rattle.std.proofs.Common.{ℕ, ◌==◌, Bool, true, false, ◌&&◌, cond, List, [], ◌∷◌, ◌++◌, Option, Some, None, IsTrue, flat_map, length, map, if◌then◌else◌, refl, subst, arith}
 use Rattle.std.specs.Prelude.{filter, fold}
 use Rattle.std.proofs.lemmas.Bool.{and_from, and_parts}
 use Rattle.std.specs.List.{cons_option, filter_map, list_all, list_any}
@@ -12,10 +12,7 @@ use Rattle.sr_core.specs.declared.owner.Home.TheVariants as home
 use Rattle.sr_core.specs.declared.owner.OperationOwner.TheVariants as whose
 use Rattle.sr_core.specs.declared.owner.Root.TheVariants as root
 use Rattle.sr_core.specs.declared.site.Site.{Site}
-use Rattle.sr_core.specs.declared.statement.CoArm.{CoArm}
-use Rattle.sr_core.specs.declared.statement.Guarded.{Guarded}
 use Rattle.sr_core.specs.declared.statement.Scope.{Scope}
-use Rattle.sr_core.specs.declared.statement.Statement.{Statement}
 use Rattle.sr_core.specs.Numbers.{Where, expr_ok}
 use Rattle.sr_core.specs.Tests.{if_some}
 use Rattle.sr_core.specs.Sites.{count_exists, guard_exists, guards_exist, named_exists, read_exists}
@@ -27,15 +24,13 @@ use Rattle.sr_tree.specs.declared.component.ProcItem.{ProcItem}
 use Rattle.sr_tree.specs.declared.component.ProcItem.TheVariants as inner
 use Rattle.sr_tree.specs.declared.expr.Expr.{Expr}
 use Rattle.sr_tree.specs.declared.expr.Invocation.{Invocation}
-use Rattle.sr_tree.specs.declared.statement.Arm.{Arm as ArmTree, roll-Arm}
+use Rattle.sr_tree.specs.declared.statement.Arm.{Arm as ArmTree}
 use Rattle.sr_tree.specs.declared.statement.ArmCondition.{ArmCondition}
-use Rattle.sr_tree.specs.declared.statement.BlockItem.{BlockItem, roll-BlockItem}
-use Rattle.sr_tree.specs.declared.statement.BlockItem.TheFolds.{fold-roll-Arm, fold-roll-BlockItem, fold-roll-Branch, fold-roll-CoArm, fold-roll-Statement, ind-Statement, map-Arm, map-BlockItem, map-Branch, map-CoArm, map-Statement}
-use Rattle.sr_tree.specs.declared.statement.BlockItem.TheOpen.{BlockItem-F, Statement-F, Arm-F, Branch-F, CoArm-F}
-use Rattle.sr_tree.specs.declared.statement.Branch.{Branch, roll-Branch}
-use Rattle.sr_tree.specs.declared.statement.CoArm.{CoArm as CoArmTree, roll-CoArm}
-use Rattle.sr_tree.specs.declared.statement.Quantifier.{Quantifier}
-use Rattle.sr_tree.specs.declared.statement.Statement.{Statement as StatementTree, roll-Statement}
+use Rattle.sr_tree.specs.declared.statement.BlockItem.{BlockItem}
+use Rattle.sr_tree.specs.declared.statement.BlockItem.TheOpen.{BlockItem-F, Statement-F}
+use Rattle.sr_tree.specs.declared.statement.Branch.{Branch}
+use Rattle.sr_tree.specs.declared.statement.CoArm.{CoArm as CoArmTree}
+use Rattle.sr_tree.specs.declared.statement.Statement.{Statement as StatementTree}
 use Rattle.sr_tree.specs.declared.types.Signature.{out-Signature}
 use Rattle.sr_value.specs.declared.place.Span.{Span}
 use Rattle.sr_check_expr.specs.Meanings.{function_called, meant_by}
@@ -49,13 +44,15 @@ use Rattle.sr_lower_expr.specs.declared.scene.Scene.{Scene}
 use Rattle.sr_desugar.specs.Bodies.{body_made, in_body, inner_made}
 use Rattle.sr_lower_expr.specs.Expressions.{core_value}
 use Rattle.sr_lower_expr.specs.Places.{scope_of_operation}
-use Rattle.sr_desugar.specs.Statements.{LoweredArm, Block, WithSites, act, all_sites, alone, arm_made, arms_of, branch_made, call_action, call_made, co_arm_made, condition_of, core_arm, core_block_item, core_branch, core_co_arm, core_statement, item_made, receive_arm, receive_made, scope_of_arms, statement_made}
+use Rattle.sr_desugar.specs.Statements.{LoweredArm, WithSites, act, all_sites, alone, arms_of, call_action, call_made, condition_of, core_arm, core_block_item, core_branch, core_co_arm, core_statement, receive_arm, receive_made, scope_of_arms}
 use Rattle.sr_lower_expr.proofs.Each.{both_pass}
 use Rattle.sr_lower_expr.proofs.ExprNumbers.{core_value_ok}
 use Rattle.sr_front.specs.Imports.{name_imported, names_imported}
 use Rattle.sr_front.proofs.MentionsThere.{mention_exists, value_there}
 use Rattle.sr_lower_expr.proofs.PlaceNumbers.{Fits}
 use Rattle.sr_desugar.proofs.WaitsCode.{ItemOkay}
+use Rattle.sr_desugar.proofs.CodeFold.{making}
+use Rattle.sr_tree.proofs.StatementFolds.{ArmNode, BranchNode, ByParts, Claim, CoArmNode, ItemNode, Known, StatementNode, arm_folds, bare_arm, bare_branch, bare_co_arm, bare_item, bare_statement, branch_folds, co_arm_folds, each_statement, from_arm, from_branch, from_co_arm, from_item, from_statement, item_folds, statement_folds}
 
 -- ---- the lists of a site
 
@@ -107,36 +104,21 @@ module _ (at : Where) where
   named : (one : Mention) → IsTrue (there one) → IsTrue (if_some (λ name. named_exists name at) (named_by one))
   named (mention.Variable (root.Own var)) ok = ok
   named (mention.Variable (root.Shared home.Mine var)) ok = refl
-  named (mention.Variable (root.Shared (home.Imported import) var)) ok = refl
   named (mention.Operation whose.Mine) ok = refl
-  named (mention.Operation (whose.Imported import)) ok = refl
-  named (mention.Operation whose.Process) ok = refl
-  named mention.Machine ok = refl
-  named (mention.Count op) ok = refl
+  named _ ok = refl
 
   imported : (one : Mention) → IsTrue (there one) → IsTrue (if_some (name_imported at.imports) (named_by one))
-  imported (mention.Variable (root.Own var)) ok = refl
-  imported (mention.Variable (root.Shared home.Mine var)) ok = refl
   imported (mention.Variable (root.Shared (home.Imported import) var)) ok = ok
-  imported (mention.Operation whose.Mine) ok = refl
   imported (mention.Operation (whose.Imported import)) ok = ok
-  imported (mention.Operation whose.Process) ok = refl
-  imported mention.Machine ok = refl
-  imported (mention.Count op) ok = refl
+  imported _ ok = refl
 
   read : (one : Mention) → IsTrue (there one) → IsTrue (if_some (λ read. read_exists read at) (read_by one))
-  read (mention.Variable (root.Own var)) ok = refl
-  read (mention.Variable (root.Shared home.Mine var)) ok = refl
   read (mention.Variable (root.Shared (home.Imported import) var)) ok = ok
-  read (mention.Operation whose) ok = refl
-  read mention.Machine ok = refl
-  read (mention.Count op) ok = refl
+  read _ ok = refl
 
   counted : (one : Mention) → IsTrue (there one) → IsTrue (if_some (λ op. count_exists op at) (counted_by one))
-  counted (mention.Variable root) ok = refl
-  counted (mention.Operation whose) ok = refl
-  counted mention.Machine ok = refl
   counted (mention.Count op) ok = ok
+  counted _ ok = refl
 
   -- ---- what the guards of arms mention
 
@@ -217,71 +199,26 @@ module _ (scene : Scene) (at : Where) (fits : Fits scene at) where
   abbrev CoArmGood : CoArmTree → Type 0
   CoArmGood tree = AllGood (core_co_arm scene tree).sites
 
-  abbrev I : Type 0
-  I = (tree : BlockItem) × ItemGood tree
-
-  abbrev S : Type 0
-  S = (tree : StatementTree) × StatementGood tree
-
-  abbrev A : Type 0
-  A = (tree : ArmTree) × ArmGood tree
-
-  abbrev B : Type 0
-  B = (tree : Branch) × BranchGood tree
-
-  abbrev C : Type 0
-  C = (tree : CoArmTree) × CoArmGood tree
-
-  abbrev bare_item : BlockItem-F I S A B C → BlockItem-F BlockItem StatementTree ArmTree Branch CoArmTree
-  bare_item = map-BlockItem I S A B C BlockItem StatementTree ArmTree Branch CoArmTree (λ t. t.0) (λ t. t.0) (λ t. t.0) (λ t. t.0) (λ t. t.0)
-
-  abbrev bare_statement : Statement-F I S A B C → Statement-F BlockItem StatementTree ArmTree Branch CoArmTree
-  bare_statement = map-Statement I S A B C BlockItem StatementTree ArmTree Branch CoArmTree (λ t. t.0) (λ t. t.0) (λ t. t.0) (λ t. t.0) (λ t. t.0)
-
-  abbrev bare_arm : Arm-F I S A B C → Arm-F BlockItem StatementTree ArmTree Branch CoArmTree
-  bare_arm = map-Arm I S A B C BlockItem StatementTree ArmTree Branch CoArmTree (λ t. t.0) (λ t. t.0) (λ t. t.0) (λ t. t.0) (λ t. t.0)
-
-  abbrev bare_branch : Branch-F I S A B C → Branch-F BlockItem StatementTree ArmTree Branch CoArmTree
-  bare_branch = map-Branch I S A B C BlockItem StatementTree ArmTree Branch CoArmTree (λ t. t.0) (λ t. t.0) (λ t. t.0) (λ t. t.0) (λ t. t.0)
-
-  abbrev bare_co_arm : CoArm-F I S A B C → CoArm-F BlockItem StatementTree ArmTree Branch CoArmTree
-  bare_co_arm = map-CoArm I S A B C BlockItem StatementTree ArmTree Branch CoArmTree (λ t. t.0) (λ t. t.0) (λ t. t.0) (λ t. t.0) (λ t. t.0)
-
-  abbrev made_of_item : BlockItem-F BlockItem StatementTree ArmTree Branch CoArmTree → WithSites Block
-  made_of_item x = item_made scene (map-BlockItem BlockItem StatementTree ArmTree Branch CoArmTree (WithSites Block) (WithSites Statement) (WithSites LoweredArm) (WithSites Guarded) (WithSites CoArm) (core_block_item scene) (core_statement scene) (core_arm scene) (core_branch scene) (core_co_arm scene) x)
-
-  abbrev made_of_statement : Statement-F BlockItem StatementTree ArmTree Branch CoArmTree → WithSites Statement
-  made_of_statement x = statement_made scene (map-Statement BlockItem StatementTree ArmTree Branch CoArmTree (WithSites Block) (WithSites Statement) (WithSites LoweredArm) (WithSites Guarded) (WithSites CoArm) (core_block_item scene) (core_statement scene) (core_arm scene) (core_branch scene) (core_co_arm scene) x)
-
-  abbrev made_of_arm : Arm-F BlockItem StatementTree ArmTree Branch CoArmTree → WithSites LoweredArm
-  made_of_arm x = arm_made scene (map-Arm BlockItem StatementTree ArmTree Branch CoArmTree (WithSites Block) (WithSites Statement) (WithSites LoweredArm) (WithSites Guarded) (WithSites CoArm) (core_block_item scene) (core_statement scene) (core_arm scene) (core_branch scene) (core_co_arm scene) x)
-
-  abbrev made_of_branch : Branch-F BlockItem StatementTree ArmTree Branch CoArmTree → WithSites Guarded
-  made_of_branch x = branch_made scene (map-Branch BlockItem StatementTree ArmTree Branch CoArmTree (WithSites Block) (WithSites Statement) (WithSites LoweredArm) (WithSites Guarded) (WithSites CoArm) (core_block_item scene) (core_statement scene) (core_arm scene) (core_branch scene) (core_co_arm scene) x)
-
-  abbrev made_of_co_arm : CoArm-F BlockItem StatementTree ArmTree Branch CoArmTree → WithSites CoArm
-  made_of_co_arm x = co_arm_made scene (map-CoArm BlockItem StatementTree ArmTree Branch CoArmTree (WithSites Block) (WithSites Statement) (WithSites LoweredArm) (WithSites Guarded) (WithSites CoArm) (core_block_item scene) (core_statement scene) (core_arm scene) (core_branch scene) (core_co_arm scene) x)
+  abbrev good : Claim
+  good = record { item = ItemGood; statement = StatementGood; arm = ArmGood; branch = BranchGood; co_arm = CoArmGood }
 
   -- ---- lists of parts
 
-  items_good : (items : List I) → AllGood (all_sites (map (core_block_item scene) (map (λ (t : I). t.0) items)))
-  items_good [] = refl
-  items_good (item ∷ items) = both_good (core_block_item scene item.0).sites (all_sites (map (core_block_item scene) (map (λ (t : I). t.0) items))) item.1 (items_good items)
+  row_good : {X M : Type 0} (make : X → WithSites M) (xs : List ((x : X) × AllGood (make x).sites)) → AllGood (all_sites (map make (map (λ t. t.0) xs)))
+  row_good make [] = refl
+  row_good make (x ∷ xs) = both_good (make x.0).sites (all_sites (map make (map (λ t. t.0) xs))) x.1 (row_good make xs)
 
-  branches_good : (branches : List B) → AllGood (all_sites (map (core_branch scene) (map (λ (t : B). t.0) branches)))
-  branches_good [] = refl
-  branches_good (branch ∷ branches) =
-      both_good (core_branch scene branch.0).sites (all_sites (map (core_branch scene) (map (λ (t : B). t.0) branches))) branch.1 (branches_good branches)
+  items_good : (items : List (Known ItemGood)) → AllGood (all_sites (map (core_block_item scene) (map (λ (t : Known ItemGood). t.0) items)))
+  items_good = row_good (core_block_item scene)
 
-  co_arms_good : (arms : List C) → AllGood (all_sites (map (core_co_arm scene) (map (λ (t : C). t.0) arms)))
-  co_arms_good [] = refl
-  co_arms_good (arm ∷ arms) = both_good (core_co_arm scene arm.0).sites (all_sites (map (core_co_arm scene) (map (λ (t : C). t.0) arms))) arm.1 (co_arms_good arms)
+  branches_good : (branches : List (Known BranchGood)) → AllGood (all_sites (map (core_branch scene) (map (λ (t : Known BranchGood). t.0) branches)))
+  branches_good = row_good (core_branch scene)
 
-  arms_good : (arms : List A) → AllGood (all_sites (map (core_arm scene) (map (λ (t : A). t.0) arms)))
+  arms_good : (arms : List (Known ArmGood)) → AllGood (all_sites (map (core_arm scene) (map (λ (t : Known ArmGood). t.0) arms)))
   arms_good [] = refl
-  arms_good (arm ∷ arms) = both_good (core_arm scene arm.0).sites (all_sites (map (core_arm scene) (map (λ (t : A). t.0) arms))) arm.1.1 (arms_good arms)
+  arms_good (arm ∷ arms) = both_good (core_arm scene arm.0).sites (all_sites (map (core_arm scene) (map (λ (t : Known ArmGood). t.0) arms))) arm.1.1 (arms_good arms)
 
-  guards_good : (arms : List A) → IsTrue (list_all (arm_good at) (arms_of (map (core_arm scene) (map (λ (t : A). t.0) arms))))
+  guards_good : (arms : List (Known ArmGood)) → IsTrue (list_all (arm_good at) (arms_of (map (core_arm scene) (map (λ (t : Known ArmGood). t.0) arms))))
   guards_good [] = refl
   guards_good (arm ∷ arms) = and_from _ _ arm.1.0 (guards_good arms)
 
@@ -314,31 +251,30 @@ module _ (scene : Scene) (at : Where) (fits : Fits scene at) where
 
   -- ---- each tree, when its parts are so
 
-  item_good : (y : BlockItem-F I S A B C) → AllGood (made_of_item (bare_item y)).sites
-  item_good (BlockItem-F.Const constant) = refl
-  item_good (BlockItem-F.Var variables) = refl
+  item_good : (y : ItemNode good) → AllGood (from_item (making scene) (bare_item good y)).sites
   item_good (BlockItem-F.Statement statement) = statement.1
+  item_good _ = refl
 
-  statement_good : (y : Statement-F I S A B C) → AllGood (made_of_statement (bare_statement y)).sites
+  statement_good : (y : StatementNode good) → AllGood (from_statement (making scene) (bare_statement good y)).sites
   statement_good (Statement-F.Call span with_call invocation) = call_good span invocation (function_called scene.facts invocation)
   statement_good (Statement-F.Receive span operation places) = receive_good span (meant_by scene.facts operation) places
-  statement_good (Statement-F.If span branches None) = both_good (all_sites (map (core_branch scene) (map (λ (t : B). t.0) branches))) [] (branches_good branches) refl
+  statement_good (Statement-F.If span branches None) = both_good (all_sites (map (core_branch scene) (map (λ (t : Known BranchGood). t.0) branches))) [] (branches_good branches) refl
   statement_good (Statement-F.If span branches (Some otherwise)) =
-      both_good (all_sites (map (core_branch scene) (map (λ (t : B). t.0) branches))) (all_sites (map (core_block_item scene) (map (λ (t : I). t.0) otherwise))) (branches_good branches) (items_good otherwise)
-  statement_good (Statement-F.Do span branches None) = both_good (all_sites (map (core_branch scene) (map (λ (t : B). t.0) branches))) [] (branches_good branches) refl
+      both_good (all_sites (map (core_branch scene) (map (λ (t : Known BranchGood). t.0) branches))) (all_sites (map (core_block_item scene) (map (λ (t : Known ItemGood). t.0) otherwise))) (branches_good branches) (items_good otherwise)
+  statement_good (Statement-F.Do span branches None) = both_good (all_sites (map (core_branch scene) (map (λ (t : Known BranchGood). t.0) branches))) [] (branches_good branches) refl
   statement_good (Statement-F.Do span branches (Some otherwise)) =
-      both_good (all_sites (map (core_branch scene) (map (λ (t : B). t.0) branches))) (all_sites (map (core_block_item scene) (map (λ (t : I). t.0) otherwise))) (branches_good branches) (items_good otherwise)
+      both_good (all_sites (map (core_branch scene) (map (λ (t : Known BranchGood). t.0) branches))) (all_sites (map (core_block_item scene) (map (λ (t : Known ItemGood). t.0) otherwise))) (branches_good branches) (items_good otherwise)
   statement_good (Statement-F.ForAll span quantifiers block) = items_good block
   statement_good (Statement-F.In span arms None) =
-      and_from _ _ (site_there at (scope_of_arms (map (core_arm scene) (map (λ (t : A). t.0) arms))) (arms_of (map (core_arm scene) (map (λ (t : A). t.0) arms))) false (guards_good arms))
-      (both_good (all_sites (map (core_arm scene) (map (λ (t : A). t.0) arms))) [] (arms_good arms) refl)
+      and_from _ _ (site_there at (scope_of_arms (map (core_arm scene) (map (λ (t : Known ArmGood). t.0) arms))) (arms_of (map (core_arm scene) (map (λ (t : Known ArmGood). t.0) arms))) false (guards_good arms))
+      (both_good (all_sites (map (core_arm scene) (map (λ (t : Known ArmGood). t.0) arms))) [] (arms_good arms) refl)
   statement_good (Statement-F.In span arms (Some otherwise)) =
-      and_from _ _ (site_there at (scope_of_arms (map (core_arm scene) (map (λ (t : A). t.0) arms))) (arms_of (map (core_arm scene) (map (λ (t : A). t.0) arms))) true (guards_good arms))
-      (both_good (all_sites (map (core_arm scene) (map (λ (t : A). t.0) arms))) (all_sites (map (core_block_item scene) (map (λ (t : I). t.0) otherwise))) (arms_good arms) (items_good otherwise))
-  statement_good (Statement-F.Co span arms) = co_arms_good arms
+      and_from _ _ (site_there at (scope_of_arms (map (core_arm scene) (map (λ (t : Known ArmGood). t.0) arms))) (arms_of (map (core_arm scene) (map (λ (t : Known ArmGood). t.0) arms))) true (guards_good arms))
+      (both_good (all_sites (map (core_arm scene) (map (λ (t : Known ArmGood). t.0) arms))) (all_sites (map (core_block_item scene) (map (λ (t : Known ItemGood). t.0) otherwise))) (arms_good arms) (items_good otherwise))
+  statement_good (Statement-F.Co span arms) = row_good (core_co_arm scene) arms
   statement_good _ = refl
 
-  lowered_arm_good : (y : Arm-F I S A B C) → ArmFits (made_of_arm (bare_arm y))
+  lowered_arm_good : (y : ArmNode good) → ArmFits (from_arm (making scene) (bare_arm good y))
   lowered_arm_good y =
       let condition = condition_good y.condition in
       let order = order_good y.order in (
@@ -347,41 +283,29 @@ module _ (scene : Scene) (at : Where) (fits : Fits scene at) where
         items_good y.block,
       )
 
-  branch_good : (y : Branch-F I S A B C) → AllGood (made_of_branch (bare_branch y)).sites
+  branch_good : (y : BranchNode good) → AllGood (from_branch (making scene) (bare_branch good y)).sites
   branch_good y = items_good y.block
 
-  co_arm_parts : (span : Span) (quantifiers : List Quantifier) (target : Option Expr) (with_call : Bool) (invocation : Invocation) (block : Option (List I))
-      → AllGood (made_of_co_arm (bare_co_arm (record { span = span; quantifiers = quantifiers; target = target; with_call = with_call; invocation = invocation; block = block }))).sites
-  co_arm_parts span quantifiers target with_call invocation None = refl
-  co_arm_parts span quantifiers target with_call invocation (Some block) = items_good block
-
-  co_arm_good : (y : CoArm-F I S A B C) → AllGood (made_of_co_arm (bare_co_arm y)).sites
-  co_arm_good y = co_arm_parts y.span y.quantifiers y.target y.with_call y.invocation y.block
+  co_arm_good : (y : CoArmNode good) → AllGood (from_co_arm (making scene) (bare_co_arm good y)).sites
+  co_arm_good y = by y.block
+    where
+      by : (block : Option (List (Known ItemGood))) → AllGood (from_co_arm (making scene) (bare_co_arm good (record y { block = block }))).sites
+      by None = refl
+      by (Some block) = items_good block
 
   -- ---- all trees
 
-  item_step : (x : BlockItem-F BlockItem StatementTree ArmTree Branch CoArmTree) (y : BlockItem-F I S A B C) → bare_item y ≡ x → ItemGood (roll-BlockItem x)
-  item_step x y is = subst (λ z. ItemGood (roll-BlockItem z)) is
-      (subst (λ (made : WithSites Block). AllGood made.sites) (sym (fold-roll-BlockItem (WithSites Block) (WithSites Statement) (WithSites LoweredArm) (WithSites Guarded) (WithSites CoArm) (item_made scene) (statement_made scene) (arm_made scene) (branch_made scene) (co_arm_made scene) (bare_item y))) (item_good y))
-
-  statement_step : (x : Statement-F BlockItem StatementTree ArmTree Branch CoArmTree) (y : Statement-F I S A B C) → bare_statement y ≡ x → StatementGood (roll-Statement x)
-  statement_step x y is = subst (λ z. StatementGood (roll-Statement z)) is
-      (subst (λ (made : WithSites Statement). AllGood made.sites) (sym (fold-roll-Statement (WithSites Block) (WithSites Statement) (WithSites LoweredArm) (WithSites Guarded) (WithSites CoArm) (item_made scene) (statement_made scene) (arm_made scene) (branch_made scene) (co_arm_made scene) (bare_statement y))) (statement_good y))
-
-  arm_step : (x : Arm-F BlockItem StatementTree ArmTree Branch CoArmTree) (y : Arm-F I S A B C) → bare_arm y ≡ x → ArmGood (roll-Arm x)
-  arm_step x y is = subst (λ z. ArmGood (roll-Arm z)) is
-      (subst (λ (made : WithSites LoweredArm). ArmFits made) (sym (fold-roll-Arm (WithSites Block) (WithSites Statement) (WithSites LoweredArm) (WithSites Guarded) (WithSites CoArm) (item_made scene) (statement_made scene) (arm_made scene) (branch_made scene) (co_arm_made scene) (bare_arm y))) (lowered_arm_good y))
-
-  branch_step : (x : Branch-F BlockItem StatementTree ArmTree Branch CoArmTree) (y : Branch-F I S A B C) → bare_branch y ≡ x → BranchGood (roll-Branch x)
-  branch_step x y is = subst (λ z. BranchGood (roll-Branch z)) is
-      (subst (λ (made : WithSites Guarded). AllGood made.sites) (sym (fold-roll-Branch (WithSites Block) (WithSites Statement) (WithSites LoweredArm) (WithSites Guarded) (WithSites CoArm) (item_made scene) (statement_made scene) (arm_made scene) (branch_made scene) (co_arm_made scene) (bare_branch y))) (branch_good y))
-
-  co_arm_step : (x : CoArm-F BlockItem StatementTree ArmTree Branch CoArmTree) (y : CoArm-F I S A B C) → bare_co_arm y ≡ x → CoArmGood (roll-CoArm x)
-  co_arm_step x y is = subst (λ z. CoArmGood (roll-CoArm z)) is
-      (subst (λ (made : WithSites CoArm). AllGood made.sites) (sym (fold-roll-CoArm (WithSites Block) (WithSites Statement) (WithSites LoweredArm) (WithSites Guarded) (WithSites CoArm) (item_made scene) (statement_made scene) (arm_made scene) (branch_made scene) (co_arm_made scene) (bare_co_arm y))) (co_arm_good y))
+  by_parts : ByParts good
+  by_parts = record {
+    item = λ y. subst (λ t. t) (λ i. AllGood (item_folds (making scene) (bare_item good y) i).sites) (item_good y);
+    statement = λ y. subst (λ t. t) (λ i. AllGood (statement_folds (making scene) (bare_statement good y) i).sites) (statement_good y);
+    arm = λ y. subst (λ t. t) (λ i. ArmFits (arm_folds (making scene) (bare_arm good y) i)) (lowered_arm_good y);
+    branch = λ y. subst (λ t. t) (λ i. AllGood (branch_folds (making scene) (bare_branch good y) i).sites) (branch_good y);
+    co_arm = λ y. subst (λ t. t) (λ i. AllGood (co_arm_folds (making scene) (bare_co_arm good y) i).sites) (co_arm_good y);
+  }
 
   pub statement_guards : (tree : StatementTree) → StatementGood tree
-  statement_guards = ind-Statement ItemGood StatementGood ArmGood BranchGood CoArmGood item_step statement_step arm_step branch_step co_arm_step
+  statement_guards = each_statement good by_parts
 
   -- ---- code
 

@@ -1,6 +1,7 @@
 -- In an accepted program all that is known before any statement is looked at has a type, but for operations and components, where all that is declared has one: what waited has the type of its value.
 use Rattle.std.proofs.Common.{◌≡◌, inl, inr, ℕ, List, flat_map, length, map, Option, Some, None, Result, Ok, Err, is_ok, is_some, refl, sym, ap, subst, ◌∙◌}
 use Rattle.std.proofs.lemmas.Bool.{false≢true}
+use Rattle.std.proofs.lemmas.Option.{same_Some}
 use Rattle.std.specs.List.{IsDistinct}
 use Rattle.std.specs.Map.{lookup}
 use Rattle.sr_check.specs.Checked.{first_refused}
@@ -43,11 +44,12 @@ use Rattle.sr_types.specs.declared.ty.Ty.{Ty, out-Ty}
 use Rattle.sr_value.specs.declared.place.Span.{Span}
 use Rattle.sr_front.proofs.AlikeInside.{LayerHas, Telling, inside_alike, inside_names}
 use Rattle.sr_front.proofs.AllSettled.{all_settled_then, declared_uses, known_is_inferred, outside_known, waiting_outside, waves_know}
-use Rattle.sr_front.proofs.ComponentsKnown.{Anywhere, IsKnown, files_free}
+use Rattle.sr_front.proofs.ComponentsKnown.{IsKnown, files_free}
 use Rattle.sr_front.proofs.ConstantsChecked.{checked_at}
 use Rattle.sr_front.proofs.FirstStays.{inside_fresh}
 use Rattle.sr_front.proofs.InfosStay.{Fresh}
 use Rattle.sr_front.proofs.KeptDeclared.{Declares, keeps_files, keeps_files_named}
+use Rattle.sr_front.proofs.KeptNames.{Anywhere}
 use Rattle.sr_front.proofs.KnownOrWaits.{KnownOrWaits}
 use Rattle.sr_front.proofs.ReadsCode.{component_inside}
 use Rattle.sr_front.proofs.SameExprs.{expr_same}
@@ -91,10 +93,7 @@ member_outside files spot text decl is = by (member_named (program files).specs 
 
     by : (found : Option Decl) → found ≡ Some decl → outside.Found files Outside component_may declared_may found → IsOutside files decl
     by None e h = absurd (false≢true (ap is_some e))
-    by (Some one) e h = subst (IsOutside files) (same one decl e) (h spot)
-      where
-        same : (a b : Decl) → Some a ≡ Some b → a ≡ b
-        same a b k = cc
+    by (Some one) e h = subst (IsOutside files) (same_Some one decl e) (h spot)
 
 -- ---- specs stay
 

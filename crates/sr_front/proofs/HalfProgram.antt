@@ -18,13 +18,14 @@ use Rattle.sr_check_decl.specs.Declarations.{spec_items_found}
 use Rattle.sr_check_decl.specs.Declaring.{files_named, no_facts, program_declared}
 use Rattle.sr_check_decl.specs.Inferring.{program_known}
 use Rattle.sr_check_decl.specs.Parts.{component_decl}
-use Rattle.sr_check.specs.Checked.{first_refused}
+use Rattle.sr_check.specs.Checked.{checked, first_refused}
 use Rattle.sr_check.specs.Components.{head_found, item_read, items_procs, items_read}
 use Rattle.sr_check.specs.ErrorFree.{ErrorFree}
 use Rattle.sr_check.specs.Procs.{Procs}
 use Rattle.sr_check.proofs.Each.{Each, each-left, each-right}
+use Rattle.sr_check.proofs.Kept.{none_found}
 use Rattle.sr_check.proofs.ErrorFree.{error_free_first, error_free_second}
-use Rattle.sr_front.proofs.ConstantsChecked.{CheckedAt, checked_at, checking, found_in, part_free}
+use Rattle.sr_front.proofs.ConstantsChecked.{CheckedAt, checked_whole, checking, found_in, part_free}
 use Rattle.sr_front.proofs.DeclaredAgrees.{FilesAgree}
 use Rattle.sr_front.proofs.HalfWalk.{ComponentMet, ItemMet, half_program}
 use Rattle.sr_front.proofs.InfosStay.{Reads}
@@ -36,7 +37,7 @@ abbrev pub Ending : Meanings → Specs → List File → Facts → Type 1
 Ending uses specs files end = Reads (flat_map component_inside (components_in files)) (program_known uses specs files) end
 
 -- where the names of some components are free, those of these items are
-abbrev Within : List Span → List Item → Type 1
+abbrev pub Within : List Span → List Item → Type 1
 Within names items = (Free : Spot → Type 0) → Each (λ span. Free (spot_of span)) names → Each (λ span. Free (spot_of span)) (flat_map item_inside items)
 
 module _ (names : List Span) (first : Facts) where
@@ -45,11 +46,7 @@ module _ (names : List Span) (first : Facts) where
 
   item_met : (procs : Procs) (one : Item) (facts : Facts) → Ends facts → ErrorFree (item_read procs one facts).found → ItemMet Ends one
   item_met procs (item.Spec inner) facts ends whole = record { end = facts; ends = ends; whole = whole }
-  item_met procs (item.Proc proc) facts ends whole = tt
-  item_met procs (item.Procedure procedure) facts ends whole = tt
-  item_met procs (item.Process process) facts ends whole = tt
-  item_met procs (item.Final final) facts ends whole = tt
-  item_met procs (item.Statement statement) facts ends whole = tt
+  item_met procs _ facts ends whole = tt
 
   items_met : (procs : Procs) (items : List Item) (facts : Facts) → Within names items → Ends facts → ErrorFree (items_read procs items facts).found → (one : Item) → IsIn one items → ItemMet Ends one
   items_met procs [] facts within ends whole one k = absurd k
@@ -61,7 +58,7 @@ module _ (names : List Span) (first : Facts) where
       (error_free_second (item_read procs head facts).found _ whole) one k
 
 -- each component of an accepted program
-component_met : (all : List Component) (first : Facts) (component : Component) → IsIn component all → CheckedAt all first component → ComponentMet (Reads (flat_map component_inside all) first) component
+pub component_met : (all : List Component) (first : Facts) (component : Component) → IsIn component all → CheckedAt all first component → ComponentMet (Reads (flat_map component_inside all) first) component
 component_met all first component there checked = record {
   specs = λ one k. record { end = here; ends = ends; whole = found_in here (spec_of component) (error_free_first (spec_items_found here (spec_of component)) _ head) one k };
   head = record { end = here; ends = ends; whole = error_free_second (spec_items_found here (spec_of component)) _ head };
@@ -79,9 +76,14 @@ component_met all first component there checked = record {
     head = error_free_first (head_found component here) _ checked.whole
 
 -- all that is declared outside of code has a type, but for operations and components
+pub half_whole : (uses : Meanings) (specs : Specs) (files : List File) → ErrorFree (checked uses specs files).found
+    → FilesAgree (Ending uses specs files) files (record { facts = files_named files (no_facts uses specs); enumerations = 0 })
+    → Half (program_declared uses specs files)
+half_whole uses specs files whole agree =
+    half_program (Ending uses specs files) uses specs files agree
+    (λ component there. component_met (components_in files) (program_known uses specs files) component there (checked_whole uses specs files whole component there))
+
 pub half_declared : (uses : Meanings) (specs : Specs) (files : List File) → first_refused uses specs files ≡ None
     → FilesAgree (Ending uses specs files) files (record { facts = files_named files (no_facts uses specs); enumerations = 0 })
     → Half (program_declared uses specs files)
-half_declared uses specs files none agree =
-    half_program (Ending uses specs files) uses specs files agree
-    (λ component there. component_met (components_in files) (program_known uses specs files) component there (checked_at uses specs files none component there))
+half_declared uses specs files none agree = half_whole uses specs files (none_found uses specs files none) agree

@@ -1,7 +1,7 @@
 -- All that is declared outside of code has a type where it is declared: each declaration in turn, where no rule is broken
 -- in it at its check, and the names in its types mean the same there.
 use Rattle.std.proofs.Common.{◌≡◌, inl, inr, Bool, true, false, not, ◌&&◌, ◌||◌, List, [], ◌∷◌, map, Option, Some, None, refl, sym, ap, subst, ◌∙◌, if◌then◌else◌}
-use Rattle.std.proofs.lemmas.Bool.{false≢true}
+use Rattle.std.proofs.lemmas.Bool.{and_parts, false≢true}
 use Rattle.sr_names.specs.declared.finding.Finding.{Finding}
 use Rattle.sr_names.specs.declared.finding.Rule.TheVariants.{BadType}
 use Rattle.sr_names.specs.declared.meaning.Decl.{Decl}
@@ -60,10 +60,11 @@ use Rattle.sr_check.proofs.ErrorFree.{error_free_first, error_free_second, rule_
 use Rattle.sr_front.proofs.DeclaredAgrees.{ComponentAgrees, ComponentsAgree, FilesAgree, ItemAgrees, ItemsAgree, LayerAgrees, NamedAgrees, SpecAgrees, SpecsAgree, TypesAgree, WrittenAgrees, at_body, at_head, at_spec, entering, naming}
 use Rattle.sr_front.proofs.RecordsWithin.{LayerFree, TreeFree, within_free}
 use Rattle.sr_front.proofs.StaticTyped.{static_typed}
-use Rattle.sr_front.proofs.Typed.{IsTyped, SignatureTyped, int_typed, not_untyped}
+use Rattle.sr_front.proofs.Typed.{IsTyped, SignatureTyped, not_untyped, typed_test}
 use Rattle.sr_front.proofs.TypedHalf.{Half, half_const, half_enumeration, half_head, half_infos, half_named, half_operation, half_optype, half_put, half_record, half_type, half_types, half_var}
 use Rattle.sr_front.proofs.TypedSignatures.{signature_known}
 use Rattle.sr_front.proofs.TypedTypes.{entered_typed}
+use Rattle.sr_front.proofs.PassingTypes.{int_passes}
 
 -- ---- operations
 
@@ -74,7 +75,7 @@ half_entered signature facts typed half = record { infos = half.infos; signature
 pub half_signed : (tree : SignatureTree) (facts : Facts) → Half facts → Half (signature_entered tree facts)
 half_signed tree facts half = record {
   infos = keeps_signature half_infos (λ now signature h. h) tree facts half.infos;
-  signatures = (signature_known tree facts (record { infos = half_types facts half; signatures = half.signatures })).0.signatures;
+  signatures = (signature_known tree facts (record { infos = half_types facts half; signatures = half.signatures })).signatures;
 }
 
 half_ops_entered : (ops : List OpItem) (facts : Facts) → Half facts → Half (ops_entered ops facts)
@@ -93,13 +94,9 @@ half_sems (semaphore ∷ more) facts half =
 
 process_typed : (quantifiers : List Quantifier) → Each (λ (param : Param). IsTyped param.ty) (process_params quantifiers)
 process_typed [] = tt
-process_typed (quantifier ∷ more) = (int_typed, process_typed more)
+process_typed (quantifier ∷ more) = (int_passes typed_test, process_typed more)
 
 -- ---- constants and variables without a written type
-
-conjunct : (a b : Bool) → (a && b) ≡ true → a ≡ true
-conjunct true b h = refl
-conjunct false b h = h
 
 value_type : (rule : Bool) (type : Ty) (fit : Bool) → IsTyped type → (is_no_type type || (not (is_of_nulls type) && fit)) ≡ true → type_of_value type ≡ type
 value_type rule type fit typed met = by (is_of_nulls type) refl
@@ -108,7 +105,7 @@ value_type rule type fit typed met = by (is_of_nulls type) refl
     both = ap (λ (b : Bool). b || (not (is_of_nulls type) && fit)) (sym (not_untyped type typed)) ∙ met
 
     by : (nulls : Bool) → is_of_nulls type ≡ nulls → type_of_value type ≡ type
-    by true is = absurd (false≢true (ap not (sym is) ∙ conjunct (not (is_of_nulls type)) fit both))
+    by true is = absurd (false≢true (ap not (sym is) ∙ (and_parts (not (is_of_nulls type)) fit both).0))
     by false is = ap (λ (b : Bool). if b then ty.Untyped else type) is
 
 rule_known : (rule : Bool) (value : Static) → is_static (known_if rule value) ≡ true → (rule ≡ true) × (is_static value ≡ true)
@@ -225,9 +222,7 @@ module _ (Ending : Facts → Type 1) where
   half_item (item.Process process) tally half agree met =
       half_operation (entered (process_signature process.quantifiers) tally.facts) (spot_of process.name.span) _ _ false
       (half_entered (process_signature process.quantifiers) tally.facts (record { params = process_typed process.quantifiers; returns = tt }) half)
-  half_item (item.Proc proc) tally half agree met = half
-  half_item (item.Final final) tally half agree met = half
-  half_item (item.Statement statement) tally half agree met = half
+  half_item _ tally half agree met = half
 
   -- ---- all
 

@@ -1,6 +1,8 @@
 -- The signature of a declared type says of its operations what the table says of their head: how many formals, whether
 -- something is returned, and the forms.
-use Rattle.std.proofs.Common.{◌≡◌, ℕ, Bool, true, false, ◌&&◌, List, Option, Some, None, is_some, length, refl, sym, ap, ◌∙◌, true≢false, eqb-true, if◌then◌else◌}
+use Rattle.std.proofs.Common.{◌≡◌, ℕ, Bool, true, false, List, Option, Some, None, is_some, length, refl, sym, ap, ◌∙◌, true≢false, eqb-true, if◌then◌else◌}
+use Rattle.std.proofs.lemmas.Bool.{and_parts}
+use Rattle.std.proofs.lemmas.Option.{none-some, same_Some}
 use Rattle.std.specs.List.{position}
 use Rattle.std.specs.Option.{option_eq}
 use Rattle.std.specs.Cmp.Lexicographic.{pointwise, as_long}
@@ -34,27 +36,13 @@ pub record HasTable (signatures : List Signature) (head : Head) (ty : Ty) : Type
 
 -- ---- tests
 
-pub both_true : (x y : Bool) → (x && y) ≡ true → (x ≡ true) × (y ≡ true)
-both_true true y e = (refl, e)
-both_true false y e = absurd (true≢false (sym e))
-
-pub some_of : {A : Type 0} (found : Option A) → is_some found ≡ true → (thing : A) × (found ≡ Some thing)
-some_of None e = absurd (true≢false (sym e))
-some_of (Some thing) e = (thing, refl)
-
-pub same_some : {A : Type 0} (a b : A) → Some a ≡ Some b → a ≡ b
-same_some a b e = cc
-
-pub none_some : {A : Type 0} (a : A) → None ≡ Some a → ⊥
-none_some a e = cc
-
 -- ---- equal types
 
 layers_signed : (signatures : List Signature) (signature : Signature) (a b : Ty-F Ty) → layer_same (map-Ty Ty (Ty → Bool) same_type a) b ≡ true → layer_signature signatures a ≡ Some signature
     → layer_signature signatures b ≡ Some signature
 layers_signed signatures signature (Ty-F.Op number) (Ty-F.Op other) same at = ap (λ n. layer_signature {A = Ty} signatures (Ty-F.Op n)) (sym (eqb-true number other same)) ∙ at
 layers_signed signatures signature (Ty-F.Op number) _ same at = absurd (true≢false (sym same))
-layers_signed signatures signature _ b same at = absurd (none_some signature at)
+layers_signed signatures signature _ b same at = absurd (none-some signature at)
 
 -- equal types have the same signature
 pub same_signed : (signatures : List Signature) (signature : Signature) (a b : Ty) → same_type a b ≡ true → signature_of signatures a ≡ Some signature → signature_of signatures b ≡ Some signature
@@ -74,18 +62,13 @@ forms_equal : (a b : Forms) → same_forms a b ≡ true → a ≡ b
 forms_equal forms.Both forms.Both e = refl
 forms_equal forms.Call forms.Call e = refl
 forms_equal forms.Send forms.Send e = refl
-forms_equal forms.Both forms.Call e = absurd (true≢false (sym e))
-forms_equal forms.Both forms.Send e = absurd (true≢false (sym e))
-forms_equal forms.Call forms.Both e = absurd (true≢false (sym e))
-forms_equal forms.Call forms.Send e = absurd (true≢false (sym e))
-forms_equal forms.Send forms.Both e = absurd (true≢false (sym e))
-forms_equal forms.Send forms.Call e = absurd (true≢false (sym e))
+forms_equal _ _ e = absurd (true≢false (sym e))
 
 -- equal signatures fit the same heads
 pub fits_equal : (head : Head) (a b : Signature) → equal_signatures a b ≡ true → FitsTable head a → FitsTable head b
 fits_equal head a b same fits =
-    let outer = both_true (same_forms a.forms b.forms) _ same in
-    let inner = both_true (pointwise same_param a.params b.params) _ outer.1 in
+    let outer = and_parts (same_forms a.forms b.forms) _ same in
+    let inner = and_parts (pointwise same_param a.params b.params) _ outer.1 in
     let forms : a.forms ≡ b.forms = forms_equal a.forms b.forms outer.0 in
     record {
       params = sym (as_long same_param a.params b.params inner.0) ∙ fits.params;
@@ -99,18 +82,18 @@ fits_equal head a b same fits =
 out-untyped : out-Ty ty.Untyped ≡ Ty-F.Untyped
 out-untyped = ap out-Ty (sym ty.rolls-Untyped) ∙ out-roll-Ty Ty-F.Untyped
 
-out-op : (number : ℕ) → out-Ty (ty.Op number) ≡ Ty-F.Op number
+pub out-op : (number : ℕ) → out-Ty (ty.Op number) ≡ Ty-F.Op number
 out-op number = ap out-Ty (sym (ty.rolls-Op number)) ∙ out-roll-Ty (Ty-F.Op number)
 
 pub untyped_unsigned : (signatures : List Signature) (signature : Signature) → signature_of signatures ty.Untyped ≡ Some signature → ⊥
-untyped_unsigned signatures signature at = none_some signature (sym (ap (layer_signature signatures) out-untyped) ∙ at)
+untyped_unsigned signatures signature at = none-some signature (sym (ap (layer_signature signatures) out-untyped) ∙ at)
 
 numbered_equal : (signatures : List Signature) (made signature : Signature) (number : Option ℕ) → position (equal_signatures made) signatures ≡ number
     → signature_of signatures (numbered_type number) ≡ Some signature → equal_signatures made signature ≡ true
 numbered_equal signatures made signature None e at = absurd (untyped_unsigned signatures signature at)
 numbered_equal signatures made signature (Some number) e at =
     let passes = position-passes (equal_signatures made) signatures number e in
-    let same : passes.0 ≡ signature = same_some passes.0 signature (sym passes.1 ∙ sym (ap (layer_signature signatures) (out-op number)) ∙ at) in
+    let same : passes.0 ≡ signature = same_Some passes.0 signature (sym passes.1 ∙ sym (ap (layer_signature signatures) (out-op number)) ∙ at) in
     ap (equal_signatures made) (sym same) ∙ passes.2
 
 -- the signature of the type that a signature makes equals it

@@ -1,16 +1,10 @@
 -- What is known of operations in the blocks of an accepted program: each is in the table, and its type has a signature
 -- that fits; so has each type of operations.
 use Rattle.std.proofs.Common.{◌≡◌, ◌⊎◌, inl, inr, ℕ, Bool, true, false, List, [], ◌∷◌, Option, Some, None, flat_map, map, refl, sym, ap, ◌∙◌, subst, true≢false}
-use Rattle.sr_names.specs.declared.diagnostics.Diagnostics.{Diagnostics}
-use Rattle.sr_names.specs.declared.finding.Diagnostic.{Diagnostic}
-use Rattle.sr_names.specs.declared.finding.Finding.{Finding}
-use Rattle.sr_names.specs.declared.finding.Finding.TheVariants.{Use, Broken}
 use Rattle.sr_names.specs.declared.spot.Spot.{Spot}
-use Rattle.sr_names.specs.Diagnostics.{all_noted, noted, nothing as none_noted}
 use Rattle.sr_names.specs.Noted.{Meanings}
 use Rattle.sr_names.specs.Searches.{At}
-use Rattle.sr_names.specs.Spots.{same_spot, spot_of}
-use Rattle.sr_names.proofs.Marking.{entry-same, entry-other, same_spot-cases}
+use Rattle.sr_names.specs.Spots.{spot_of}
 use Rattle.sr_tree.specs.declared.component.Component.{Component}
 use Rattle.sr_tree.specs.declared.component.File.{File}
 use Rattle.sr_tree.specs.declared.component.ProcItem.{ProcItem}
@@ -50,17 +44,17 @@ use Rattle.sr_check_expr.specs.declared.info.Info.TheVariants as info
 use Rattle.sr_check_expr.specs.Infos.{info_at}
 use Rattle.sr_check_decl.specs.declared.kind.NamedParam.{NamedParam}
 use Rattle.sr_check_decl.specs.declared.kind.Signed.{Signed}
-use Rattle.sr_check_decl.specs.Declarations.{op_found, sems_found}
 use Rattle.sr_check_decl.specs.Declaring.{op_item_name, op_type, ops_declared, sems_declared, params_declared}
 use Rattle.sr_check_decl.specs.Entering.{entered, ops_entered}
-use Rattle.sr_check_decl.specs.Heads.{head_found, local_op_found, local_ops_found, sems_headed, unless_broken}
+use Rattle.sr_front.proofs.FreeBlocks.{FreeItem}
+use Rattle.sr_front.proofs.Heads.{head_found, ops_headed}
 use Rattle.sr_check_decl.specs.Variables.{declare}
 use Rattle.sr_outline.specs.Heads.{DeclaredOperation, Heads, component_opened, head_at, inner_opened, ops_opened, sems_opened}
 use Rattle.sr_core.specs.declared.statement.Scope.TheVariants.{Own}
 use Rattle.sr_tables.specs.Parts.{components_in, spot_named}
 use Rattle.sr_tables.specs.Shapes.{Shapes}
 use Rattle.sr_front.proofs.Declared.{Apart, inner_owned_is, owned_by}
-use Rattle.sr_front.proofs.HeadCounts.{HasTable, none_some}
+use Rattle.sr_front.proofs.HeadCounts.{HasTable}
 use Rattle.sr_front.proofs.Headed.{Headed}
 use Rattle.sr_front.proofs.KeptCode as code
 use Rattle.sr_front.proofs.KeptNames as names
@@ -68,6 +62,7 @@ use Rattle.sr_front.proofs.KeptNames.{Anywhere, Closed, all_fit}
 use Rattle.sr_front.proofs.KnownHeaded.{KnownAs, op_known, opened_headed, sems_known, table}
 use Rattle.sr_front.proofs.Members.{Among, all_among, among_each}
 use Rattle.sr_front.proofs.Optypes.{OptypesHeaded, table_stays}
+use Rattle.sr_front.proofs.Put.{put_holds}
 
 -- ---- types of operations
 
@@ -78,13 +73,9 @@ is_optype _ = false
 -- no type of operations is entered in a block
 optypes_with : (heads : Heads) (facts : Facts) (spot : Spot) (one : Info) → is_optype (Some one) ≡ false → OptypesHeaded heads facts → OptypesHeaded heads (declare facts spot one)
 unfolding is_optype
-optypes_with heads facts spot one other h at ty is = by (same_spot-cases at spot)
-  where
-    by : (at ≡ spot) ⊎ (same_spot at spot ≡ false) → (more : List Signature) → KeepsNumbers facts.signatures more → HasTable more (head_at heads at) ty
-    by (inl same) =
-        let entry : Some one ≡ Some (info.OpType ty) = sym (entry-same facts.infos spot one) ∙ ap (λ s. info_at (declare facts spot one).infos s) (sym same) ∙ is in
-        absurd (true≢false (sym (ap is_optype entry) ∙ other))
-    by (inr apart) = h at ty (sym (entry-other facts.infos spot one at apart) ∙ is)
+optypes_with heads facts spot one other h at ty is =
+    put_holds facts spot one (λ there found. found ≡ Some (info.OpType ty) → (more : List Signature) → KeepsNumbers facts.signatures more → HasTable more (head_at heads there) ty)
+    (λ entry. absurd (true≢false (sym (ap is_optype entry) ∙ other))) at (λ apart. h at ty) is
 
 pub optypes_signatures : (heads : Heads) (facts : Facts) (signature : Signature) → OptypesHeaded heads facts → OptypesHeaded heads (entered signature facts)
 optypes_signatures heads facts signature h spot ty is more keeps =
@@ -115,22 +106,6 @@ module _ (heads : Heads) where
       by : (returned : Option NamedParam) → OptypesHeaded heads (returned_declared returned (params_declared signed.params facts))
       by None = optypes_params signed.params facts h
       by (Some returned) = optypes_value (params_declared signed.params facts) returned.spot _ (optypes_params signed.params facts h)
-
--- ---- findings
-
-none_broken : (diagnostics : Diagnostics) (found : List Finding) → ErrorFree found → (all_noted diagnostics found).first ≡ diagnostics.first
-none_broken diagnostics [] nothing = refl
-none_broken diagnostics (Use spot meaning ∷ found) nothing = none_broken (noted diagnostics (Use spot meaning)) found nothing
-none_broken diagnostics (Broken diagnostic ∷ found) nothing = absurd nothing
-
--- where nothing is broken, more is looked at
-also_unbroken : (first : Option Diagnostic) (found more : List Finding) → (ErrorFree found → first ≡ None) → ErrorFree (unless_broken first found more) → ErrorFree more
-also_unbroken None found more unbroken nothing = error_free_second found more nothing
-also_unbroken (Some diagnostic) found more unbroken nothing = absurd (none_some diagnostic (sym (unbroken nothing)))
-
-pub op_headed : (now : Facts) (op : OpItem) → ErrorFree (local_op_found now op) → ErrorFree (head_found now (op_item_name op) (op_type now op))
-op_headed now op nothing =
-    also_unbroken (all_noted none_noted (op_found now op)).first (op_found now op) (head_found now (op_item_name op) (op_type now op)) (none_broken none_noted (op_found now op)) nothing
 
 -- ---- what is known in a block
 
@@ -240,12 +215,12 @@ module _ (uses : Meanings) (files : List File) (facts : Facts) (kept : facts.use
                 opened_headed facts shapes heads procs files apart number tree one.0 spot component is_local more ty there
                 (among_each (Among (component_opened facts shapes heads tree)) opened one.1.0 one.0 among one.1.1) one.2 (table_stays now.signatures more one.0.head ty keeps has)
 
-    local_ops_known : (now : Facts) (same : now.uses ≡ facts.uses) (optypes : OptypesHeaded heads now) (ops : List OpItem) → ErrorFree (local_ops_found now ops)
+    local_ops_known : (now : Facts) (same : now.uses ≡ facts.uses) (optypes : OptypesHeaded heads now) (ops : List OpItem) → ErrorFree (ops_headed now ops)
         → Each (KnownAs facts shapes heads now same optypes) (ops_opened facts shapes heads Own ops)
     local_ops_known now same optypes [] nothing = tt
     local_ops_known now same optypes (op ∷ ops) nothing = (
-      op_known facts shapes heads now same optypes Own op (op_headed now op (error_free_first (local_op_found now op) (local_ops_found now ops) nothing)),
-      local_ops_known now same optypes ops (error_free_second (local_op_found now op) (local_ops_found now ops) nothing),
+      op_known facts shapes heads now same optypes Own op (error_free_first (head_found now (op_item_name op) (op_type now op)) (ops_headed now ops) nothing),
+      local_ops_known now same optypes ops (error_free_second (head_found now (op_item_name op) (op_type now op)) (ops_headed now ops) nothing),
     )
 
     item_either : (item : ProcItem) (context : Context) → Each (Among (component_opened facts shapes heads tree)) (inner_opened facts shapes heads item) → Sound Meeting uses (component_at tree) context.facts
@@ -258,22 +233,22 @@ module _ (uses : Meanings) (files : List File) (facts : Facts) (kept : facts.use
 
     -- what a block declares is known by the types of its heads
     pub local_headed : (item : ProcItem) (context : Context) → Each (Among (component_opened facts shapes heads tree)) (inner_opened facts shapes heads item)
-        → Holding (component_at tree) context.facts → ErrorFree (proc_item_read item context).found → Holding (component_at tree) (proc_item_read item context).facts
-    local_headed (inner.Const constant) context among h nothing = holding_const (component_at tree) constant context.facts h
-    local_headed (inner.Var variables) context among h nothing = holding_var (component_at tree) variables context.facts h
-    local_headed (inner.Statement statement) context among h nothing = holding_statement (component_at tree) statement context h
-    local_headed (inner.Op operations) context among h nothing =
+        → FreeItem item context.facts → Holding (component_at tree) context.facts → ErrorFree (proc_item_read item context).found → Holding (component_at tree) (proc_item_read item context).facts
+    local_headed (inner.Const constant) context among free h nothing = holding_const (component_at tree) constant context.facts h
+    local_headed (inner.Var variables) context among free h nothing = holding_var (component_at tree) variables context.facts h
+    local_headed (inner.Statement statement) context among free h nothing = holding_statement (component_at tree) statement context h
+    local_headed (inner.Op operations) context among free h nothing =
         let ops = operations.items in
         let now = ops_declared true ops (ops_entered ops context.facts) in
         let sound = item_either (inner.Op operations) context among h.0 in
         let optypes = names.keeps_local_ops (OptypesHeaded heads) Anywhere Anywhere (optypes_closed heads) ops context.facts (all_fit (λ op. spot_of (op_item_name op).span) ops) h.1 in
-        (either_headed (ops_opened facts shapes heads Own ops) now sound optypes among (local_ops_known now (sound.1.0 ∙ sym kept) optypes ops nothing), optypes)
-    local_headed (inner.Sem semaphores) context among h nothing =
+        (either_headed (ops_opened facts shapes heads Own ops) now sound optypes among (local_ops_known now (sound.1.0 ∙ sym kept) optypes ops (free.headed nothing)), optypes)
+    local_headed (inner.Sem semaphores) context among free h nothing =
         let now = sems_declared true semaphores.semaphores context.facts in
         let sound = item_either (inner.Sem semaphores) context among h.0 in
         let optypes = names.keeps_local_sems (OptypesHeaded heads) Anywhere Anywhere (optypes_closed heads) semaphores.semaphores context.facts (all_fit (λ semaphore. spot_of semaphore.name.span) semaphores.semaphores) h.1 in (
           either_headed (sems_opened Own semaphores.semaphores) now sound optypes among
-              (sems_known facts shapes heads now (sound.1.0 ∙ sym kept) optypes Own semaphores.semaphores (error_free_second (sems_found context.facts semaphores.semaphores) (sems_headed now semaphores.semaphores) nothing)),
+              (sems_known facts shapes heads now (sound.1.0 ∙ sym kept) optypes Own semaphores.semaphores free),
           optypes,
         )
 

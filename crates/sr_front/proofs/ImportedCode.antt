@@ -36,14 +36,9 @@ use Rattle.std.specs.List.{flat_map}
 
 -- what is there is imported
 imported_of : (at : Where) (one : Mention) → IsTrue (mention_exists one at) → IsTrue (mention_imported at.imports one)
-imported_of at (mention.Variable (root.Own var)) ok = refl
-imported_of at (mention.Variable (root.Shared home.Mine var)) ok = refl
 imported_of at (mention.Variable (root.Shared (home.Imported import) var)) ok = ok
-imported_of at (mention.Operation whose.Mine) ok = refl
 imported_of at (mention.Operation (whose.Imported import)) ok = ok
-imported_of at (mention.Operation whose.Process) ok = refl
-imported_of at mention.Machine ok = refl
-imported_of at (mention.Count op) ok = refl
+imported_of at _ ok = refl
 
 means_imported : (scene : Scene) (at : Where) → Fits scene at → Means scene (mention_imported at.imports)
 means_imported scene at fits =

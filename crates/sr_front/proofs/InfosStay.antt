@@ -1,12 +1,13 @@
 -- What is known at a spot stays as it is where nothing that is read has its name there.
-use Rattle.std.proofs.Common.{◌≡◌, ◌⊎◌, inl, inr, false, List, [], ◌∷◌, ◌++◌, map, Option, Some, None, refl, sym, ap, subst, ◌∙◌}
+use Rattle.std.proofs.Common.{◌≡◌, false, List, [], ◌∷◌, ◌++◌, map, Option, Some, None, refl, ap, ◌∙◌}
+use Rattle.std.proofs.lemmas.Option.{none-some}
 use Rattle.std.specs.List.{AllByRecursion, IsDistinct}
 use Rattle.std.specs.Option.{option_map}
 use Rattle.sr_value.specs.declared.place.Span.{Span}
 use Rattle.sr_names.specs.declared.meaning.Decl.{Decl}
 use Rattle.sr_names.specs.declared.spot.Spot.{Spot}
 use Rattle.sr_names.specs.Spots.{same_spot, spot_of}
-use Rattle.sr_names.proofs.Marking.{entry-other, same_spot-cases}
+use Rattle.sr_names.proofs.Marking.{entry-other}
 use Rattle.sr_check_expr.specs.declared.facts.Facts.{Facts}
 use Rattle.sr_check_expr.specs.declared.info.Info.{Info}
 use Rattle.sr_check_expr.specs.declared.info.Info.TheVariants as info
@@ -18,6 +19,7 @@ use Rattle.sr_front.proofs.KeptBy.{Names}
 use Rattle.sr_front.proofs.KeptNames.{Closed}
 use Rattle.sr_front.proofs.Lasting.{Away, Other}
 use Rattle.sr_front.proofs.Placeless.{placeless_info}
+use Rattle.sr_front.proofs.Put.{put_known}
 
 -- kept by declarations, whichever component they stand in
 pub record Steady (Q : Facts → Type 0) (Free Fit : Spot → Type 0) : Type 0 where
@@ -51,11 +53,7 @@ module _ (Spots : Spot → Type 0) where
   KnownIn facts = (spot : Spot) (one : Info) → info_at facts.infos spot ≡ Some one → Spots spot
 
   pub in_with : (facts : Facts) (at : Spot) (one : Info) → Spots at → KnownIn facts → KnownIn (declare facts at one)
-  in_with facts at one new h spot known is = by (same_spot-cases spot at)
-    where
-      by : (spot ≡ at) ⊎ (same_spot spot at ≡ false) → Spots spot
-      by (inl same) = subst Spots (sym same) new
-      by (inr apart) = h spot known (sym (entry-other facts.infos at one spot apart) ∙ is)
+  in_with facts at one new h spot known is = put_known facts at one (λ other it. Spots other) new spot known is (h spot known)
 
   pub in_steady : Steady KnownIn Spots Spots
   in_steady = record {
@@ -88,14 +86,11 @@ AllAway names others = Each (λ span. Away (spot_of span) others) names
 pub stays_itself : (facts : Facts) → Stays facts facts
 stays_itself facts spot one is = ap (option_map placeless_info) is
 
-none_some : (one : Info) → None ≡ Some one → ⊥
-none_some one e = cc
-
 pub stays_through : (first second third : Facts) → Stays first second → Stays second third → Stays first third
 stays_through first second third a b spot one is = by (info_at second.infos spot) refl (a spot one is)
   where
     by : (found : Option Info) → info_at second.infos spot ≡ found → option_map placeless_info found ≡ Some (placeless_info one) → option_map placeless_info (info_at third.infos spot) ≡ Some (placeless_info one)
-    by None at same = absurd (none_some (placeless_info one) same)
+    by None at same = absurd (none-some (placeless_info one) same)
     by (Some other) at same = b spot other at ∙ same
 
 module _ (names : List Span) (before after : Facts) (reads : Reads names before after) where

@@ -1,29 +1,24 @@
 -- What the code of an accepted program invokes may be invoked, and what it makes is a resource.
 use Rattle.std.proofs.Common.{◌≡◌, ℕ, Bool, true, List, [], ◌∷◌, map, Option, Some, None, Ok, IsTrue, refl, sym, ap, ◌∙◌, inl, inr, suc, unwrap_or, not, ◌&&◌, length, flat_map, eq-eqb, subst, ◌==◌}
 use Rattle.std.specs.Prelude.{position, slice_get}
-use Rattle.std.specs.List.{IsDistinct, list_all}
+use Rattle.std.specs.List.{IsDistinct}
 use Rattle.std.specs.Option.{option_map}
 use Rattle.std.proofs.lemmas.Bool.{and_from, false≢true}
 use Rattle.std.proofs.lemmas.Option.{slice_get-map}
-use Rattle.sr_check.proofs.ErrorFree.{error_free_second}
-use Rattle.sr_check.proofs.Kept.{none_found}
 use Rattle.sr_check.specs.Checked.{checked, first_refused}
 use Rattle.sr_check.specs.Components.{components_read}
 use Rattle.sr_check.specs.ErrorFree.{ErrorFree}
 use Rattle.sr_check.specs.Servicing.{AllServiceOwn}
-use Rattle.sr_check_decl.specs.Cycles.{leads_left, type_cycles_found}
-use Rattle.sr_check_decl.specs.Inferring.{program_inferred, program_known}
-use Rattle.sr_check_decl.specs.Waiting.{files_waiting}
+use Rattle.sr_check_decl.specs.Inferring.{program_known}
 use Rattle.sr_check_expr.specs.declared.facts.Facts.{Facts}
 use Rattle.sr_check_expr.specs.PredefinedCalls.{is_resource}
 use Rattle.sr_core.specs.declared.component.Component.{Component as CoreComponent}
 use Rattle.sr_core.specs.declared.component.Core.{Core}
 use Rattle.sr_core.specs.declared.component.Operation.{Operation}
-use Rattle.sr_core.specs.declared.component.Proc.{Proc}
 use Rattle.sr_core.specs.Tests.{with_component, with_operation}
 use Rattle.sr_core.specs.Waiting.{all_code}
 use Rattle.sr_core.specs.WellFormed.{is_global}
-use Rattle.sr_desugar.specs.Core.{LoweredComponent, component_formals, scene_of, whole_of}
+use Rattle.sr_desugar.specs.Core.{component_formals, scene_of, whole_of}
 use Rattle.sr_outline.specs.Heads.{parameters_of}
 use Rattle.sr_core.specs.declared.component.Parameter.{Parameter}
 use Rattle.sr_tree.specs.Parts.{formals_of}
@@ -46,27 +41,23 @@ use Rattle.sr_tables.specs.Parts.{component_spot, components_in, kind_of}
 use Rattle.sr_tree.specs.declared.component.Component.{Component}
 use Rattle.sr_tree.specs.declared.component.Component.TheVariants.{Resource, SplitResource, Global}
 use Rattle.sr_tree.specs.declared.component.File.{File}
-use Rattle.sr_value.specs.declared.place.Span.{Span}
-use Rattle.sr_front.specs.Invocations.{InvocationTest, block_invokes, calls_operation, code_invokes, forwards_operation, makes_resource, of_calls, of_forwards, of_makes, of_sends, sends_operation, takes}
-use Rattle.sr_front.proofs.AllowedCode.{files_error_free}
+use Rattle.sr_front.specs.Invocations.{InvocationTest, calls_operation, code_invokes, forwards_operation, makes_resource, of_calls, of_forwards, of_makes, of_sends, sends_operation, takes}
+use Rattle.sr_front.proofs.FreeBlocks.{FreeComponents}
+use Rattle.sr_front.proofs.Heads.{heads_found}
 use Rattle.sr_front.proofs.CoreComponents.{component_at}
 use Rattle.sr_front.proofs.Declared.{Apart}
-use Rattle.sr_front.proofs.EffectFreeCode.{files_facts}
-use Rattle.sr_front.proofs.FirstStays.{all_settled}
-use Rattle.sr_front.proofs.InfosStay.{Reads, Settled, settled_here, stays_itself}
-use Rattle.sr_front.proofs.InvokesCode.{components_good}
+use Rattle.sr_front.proofs.InvokesCode.{components_invoke}
 use Rattle.sr_front.proofs.InvokesKnown.{Between, Free, between, between_first, code_is_free, counted, ends, grows, heads, heads_here, in_table, shapes, stays}
 use Rattle.sr_front.proofs.InvokesMet.{Allowed}
-use Rattle.sr_front.proofs.KeptNames.{Anywhere, all_fit}
-use Rattle.sr_front.proofs.Leading.{leads_on, leads_self}
 use Rattle.sr_front.proofs.MakingHeaded.{core_formals}
 use Rattle.sr_front.proofs.InvokesTargets.{AllAtEnd}
-use Rattle.sr_front.proofs.Members.{Among, all_among, passes_at}
+use Rattle.sr_front.proofs.Lists.{place_of}
+use Rattle.sr_front.proofs.Members.{Among, all_among}
 use Rattle.sr_front.proofs.Numbered.{each_once_apart, number_at}
 use Rattle.sr_front.proofs.Operations.{components, core, imports, tables, wholes}
-use Rattle.sr_front.proofs.Placed.{Placed}
+use Rattle.sr_front.proofs.ProgramCode.{code_ends, code_error_free, code_placed}
 use Rattle.sr_front.proofs.ProcNumbers.{all_code_ok}
-use Rattle.sr_front.proofs.ReadsCode.{component_inside, reads_components}
+use Rattle.sr_front.proofs.SiteCode.{from_zero}
 use Rattle.sr_front.proofs.UsesInFiles.{means_resource}
 
 -- ---- what a resource is in the core
@@ -80,11 +71,6 @@ among_in : {A : Type 0} (xs : List A) (a : A) → IsIn a xs → Among xs a
 among_in [] a h = absurd h
 among_in (x ∷ xs) a (inl e) = (0, e)
 among_in (x ∷ xs) a (inr h) = let found = among_in xs a h in (suc found.0, found.1)
-
-place_of : {A : Type 0} (xs : List A) (a : A) → IsIn a xs → (i : ℕ) × (slice_get xs i ≡ Some a)
-place_of [] a h = absurd h
-place_of (x ∷ xs) a (inl e) = (0, ap Some e)
-place_of (x ∷ xs) a (inr h) = let found = place_of xs a h in (suc found.0, found.1)
 
 with_component_at : (core : Core) (number : ℕ) (test : CoreComponent → Bool) (component : CoreComponent) → slice_get core.components number ≡ Some component
     → with_component core number test ≡ test component
@@ -139,35 +125,16 @@ with_operation_at core number test operation e = rw e refl
 
 module _ (specs : Specs) (files : List File) (facts : Facts) (names : Names) (named : resolved files ≡ Ok names) (kept : facts.uses ≡ names.uses)
     (services : AllServiceOwn names.uses files (program_known names.uses specs files)) (apart : Apart files) (distinct : IsDistinct same_spot (map component_spot (components_in files)))
-    (names_apart : IsDistinct same_spot (map spot_of (flat_map file_names files))) (none : first_refused names.uses specs files ≡ None) (checked_so : facts ≡ (checked names.uses specs files).facts) where
+    (names_apart : IsDistinct same_spot (map spot_of (flat_map file_names files))) (none : first_refused names.uses specs files ≡ None) (headed : ErrorFree (heads_found names.uses specs files))
+    (types : FreeComponents (components_in files) (program_known names.uses specs files)) (checked_so : facts ≡ (checked names.uses specs files).facts) where
   abbrev first : Facts
   first = program_known names.uses specs files
 
   whole : ErrorFree (components_read (components files facts) first).found
-  whole =
-      files_error_free files first
-      (error_free_second (type_cycles_found (leads_left (program_inferred names.uses specs files) (files_waiting files))) _ (none_found names.uses specs files none))
+  whole = code_error_free specs files facts names none
 
   final : facts ≡ (components_read (components files facts) first).facts
-  final = checked_so ∙ files_facts files first
-
-  abbrev inside : List Span
-  inside = flat_map component_inside (components files facts)
-
-  code_read : Reads inside first facts
-  code_read = subst (Reads inside first) (sym final) (reads_components (components files facts) first)
-
-  -- all code stands where nothing is known at first, and what is known after it is known in the end
-  start : Placed Anywhere facts inside first (components_read (components files facts) first).facts
-  start =
-      let settled : Settled facts inside first facts = subst (λ (end : Facts). Settled end inside first end) (sym final) (all_settled names.uses specs files names_apart) in
-      subst (Placed Anywhere facts inside first) final
-      (record {
-        free = all_fit (λ span. spot_of span) inside;
-        settled = settled;
-        start = record { stays = settled_here facts inside first facts code_read settled; leads = leads_on inside first facts code_read };
-        end = record { stays = stays_itself facts; leads = leads_self facts };
-      })
+  final = code_ends specs files facts names checked_so
 
   abbrev scene : ℕ → Component → Scene
   scene number component = scene_of facts (tables files facts) (imports files facts) number component
@@ -181,29 +148,28 @@ module _ (specs : Specs) (files : List File) (facts : Facts) (names : Names) (na
   -- what the code of the core invokes passes a test that the rules allow
   all_pass : (test : InvocationTest) → Makes test.makes → ((number : ℕ) (component : Component) → Allowed test (scene number component)) → IsTrue (all_code (core files facts) (code_invokes test))
   all_pass test makes allowed =
-      let known = shapes specs files facts names.uses kept apart none names_apart in
-      let good = components_good test facts (tables files facts) (imports files facts) known (heads specs files facts names.uses kept apart none names_apart) facts
-      (Between specs files facts names.uses kept apart none names_apart) (Free specs files facts names.uses kept apart none names_apart) (Among (components files facts))
-      (between specs files facts names.uses kept apart none names_apart)
+      let known = shapes specs files facts names.uses kept apart headed names_apart in
+      let good = components_invoke test facts (tables files facts) (imports files facts) known (heads specs files facts names.uses kept apart headed names_apart) facts
+      (Between specs files facts names.uses kept apart headed names_apart) (Free specs files facts names.uses kept apart headed names_apart) (Among (components files facts))
+      (between specs files facts names.uses kept apart headed names_apart)
       (λ number component there. record {
         allowed = allowed number component;
         reads = λ now h ending. record {
-          stay = stays specs files facts names.uses kept apart none names_apart whole final number there.0 component now h;
-          grows = grows specs files facts names.uses kept apart none names_apart whole final number there.0 component now h ending;
+          stay = stays specs files facts names.uses kept apart headed names_apart whole types final number there.0 component now h;
+          grows = grows specs files facts names.uses kept apart headed names_apart whole types final number there.0 component now h ending;
           makes = λ used decl ty number arguments means is at known_as takes.
               makes used decl number (length arguments) means is at
-              (λ other among spot outline. counted specs files facts names.uses kept apart none names_apart whole final there.0 component now h outline other among ty arguments
+              (λ other among spot outline. counted specs files facts names.uses kept apart headed names_apart whole types final there.0 component now h outline other among ty arguments
               (subst (λ s. info_at now.infos s ≡ Some (info.Component ty)) (sym spot) known_as) takes);
-          heads = heads_here specs files facts names.uses kept apart none names_apart whole final there.0 component now h;
+          heads = heads_here specs files facts names.uses kept apart headed names_apart whole types final there.0 component now h;
         };
-        entry = in_table specs files facts names.uses kept apart none names_apart whole final number there.0 component there.1;
+        entry = in_table specs files facts names.uses kept apart headed names_apart whole types final number there.0 component there.1;
       })
-      0 (components files facts) (all_among (components files facts)) (code_is_free specs files facts names.uses kept apart none names_apart) first start (between_first specs files facts names.uses kept apart none names_apart) whole in
-      all_code_ok names.uses files first facts kept services apart (code_invokes test) good.codes
-      (λ number whole at. passes_at (λ (one : LoweredComponent). list_all (λ (proc : Proc). block_invokes test proc.body.block) one.procs) (wholes files facts) number whole good.procs at)
+      0 (components files facts) (all_among (components files facts)) (code_is_free specs files facts names.uses kept apart headed names_apart) first types (code_placed specs files facts names checked_so names_apart) (between_first specs files facts names.uses kept apart headed names_apart) whole in
+      all_code_ok names.uses files first facts kept services apart (code_invokes test) good.codes (from_zero (code_invokes test) (wholes files facts) good.procs)
 
   ends_at : (number : ℕ) (component : Component) → AllAtEnd (scene number component)
-  ends_at = ends specs files facts names.uses kept apart none names_apart whole final
+  ends_at = ends specs files facts names.uses kept apart headed names_apart whole types final
 
   abbrev made_core : Core
   made_core = core files facts

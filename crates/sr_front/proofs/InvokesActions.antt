@@ -1,22 +1,19 @@
 -- Where no rule is broken in an invocation that is a statement or an arm of `co`, what is invoked in its core passes.
-use Rattle.std.proofs.Common.{◌≡◌, ℕ, Bool, true, List, [], ◌∷◌, ◌++◌, Option, Some, None, map, IsTrue, length, refl, sym, ap, subst, ◌∙◌, suc}
+use Rattle.std.proofs.Common.{◌≡◌, ℕ, Bool, true, List, [], ◌∷◌, Option, Some, None, map, IsTrue, length, refl, sym, ap, subst, ◌∙◌, suc}
 use Rattle.std.proofs.lemmas.Bool.{and_from}
 use Rattle.std.specs.List.{list_all}
 use Rattle.std.specs.Option.{option_map}
-use Rattle.sr_check.proofs.ErrorFree.{error_free_both, error_free_first, error_free_second}
+use Rattle.sr_check.proofs.ErrorFree.{error_free_first, error_free_second}
 use Rattle.sr_check.specs.Contexts.{Context}
 use Rattle.sr_check.specs.ErrorFree.{ErrorFree}
 use Rattle.sr_check.specs.Invoking.{call_found, called_found, forward_found, invoked_found, place_found, send_found, started_found, v_found}
 use Rattle.sr_check_decl.specs.Variables.{typings_of}
 use Rattle.sr_check_expr.specs.declared.facts.Facts.{Facts}
-use Rattle.sr_check_expr.specs.declared.typed_expr.TypedExpr.{TypedExpr}
 use Rattle.sr_check_expr.specs.declared.typed_expr.Named.{Named}
-use Rattle.sr_check_expr.specs.declared.typed_expr.Named.TheVariants as named
 use Rattle.sr_check_expr.specs.Arguments.{all_found, is_callable, is_sendable}
-use Rattle.sr_check_expr.specs.Calls.{Called, parts_found}
-use Rattle.sr_check_expr.specs.Exprs.{CalledInferrer, Inferrer, PartInferrer, create_step, expr_step, infer_create, infer_expr, infer_invocation, infer_part, invocation_step, part_step}
-use Rattle.sr_check_expr.specs.Meanings.{function_called, layer_function, params_of, predefined_in, typed_expr, type_of as type_of_expr}
-use Rattle.sr_check_expr.specs.Naming.{meaning_typing}
+use Rattle.sr_check_expr.specs.Calls.{parts_found}
+use Rattle.sr_check_expr.specs.Exprs.{infer_expr, infer_invocation}
+use Rattle.sr_check_expr.specs.Meanings.{function_called, params_of, typed_expr, type_of as type_of_expr}
 use Rattle.sr_check_expr.specs.Typings.{typed_exprs_of, value_found, valued}
 use Rattle.sr_core.specs.Tests.{if_some}
 use Rattle.sr_desugar.specs.Statements.{all_told, call_action, co_call, first_expr, forward_of, named_action, send_of}
@@ -25,21 +22,14 @@ use Rattle.sr_lower_expr.specs.declared.scene.Scene.{Scene}
 use Rattle.sr_lower_expr.specs.Expressions.{call_of, core_place, core_sending, core_value, lowered_of, sent_arguments, values, with_core}
 use Rattle.sr_lower_expr.specs.Places.{value_of}
 use Rattle.sr_lower_expr.proofs.Each.{turned_passes}
-use Rattle.sr_names.specs.declared.meaning.Meaning.{Meaning}
-use Rattle.sr_names.specs.declared.meaning.Meaning.TheVariants.{Predefined as MeansPredefined, Declared}
 use Rattle.sr_names.specs.declared.predefined.Predefined.{Predefined}
 use Rattle.sr_names.specs.declared.predefined.Predefined.TheVariants as predefined
-use Rattle.sr_names.specs.Spots.{spot_of}
-use Rattle.sr_names.specs.Uses.{meaning_at}
-use Rattle.sr_tree.specs.declared.expr.Create.{Create}
-use Rattle.sr_tree.specs.declared.expr.Create.TheFolds.{fold_out-Expr, fold_out-Invocation, map-Expr}
-use Rattle.sr_tree.specs.declared.expr.Create.TheOpen.{Expr-F}
-use Rattle.sr_tree.specs.declared.expr.Expr.{Expr, out-Expr}
-use Rattle.sr_tree.specs.declared.expr.Invocation.{Invocation, out-Invocation}
-use Rattle.sr_tree.specs.declared.expr.Part.{Part}
+use Rattle.sr_tree.specs.declared.expr.Expr.{Expr}
+use Rattle.sr_tree.specs.declared.expr.Invocation.{Invocation}
 use Rattle.sr_types.specs.declared.ty.Ty.{Ty}
 use Rattle.sr_value.specs.declared.place.Span.{Span}
 use Rattle.sr_front.specs.Invocations.{InvocationTest, action_invokes, argument_invokes, co_invokes, expr_invokes, expr_seen, place_invokes, target_passes}
+use Rattle.sr_front.proofs.CalledParts.{arguments_typed, called_at, called_is, callee_is, callee_of, callee_typed, trees_in}
 use Rattle.sr_front.proofs.InvokesExprs.{arguments_invoke, call_invokes, expr_place_invokes, expr_value_invokes, tree_invokes}
 use Rattle.sr_front.proofs.InvokesMet.{Allowed, Passes, bare_target, forwarded_passes, invoked_met, invoked_target, sent_passes, started_passes, statement_passes}
 use Rattle.sr_front.proofs.InvokesRules.{lowered_invokes, value_of_invokes}
@@ -67,35 +57,16 @@ module _ (test : InvocationTest) (scene : Scene) (allowed : Allowed test scene) 
   args_count [] = refl
   args_count (tree ∷ trees) = ap suc (args_count trees)
 
-  abbrev callee_of : Invocation → Expr
-  callee_of invocation = (out-Invocation invocation).callee
-
-  abbrev trees_in : Invocation → List Expr
-  trees_in invocation = (out-Invocation invocation).arguments
-
-  abbrev callee_typed : Invocation → TypedExpr
-  callee_typed invocation = (infer_expr (callee_of invocation) known).typed_expr
-
-  abbrev arguments_typed : Invocation → List TypedExpr
-  arguments_typed invocation = typed_exprs_of (typings_of known (trees_in invocation))
-
   abbrev final_type : Invocation → Ty
   final_type invocation = type_of_expr scene.facts (callee_of invocation)
-
-  -- what an invocation is by its parts
-  abbrev called_at : Invocation → Called
-  called_at invocation = record { span = (out-Invocation invocation).span; callee = infer_expr (callee_of invocation) known; arguments = typings_of known (trees_in invocation) }
-
-  called_is : (invocation : Invocation) → infer_invocation invocation known ≡ called_at invocation
-  called_is invocation = ap (λ (infer : CalledInferrer). infer known) (fold_out-Invocation Inferrer Inferrer CalledInferrer PartInferrer create_step expr_step invocation_step part_step invocation)
 
   -- the parts of an invocation pass
   record Parts (invocation : Invocation) : Type 0 where
     callee : IsTrue (lowered_invokes test (core_sending scene invocation).callee.1)
     arguments : AllLowered (lowered_of (core_sending scene invocation).arguments)
-    fits : FitsHere test scene allowed.ends known reads (callee_typed invocation) (final_type invocation) (number_of test scene allowed.ends known reads (core_value scene (callee_of invocation)))
+    fits : FitsHere test scene allowed.ends known reads (callee_typed known invocation) (final_type invocation) (number_of test scene allowed.ends known reads (core_value scene (callee_of invocation)))
 
-  parts_pass : (invocation : Invocation) → ErrorFree (parts_found (called_at invocation)) → Parts invocation
+  parts_pass : (invocation : Invocation) → ErrorFree (parts_found (called_at known invocation)) → Parts invocation
   parts_pass invocation whole =
       let first = error_free_first (infer_expr (callee_of invocation) known).found (all_found (typings_of known (trees_in invocation))) whole in
       record {
@@ -108,10 +79,10 @@ module _ (test : InvocationTest) (scene : Scene) (allowed : Allowed test scene) 
   sent_invoke invocation parts = arguments_invoke test scene allowed (params_of scene.facts (final_type invocation)) (lowered_of (core_sending scene invocation).arguments) parts.arguments
 
   -- a target with its arguments
-  target_invokes : (passes : ℕ → ℕ → Bool) (invocation : Invocation) → Parts invocation → Passes test scene allowed known reads passes (callee_typed invocation) (final_type invocation) (length (arguments_typed invocation))
+  target_invokes : (passes : ℕ → ℕ → Bool) (invocation : Invocation) → Parts invocation → Passes test scene allowed known reads passes (callee_typed known invocation) (final_type invocation) (length (arguments_typed known invocation))
       → IsTrue (target_passes passes (expr_seen test (core_value scene (callee_of invocation))) (length (sent_arguments scene.facts (core_sending scene invocation))))
   target_invokes passes invocation parts met =
-      invoked_target test scene allowed known reads passes (core_value scene (callee_of invocation)) (callee_typed invocation) (final_type invocation) (lowered_of (core_sending scene invocation).arguments)
+      invoked_target test scene allowed known reads passes (core_value scene (callee_of invocation)) (callee_typed known invocation) (final_type invocation) (lowered_of (core_sending scene invocation).arguments)
       (value_of_invokes test (core_sending scene invocation).callee.1 parts.callee) parts.fits
       (λ number target. ((met number target).0, (met number target).1 ∙ args_count (trees_in invocation)))
 
@@ -122,60 +93,20 @@ module _ (test : InvocationTest) (scene : Scene) (allowed : Allowed test scene) 
 
   pub send_invokes : (span : Span) (invocation : Invocation) → ErrorFree (send_found known span (infer_invocation invocation known)) → IsTrue (action_invokes test (send_of scene (core_sending scene invocation)))
   send_invokes span invocation found =
-      let whole = subst (λ called. ErrorFree (send_found known span called)) (called_is invocation) found in
-      let parts = parts_pass invocation (error_free_first (parts_found (called_at invocation)) _ whole) in
-      let met = invoked_met known span (is_sendable known.signatures (callee_typed invocation).typed.ty) (callee_typed invocation) (arguments_typed invocation) (error_free_second (parts_found (called_at invocation)) _ whole) in
-      and_from _ _ (target_invokes test.sends invocation parts (sent_passes test scene allowed known reads (callee_typed invocation) (final_type invocation) (arguments_typed invocation) met)) (sent_invoke invocation parts)
+      let whole = subst (λ called. ErrorFree (send_found known span called)) (called_is known invocation) found in
+      let parts = parts_pass invocation (error_free_first (parts_found (called_at known invocation)) _ whole) in
+      let met = invoked_met known span (is_sendable known.signatures (callee_typed known invocation).typed.ty) (callee_typed known invocation) (arguments_typed known invocation) (error_free_second (parts_found (called_at known invocation)) _ whole) in
+      and_from _ _ (target_invokes test.sends invocation parts (sent_passes test scene allowed known reads (callee_typed known invocation) (final_type invocation) (arguments_typed known invocation) met)) (sent_invoke invocation parts)
 
   pub forward_invokes : (context : Context) → context.facts ≡ known → (span : Span) (invocation : Invocation) → ErrorFree (forward_found context span (infer_invocation invocation context.facts))
       → IsTrue (action_invokes test (forward_of scene (core_sending scene invocation)))
   forward_invokes context same span invocation found =
-      let first : ErrorFree (parts_found (infer_invocation invocation known) ++ invoked_found known span true (infer_invocation invocation known).callee.typed_expr (typed_exprs_of (infer_invocation invocation known).arguments)) =
-      subst (λ facts. ErrorFree (parts_found (infer_invocation invocation facts) ++ invoked_found facts span true (infer_invocation invocation facts).callee.typed_expr (typed_exprs_of (infer_invocation invocation facts).arguments))) same
-      (error_free_both (parts_found (infer_invocation invocation context.facts)) _ (error_free_first (parts_found (infer_invocation invocation context.facts)) _ found)
-      (error_free_first (invoked_found context.facts span true (infer_invocation invocation context.facts).callee.typed_expr (typed_exprs_of (infer_invocation invocation context.facts).arguments)) _
-      (error_free_second (parts_found (infer_invocation invocation context.facts)) _ found))) in
-      let whole = subst (λ called. ErrorFree (parts_found called ++ invoked_found known span true called.callee.typed_expr (typed_exprs_of called.arguments))) (called_is invocation) first in
-      let parts = parts_pass invocation (error_free_first (parts_found (called_at invocation)) _ whole) in
-      let met = invoked_met known span true (callee_typed invocation) (arguments_typed invocation) (error_free_second (parts_found (called_at invocation)) _ whole) in
-      and_from _ _ (target_invokes test.forwards invocation parts (forwarded_passes test scene allowed known reads (callee_typed invocation) (final_type invocation) (arguments_typed invocation) met)) (sent_invoke invocation parts)
-
-  -- ---- `V`
-
-  some_same : (a b : Predefined) → Some a ≡ Some b → a ≡ b
-  some_same a b e = cc
-
-  none_some : (a : Predefined) → None ≡ Some a → ⊥
-  none_some a e = cc
-
-  meaning_is_v : (span : Span) (meaning : Option Meaning) → predefined_in meaning ≡ Some predefined.V → (meaning_typing known.infos span meaning).typed_expr.named ≡ named.Predefined predefined.V
-  meaning_is_v span None e = absurd (none_some predefined.V e)
-  meaning_is_v span (Some (MeansPredefined name)) e = subst (λ one. (meaning_typing known.infos span (Some (MeansPredefined one))).typed_expr.named ≡ named.Predefined predefined.V) (sym (some_same name predefined.V e)) refl
-  meaning_is_v span (Some (Declared decl)) e = absurd (none_some predefined.V e)
-
-  abbrev inferred_layer : Expr-F Create Expr Invocation Part → Expr-F Inferrer Inferrer CalledInferrer PartInferrer
-  inferred_layer = map-Expr Create Expr Invocation Part Inferrer Inferrer CalledInferrer PartInferrer infer_create infer_expr infer_invocation infer_part
-
-  layer_is_v : (layer : Expr-F Create Expr Invocation Part) → layer_function scene.facts layer ≡ Some predefined.V → (expr_step (inferred_layer layer) known).typed_expr.named ≡ named.Predefined predefined.V
-  layer_is_v (Expr-F.Name name) e =
-      meaning_is_v name.span (meaning_at known.uses (spot_of name.span)) (ap (λ uses. predefined_in (meaning_at uses (spot_of name.span))) (sym reads.stay.uses) ∙ e)
-  layer_is_v (Expr-F.Literal span literal) e = absurd (none_some predefined.V e)
-  layer_is_v (Expr-F.BasicType span basic) e = absurd (none_some predefined.V e)
-  layer_is_v (Expr-F.Conversion span conversion value) e = absurd (none_some predefined.V e)
-  layer_is_v (Expr-F.Group span inner) e = absurd (none_some predefined.V e)
-  layer_is_v (Expr-F.Parts span parts) e = absurd (none_some predefined.V e)
-  layer_is_v (Expr-F.Field span owner field) e = absurd (none_some predefined.V e)
-  layer_is_v (Expr-F.Index span array first second) e = absurd (none_some predefined.V e)
-  layer_is_v (Expr-F.Call invocation) e = absurd (none_some predefined.V e)
-  layer_is_v (Expr-F.Create create) e = absurd (none_some predefined.V e)
-  layer_is_v (Expr-F.Unary span operator operand) e = absurd (none_some predefined.V e)
-  layer_is_v (Expr-F.Pending span operation) e = absurd (none_some predefined.V e)
-  layer_is_v (Expr-F.Binary span left operator right) e = absurd (none_some predefined.V e)
-
-  callee_is_v : (invocation : Invocation) → function_called scene.facts invocation ≡ Some predefined.V → (callee_typed invocation).named ≡ named.Predefined predefined.V
-  callee_is_v invocation e =
-      ap (λ (infer : Inferrer). (infer known).typed_expr.named) (fold_out-Expr Inferrer Inferrer CalledInferrer PartInferrer create_step expr_step invocation_step part_step (callee_of invocation))
-      ∙ layer_is_v (out-Expr (callee_of invocation)) e
+      let whole = subst (λ called. ErrorFree (forward_found context span called)) (ap (infer_invocation invocation) same ∙ called_is known invocation) found in
+      let parts = parts_pass invocation (error_free_first (parts_found (called_at known invocation)) _ whole) in
+      let there = error_free_first (invoked_found context.facts span true (callee_typed known invocation) (arguments_typed known invocation)) _ (error_free_second (parts_found (called_at known invocation)) _ whole) in
+      let here = subst (λ facts. ErrorFree (invoked_found facts span true (callee_typed known invocation) (arguments_typed known invocation))) same there in
+      let met = invoked_met known span true (callee_typed known invocation) (arguments_typed known invocation) here in
+      and_from _ _ (target_invokes test.forwards invocation parts (forwarded_passes test scene allowed known reads (callee_typed known invocation) (final_type invocation) (arguments_typed known invocation) met)) (sent_invoke invocation parts)
 
   -- `V(e)` sends to its one argument
   v_invokes : (span : Span) (trees : List Expr) → ErrorFree (all_found (typings_of known trees)) → ErrorFree (v_found known span (typed_exprs_of (typings_of known trees)))
@@ -191,7 +122,7 @@ module _ (test : InvocationTest) (scene : Scene) (allowed : Allowed test scene) 
 
   -- ---- calls
 
-  evaluated : (invocation : Invocation) → Parts invocation → Passes test scene allowed known reads test.calls (callee_typed invocation) (final_type invocation) (length (arguments_typed invocation))
+  evaluated : (invocation : Invocation) → Parts invocation → Passes test scene allowed known reads test.calls (callee_typed known invocation) (final_type invocation) (length (arguments_typed known invocation))
       → IsTrue (expr_invokes test (call_of scene (core_sending scene invocation)))
   evaluated invocation parts met =
       let sending = core_sending scene invocation in
@@ -199,31 +130,31 @@ module _ (test : InvocationTest) (scene : Scene) (allowed : Allowed test scene) 
 
   module _ (context : Context) (same : context.facts ≡ known) (span : Span) (invocation : Invocation) where
     abbrev Found : Named → Type 0
-    Found what = ErrorFree (called_found context span (callee_typed invocation) (arguments_typed invocation) what)
+    Found what = ErrorFree (called_found context span (callee_typed known invocation) (arguments_typed known invocation) what)
 
-    v_found_is : Found (callee_typed invocation).named → function_called scene.facts invocation ≡ Some predefined.V → ErrorFree (v_found known span (arguments_typed invocation))
-    v_found_is found e = subst (λ facts. ErrorFree (v_found facts span (arguments_typed invocation))) same (subst Found (callee_is_v invocation e) found)
+    v_found_is : Found (callee_typed known invocation).named → function_called scene.facts invocation ≡ Some predefined.V → ErrorFree (v_found known span (arguments_typed known invocation))
+    v_found_is found e = subst (λ facts. ErrorFree (v_found facts span (arguments_typed known invocation))) same (subst Found (callee_is scene known (sym reads.stay.uses) predefined.V (λ span. refl) invocation e) found)
 
-    named_invokes : (name : Predefined) → function_called scene.facts invocation ≡ Some name → Parts invocation → ErrorFree (all_found (typings_of known (trees_in invocation))) → Found (callee_typed invocation).named
+    named_invokes : (name : Predefined) → function_called scene.facts invocation ≡ Some name → Parts invocation → ErrorFree (all_found (typings_of known (trees_in invocation))) → Found (callee_typed known invocation).named
         → IsTrue (expr_invokes test (call_of scene (core_sending scene invocation))) → IsTrue (action_invokes test (named_action scene invocation name))
     named_invokes predefined.Write e parts arguments found evaluation = told_invoke invocation parts
     named_invokes predefined.Writes e parts arguments found evaluation = told_invoke invocation parts
     named_invokes predefined.V e parts arguments found evaluation = and_from _ _ (v_invokes span (trees_in invocation) arguments (v_found_is found e)) refl
     named_invokes _ e parts arguments found evaluation = evaluation
 
-    action_by : (function : Option Predefined) → function_called scene.facts invocation ≡ function → Parts invocation → ErrorFree (all_found (typings_of known (trees_in invocation))) → Found (callee_typed invocation).named
+    action_by : (function : Option Predefined) → function_called scene.facts invocation ≡ function → Parts invocation → ErrorFree (all_found (typings_of known (trees_in invocation))) → Found (callee_typed known invocation).named
         → IsTrue (expr_invokes test (call_of scene (core_sending scene invocation))) → IsTrue (action_invokes test (call_action scene invocation function))
     action_by None e parts arguments found evaluation = evaluation
     action_by (Some name) e parts arguments found evaluation = named_invokes name e parts arguments found evaluation
 
     pub call_action_invokes : ErrorFree (call_found context span (infer_invocation invocation context.facts)) → IsTrue (action_invokes test (call_action scene invocation (function_called scene.facts invocation)))
     call_action_invokes found =
-        let whole = subst (λ called. ErrorFree (call_found context span called)) (ap (infer_invocation invocation) same ∙ called_is invocation) found in
-        let first = error_free_first (parts_found (called_at invocation)) _ whole in
+        let whole = subst (λ called. ErrorFree (call_found context span called)) (ap (infer_invocation invocation) same ∙ called_is known invocation) found in
+        let first = error_free_first (parts_found (called_at known invocation)) _ whole in
         let parts = parts_pass invocation first in
-        let call = error_free_second (parts_found (called_at invocation)) _ whole in
+        let call = error_free_second (parts_found (called_at known invocation)) _ whole in
         action_by (function_called scene.facts invocation) refl parts (error_free_second (infer_expr (callee_of invocation) known).found _ first) call
-        (evaluated invocation parts (statement_passes test scene allowed known reads context same span (callee_typed invocation) (final_type invocation) (arguments_typed invocation) call))
+        (evaluated invocation parts (statement_passes test scene allowed known reads context same span (callee_typed known invocation) (final_type invocation) (arguments_typed known invocation) call))
 
   -- ---- arms of `co`
 
@@ -233,11 +164,11 @@ module _ (test : InvocationTest) (scene : Scene) (allowed : Allowed test scene) 
 
   pub co_call_invokes : (span : Span) (target : Option Expr) (invocation : Invocation) → ErrorFree (started_found known span target (infer_invocation invocation known)) → IsTrue (co_invokes test (co_call scene target (core_sending scene invocation)))
   co_call_invokes span target invocation found =
-      let called = called_at invocation in
-      let whole = subst (λ one. ErrorFree (started_found known span target one)) (called_is invocation) found in
+      let called = called_at known invocation in
+      let whole = subst (λ one. ErrorFree (started_found known span target one)) (called_is known invocation) found in
       let parts = parts_pass invocation (error_free_first (parts_found called) _ whole) in
       let after = error_free_second (parts_found called) _ whole in
       let invoked = invoked_found known called.span (is_callable known.signatures called.callee.typed_expr.typed.ty) called.callee.typed_expr (typed_exprs_of called.arguments) in
-      let met = invoked_met known called.span (is_callable known.signatures (callee_typed invocation).typed.ty) (callee_typed invocation) (arguments_typed invocation) (error_free_first invoked _ after) in
+      let met = invoked_met known called.span (is_callable known.signatures (callee_typed known invocation).typed.ty) (callee_typed known invocation) (arguments_typed known invocation) (error_free_first invoked _ after) in
       and_from _ _ (co_target span target called.callee.typed_expr.typed.ty called.span (error_free_second invoked _ after))
-      (and_from _ _ (target_invokes test.calls invocation parts (started_passes test scene allowed known reads (callee_typed invocation) (final_type invocation) (arguments_typed invocation) met)) (sent_invoke invocation parts))
+      (and_from _ _ (target_invokes test.calls invocation parts (started_passes test scene allowed known reads (callee_typed known invocation) (final_type invocation) (arguments_typed known invocation) met)) (sent_invoke invocation parts))

@@ -12,7 +12,7 @@ use Rattle.sr_check_expr.specs.declared.info.Info.TheVariants as info
 use Rattle.sr_check_expr.specs.Arguments.{all_found, takes_as_many}
 use Rattle.sr_check_expr.specs.Calls.{call_typing, parts_found as called_found}
 use Rattle.sr_check_expr.specs.Creating.{instance_typing, machine_found, machine_of, made_found, resource_named, resource_type, instance_type, made_of, resource_if}
-use Rattle.sr_check_expr.specs.Exprs.{Inferrer, CalledInferrer, PartInferrer, create_step, expr_step, invocation_step, infer_create, infer_expr, infer_invocation, infer_part, part_found, part_step, parts_found, prefix_of}
+use Rattle.sr_check_expr.specs.Exprs.{Inferrer, PartInferrer, infer_create, infer_expr, infer_invocation, infer_part, part_found, parts_found, prefix_of}
 use Rattle.sr_check_expr.specs.Infos.{info_at}
 use Rattle.sr_check_expr.specs.Typings.{Typing, typed_exprs_of, is_met}
 use Rattle.sr_check_expr.specs.LiteralTypes.{literal_typed}
@@ -37,12 +37,11 @@ use Rattle.sr_names.specs.Spots.{spot_of, same_spot}
 use Rattle.sr_names.specs.Uses.{meaning_at}
 use Rattle.sr_tree.specs.declared.expr.BinaryOperator.{BinaryOperator}
 use Rattle.sr_tree.specs.declared.expr.BinaryOperator.TheVariants as binary
-use Rattle.sr_tree.specs.declared.expr.Create.{Create, roll-Create}
-use Rattle.sr_tree.specs.declared.expr.Create.TheFolds.{fold-roll-Create, fold-roll-Expr, fold-roll-Invocation, fold-roll-Part, ind-Expr, map-Create, map-Expr, map-Invocation, map-Part, ind-Create}
-use Rattle.sr_tree.specs.declared.expr.Create.TheOpen.{Create-F, Expr-F, Invocation-F, Part-F}
-use Rattle.sr_tree.specs.declared.expr.Expr.{Expr as Tree, roll-Expr}
-use Rattle.sr_tree.specs.declared.expr.Invocation.{Invocation, roll-Invocation}
-use Rattle.sr_tree.specs.declared.expr.Part.{Part as PartTree, roll-Part}
+use Rattle.sr_tree.specs.declared.expr.Create.{Create}
+use Rattle.sr_tree.specs.declared.expr.Create.TheOpen.{Create-F, Expr-F}
+use Rattle.sr_tree.specs.declared.expr.Expr.{Expr as Tree}
+use Rattle.sr_tree.specs.declared.expr.Invocation.{Invocation}
+use Rattle.sr_tree.specs.declared.expr.Part.{Part as PartTree}
 use Rattle.sr_tree.specs.declared.name.Name.{Name}
 use Rattle.sr_tree.specs.declared.name.QualifiedName.{QualifiedName}
 use Rattle.sr_types.specs.declared.typed.Typed.{Typed}
@@ -58,7 +57,7 @@ use Rattle.sr_lower_expr.specs.Operators.{binary_core, conversion_function}
 use Rattle.sr_lower_expr.specs.Shapes.{shape_of_type}
 use Rattle.sr_lower_expr.specs.declared.scene.Lowered.{Lowered}
 use Rattle.sr_lower_expr.specs.declared.scene.Scene.{Scene}
-use Rattle.sr_lower_expr.specs.Expressions.{LoweredTree, LoweredInvocation, call_core, call_of, constant_or_nothing, core_expr, core_value, lowered_of, create_core, create_lowered, end_or_nothing, end_value, ends_core, expr_core, expr_lowered, field_core, field_number, function_core, invocation_lowered, is_second, layer_member, literals_in, meaning_core, name_core, named_core, named_types, part_lowered, spec_operation, told, trees_of, values, without_number, argument_core, arguments_by, call_returns, core_place, instance_core, readable_of, reading_core, sent_arguments}
+use Rattle.sr_lower_expr.specs.Expressions.{LoweredTree, LoweredInvocation, call_core, call_of, constant_or_nothing, core_expr, core_value, lowered_of, end_or_nothing, end_value, ends_core, field_core, field_number, function_core, is_second, layer_member, literals_in, meaning_core, name_core, named_core, named_types, spec_operation, told, trees_of, values, without_number, argument_core, arguments_by, call_returns, core_place, instance_core, readable_of, reading_core, sent_arguments}
 use Rattle.sr_lower_expr.specs.Places.{nothing, operation_at, place_of, root_of, value_of, whose_by}
 use Rattle.sr_lower_expr.proofs.Each.{one_taken, turned_passes}
 use Rattle.sr_lower_expr.proofs.Trees.{of_create, of_invocation, of_part, told_is}
@@ -72,7 +71,9 @@ use Rattle.sr_types.specs.declared.signature.Mode.{Mode}
 use Rattle.sr_types.specs.declared.signature.Mode.TheVariants as mode
 use Rattle.sr_types.specs.declared.signature.Param.{Param}
 use Rattle.sr_front.specs.Invocations.{InvocationTest, argument_invokes, expr_invokes, expr_seen, place_invokes, target_passes}
-use Rattle.sr_front.proofs.ExprParts.{inferred_create, inferred_expr, inferred_invocation, inferred_part, lowered_create, lowered_expr, lowered_invocation, lowered_part}
+use Rattle.sr_tree.proofs.ExprFolds.{ByParts, Claim, CreateNode, ExprNode, InvocationNode, Known, PartNode, bare_create, bare_expr, bare_invocation, bare_part, create_folds, each_create, each_expr, expr_folds, from_create, from_expr, from_invocation, from_part, invocation_folds, part_folds}
+use Rattle.sr_lower_expr.proofs.LowerFold.{lowering}
+use Rattle.sr_front.proofs.TypingFolds.{inferring}
 use Rattle.sr_front.proofs.InvokesMet.{Allowed, call_passes, invoked_target}
 use Rattle.sr_front.proofs.InvokesTargets.{Reads}
 use Rattle.sr_front.proofs.InvokesTrees.{tree_fits}
@@ -276,70 +277,49 @@ module _ (test : InvocationTest) (scene : Scene) (allowed : Allowed test scene) 
     abbrev PartGood : PartTree → Type 0
     PartGood tree = ErrorFree (part_found (infer_part tree known)) → IsTrue (part_invokes test (of_part scene tree).1)
 
-    abbrev C : Type 0
-    C = (tree : Create) × CreateGood tree
+    abbrev good : Claim
+    good = record { create = CreateGood; expr = TreeGood; invocation = InvocationGood; part = PartGood }
 
-    abbrev T : Type 0
-    T = (tree : Tree) × TreeGood tree
-
-    abbrev I : Type 0
-    I = (tree : Invocation) × InvocationGood tree
-
-    abbrev P : Type 0
-    P = (tree : PartTree) × PartGood tree
-
-    abbrev first_create : Create-F C T I P → Create-F Create Tree Invocation PartTree
-    first_create = map-Create C T I P Create Tree Invocation PartTree (λ c. c.0) (λ e. e.0) (λ s. s.0) (λ p. p.0)
-
-    abbrev first_expr : Expr-F C T I P → Expr-F Create Tree Invocation PartTree
-    first_expr = map-Expr C T I P Create Tree Invocation PartTree (λ c. c.0) (λ e. e.0) (λ s. s.0) (λ p. p.0)
-
-    abbrev first_invocation : Invocation-F C T I P → Invocation-F Create Tree Invocation PartTree
-    first_invocation = map-Invocation C T I P Create Tree Invocation PartTree (λ c. c.0) (λ e. e.0) (λ s. s.0) (λ p. p.0)
-
-    abbrev first_part : Part-F C T I P → Part-F Create Tree Invocation PartTree
-    first_part = map-Part C T I P Create Tree Invocation PartTree (λ c. c.0) (λ e. e.0) (λ s. s.0) (λ p. p.0)
-
-    all_good : (trees : List T) → ErrorFree (all_found (map (λ (infer : Inferrer). infer known) (map infer_expr (map (λ (tree : T). tree.0) trees))))
-        → AllInvoke (map (λ (one : LoweredTree). one.1) (map (told scene) (map (λ (tree : T). tree.0) trees)))
+    all_good : (trees : List (Known TreeGood)) → ErrorFree (all_found (map (λ (infer : Inferrer). infer known) (map infer_expr (map (λ (tree : Known TreeGood). tree.0) trees))))
+        → AllInvoke (map (λ (one : LoweredTree). one.1) (map (told scene) (map (λ (tree : Known TreeGood). tree.0) trees)))
     all_good [] whole = refl
     all_good (tree ∷ trees) whole =
         and_from _ _ (tree.1 (error_free_first (infer_expr tree.0 known).found _ whole)) (all_good trees (error_free_second (infer_expr tree.0 known).found _ whole))
 
-    parts_good : (parts : List P) → ErrorFree (parts_found (map (λ (infer : PartInferrer). infer known) (map infer_part (map (λ (part : P). part.0) parts))))
-        → IsTrue (list_all (part_invokes test) (map (λ (part : PartTree × Part). part.1) (map (of_part scene) (map (λ (part : P). part.0) parts))))
+    parts_good : (parts : List (Known PartGood)) → ErrorFree (parts_found (map (λ (infer : PartInferrer). infer known) (map infer_part (map (λ (part : Known PartGood). part.0) parts))))
+        → IsTrue (list_all (part_invokes test) (map (λ (part : PartTree × Part). part.1) (map (of_part scene) (map (λ (part : Known PartGood). part.0) parts))))
     parts_good [] whole = refl
     parts_good (part ∷ parts) whole =
         and_from _ _ (part.1 (error_free_first (part_found (infer_part part.0 known)) _ whole)) (parts_good parts (error_free_second (part_found (infer_part part.0 known)) _ whole))
 
-    value_good : (tree : T) → ErrorFree (infer_expr tree.0 known).found → IsTrue (expr_invokes test (core_value scene tree.0))
+    value_good : (tree : Known TreeGood) → ErrorFree (infer_expr tree.0 known).found → IsTrue (expr_invokes test (core_value scene tree.0))
     value_good tree whole = value_of_invokes test (core_expr scene tree.0) (tree.1 whole)
 
-    typed_lengths : (trees : List T) → length (map (λ (one : LoweredTree). one.1) (map (told scene) (map (λ (tree : T). tree.0) trees)))
-        ≡ length (typed_exprs_of (map (λ (infer : Inferrer). infer known) (map infer_expr (map (λ (tree : T). tree.0) trees))))
+    typed_lengths : (trees : List (Known TreeGood)) → length (map (λ (one : LoweredTree). one.1) (map (told scene) (map (λ (tree : Known TreeGood). tree.0) trees)))
+        ≡ length (typed_exprs_of (map (λ (infer : Inferrer). infer known) (map infer_expr (map (λ (tree : Known TreeGood). tree.0) trees))))
     typed_lengths [] = refl
     typed_lengths (tree ∷ trees) = ap suc (typed_lengths trees)
 
-    values_lengths : (trees : List T) → length (values (map (λ (one : LoweredTree). one.1) (map (told scene) (map (λ (tree : T). tree.0) trees))))
-        ≡ length (typed_exprs_of (map (λ (infer : Inferrer). infer known) (map infer_expr (map (λ (tree : T). tree.0) trees))))
-    values_lengths trees = length-map (map (λ (one : LoweredTree). one.1) (map (told scene) (map (λ (tree : T). tree.0) trees))) value_of ∙ typed_lengths trees
+    values_lengths : (trees : List (Known TreeGood)) → length (values (map (λ (one : LoweredTree). one.1) (map (told scene) (map (λ (tree : Known TreeGood). tree.0) trees))))
+        ≡ length (typed_exprs_of (map (λ (infer : Inferrer). infer known) (map infer_expr (map (λ (tree : Known TreeGood). tree.0) trees))))
+    values_lengths trees = length-map (map (λ (one : LoweredTree). one.1) (map (told scene) (map (λ (tree : Known TreeGood). tree.0) trees))) value_of ∙ typed_lengths trees
 
-    create_good : (y : Create-F C T I P) → ErrorFree (create_step (inferred_create (first_create y)) known).found → IsTrue (expr_invokes test (create_core scene (lowered_create scene (first_create y))))
+    create_good : (y : CreateNode good) → ErrorFree (from_create inferring (bare_create good y) known).found → IsTrue (expr_invokes test (from_create (lowering scene) (bare_create good y)).1)
     create_good (Create-F.Resource span resource arguments None) whole =
-        let typings = map (λ (infer : Inferrer). infer known) (map infer_expr (map (λ (tree : T). tree.0) arguments)) in
+        let typings = map (λ (infer : Inferrer). infer known) (map infer_expr (map (λ (tree : Known TreeGood). tree.0) arguments)) in
         let parts = error_free_first (all_found typings ++ machine_found None) _ whole in
-        made_invokes span resource typings None (values (map (λ (one : LoweredTree). one.1) (map (told scene) (map (λ (tree : T). tree.0) arguments)))) (core.Leaf leaf.MyMachine) (values_lengths arguments)
+        made_invokes span resource typings None (values (map (λ (one : LoweredTree). one.1) (map (told scene) (map (λ (tree : Known TreeGood). tree.0) arguments)))) (core.Leaf leaf.MyMachine) (values_lengths arguments)
         (error_free_second (all_found typings ++ machine_found None) _ whole)
         (values_invoke _ (all_good arguments (error_free_first (all_found typings) _ parts))) (leaf_rule test leaf.MyMachine)
     create_good (Create-F.Resource span resource arguments (Some machine)) whole =
-        let typings = map (λ (infer : Inferrer). infer known) (map infer_expr (map (λ (tree : T). tree.0) arguments)) in
+        let typings = map (λ (infer : Inferrer). infer known) (map infer_expr (map (λ (tree : Known TreeGood). tree.0) arguments)) in
         let parts = error_free_first (all_found typings ++ machine_found (Some (infer_expr machine.0 known))) _ whole in
-        made_invokes span resource typings (Some (infer_expr machine.0 known)) (values (map (λ (one : LoweredTree). one.1) (map (told scene) (map (λ (tree : T). tree.0) arguments)))) (core_value scene machine.0) (values_lengths arguments)
+        made_invokes span resource typings (Some (infer_expr machine.0 known)) (values (map (λ (one : LoweredTree). one.1) (map (told scene) (map (λ (tree : Known TreeGood). tree.0) arguments)))) (core_value scene machine.0) (values_lengths arguments)
         (error_free_second (all_found typings ++ machine_found (Some (infer_expr machine.0 known))) _ whole)
         (values_invoke _ (all_good arguments (error_free_first (all_found typings) _ parts))) (value_good machine (error_free_second (all_found typings) _ parts))
     create_good (Create-F.Machine span) whole = leaf_rule test leaf.MakeMachine
 
-    expr_good : (y : Expr-F C T I P) → ErrorFree (expr_step (inferred_expr (first_expr y)) known).found → IsTrue (lowered_invokes test (expr_core scene (lowered_expr scene (first_expr y))))
+    expr_good : (y : ExprNode good) → ErrorFree (from_expr inferring (bare_expr good y) known).found → IsTrue (lowered_invokes test (from_expr (lowering scene) (bare_expr good y)).1)
     expr_good (Expr-F.Literal span literal) whole = constant_invokes (known_value (literal_typed literal).value)
     expr_good (Expr-F.Name name) whole = name_invokes name.span
     expr_good (Expr-F.BasicType span basic) whole = nothing_invokes test
@@ -347,7 +327,7 @@ module _ (test : InvocationTest) (scene : Scene) (allowed : Allowed test scene) 
         apply_rule test (conversion_function conversion) (core_value scene value.0 ∷ []) (and_from _ _ (value_good value (error_free_first (infer_expr value.0 known).found _ whole)) refl)
     expr_good (Expr-F.Group span inner) whole = value_good inner (error_free_first (infer_expr inner.0 known).found _ whole)
     expr_good (Expr-F.Parts span parts) whole =
-        array_rule test _ (parts_good parts (error_free_first (parts_found (map (λ (infer : PartInferrer). infer known) (map infer_part (map (λ (part : P). part.0) parts)))) _ whole))
+        array_rule test _ (parts_good parts (error_free_first (parts_found (map (λ (infer : PartInferrer). infer known) (map infer_part (map (λ (part : Known PartGood). part.0) parts)))) _ whole))
     expr_good (Expr-F.Field span owner field) whole =
         field_invokes (told scene owner.0) field (typed_expr scene.facts (told scene owner.0).0).named (owner.1 (error_free_first (infer_expr owner.0 known).found _ whole))
     expr_good (Expr-F.Index span array first None) whole =
@@ -372,11 +352,10 @@ module _ (test : InvocationTest) (scene : Scene) (allowed : Allowed test scene) 
         binary_invokes operator (core_value scene left.0) (core_value scene right.0)
         (value_good left (error_free_first (infer_expr left.0 known).found _ found)) (value_good right (error_free_second (infer_expr left.0 known).found _ found))
 
-    invocation_good : (y : Invocation-F C T I P)
-        → ErrorFree (call_typing known (invocation_step (inferred_invocation (first_invocation y)) known)).found → IsTrue (expr_invokes test (call_of scene (invocation_lowered (lowered_invocation scene (first_invocation y)))))
+    invocation_good : (y : InvocationNode good) → ErrorFree (call_typing known (from_invocation inferring (bare_invocation good y) known)).found → IsTrue (expr_invokes test (call_of scene (from_invocation (lowering scene) (bare_invocation good y))))
     invocation_good y whole =
-        let called = invocation_step (inferred_invocation (first_invocation y)) known in
-        let sending = invocation_lowered (lowered_invocation scene (first_invocation y)) in
+        let called = from_invocation inferring (bare_invocation good y) known in
+        let sending = from_invocation (lowering scene) (bare_invocation good y) in
         let arguments = typed_exprs_of called.arguments in
         let typed = called.callee.typed_expr in
         let final = type_of scene.facts y.callee.0 in
@@ -390,57 +369,34 @@ module _ (test : InvocationTest) (scene : Scene) (allowed : Allowed test scene) 
         (subst (λ (tree : Tree). IsTrue (target_passes test.calls (expr_seen test (core_value scene y.callee.0)) (length (arguments_by (params_of scene.facts (type_of scene.facts tree)) (lowered_of sending.arguments)))))
         (sym (ap (λ (one : LoweredTree). one.0) (told_is scene y.callee.0))) target)
 
-    parts_of_good : (span : Span) (count : Option T) (value : T)
-        → ErrorFree (part_found (part_step (inferred_part (first_part (record { span = span; count = count; value = value }))) known))
-        → IsTrue (part_invokes test (part_lowered (lowered_part scene (first_part (record { span = span; count = count; value = value })))).1)
+    parts_of_good : (span : Span) (count : Option (Known TreeGood)) (value : Known TreeGood)
+        → ErrorFree (part_found (from_part inferring (bare_part good (record { span = span; count = count; value = value })) known))
+        → IsTrue (part_invokes test (from_part (lowering scene) (bare_part good (record { span = span; count = count; value = value }))).1)
     parts_of_good span None value whole = one_rule test (core_value scene value.0) (value_good value (error_free_first (infer_expr value.0 known).found _ whole))
     parts_of_good span (Some count) value whole =
         let found = error_free_first ((infer_expr count.0 known).found ++ (infer_expr value.0 known).found) _ whole in
         repeated_rule test (core_value scene count.0) (core_value scene value.0)
         (value_good count (error_free_first (infer_expr count.0 known).found _ found)) (value_good value (error_free_second (infer_expr count.0 known).found _ found))
 
-    part_good : (y : Part-F C T I P) → ErrorFree (part_found (part_step (inferred_part (first_part y)) known)) → IsTrue (part_invokes test (part_lowered (lowered_part scene (first_part y))).1)
+    part_good : (y : PartNode good) → ErrorFree (part_found (from_part inferring (bare_part good y) known)) → IsTrue (part_invokes test (from_part (lowering scene) (bare_part good y)).1)
     part_good y = parts_of_good y.span y.count y.value
 
     -- ---- all trees
 
-    step_create : (x : Create-F Create Tree Invocation PartTree) (y : Create-F C T I P) → first_create y ≡ x → CreateGood (roll-Create x)
-    step_create x y is = subst (λ z. CreateGood (roll-Create z)) is
-        (subst (λ (infer : Inferrer). ErrorFree (infer known).found → IsTrue (expr_invokes test (of_create scene (roll-Create (first_create y))).1))
-        (sym (fold-roll-Create Inferrer Inferrer CalledInferrer PartInferrer create_step expr_step invocation_step part_step (first_create y)))
-        (subst (λ (one : Create × Expr). ErrorFree (create_step (inferred_create (first_create y)) known).found → IsTrue (expr_invokes test one.1))
-        (sym (fold-roll-Create (Create × Expr) LoweredTree LoweredInvocation (PartTree × Part) (create_lowered scene) (expr_lowered scene) invocation_lowered part_lowered (first_create y)))
-        (create_good y)))
-
-    step_expr : (x : Expr-F Create Tree Invocation PartTree) (y : Expr-F C T I P) → first_expr y ≡ x → TreeGood (roll-Expr x)
-    step_expr x y is = subst (λ z. TreeGood (roll-Expr z)) is
-        (subst (λ (infer : Inferrer). ErrorFree (infer known).found → IsTrue (lowered_invokes test (core_expr scene (roll-Expr (first_expr y)))))
-        (sym (fold-roll-Expr Inferrer Inferrer CalledInferrer PartInferrer create_step expr_step invocation_step part_step (first_expr y)))
-        (subst (λ (one : LoweredTree). ErrorFree (expr_step (inferred_expr (first_expr y)) known).found → IsTrue (lowered_invokes test one.1))
-        (sym (fold-roll-Expr (Create × Expr) LoweredTree LoweredInvocation (PartTree × Part) (create_lowered scene) (expr_lowered scene) invocation_lowered part_lowered (first_expr y)))
-        (expr_good y)))
-
-    step_invocation : (x : Invocation-F Create Tree Invocation PartTree) (y : Invocation-F C T I P) → first_invocation y ≡ x → InvocationGood (roll-Invocation x)
-    step_invocation x y is = subst (λ z. InvocationGood (roll-Invocation z)) is
-        (subst (λ (infer : CalledInferrer). ErrorFree (call_typing known (infer known)).found → IsTrue (expr_invokes test (call_of scene (of_invocation scene (roll-Invocation (first_invocation y))))))
-        (sym (fold-roll-Invocation Inferrer Inferrer CalledInferrer PartInferrer create_step expr_step invocation_step part_step (first_invocation y)))
-        (subst (λ (one : LoweredInvocation). ErrorFree (call_typing known (invocation_step (inferred_invocation (first_invocation y)) known)).found → IsTrue (expr_invokes test (call_of scene one)))
-        (sym (fold-roll-Invocation (Create × Expr) LoweredTree LoweredInvocation (PartTree × Part) (create_lowered scene) (expr_lowered scene) invocation_lowered part_lowered (first_invocation y)))
-        (invocation_good y)))
-
-    step_part : (x : Part-F Create Tree Invocation PartTree) (y : Part-F C T I P) → first_part y ≡ x → PartGood (roll-Part x)
-    step_part x y is = subst (λ z. PartGood (roll-Part z)) is
-        (subst (λ (infer : PartInferrer). ErrorFree (part_found (infer known)) → IsTrue (part_invokes test (of_part scene (roll-Part (first_part y))).1))
-        (sym (fold-roll-Part Inferrer Inferrer CalledInferrer PartInferrer create_step expr_step invocation_step part_step (first_part y)))
-        (subst (λ (one : PartTree × Part). ErrorFree (part_found (part_step (inferred_part (first_part y)) known)) → IsTrue (part_invokes test one.1))
-        (sym (fold-roll-Part (Create × Expr) LoweredTree LoweredInvocation (PartTree × Part) (create_lowered scene) (expr_lowered scene) invocation_lowered part_lowered (first_part y)))
-        (part_good y)))
+    by_parts : ByParts good
+    by_parts = record {
+      create = λ y. subst (λ t. t) (λ i. ErrorFree (create_folds inferring (bare_create good y) i known).found → IsTrue (expr_invokes test (create_folds (lowering scene) (bare_create good y) i).1)) (create_good y);
+      expr = λ y. subst (λ t. t) (λ i. ErrorFree (expr_folds inferring (bare_expr good y) i known).found → IsTrue (lowered_invokes test (expr_folds (lowering scene) (bare_expr good y) i).1)) (expr_good y);
+      invocation = λ y. subst (λ t. t)
+          (λ i. ErrorFree (call_typing known (invocation_folds inferring (bare_invocation good y) i known)).found → IsTrue (expr_invokes test (call_of scene (invocation_folds (lowering scene) (bare_invocation good y) i)))) (invocation_good y);
+      part = λ y. subst (λ t. t) (λ i. ErrorFree (part_found (part_folds inferring (bare_part good y) i known)) → IsTrue (part_invokes test (part_folds (lowering scene) (bare_part good y) i).1)) (part_good y);
+    }
 
     pub tree_invokes : (tree : Tree) → TreeGood tree
-    tree_invokes = ind-Expr CreateGood TreeGood InvocationGood PartGood step_create step_expr step_invocation step_part
+    tree_invokes = each_expr good by_parts
 
     pub create_invokes : (tree : Create) → CreateGood tree
-    create_invokes = ind-Create CreateGood TreeGood InvocationGood PartGood step_create step_expr step_invocation step_part
+    create_invokes = each_create good by_parts
 
     pub expr_value_invokes : (tree : Tree) → ErrorFree (infer_expr tree known).found → IsTrue (expr_invokes test (core_value scene tree))
     expr_value_invokes tree whole = value_of_invokes test (core_expr scene tree) (tree_invokes tree whole)

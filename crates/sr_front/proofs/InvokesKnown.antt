@@ -2,6 +2,7 @@
 use Rattle.std.proofs.Common.{◌≡◌, ◌⊎◌, inl, inr, ℕ, Bool, true, false, cond, List, [], ◌∷◌, Option, Some, None, is_some, map, flat_map, refl, sym, ap, subst, ◌∙◌, slice_get, length}
 use Rattle.std.specs.List.{IsDistinct}
 use Rattle.std.proofs.lemmas.Bool.{false≢true}
+use Rattle.std.proofs.lemmas.Option.{none-some, same_Some}
 use Rattle.sr_names.specs.declared.spot.Spot.{Spot}
 use Rattle.sr_names.specs.Noted.{Meanings}
 use Rattle.sr_names.specs.Specs.{Specs}
@@ -39,15 +40,15 @@ use Rattle.sr_check_decl.specs.Declaring.{standing}
 use Rattle.sr_check_decl.specs.Inferring.{program_known}
 use Rattle.sr_check_decl.specs.Parts.{component_decl}
 use Rattle.sr_check_decl.specs.TypeTrees.{signature_read}
-use Rattle.sr_check.specs.Checked.{first_refused}
 use Rattle.sr_check.specs.Components.{components_read}
 use Rattle.sr_check.specs.ErrorFree.{ErrorFree}
 use Rattle.sr_check.specs.Owners.{component_at}
 use Rattle.sr_check.proofs.Each.{Each, each-append, each-left, each-right}
-use Rattle.sr_check.proofs.Kept.{none_headed}
 use Rattle.sr_check.proofs.Owners.{Meets, Plain, known_now, sound_signatures, standing_sound}
 use Rattle.sr_desugar.specs.Core.{scene_of}
 use Rattle.sr_lower_expr.specs.declared.scene.Scene.{Scene}
+use Rattle.sr_front.proofs.FreeBlocks.{FreeComponents}
+use Rattle.sr_front.proofs.Heads.{heads_found}
 use Rattle.sr_front.proofs.Operations.{imports, tables}
 use Rattle.sr_front.proofs.Declared.{Apart, all_keys, is_own, put_opened, put_operation, table_is}
 use Rattle.sr_front.proofs.EffectFreeCode.{code_names, component_code}
@@ -71,6 +72,7 @@ use Rattle.sr_front.proofs.Optypes.{OptypesHeaded, layer_stays}
 use Rattle.sr_front.proofs.OptypesKnown.{optypes_known}
 use Rattle.sr_front.proofs.PlainNames.{block_plain, code_plain, component_code_plain, inner_plain}
 use Rattle.sr_front.proofs.Leading.{grown}
+use Rattle.sr_front.proofs.Lists.{first_same, none_listed, rest_same}
 use Rattle.sr_front.proofs.Placed.{Ending}
 use Rattle.sr_front.proofs.Staying.{Loose, Same, same_self, same_signatures, same_with, stay_through}
 use Rattle.sr_front.proofs.TypesStay.{Grows}
@@ -120,24 +122,9 @@ both_each P Q (one ∷ all) p q = ((p.0, q.0), both_each P Q all p.1 q.1)
 
 -- ---- a spot of the table is that of an operation
 
-first_same : (a b : Spot) (xs ys : List Spot) → a ∷ xs ≡ b ∷ ys → a ≡ b
-first_same a b xs ys e = cc
-
-rest_same : (a b : Spot) (xs ys : List Spot) → a ∷ xs ≡ b ∷ ys → xs ≡ ys
-rest_same a b xs ys e = cc
-
-none_listed : (a : Spot) (xs : List Spot) → a ∷ xs ≡ [] → ⊥
-none_listed a xs e = cc
-
-none_some : {A : Type 0} (a : A) → None ≡ Some a → ⊥
-none_some a e = cc
-
-some_same : (a b : Operation) → Some a ≡ Some b → a ≡ b
-some_same a b e = cc
-
 found_has : (P : Spot → Type 0) (spot : Spot) (operation : Operation) (entries : List (Spot × Operation)) (spans : List Span) → keys_of entries ≡ map spot_of spans → Each (λ span. P (spot_of span)) spans
     → found_at entries spot ≡ Some operation → P spot
-found_has P spot operation [] spans keys all at = absurd (none_some operation at)
+found_has P spot operation [] spans keys all at = absurd (none-some operation at)
 found_has P spot operation (entry ∷ entries) [] keys all at = absurd (none_listed entry.0 (keys_of entries) keys)
 found_has P spot operation (entry ∷ entries) (span ∷ spans) keys all at = by (same_spot-cases spot entry.0) (found_has P spot operation entries spans (rest_same entry.0 (spot_of span) (keys_of entries) (map spot_of spans) keys) all.1)
   where
@@ -158,7 +145,7 @@ lone_loose (Some (info.Component ty)) lone = lone
 same_component : (a b : Ty) → Some (info.Component a) ≡ Some (info.Component b) → a ≡ b
 same_component a b e = cc
 
-module _ (specs : Specs) (files : List File) (facts : Facts) (uses : Meanings) (kept : facts.uses ≡ uses) (apart : Apart files) (none : first_refused uses specs files ≡ None)
+module _ (specs : Specs) (files : List File) (facts : Facts) (uses : Meanings) (kept : facts.uses ≡ uses) (apart : Apart files) (headed : ErrorFree (heads_found uses specs files))
     (distinct : IsDistinct same_spot (map spot_of (flat_map file_names files))) where
   abbrev all : List Component
   all = components_in files
@@ -218,8 +205,8 @@ module _ (specs : Specs) (files : List File) (facts : Facts) (uses : Meanings) (
 
   pub between_first : Between known
   between_first =
-      let optypes = optypes_known uses specs files facts shapes none distinct in
-      ((known_headed uses specs files facts kept shapes heads procs apart none optypes, optypes), (only_known entries uses specs files free.declared, (same_self known, λ number signature at. at)))
+      let optypes = optypes_known uses specs files facts shapes headed distinct in
+      ((known_headed uses specs files facts kept shapes heads procs apart headed optypes, optypes), (only_known entries uses specs files free.declared, (same_self known, λ number signature at. at)))
 
   -- ---- in a component
 
@@ -263,7 +250,7 @@ module _ (specs : Specs) (files : List File) (facts : Facts) (uses : Meanings) (
             arm = λ tree free span context h. (holding_arm uses files facts kept shapes heads procs apart component tree span context h.0, other.by.arm tree free span context h.1);
             co_arm = λ tree free span context h. (holding_co_arm uses files facts kept shapes heads procs apart component tree span context h.0, other.by.co_arm tree free span context h.1);
           };
-          inner = λ one free opened context h whole. (local_headed uses files facts kept shapes heads procs apart number tree there one context opened h.0 whole, other.inner one free opened context h.1 whole);
+          inner = λ one free opened context types h whole. (local_headed uses files facts kept shapes heads procs apart number tree there one context opened types h.0 whole, other.inner one free opened context types h.1 whole);
           signed = λ signature now free h. (holding_signed_declared uses files facts kept shapes heads procs apart component (signature_read signature now).signed now h.0, other.signed signature now free h.1);
           formal_quantifiers = λ quantifiers now free h. (holding_formal_quantifiers uses files facts kept shapes heads procs apart component quantifiers now h.0, other.formal_quantifiers quantifiers now free h.1);
         }
@@ -286,13 +273,13 @@ module _ (specs : Specs) (files : List File) (facts : Facts) (uses : Meanings) (
 
   -- ---- in the end
 
-  module _ (whole : ErrorFree (components_read all known).found) (final : facts ≡ (components_read all known).facts) where
+  module _ (whole : ErrorFree (components_read all known).found) (types : FreeComponents all known) (final : facts ≡ (components_read all known).facts) where
     last : Between facts
-    last = subst Between (sym final) (keeps_components facts shapes heads Between Free (Among all) between all (all_among all) known code_is_free between_first whole)
+    last = subst Between (sym final) (keeps_components facts shapes heads Between Free (Among all) between all (all_among all) known code_is_free types between_first whole)
 
     spot_known : (spot : Spot) (operation : Operation) → found_at entries spot ≡ Some operation → Has spot facts
     spot_known spot operation at =
-        let declared = components_declare facts shapes heads all known (outer_headed facts shapes heads known all (files_each known files (none_headed uses specs files none))) whole in
+        let declared = components_declare all known (outer_headed known all (files_each known files headed)) in
         let here : HasAll facts (flat_map operation_spans files) =
         subst (HasAll facts) (parts_of_parts (λ (file : File). file.components) component_operations files) (subst (λ now. HasAll now (flat_map component_operations all)) (sym final) declared) in
         found_has (λ (at : Spot). Has at facts) spot operation entries (flat_map operation_spans files) keys here at
@@ -302,7 +289,7 @@ module _ (specs : Specs) (files : List File) (facts : Facts) (uses : Meanings) (
     at_end spot operation None at is has lone = absurd (false≢true has)
     at_end spot operation (Some (info.Operation ty component is_local)) at is has lone =
         let headed : IsHeaded all procs entries facts.signatures spot ty component is_local = known_now Meeting facts last.0.0.1 spot ty component is_local is in
-        let same : headed.entered.operation ≡ operation = some_same headed.entered.operation operation (sym headed.entered.found ∙ at) in
+        let same : headed.entered.operation ≡ operation = same_Some headed.entered.operation operation (sym headed.entered.found ∙ at) in
         (ty, (component, (is_local, (is, (subst (λ one. HasHead facts.signatures one ty) same headed.head, headed.entered.numbered ∙ ap Some same)))))
     at_end spot operation (Some (info.Value typed)) at is has lone = absurd lone
     at_end spot operation (Some (info.«Type» ty)) at is has lone = absurd lone
@@ -323,7 +310,7 @@ module _ (specs : Specs) (files : List File) (facts : Facts) (uses : Meanings) (
         → IsHead now.signatures operation found
     head_here place tree now h spot operation (info.Operation ty component is_local) at is lone =
         let headed : IsHeaded all procs entries now.signatures spot ty component is_local = known_now Meeting now h.0.0.1.1 spot ty component is_local is in
-        subst (λ one. HasHead now.signatures one ty) (some_same headed.entered.operation operation (sym headed.entered.found ∙ at)) headed.head
+        subst (λ one. HasHead now.signatures one ty) (same_Some headed.entered.operation operation (sym headed.entered.found ∙ at)) headed.head
     head_here place tree now h spot operation (info.Value typed) at is lone = lone
     head_here place tree now h spot operation (info.«Type» ty) at is lone = lone
     head_here place tree now h spot operation (info.Enumeration number literals) at is lone = lone
@@ -348,7 +335,7 @@ module _ (specs : Specs) (files : List File) (facts : Facts) (uses : Meanings) (
     pub counted : (place : ℕ) (tree : Component) (now : Facts) → Within place tree now → (outline : Facts) (component : Component) → Among all component → (ty : Ty) (arguments : List TypedExpr)
         → info_at now.infos (component_at component) ≡ Some (info.Component ty) → takes_as_many now.signatures ty arguments ≡ true → length arguments ≡ length (parameters_of outline shapes (formals_of component))
     counted place tree now h outline component there ty arguments is takes =
-        let made = making_headed uses specs files outline shapes none distinct there.0 component there.1 in
+        let made = making_headed uses specs files outline shapes headed distinct there.0 component there.1 in
         let before : info_at known.infos (component_at component) ≡ Some (info.Component ty) = subst (λ found. StaysInfo found (info_at known.infos (component_at component))) is (h.1.1.0.back.infos (component_at component)) in
         let same : made.ty ≡ ty = same_component made.ty ty (sym made.info ∙ before) in
         let at : signature_of now.signatures ty ≡ Some made.signature =

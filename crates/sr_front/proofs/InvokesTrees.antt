@@ -1,11 +1,11 @@
 -- What an expression that names an operation is known by: the walk over expressions.
-use Rattle.std.proofs.Common.{◌≡◌, ℕ, [], ◌∷◌, Option, Some, None, refl, sym, ap, subst}
+use Rattle.std.proofs.Common.{ℕ, [], ◌∷◌, Option, Some, None, refl, sym, ap, subst}
 use Rattle.sr_check_expr.specs.declared.facts.Facts.{Facts}
 use Rattle.sr_check_expr.specs.declared.typed_expr.TypedExpr.{TypedExpr}
 use Rattle.sr_check_expr.specs.declared.typed_expr.Named.{Named}
 use Rattle.sr_check_expr.specs.declared.typed_expr.Named.TheVariants as named
 use Rattle.sr_check_expr.specs.Calls.{Called, call_typing, called_by}
-use Rattle.sr_check_expr.specs.Exprs.{Inferrer, CalledInferrer, PartInferrer, create_step, expr_step, field_typing, invocation_step, infer_create, infer_expr, infer_invocation, part_step}
+use Rattle.sr_check_expr.specs.Exprs.{Inferrer, field_typing, infer_create, infer_expr, infer_invocation}
 use Rattle.sr_check_expr.specs.LiteralTypes.{literal_named, literal_typed}
 use Rattle.sr_check_expr.specs.Meanings.{known as known_value, meant_by, typed_expr}
 use Rattle.sr_check_expr.specs.Typings.{Typing, typed_exprs_of}
@@ -14,24 +14,22 @@ use Rattle.sr_check.proofs.ErrorFree.{error_free_first, error_free_second}
 use Rattle.sr_core.specs.declared.expression.Expr.{Expr}
 use Rattle.sr_core.specs.declared.expression.Expr.TheVariants as core
 use Rattle.sr_core.specs.declared.expression.Leaf.TheVariants as leaf
-use Rattle.sr_core.specs.declared.expression.Part.{Part}
 use Rattle.sr_core.specs.declared.expression.Step.TheVariants as step
 use Rattle.sr_lower_expr.specs.declared.scene.Scene.{Scene}
-use Rattle.sr_lower_expr.specs.Expressions.{LoweredTree, LoweredInvocation, core_expr, core_value, create_core, create_lowered, expr_core, expr_lowered, field_core, invocation_lowered, part_lowered}
+use Rattle.sr_lower_expr.specs.Expressions.{LoweredTree, core_expr, core_value, field_core}
 use Rattle.sr_lower_expr.specs.Operators.{conversion_function}
 use Rattle.sr_lower_expr.specs.Places.{value_of}
 use Rattle.sr_lower_expr.proofs.Trees.{of_create, of_invocation, told_is}
 use Rattle.sr_tables.specs.Parts.{deciding}
-use Rattle.sr_tree.specs.declared.expr.Create.{Create, roll-Create}
-use Rattle.sr_tree.specs.declared.expr.Create.TheFolds.{fold-roll-Create, fold-roll-Expr, ind-Expr, map-Create, map-Expr, map-Invocation, map-Part}
-use Rattle.sr_tree.specs.declared.expr.Create.TheOpen.{Create-F, Expr-F, Invocation-F, Part-F}
-use Rattle.sr_tree.specs.declared.expr.Expr.{Expr as Tree, roll-Expr}
-use Rattle.sr_tree.specs.declared.expr.Invocation.{Invocation, roll-Invocation}
-use Rattle.sr_tree.specs.declared.expr.Part.{Part as PartTree, roll-Part}
+use Rattle.sr_tree.specs.declared.expr.Create.{Create}
+use Rattle.sr_tree.specs.declared.expr.Create.TheOpen.{Create-F, Expr-F}
+use Rattle.sr_tree.specs.declared.expr.Expr.{Expr as Tree}
 use Rattle.sr_types.specs.declared.ty.Ty.{Ty}
 use Rattle.sr_front.specs.Invocations.{InvocationTest}
 use Rattle.sr_front.proofs.ExprsStay.{expr_stays}
-use Rattle.sr_front.proofs.ExprParts.{inferred_create, inferred_expr, lowered_create, lowered_expr}
+use Rattle.sr_tree.proofs.ExprFolds.{ByParts, Claim, CreateNode, ExprNode, bare_create, bare_expr, create_folds, each_expr, expr_folds, from_create, from_expr}
+use Rattle.sr_lower_expr.proofs.LowerFold.{lowering}
+use Rattle.sr_front.proofs.TypingFolds.{inferring}
 use Rattle.sr_front.proofs.EffectFreeExprs.{StaysNamed, field_stays, name_stays, stays_itself}
 use Rattle.sr_front.proofs.InvokesNames.{Nameless, apply_nameless, array_nameless, binary_nameless, call_nameless, constant_nameless, instance_nameless, leaf_names, naming_nameless, nothing_nameless, part_nameless, unary_nameless}
 use Rattle.sr_front.proofs.InvokesTargets.{AllAtEnd, Fits, Reads, field_fits, group_fits, name_fits, nameless_fits, operation_of}
@@ -58,48 +56,24 @@ module _ (test : InvocationTest) (scene : Scene) (ends : AllAtEnd scene) (known 
   abbrev Good : Typing → Typing → Expr → Type 0
   Good here end expr = StaysNamed end.typed_expr.named here.typed_expr.named × (ErrorFree here.found → FitsHere here.typed_expr end.typed_expr.typed.ty (number_of expr))
 
+  abbrev CreateStays : Inferrer → Create × Expr → Type 0
+  CreateStays infer made = StaysNamed (infer scene.facts).typed_expr.named (infer known).typed_expr.named × Nameless test made.1
+
   abbrev CreateGood : Create → Type 0
-  CreateGood tree = StaysNamed (infer_create tree scene.facts).typed_expr.named (infer_create tree known).typed_expr.named × Nameless test (of_create scene tree).1
+  CreateGood tree = CreateStays (infer_create tree) (of_create scene tree)
 
   abbrev TreeGood : Tree → Type 0
   TreeGood tree = Good (infer_expr tree known) (infer_expr tree scene.facts) (core_value scene tree)
 
-  abbrev InvocationGood : Invocation → Type 0
-  InvocationGood tree = Unit {0}
+  abbrev good : Claim
+  good = record { create = CreateGood; expr = TreeGood; invocation = λ tree. Unit {0}; part = λ tree. Unit {0} }
 
-  abbrev PartGood : PartTree → Type 0
-  PartGood tree = Unit {0}
-
-  abbrev C : Type 0
-  C = (tree : Create) × CreateGood tree
-
-  abbrev T : Type 0
-  T = (tree : Tree) × TreeGood tree
-
-  abbrev I : Type 0
-  I = (tree : Invocation) × InvocationGood tree
-
-  abbrev P : Type 0
-  P = (tree : PartTree) × PartGood tree
-
-  abbrev first_create : Create-F C T I P → Create-F Create Tree Invocation PartTree
-  first_create = map-Create C T I P Create Tree Invocation PartTree (λ c. c.0) (λ e. e.0) (λ s. s.0) (λ p. p.0)
-
-  abbrev first_expr : Expr-F C T I P → Expr-F Create Tree Invocation PartTree
-  first_expr = map-Expr C T I P Create Tree Invocation PartTree (λ c. c.0) (λ e. e.0) (λ s. s.0) (λ p. p.0)
-
-  abbrev first_invocation : Invocation-F C T I P → Invocation-F Create Tree Invocation PartTree
-  first_invocation = map-Invocation C T I P Create Tree Invocation PartTree (λ c. c.0) (λ e. e.0) (λ s. s.0) (λ p. p.0)
-
-  abbrev first_part : Part-F C T I P → Part-F Create Tree Invocation PartTree
-  first_part = map-Part C T I P Create Tree Invocation PartTree (λ c. c.0) (λ e. e.0) (λ s. s.0) (λ p. p.0)
-
-  create_good : (y : Create-F C T I P) → StaysNamed (create_step (inferred_create (first_create y)) scene.facts).typed_expr.named (create_step (inferred_create (first_create y)) known).typed_expr.named × Nameless test (create_core scene (lowered_create scene (first_create y)))
+  create_good : (y : CreateNode good) → CreateStays (from_create inferring (bare_create good y)) (from_create (lowering scene) (bare_create good y))
   create_good (Create-F.Resource span resource arguments None) = (tt, instance_nameless test scene (meant_by scene.facts (deciding resource)) _ _)
   create_good (Create-F.Resource span resource arguments (Some machine)) = (tt, instance_nameless test scene (meant_by scene.facts (deciding resource)) _ _)
   create_good (Create-F.Machine span) = (tt, leaf_names test leaf.MakeMachine)
 
-  expr_good : (y : Expr-F C T I P) → Good (expr_step (inferred_expr (first_expr y)) known) (expr_step (inferred_expr (first_expr y)) scene.facts) (value_of (expr_core scene (lowered_expr scene (first_expr y))))
+  expr_good : (y : ExprNode good) → Good (from_expr inferring (bare_expr good y) known) (from_expr inferring (bare_expr good y) scene.facts) (value_of (from_expr (lowering scene) (bare_expr good y)).1)
   expr_good (Expr-F.Literal span literal) = ((stays_itself (literal_named literal)), λ whole. nameless_fits test scene ends known reads _ _ _ (constant_nameless test (known_value (literal_typed literal).value)))
   expr_good (Expr-F.Name name) = (name_stays scene.facts known reads.stay name.span name.span name.span, name_fits test scene ends known reads name.span name.span name.span)
   expr_good (Expr-F.BasicType span basic) = (refl, λ whole. nameless_fits test scene ends known reads _ _ _ (nothing_nameless test))
@@ -116,7 +90,7 @@ module _ (test : InvocationTest) (scene : Scene) (ends : AllAtEnd scene) (known 
         field_stays scene.facts known reads.stay span end here field end.named here.named owner.1.0,
         λ whole.
             let same = expr_stays known scene.facts reads.grows owner.0 (error_free_first (infer_expr owner.0 known).found _ whole) in
-            subst (λ (one : LoweredTree). FitsHere (expr_step (inferred_expr (Expr-F.Field span owner.0 field)) known).typed_expr (expr_step (inferred_expr (Expr-F.Field span owner.0 field)) scene.facts).typed_expr.typed.ty
+            subst (λ (one : LoweredTree). FitsHere (from_expr inferring (Expr-F.Field span owner.0 field) known).typed_expr (from_expr inferring (Expr-F.Field span owner.0 field) scene.facts).typed_expr.typed.ty
             (number_of (value_of (field_core scene one field (typed_expr scene.facts one.0).named)))) (sym (told_is scene owner.0))
             (subst (λ (what : Named). ErrorFree (field_typing known span here field what).found
             → FitsHere (field_typing known span here field what).typed_expr (field_typing scene.facts span end field end.named).typed_expr.typed.ty (number_of (value_of (field_core scene (owner.0, core_expr scene owner.0) field end.named))))
@@ -137,31 +111,15 @@ module _ (test : InvocationTest) (scene : Scene) (ends : AllAtEnd scene) (known 
 
   -- ---- all trees
 
-  step_create : (x : Create-F Create Tree Invocation PartTree) (y : Create-F C T I P) → first_create y ≡ x → CreateGood (roll-Create x)
-  step_create x y is = subst (λ z. CreateGood (roll-Create z)) is
-      (subst (λ (infer : Inferrer). StaysNamed (infer scene.facts).typed_expr.named (infer known).typed_expr.named × Nameless test (of_create scene (roll-Create (first_create y))).1)
-      (sym (fold-roll-Create Inferrer Inferrer CalledInferrer PartInferrer create_step expr_step invocation_step part_step (first_create y)))
-      (subst (λ (one : Create × Expr). StaysNamed (create_step (inferred_create (first_create y)) scene.facts).typed_expr.named (create_step (inferred_create (first_create y)) known).typed_expr.named × Nameless test one.1)
-      (sym (fold-roll-Create (Create × Expr) LoweredTree LoweredInvocation (PartTree × Part) (create_lowered scene) (expr_lowered scene) invocation_lowered part_lowered (first_create y)))
-      (create_good y)))
-
-  step_expr : (x : Expr-F Create Tree Invocation PartTree) (y : Expr-F C T I P) → first_expr y ≡ x → TreeGood (roll-Expr x)
-  step_expr x y is = subst (λ z. TreeGood (roll-Expr z)) is
-      (subst (λ (infer : Inferrer). Good (infer known) (infer scene.facts) (core_value scene (roll-Expr (first_expr y))))
-      (sym (fold-roll-Expr Inferrer Inferrer CalledInferrer PartInferrer create_step expr_step invocation_step part_step (first_expr y)))
-      (subst (λ (one : LoweredTree). Good (expr_step (inferred_expr (first_expr y)) known) (expr_step (inferred_expr (first_expr y)) scene.facts) (value_of one.1))
-      (sym (fold-roll-Expr (Create × Expr) LoweredTree LoweredInvocation (PartTree × Part) (create_lowered scene) (expr_lowered scene) invocation_lowered part_lowered (first_expr y)))
-      (expr_good y)))
-
-  step_invocation : (x : Invocation-F Create Tree Invocation PartTree) (y : Invocation-F C T I P) → first_invocation y ≡ x → InvocationGood (roll-Invocation x)
-  step_invocation x y is = tt
-
-  step_part : (x : Part-F Create Tree Invocation PartTree) (y : Part-F C T I P) → first_part y ≡ x → PartGood (roll-Part x)
-  step_part x y is = tt
-
-  tree_good : (tree : Tree) → TreeGood tree
-  tree_good = ind-Expr CreateGood TreeGood InvocationGood PartGood step_create step_expr step_invocation step_part
+  by_parts : ByParts good
+  by_parts = record {
+    create = λ y. subst (λ t. t) (λ i. CreateStays (create_folds inferring (bare_create good y) i) (create_folds (lowering scene) (bare_create good y) i)) (create_good y);
+    expr = λ y. subst (λ t. t)
+        (λ i. Good (expr_folds inferring (bare_expr good y) i known) (expr_folds inferring (bare_expr good y) i scene.facts) (value_of (expr_folds (lowering scene) (bare_expr good y) i).1)) (expr_good y);
+    invocation = λ y. tt;
+    part = λ y. tt;
+  }
 
   -- where no rule is broken in an expression it fits
   pub tree_fits : (tree : Tree) → ErrorFree (infer_expr tree known).found → FitsHere (infer_expr tree known).typed_expr (infer_expr tree scene.facts).typed_expr.typed.ty (number_of (core_value scene tree))
-  tree_fits tree = (tree_good tree).1
+  tree_fits tree = (each_expr good by_parts tree).1

@@ -33,19 +33,20 @@ use Rattle.sr_tree.specs.declared.types.Formal.{Formal}
 use Rattle.sr_tree.specs.declared.types.TypeTree.{TypeTree}
 use Rattle.sr_tree.specs.Parts.{body_of, formals_of, name_of, spec_of}
 use Rattle.sr_value.specs.declared.place.Span.{Span}
-use Rattle.sr_front.proofs.ConstantsMet.{Anywhere, anywhere}
 use Rattle.sr_front.proofs.DeclaredAgrees.{HeadAgrees, SignatureAgrees, WrittenAgrees}
 use Rattle.sr_front.proofs.DeclaredIn.{Stands}
 use Rattle.sr_front.proofs.DeclaredThen.{in_map, names_of_components, one_free}
-use Rattle.sr_front.proofs.FirmNames.{apart_in, component_firm, component_loose, component_own, firm_from_loose, item_firm, item_loose, loose_from_firm, own_firm_share, spec_firm, spec_loose, turned}
+use Rattle.sr_front.proofs.FirmNames.{component_firm, component_loose, component_own, firm_from_loose, item_firm, item_loose, loose_from_firm, own_firm_share, spec_firm, spec_loose}
 use Rattle.sr_front.proofs.HalfProgram.{Ending}
+use Rattle.sr_front.proofs.KeptNames.{Anywhere, anywhere}
 use Rattle.sr_front.proofs.Lasting.{Away}
 use Rattle.sr_front.proofs.OrderKept.{Leading, Other, StillPart, counts_declares, counts_last, kept_const, kept_head, kept_optype, kept_var, part_lasts, still_part}
 use Rattle.sr_front.proofs.OwnApart.{each_stands}
 use Rattle.sr_front.proofs.ProgramReads.{firm_away}
 use Rattle.sr_front.proofs.RightNames.{RightAt, body_names_right, formal_names_right, spec_names_right}
 use Rattle.sr_front.proofs.Rising.{Rises, away_after}
-use Rattle.sr_front.proofs.Shares.{other_way}
+use Rattle.sr_front.proofs.Shares.{apart_in, other_way}
+use Rattle.sr_front.proofs.Sharing.{turned}
 use Rattle.sr_front.proofs.TypeSites.{Lasts, Reached, SameMeant, Sited, agrees_each, all_are_firm, end_counts, end_uses, last, part_at, sited, sited_end}
 use Rattle.sr_front.proofs.TypedTypes.{Counts, all_uses, counts_itself, counts_through, formal_uses, signature_uses, type_uses}
 use Rattle.sr_front.proofs.UsesAmong.{uses_of_formals, uses_of_signature, uses_of_type}

@@ -30,6 +30,7 @@ use Rattle.sr_check.specs.Quantifying.{quantifiers_known}
 use Rattle.sr_check.specs.Services.{service_bound}
 use Rattle.sr_check.specs.Statements.{arm_read, block_item_read, branch_read, co_arm_read, statement_read}
 use Rattle.sr_check.proofs.Each.{Each}
+use Rattle.sr_front.proofs.FreeBlocks.{FreeItem}
 use Rattle.sr_front.proofs.PlainNames.{inner_plain}
 
 -- names stand where values may be declared
@@ -53,7 +54,7 @@ pub record KeptBy (Q : Facts → Type 0) (Free : Spot → Type 0) : Type 0 where
 -- What is kept where procs are read: of the operations of a block it is known what is declared of them.
 pub record KeptIn (opened : ProcItem → List DeclaredOperation) (Q : Facts → Type 0) (Free : Spot → Type 0) (Opened : DeclaredOperation → Type 0) : Type 0 where
   pub by : KeptBy Q Free
-  pub inner : (one : ProcItem) → Names Free (inner_plain one) → Each Opened (opened one) → (context : Context) → Q context.facts → ErrorFree (proc_item_read one context).found → Q (proc_item_read one context).facts
+  pub inner : (one : ProcItem) → Names Free (inner_plain one) → Each Opened (opened one) → (context : Context) → FreeItem one context.facts → Q context.facts → ErrorFree (proc_item_read one context).found → Q (proc_item_read one context).facts
   pub signed : (signature : SignatureTree) (facts : Facts) → Names Free (signature_names signature) → Q facts → Q (signed_declared (signature_read signature facts).signed facts)
   pub formal_quantifiers : (quantifiers : List Quantifier) (facts : Facts) → Names Free (flat_map quantifier_names quantifiers) → Q facts → Q (quantifiers_formal quantifiers facts)
 

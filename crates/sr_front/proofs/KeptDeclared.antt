@@ -144,9 +144,7 @@ module _ (Q : Facts → Type 0) (Free : Spot → Type 0) (declares : Declares Q 
       declares.operation (signature_entered procedure.signature tally.facts) (spot_of procedure.name.span) _ _ false (keeps_signature Q declares.entered procedure.signature tally.facts h)
   keeps_item (item.Process process) tally free h =
       declares.operation (entered (process_signature process.quantifiers) tally.facts) (spot_of process.name.span) _ _ false (declares.entered tally.facts (process_signature process.quantifiers) h)
-  keeps_item (item.Proc proc) tally free h = h
-  keeps_item (item.Final final) tally free h = h
-  keeps_item (item.Statement statement) tally free h = h
+  keeps_item _ tally free h = h
 
   pub keeps_spec : (items : List SpecItem) (tally : Tally) → AllFree (flat_map spec_plain items) → Q tally.facts → Q (spec_items_declared items tally).facts
   keeps_spec [] tally free h = h

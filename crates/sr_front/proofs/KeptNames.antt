@@ -54,6 +54,9 @@ pub all_fit : {A : Type 0} (spot : A → Spot) (all : List A) → Each (λ one. 
 all_fit spot [] = tt
 all_fit spot (one ∷ all) = (tt, all_fit spot all)
 
+pub anywhere : (names : List Span) → Each (λ span. Anywhere (spot_of span)) names
+anywhere names = all_fit (λ span. spot_of span) names
+
 module _ (Q : Facts → Type 0) (Free Fit : Spot → Type 0) (closed : Closed Q Free Fit) where
   abbrev pub FreeName : Span → Type 0
   FreeName span = Free (spot_of span)

@@ -29,6 +29,7 @@ use Rattle.sr_check.specs.Quantifying.{quantifiers_found, quantifiers_known}
 use Rattle.sr_check.specs.Services.{operation_named, service_bound, spot_or, type_of}
 use Rattle.sr_check.proofs.Each.{Each, each-left, each-right}
 use Rattle.sr_check.proofs.ErrorFree.{error_free_first, error_free_second}
+use Rattle.sr_front.proofs.FreeBlocks.{FreeBlock, FreeCode, FreeComponent, FreeComponents, FreeItem, FreeItems}
 use Rattle.sr_front.proofs.KeptBy.{KeptBetween, KeptIn, Names}
 use Rattle.sr_front.proofs.KeptCode.{closed_by, keeps_statement}
 use Rattle.sr_front.proofs.KeptNames.{Closed, FitOps, FitSems, keeps_const, keeps_formal_quantifiers, keeps_local_ops, keeps_local_sems, keeps_signed, keeps_var}
@@ -44,12 +45,12 @@ module _ (facts : Facts) (shapes : Shapes) (heads : Heads) (Q : Facts → Type 0
   sems_fit [] opened = tt
   sems_fit (semaphore ∷ more) opened = (fits _ opened.0, sems_fit more opened.1)
 
-  inner_kept : (one : ProcItem) → Names Free (inner_plain one) → Each Opened (inner_opened facts shapes heads one) → (context : Context) → Q context.facts → ErrorFree (proc_item_read one context).found → Q (proc_item_read one context).facts
-  inner_kept (inner.Const constant) free opened context h whole = keeps_const Q Free Fit closed constant context.facts free h
-  inner_kept (inner.Var variables) free opened context h whole = keeps_var Q Free Fit closed variables context.facts free h
-  inner_kept (inner.Op operations) free opened context h whole = keeps_local_ops Q Free Fit closed operations.items context.facts (ops_fit operations.items opened) h
-  inner_kept (inner.Sem semaphores) free opened context h whole = keeps_local_sems Q Free Fit closed semaphores.semaphores context.facts (sems_fit semaphores.semaphores opened) h
-  inner_kept (inner.Statement statement) free opened context h whole = keeps_statement Q Free Fit closed statement free context h
+  inner_kept : (one : ProcItem) → Names Free (inner_plain one) → Each Opened (inner_opened facts shapes heads one) → (context : Context) → FreeItem one context.facts → Q context.facts → ErrorFree (proc_item_read one context).found → Q (proc_item_read one context).facts
+  inner_kept (inner.Const constant) free opened context types h whole = keeps_const Q Free Fit closed constant context.facts free h
+  inner_kept (inner.Var variables) free opened context types h whole = keeps_var Q Free Fit closed variables context.facts free h
+  inner_kept (inner.Op operations) free opened context types h whole = keeps_local_ops Q Free Fit closed operations.items context.facts (ops_fit operations.items opened) h
+  inner_kept (inner.Sem semaphores) free opened context types h whole = keeps_local_sems Q Free Fit closed semaphores.semaphores context.facts (sems_fit semaphores.semaphores opened) h
+  inner_kept (inner.Statement statement) free opened context types h whole = keeps_statement Q Free Fit closed statement free context h
 
   pub closed_in : KeptIn (inner_opened facts shapes heads) Q Free Opened
   closed_in = record {
@@ -63,64 +64,64 @@ module _ (facts : Facts) (shapes : Shapes) (heads : Heads) (Q : Facts → Type 0
   abbrev FreeName : Span → Type 0
   FreeName span = Free (spot_of span)
 
-  pub keeps_block : (items : List ProcItem) → Names Free (block_plain items) → Each Opened (block_opened facts shapes heads items) → (context : Context) → Q context.facts → ErrorFree (block_read items context).found
+  pub keeps_block : (items : List ProcItem) → Names Free (block_plain items) → Each Opened (block_opened facts shapes heads items) → (context : Context) → FreeBlock items context → Q context.facts → ErrorFree (block_read items context).found
       → Q (block_read items context).facts
-  keeps_block [] free opened context h whole = h
-  keeps_block (one ∷ items) free opened context h whole =
+  keeps_block [] free opened context types h whole = h
+  keeps_block (one ∷ items) free opened context types h whole =
       let step = proc_item_read one context in
       let here = inner_opened facts shapes heads one in
-      keeps_block items (each-right FreeName (inner_plain one) _ free) (each-right Opened here _ opened) (with_facts context step.facts)
-      (kept.inner one (each-left FreeName (inner_plain one) _ free) (each-left Opened here _ opened) context h (error_free_first step.found _ whole)) (error_free_second step.found _ whole)
+      keeps_block items (each-right FreeName (inner_plain one) _ free) (each-right Opened here _ opened) (with_facts context step.facts) types.1
+      (kept.inner one (each-left FreeName (inner_plain one) _ free) (each-left Opened here _ opened) context types.0 h (error_free_first step.found _ whole)) (error_free_second step.found _ whole)
 
-  pub keeps_item : (procs : Procs) (one : Item) (now : Facts) → Names Free (code_plain one) → Each Opened (item_opened facts shapes heads one) → Q now → ErrorFree (item_read procs one now).found → Q (item_read procs one now).facts
-  keeps_item procs (item.Spec declared) now free opened h whole = h
-  keeps_item procs (item.Proc proc) now free opened h whole =
+  pub keeps_item : (procs : Procs) (one : Item) (now : Facts) → Names Free (code_plain one) → Each Opened (item_opened facts shapes heads one) → FreeCode procs one now → Q now → ErrorFree (item_read procs one now).found → Q (item_read procs one now).facts
+  keeps_item procs (item.Spec declared) now free opened types h whole = h
+  keeps_item procs (item.Proc proc) now free opened types h whole =
       let served = operation_named now proc.name in
       let after = each-right FreeName (names_spans proc.formals) _ free.1 in
       keeps_block proc.block (each-right FreeName (where_some name_names proc.returned) _ after) opened
-      (beginning procs (Serves (spot_or (spot_of proc.name.span) served)) (service_bound proc.formals proc.returned (type_of served) now))
+      (beginning procs (Serves (spot_or (spot_of proc.name.span) served)) (service_bound proc.formals proc.returned (type_of served) now)) types
       (kept.by.service proc.formals proc.returned (type_of served) now (each-left FreeName (names_spans proc.formals) _ free.1) (each-left FreeName (where_some name_names proc.returned) _ after) h)
       (error_free_second (proc_rules now proc served) _ whole)
-  keeps_item procs (item.Procedure procedure) now free opened h whole =
+  keeps_item procs (item.Procedure procedure) now free opened types h whole =
       let signed = (signature_read procedure.signature now).signed in
-      keeps_block procedure.block (each-right FreeName (signature_names procedure.signature) _ free) opened.1 (beginning procs (Serves (spot_of procedure.name.span)) (signed_declared signed now))
+      keeps_block procedure.block (each-right FreeName (signature_names procedure.signature) _ free) opened.1 (beginning procs (Serves (spot_of procedure.name.span)) (signed_declared signed now)) types.1
       (kept.signed procedure.signature now (each-left FreeName (signature_names procedure.signature) _ free) h)
       (error_free_second (signature_read procedure.signature now).found _ whole)
-  keeps_item procs (item.Process process) now free opened h whole =
+  keeps_item procs (item.Process process) now free opened types h whole =
       let names = flat_map quantifier_names process.quantifiers in
       let known = quantifiers_known now process.quantifiers in
       let quantified = each-left FreeName names _ free in
-      keeps_block process.block (each-right FreeName names _ free) opened.1 (beginning procs (Serves (spot_of process.name.span)) (quantifiers_formal process.quantifiers known))
+      keeps_block process.block (each-right FreeName names _ free) opened.1 (beginning procs (Serves (spot_of process.name.span)) (quantifiers_formal process.quantifiers known)) types
       (kept.formal_quantifiers process.quantifiers known quantified (kept.by.quantifiers process.quantifiers now quantified h))
       (error_free_second (quantifiers_found now process.quantifiers) _ whole)
-  keeps_item procs (item.Final final) now free opened h whole = keeps_block final.block free opened (beginning procs Ends now) h whole
-  keeps_item procs (item.Statement statement) now free opened h whole = kept.by.statement statement free (beginning procs SetsUp now) h
+  keeps_item procs (item.Final final) now free opened types h whole = keeps_block final.block free opened (beginning procs Ends now) types h whole
+  keeps_item procs (item.Statement statement) now free opened types h whole = kept.by.statement statement free (beginning procs SetsUp now) h
 
-  pub keeps_items : (procs : Procs) (items : List Item) (now : Facts) → Names Free (flat_map code_plain items) → Each Opened (flat_map (item_opened facts shapes heads) items) → Q now → ErrorFree (items_read procs items now).found
+  pub keeps_items : (procs : Procs) (items : List Item) (now : Facts) → Names Free (flat_map code_plain items) → Each Opened (flat_map (item_opened facts shapes heads) items) → FreeItems procs items now → Q now → ErrorFree (items_read procs items now).found
       → Q (items_read procs items now).facts
-  keeps_items procs [] now free opened h whole = h
-  keeps_items procs (one ∷ items) now free opened h whole =
+  keeps_items procs [] now free opened types h whole = h
+  keeps_items procs (one ∷ items) now free opened types h whole =
       let step = item_read procs one now in
       let here = item_opened facts shapes heads one in
-      keeps_items procs items step.facts (each-right FreeName (code_plain one) _ free) (each-right Opened here _ opened)
-      (keeps_item procs one now (each-left FreeName (code_plain one) _ free) (each-left Opened here _ opened) h (error_free_first step.found _ whole)) (error_free_second step.found _ whole)
+      keeps_items procs items step.facts (each-right FreeName (code_plain one) _ free) (each-right Opened here _ opened) types.1
+      (keeps_item procs one now (each-left FreeName (code_plain one) _ free) (each-left Opened here _ opened) types.0 h (error_free_first step.found _ whole)) (error_free_second step.found _ whole)
 
 -- ---- components
 
 module _ (facts : Facts) (shapes : Shapes) (heads : Heads) (R : Facts → Type 0) (Free : Spot → Type 0) (among : Component → Type 0) (between : (component : Component) → among component → KeptBetween facts shapes heads R Free component) where
-  pub keeps_component : (component : Component) (there : among component) (now : Facts) → Names Free (component_code_plain component) → R now → ErrorFree (component_read component now).found → R (component_read component now).facts
-  keeps_component component there now free h whole =
+  pub keeps_component : (component : Component) (there : among component) (now : Facts) → Names Free (component_code_plain component) → FreeComponent component now → R now → ErrorFree (component_read component now).found → R (component_read component now).facts
+  keeps_component component there now free types h whole =
       let within = between component there in
       let at = standing now (component_decl component) in
       let specs = flat_map (spec_item_opened facts shapes heads) (spec_of component) in
       within.leaves (component_read component now).facts
-      (keeps_items facts shapes heads within.Q Free within.Opened within.kept (items_procs at (body_of component) []) (body_of component) at free (each-right within.Opened specs _ within.opened) (within.enters now h)
+      (keeps_items facts shapes heads within.Q Free within.Opened within.kept (items_procs at (body_of component) []) (body_of component) at free (each-right within.Opened specs _ within.opened) types (within.enters now h)
       (error_free_second (head_found component at) _ whole))
 
-  pub keeps_components : (components : List Component) → Each among components → (now : Facts) → Names Free (flat_map component_code_plain components) → R now → ErrorFree (components_read components now).found
+  pub keeps_components : (components : List Component) → Each among components → (now : Facts) → Names Free (flat_map component_code_plain components) → FreeComponents components now → R now → ErrorFree (components_read components now).found
       → R (components_read components now).facts
-  keeps_components [] there now free h whole = h
-  keeps_components (component ∷ more) there now free h whole =
+  keeps_components [] there now free types h whole = h
+  keeps_components (component ∷ more) there now free types h whole =
       let step = component_read component now in
-      keeps_components more there.1 step.facts (each-right (λ span. Free (spot_of span)) (component_code_plain component) _ free)
-      (keeps_component component there.0 now (each-left (λ span. Free (spot_of span)) (component_code_plain component) _ free) h (error_free_first step.found _ whole)) (error_free_second step.found _ whole)
+      keeps_components more there.1 step.facts (each-right (λ span. Free (spot_of span)) (component_code_plain component) _ free) types.1
+      (keeps_component component there.0 now (each-left (λ span. Free (spot_of span)) (component_code_plain component) _ free) types.0 h (error_free_first step.found _ whole)) (error_free_second step.found _ whole)

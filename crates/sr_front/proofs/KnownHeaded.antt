@@ -1,5 +1,5 @@
 -- What is known of an operation before any statement is looked at has a signature that fits its head.
-use Rattle.std.proofs.Common.{◌≡◌, ℕ, Bool, false, List, [], ◌∷◌, ◌++◌, Some, None, map, flat_map, sym, ap, ◌∙◌, subst, true≢false}
+use Rattle.std.proofs.Common.{◌≡◌, ℕ, Bool, false, List, [], ◌∷◌, ◌++◌, Some, map, flat_map, sym, ap, ◌∙◌, subst, true≢false}
 use Rattle.sr_names.specs.declared.spot.Spot.{Spot}
 use Rattle.sr_names.specs.Noted.{Meanings}
 use Rattle.sr_names.specs.Searches.{At}
@@ -19,19 +19,17 @@ use Rattle.sr_tree.specs.Parts.{body_of, name_of, spec_of}
 use Rattle.sr_types.specs.declared.signature.Signature.{Signature}
 use Rattle.sr_types.specs.declared.ty.Ty.{Ty}
 use Rattle.sr_types.specs.Signatures.{KeepsNumbers}
-use Rattle.sr_check.specs.Checked.{first_refused}
 use Rattle.sr_check.specs.ErrorFree.{ErrorFree}
 use Rattle.sr_check.specs.Owners.{Declared, Owned, component_at}
 use Rattle.sr_check.proofs.Each.{Each, each-append, each-weaker}
 use Rattle.sr_check.proofs.ErrorFree.{error_free_first, error_free_second}
-use Rattle.sr_check.proofs.Kept.{none_headed}
 use Rattle.sr_check.proofs.Owners.{Plain}
 use Rattle.sr_check.proofs.Programs.{program_plain}
 use Rattle.sr_check_expr.specs.declared.facts.Facts.{Facts}
 use Rattle.sr_check_expr.specs.declared.info.Info.TheVariants as info
 use Rattle.sr_check_expr.specs.Infos.{info_at}
 use Rattle.sr_check_decl.specs.Declaring.{op_item_name, op_type, process_signature, semaphore_signature, written_type}
-use Rattle.sr_check_decl.specs.Heads.{component_headed, components_headed, declared_type, files_headed, head_found, item_headed, items_headed, making_type, ops_headed, sems_headed, spec_item_headed, spec_items_headed}
+use Rattle.sr_front.proofs.Heads.{component_headed, components_headed, declared_type, files_headed, head_found, heads_found, item_headed, items_headed, making_type, ops_headed, sems_headed, spec_item_headed, spec_items_headed}
 use Rattle.sr_check_decl.specs.Inferring.{program_known}
 use Rattle.sr_check_decl.specs.TypeTrees.{operation_type}
 use Rattle.sr_core.specs.declared.component.Operation.{Operation}
@@ -194,7 +192,7 @@ files_each now (file ∷ files) nothing =
 
 -- ---- what is known of operations before any statement is looked at
 
-module _ (uses : Meanings) (specs : Specs) (files : List File) (facts : Facts) (kept : facts.uses ≡ uses) (shapes : Shapes) (heads : Heads) (procs : List Spot) (apart : Apart files) (none : first_refused uses specs files ≡ None)
+module _ (uses : Meanings) (specs : Specs) (files : List File) (facts : Facts) (kept : facts.uses ≡ uses) (shapes : Shapes) (heads : Heads) (procs : List Spot) (apart : Apart files) (headed : ErrorFree (heads_found uses specs files))
     (optypes : OptypesHeaded heads (program_known uses specs files)) where
   abbrev known : Facts
   known = program_known uses specs files
@@ -207,7 +205,7 @@ module _ (uses : Meanings) (specs : Specs) (files : List File) (facts : Facts) (
       → IsHeaded (components_in files) procs (table facts shapes heads procs files apart) more spot ty component is_local
   one_headed spot ty component is_local is more keeps declared =
       let one = opened_of facts shapes heads procs files apart spot component is_local declared in
-      let nothing = among_each (λ tree. ErrorFree (component_headed known tree)) (components_in files) one.number one.tree (files_each known files (none_headed uses specs files none)) one.there in
+      let nothing = among_each (λ tree. ErrorFree (component_headed known tree)) (components_in files) one.number one.tree (files_each known files headed) one.there in
       let own : is_own one.opened.scope ≡ false = ap (λ (owned : Owned). owned.1.1) one.same ∙ first_outer uses specs files spot ty component is_local is in
       let name : spot_named one.opened.name ≡ spot = ap (λ (owned : Owned). owned.0) one.same in
       let fits = among_each (λ opened. is_own opened.scope ≡ false → KnownAs facts shapes heads known same_uses optypes opened) (component_opened facts shapes heads one.tree) one.among.0 one.opened

@@ -58,8 +58,9 @@ use Rattle.sr_types.specs.declared.signature.Mode.{Mode}
 use Rattle.sr_types.specs.declared.ty.Ty.{Ty}
 use Rattle.sr_types.specs.declared.ty.Ty.TheVariants as ty
 use Rattle.sr_value.specs.declared.place.Span.{Span}
-use Rattle.sr_front.proofs.ComponentsKnown.{Anywhere, IsKnown, all_free, anywhere, files_free, known_declares, known_with}
+use Rattle.sr_front.proofs.ComponentsKnown.{IsKnown, all_free, files_free, known_declares, known_with}
 use Rattle.sr_front.proofs.KeptDeclared.{keeps_components, keeps_declared_ops, keeps_files, keeps_head, keeps_items, keeps_literals, keeps_sems, keeps_spec, keeps_types}
+use Rattle.sr_front.proofs.KeptNames.{Anywhere, anywhere}
 use Rattle.sr_front.proofs.LiteralsWithin.{literals_within}
 use Rattle.sr_front.proofs.WordShares.{layer_words, words_of}
 
@@ -115,15 +116,7 @@ layer_known (TypeTree-F.Enum word literals) tally span (inl e) =
 layer_known (TypeTree-F.Enum word literals) tally span (inr k) = literals_known _ _ _ literals _ span k
 layer_known (TypeTree-F.Rec word fields) tally span (inl e) = subst (λ (it : Span). IsKnown (spot_of it) (layer_declared {C = Returned} {D = SignatureTree} (TypeTree-F.Rec word fields) tally).facts) e (here_known tally.facts (spot_of word) _)
 layer_known (TypeTree-F.Rec word fields) tally span (inr k) = absurd k
-layer_known (TypeTree-F.Int word) tally span k = absurd k
-layer_known (TypeTree-F.Bool word) tally span k = absurd k
-layer_known (TypeTree-F.Char word) tally span k = absurd k
-layer_known (TypeTree-F.Str word length) tally span k = absurd k
-layer_known (TypeTree-F.CapOf word name) tally span k = absurd k
-layer_known (TypeTree-F.CapMachine word) tally span k = absurd k
-layer_known (TypeTree-F.CapOperation word signature) tally span k = absurd k
-layer_known (TypeTree-F.Array word dims inner) tally span k = absurd k
-layer_known (TypeTree-F.Named word name) tally span k = absurd k
+layer_known _ tally span k = absurd k
 
 types_known : (trees : List TypeTree) (tally : Tally) (span : Span) → IsIn span (flat_map words_of trees) → IsKnown (spot_of span) (types_declared trees tally).facts
 types_known [] tally span k = absurd k
@@ -221,9 +214,7 @@ item_known component (item.Procedure procedure) tally own (inl e) = inl (at_name
 item_known component (item.Procedure procedure) tally own (inr k) = absurd k
 item_known component (item.Process process) tally own (inl e) = inl (at_name (entered (process_signature process.quantifiers) tally.facts) process.name own.1 _ (ap (λ (it : Sort × Name). it.1) e))
 item_known component (item.Process process) tally own (inr k) = absurd k
-item_known component (item.Proc proc) tally own k = absurd k
-item_known component (item.Final final) tally own k = absurd k
-item_known component (item.Statement statement) tally own k = absurd k
+item_known component _ tally own k = absurd k
 
 -- what is known is kept, and what waits is one of more
 either_left : (spot : Spot) (facts later : Facts) (xs ys : List Waiting) → (IsKnown spot facts → IsKnown spot later) → KnownOrWaits facts xs spot → KnownOrWaits later (xs ++ ys) spot

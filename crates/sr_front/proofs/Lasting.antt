@@ -1,5 +1,5 @@
 -- An operation that is known stays one where statements are looked at: nothing else is declared where its name stands.
-use Rattle.std.proofs.Common.{◌≡◌, ◌⊎◌, inl, inr, Bool, true, false, List, [], ◌∷◌, Option, Some, sym, ap, ◌∙◌, subst}
+use Rattle.std.proofs.Common.{◌≡◌, Bool, true, false, List, [], ◌∷◌, Option, Some, ap, ◌∙◌, refl}
 use Rattle.sr_check.proofs.Each.{Each}
 use Rattle.sr_check_decl.specs.Declaring.{op_item_name, op_type, ops_declared}
 use Rattle.sr_check_decl.specs.Variables.{declare}
@@ -9,11 +9,12 @@ use Rattle.sr_check_expr.specs.declared.info.Info.TheVariants as info
 use Rattle.sr_check_expr.specs.Infos.{info_at}
 use Rattle.sr_names.specs.declared.spot.Spot.{Spot}
 use Rattle.sr_names.specs.Spots.{same_spot, spot_of}
-use Rattle.sr_names.proofs.Marking.{entry-other, entry-same, same_spot-cases}
+use Rattle.sr_names.proofs.Marking.{entry-other}
 use Rattle.sr_tree.specs.declared.declaration.OpItem.{OpItem}
 use Rattle.sr_types.specs.declared.ty.Ty.{Ty}
 use Rattle.sr_value.specs.declared.place.Span.{Span}
 use Rattle.sr_front.proofs.KeptNames.{Anywhere, Closed}
+use Rattle.sr_front.proofs.Put.{put_holds}
 use Rattle.sr_front.proofs.TypeSpots.{Elsewhere}
 
 abbrev pub is_operation : Option Info → Bool
@@ -37,13 +38,7 @@ module _ (spot : Spot) where
 
   -- another operation may be declared there
   lasts_operation : (facts : Facts) (at : Spot) (ty : Ty) (component : Spot) (is_local : Bool) → Lasts facts → Lasts (declare facts at (info.Operation ty component is_local))
-  lasts_operation facts at ty component is_local h = by (same_spot-cases spot at)
-    where
-      by : (spot ≡ at) ⊎ (same_spot spot at ≡ false) → Lasts (declare facts at (info.Operation ty component is_local))
-      by (inl same) =
-          subst (λ s. is_operation (info_at (declare facts at (info.Operation ty component is_local)).infos s) ≡ true) (sym same)
-          (ap is_operation (entry-same facts.infos at (info.Operation ty component is_local)))
-      by (inr apart) = lasts_with facts at (info.Operation ty component is_local) apart h
+  lasts_operation facts at ty component is_local h = put_holds facts at (info.Operation ty component is_local) (λ other found. is_operation found ≡ true) refl spot (λ apart. h)
 
   -- it is kept by all that is declared elsewhere
   pub lasting : Closed Lasts Other Anywhere

@@ -31,8 +31,7 @@ use Rattle.sr_tree.specs.Parts.{body_of}
 use Rattle.sr_types.specs.declared.ty.Ty.{Ty}
 use Rattle.sr_value.specs.declared.place.Span.{Span}
 use Rattle.sr_front.proofs.InfosStay.{Steady}
-use Rattle.sr_front.proofs.KeptBy.{Names}
-use Rattle.sr_front.proofs.KeptNames.{Anywhere, all_fit, keeps_local_sems}
+use Rattle.sr_front.proofs.KeptNames.{Anywhere, all_fit, anywhere, keeps_local_sems}
 use Rattle.sr_front.proofs.Lasting.{Away, Lasts, Other, is_operation, lasting, lasts_ops_in}
 use Rattle.sr_front.proofs.OwnCode.{LocalItem}
 use Rattle.sr_front.proofs.PlainNames.{block_plain, code_plain, component_code_plain, inner_plain}
@@ -45,14 +44,11 @@ module _ (spot : Spot) where
   steady : Steady (Lasts spot) (Other spot) Anywhere
   steady = record { closed = lasting spot; standing = λ facts component h. h }
 
-  anywhere : (spans : List Span) → Names Anywhere spans
-  anywhere spans = all_fit (λ span. spot_of span) spans
-
   pub block_lasts : (items : List ProcItem) (context : Context) → Away spot (block_plain items) → Lasts spot context.facts → Lasts spot (block_read items context).facts
-  block_lasts items context away h = keeps_block (Lasts spot) (Other spot) Anywhere steady items context away (anywhere (block_operations items)) h
+  block_lasts items context away h = keeps_block (Lasts spot) (Other spot) Anywhere (lasting spot) items context away (anywhere (block_operations items)) h
 
   pub items_lasts : (procs : Procs) (items : List Item) (facts : Facts) → Away spot (flat_map code_plain items) → Lasts spot facts → Lasts spot (items_read procs items facts).facts
-  items_lasts procs items facts away h = keeps_items (Lasts spot) (Other spot) Anywhere steady procs items facts away (anywhere (flat_map code_operations items)) h
+  items_lasts procs items facts away h = keeps_items (Lasts spot) (Other spot) Anywhere (lasting spot) procs items facts away (anywhere (flat_map code_operations items)) h
 
   pub components_lasts : (trees : List Component) (facts : Facts) → Away spot (flat_map component_code_plain trees) → Lasts spot facts → Lasts spot (components_read trees facts).facts
   components_lasts trees facts away h = keeps_components (Lasts spot) (Other spot) Anywhere steady trees facts away (anywhere (flat_map component_code_operations trees)) h
@@ -80,9 +76,7 @@ sems_last component (semaphore ∷ more) facts =
 inner_last : (component : Spot) (one : ProcItem) (context : Context) → Each (λ owned. Lasts owned.0 (proc_item_read one context).facts) (inner_owned component one)
 inner_last component (inner.Op operations) context = ops_last component operations.items (ops_entered operations.items context.facts)
 inner_last component (inner.Sem semaphores) context = sems_last component semaphores.semaphores context.facts
-inner_last component (inner.Const constant) context = tt
-inner_last component (inner.Var variables) context = tt
-inner_last component (inner.Statement statement) context = tt
+inner_last component _ context = tt
 
 -- `Apart` holds of the spots of operations, and `final` is known in the end
 module _ (Apart : Spot → Type 0) (final : Facts) where

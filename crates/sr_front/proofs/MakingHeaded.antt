@@ -1,5 +1,6 @@
 -- What makes an instance of a component is known by the formals of the component.
-use Rattle.std.proofs.Common.{◌≡◌, ℕ, suc, true, true≢false, List, [], ◌∷◌, ◌++◌, Option, Some, None, is_some, length, map, flat_map, refl, sym, ap}
+use Rattle.std.proofs.Common.{◌≡◌, ℕ, suc, true, true≢false, List, [], ◌∷◌, ◌++◌, Option, Some, is_some, length, map, flat_map, refl, sym, ap}
+use Rattle.std.proofs.lemmas.Bool.{and_parts}
 use Rattle.std.specs.List.{IsDistinct}
 use Rattle.sr_names.specs.declared.finding.Rule.TheVariants.{BadType}
 use Rattle.sr_names.specs.Noted.{Meanings}
@@ -13,16 +14,14 @@ use Rattle.sr_tree.specs.Parts.{body_of, formals_of, name_of, spec_of}
 use Rattle.sr_types.specs.declared.signature.Signature.{Signature}
 use Rattle.sr_types.specs.declared.ty.Ty.{Ty}
 use Rattle.sr_types.specs.Signatures.{signature_of}
-use Rattle.sr_check.specs.Checked.{first_refused}
 use Rattle.sr_check.specs.ErrorFree.{ErrorFree}
 use Rattle.sr_check.specs.Owners.{component_at}
 use Rattle.sr_check.proofs.ErrorFree.{error_free_first, rule_met}
-use Rattle.sr_check.proofs.Kept.{none_headed}
 use Rattle.sr_check_expr.specs.declared.facts.Facts.{Facts}
 use Rattle.sr_check_expr.specs.declared.info.Info.{Info}
 use Rattle.sr_check_expr.specs.declared.info.Info.TheVariants as info
 use Rattle.sr_check_expr.specs.Infos.{info_at}
-use Rattle.sr_check_decl.specs.Heads.{component_headed, declared_type, head_found, is_known_as, is_of, items_headed, making_type, spec_items_headed}
+use Rattle.sr_front.proofs.Heads.{component_headed, declared_type, head_found, heads_found, is_known_as, is_of, items_headed, making_type, spec_items_headed}
 use Rattle.sr_check_decl.specs.Inferring.{program_known}
 use Rattle.sr_core.specs.declared.component.Parameter.{Parameter}
 use Rattle.sr_desugar.specs.Core.{component_formals}
@@ -33,7 +32,6 @@ use Rattle.sr_tables.specs.Parts.{components_in}
 use Rattle.sr_tables.specs.Shapes.{Shapes}
 use Rattle.sr_front.proofs.FirstNames.{operation_first, optype_first}
 use Rattle.sr_front.proofs.FirstShares.{first_apart}
-use Rattle.sr_front.proofs.HeadCounts.{both_true}
 use Rattle.sr_front.proofs.HeadTrees.{making_fits}
 use Rattle.sr_front.proofs.KnownHeaded.{files_each}
 use Rattle.sr_front.proofs.Members.{among_each}
@@ -55,7 +53,7 @@ as_long vars (parameter ∷ parameters) = ap suc (as_long (vars_after vars) para
 pub core_formals : (scene : Scene) (tree : Component) → length (component_formals scene tree) ≡ length (parameters_of scene.facts scene.tables.shapes (formals_of tree))
 core_formals scene tree = as_long _ (parameters_of scene.facts scene.tables.shapes (formals_of tree))
 
-module _ (uses : Meanings) (specs : Specs) (files : List File) (facts : Facts) (shapes : Shapes) (none : first_refused uses specs files ≡ None) (distinct : IsDistinct same_spot (map spot_of (flat_map file_names files))) where
+module _ (uses : Meanings) (specs : Specs) (files : List File) (facts : Facts) (shapes : Shapes) (headed : ErrorFree (heads_found uses specs files)) (distinct : IsDistinct same_spot (map spot_of (flat_map file_names files))) where
   abbrev known : Facts
   known = program_known uses specs files
 
@@ -71,7 +69,7 @@ module _ (uses : Meanings) (specs : Specs) (files : List File) (facts : Facts) (
   -- each component of a program
   pub making_headed : (number : ℕ) (tree : Component) → At (components_in files) number tree → IsMade facts shapes known tree
   making_headed number tree there =
-      let whole = among_each (λ one. ErrorFree (component_headed known one)) (components_in files) number tree (files_each known files (none_headed uses specs files none)) there in
+      let whole = among_each (λ one. ErrorFree (component_headed known one)) (components_in files) number tree (files_each known files headed) there in
       let nothing = error_free_first (head_found known (name_of tree) (making_type known tree)) (spec_items_headed known (spec_of tree) ++ items_headed known (body_of tree)) whole in
       let met = rule_met (is_known_as known (name_of tree) (making_type known tree)) BadType (name_of tree).span nothing in
-      made_by number tree there nothing (info_at known.infos (component_at tree)) refl (both_true (is_some (signature_of known.signatures (making_type known tree))) _ met).1
+      made_by number tree there nothing (info_at known.infos (component_at tree)) refl (and_parts (is_some (signature_of known.signatures (making_type known tree))) _ met).1

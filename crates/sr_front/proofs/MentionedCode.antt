@@ -59,7 +59,6 @@ module _ (scene : Scene) (test : Mention → Bool) (means : SceneMeans scene tes
   own_passes own block names = body_passes (in_body scene own) test (means own) block (names own)
 
   item_procs_pass : (one : Item) → NamesMean (item_names one) → IsTrue (list_all (λ proc. body_mentions_pass test proc.body) (item_output scene one).procs)
-  item_procs_pass (item.Spec declared) names = refl
   item_procs_pass (item.Proc proc) names =
       let after = names_right (names_spans proc.formals) _ (names_after proc.name.span _ names) in
       and_from _ _ (own_passes (own_spots scene.facts (map spot_named proc.formals) (returned_names proc.returned) proc.block) proc.block (names_right (where_some name_names proc.returned) _ after)) refl
@@ -71,8 +70,7 @@ module _ (scene : Scene) (test : Mention → Bool) (means : SceneMeans scene tes
       and_from _ _
       (own_passes (own_spots scene.facts (quantifier_names process.quantifiers) [] process.block) process.block
       (names_right (flat_map quantifier_spans process.quantifiers) _ (names_after process.name.span _ names))) refl
-  item_procs_pass (item.Final final) names = refl
-  item_procs_pass (item.Statement statement) names = refl
+  item_procs_pass _ names = refl
 
   item_finals_pass : (one : Item) → NamesMean (item_names one) → IsTrue (list_all (body_mentions_pass test) (item_output scene one).finals)
   item_finals_pass (item.Final final) names = and_from _ _ (own_passes (own_spots scene.facts [] [] final.block) final.block names) refl

@@ -1,6 +1,6 @@
 -- What is mentioned by what an expression is in the core passes a test that the scene passes, and all that the names in the
 -- expression are in the core.
-use Rattle.std.proofs.Common.{◌≡◌, ℕ, negsuc, Bool, true, false, List, [], ◌∷◌, Option, Some, None, Result, Ok, Err, IsTrue, map, position, if◌then◌else◌, zip, refl, sym, subst}
+use Rattle.std.proofs.Common.{◌≡◌, ℕ, negsuc, Bool, true, false, List, [], ◌∷◌, Option, Some, None, Result, Ok, Err, IsTrue, map, position, if◌then◌else◌, zip, refl, subst}
 use Rattle.std.proofs.lemmas.Bool.{and_from}
 use Rattle.std.specs.List.{list_all}
 use Rattle.sr_check_expr.specs.declared.typed_expr.Named.{Named}
@@ -34,12 +34,12 @@ use Rattle.sr_check.proofs.Each.{Each, each-left, each-right}
 use Rattle.sr_names.specs.Uses.{meaning_at}
 use Rattle.sr_tree.specs.declared.expr.BinaryOperator.{BinaryOperator}
 use Rattle.sr_tree.specs.declared.expr.BinaryOperator.TheVariants as binary
-use Rattle.sr_tree.specs.declared.expr.Create.{Create, roll-Create}
-use Rattle.sr_tree.specs.declared.expr.Create.TheFolds.{fold_out-Invocation, fold-roll-Create, fold-roll-Expr, fold-roll-Invocation, fold-roll-Part, ind-Create, ind-Expr, map-Create, map-Expr, map-Invocation, map-Part}
-use Rattle.sr_tree.specs.declared.expr.Create.TheOpen.{Create-F, Expr-F, Invocation-F, Part-F}
-use Rattle.sr_tree.specs.declared.expr.Expr.{Expr as Tree, roll-Expr}
-use Rattle.sr_tree.specs.declared.expr.Invocation.{Invocation, out-Invocation, roll-Invocation}
-use Rattle.sr_tree.specs.declared.expr.Part.{Part as PartTree, roll-Part}
+use Rattle.sr_tree.specs.declared.expr.Create.{Create}
+use Rattle.sr_tree.specs.declared.expr.Create.TheFolds.{fold_out-Invocation}
+use Rattle.sr_tree.specs.declared.expr.Create.TheOpen.{Create-F, Expr-F}
+use Rattle.sr_tree.specs.declared.expr.Expr.{Expr as Tree}
+use Rattle.sr_tree.specs.declared.expr.Invocation.{Invocation, out-Invocation}
+use Rattle.sr_tree.specs.declared.expr.Part.{Part as PartTree}
 use Rattle.sr_tree.specs.declared.name.Name.{Name}
 use Rattle.sr_types.specs.declared.signature.Mode.{Mode}
 use Rattle.sr_types.specs.declared.signature.Mode.TheVariants.{Val, Var, Res}
@@ -56,9 +56,12 @@ use Rattle.sr_lower_expr.specs.Shapes.{shape_of_type}
 use Rattle.sr_tables.specs.Parts.{deciding}
 use Rattle.sr_lower_expr.specs.declared.scene.Lowered.{Lowered}
 use Rattle.sr_lower_expr.specs.declared.scene.Scene.{Scene}
-use Rattle.sr_lower_expr.specs.Expressions.{LoweredTree, LoweredInvocation, argument_core, arguments_by, call_core, call_of, call_returns, constant_or_nothing, core_create, core_expr, core_place, core_sending, core_value, lowered_of, create_core, create_lowered, end_or_nothing, end_value, ends_core, expr_core, expr_lowered, field_core, field_number, function_core, instance_core, invocation_lowered, is_second, layer_member, literals_in, meaning_core, name_core, named_core, named_types, part_lowered, reading_core, readable_of, readings_core, sent_arguments, spec_operation, told, trees_of, values, with_core, without_number}
+use Rattle.sr_lower_expr.specs.Expressions.{LoweredTree, LoweredInvocation, argument_core, arguments_by, call_core, call_of, call_returns, constant_or_nothing, core_create, core_expr, core_place, core_sending, core_value, lowered_of, end_or_nothing, end_value, ends_core, field_core, field_number, function_core, instance_core, is_second, layer_member, literals_in, meaning_core, name_core, named_core, named_types, reading_core, readable_of, readings_core, sent_arguments, spec_operation, told, trees_of, values, with_core, without_number}
 use Rattle.sr_lower_expr.specs.Places.{naming, nothing, nowhere, operation_at, operation_expr, operation_number, own_place, own_root, part_of, place_at, place_of, root_of, value_of, whose_by}
 use Rattle.sr_lower_expr.proofs.Each.{one_taken, turned_passes, zip_passes}
+use Rattle.sr_tree.proofs.ExprFolds.{ByParts, Claim, CreateNode, ExprNode, InvocationNode, Known, PartNode, bare_create, bare_expr, bare_invocation, bare_part, create_folds, each_create, each_expr, expr_folds, from_create, from_expr, from_invocation, from_part, invocation_folds, part_folds}
+use Rattle.sr_order.proofs.NameFolds.{expr_naming}
+use Rattle.sr_lower_expr.proofs.LowerFold.{lowering}
 use Rattle.sr_front.proofs.MentionRules.{and_rule, apply_rule, argument_passes, array_rule, at2_rule, at_rule, binary_rule, call_rule, create_rule, expr_passes, field_rule, further_rule, leaf_rule, load_rule, member_rule, of_rule, one_rule, or_rule, part_passes, place_passes, place_rule, read_rule, reading_passes, reading_rule, repeated_rule, res_rule, step_passes, unary_rule, val_rule, var_rule}
 use Rattle.sr_lower_expr.specs.declared.scene.Lowered.TheVariants as lowered
 use Rattle.sr_lower_expr.proofs.Trees.{of_create, of_invocation, of_part}
@@ -260,8 +263,7 @@ module _ (scene : Scene) (test : Mention → Bool) (means : Means scene test) wh
     where
       by : (found : Option ℕ) → position (same_spot spot) scene.tables.components ≡ found → IsTrue (expr_passes test (instance_found args machine found))
       by None is = nothing_passes
-      by (Some component) is =
-          create_rule test component args machine ok_args ok_machine
+      by (Some component) is = create_rule test component args machine ok_args ok_machine
 
   -- ---- operators
 
@@ -272,92 +274,45 @@ module _ (scene : Scene) (test : Mention → Bool) (means : Means scene test) wh
 
   -- ---- each tree, when its parts are so
 
-  abbrev CreateGood : Create → Type 0
-  CreateGood tree = NamesPass (create_names tree) → IsTrue (expr_passes test (of_create scene tree).1)
-
   abbrev TreeGood : Tree → Type 0
   TreeGood tree = NamesPass (expr_names tree) → Good (told scene tree).1
-
-  abbrev InvocationGood : Invocation → Type 0
-  InvocationGood tree = NamesPass (invocation_names tree) → SendingGood (of_invocation scene tree)
 
   abbrev PartGood : PartTree → Type 0
   PartGood tree = NamesPass (part_names tree) → IsTrue (part_passes test (of_part scene tree).1)
 
-  abbrev C : Type 0
-  C = (tree : Create) × CreateGood tree
+  abbrev good : Claim
+  good = record {
+    create = λ tree. NamesPass (create_names tree) → IsTrue (expr_passes test (of_create scene tree).1);
+    expr = TreeGood;
+    invocation = λ tree. NamesPass (invocation_names tree) → SendingGood (of_invocation scene tree);
+    part = PartGood;
+  }
 
-  abbrev T : Type 0
-  T = (tree : Tree) × TreeGood tree
-
-  abbrev I : Type 0
-  I = (tree : Invocation) × InvocationGood tree
-
-  abbrev P : Type 0
-  P = (tree : PartTree) × PartGood tree
-
-  abbrev first_create : Create-F C T I P → Create-F Create Tree Invocation PartTree
-  first_create = map-Create C T I P Create Tree Invocation PartTree (λ c. c.0) (λ e. e.0) (λ s. s.0) (λ p. p.0)
-
-  abbrev first_expr : Expr-F C T I P → Expr-F Create Tree Invocation PartTree
-  first_expr = map-Expr C T I P Create Tree Invocation PartTree (λ c. c.0) (λ e. e.0) (λ s. s.0) (λ p. p.0)
-
-  abbrev first_invocation : Invocation-F C T I P → Invocation-F Create Tree Invocation PartTree
-  first_invocation = map-Invocation C T I P Create Tree Invocation PartTree (λ c. c.0) (λ e. e.0) (λ s. s.0) (λ p. p.0)
-
-  abbrev first_part : Part-F C T I P → Part-F Create Tree Invocation PartTree
-  first_part = map-Part C T I P Create Tree Invocation PartTree (λ c. c.0) (λ e. e.0) (λ s. s.0) (λ p. p.0)
-
-  abbrev lowered_create : Create-F Create Tree Invocation PartTree → Create-F (Create × Expr) LoweredTree LoweredInvocation (PartTree × Part)
-  lowered_create = map-Create Create Tree Invocation PartTree (Create × Expr) LoweredTree LoweredInvocation (PartTree × Part) (of_create scene) (told scene) (of_invocation scene) (of_part scene)
-
-  abbrev lowered_expr : Expr-F Create Tree Invocation PartTree → Expr-F (Create × Expr) LoweredTree LoweredInvocation (PartTree × Part)
-  lowered_expr = map-Expr Create Tree Invocation PartTree (Create × Expr) LoweredTree LoweredInvocation (PartTree × Part) (of_create scene) (told scene) (of_invocation scene) (of_part scene)
-
-  abbrev lowered_invocation : Invocation-F Create Tree Invocation PartTree → Invocation-F (Create × Expr) LoweredTree LoweredInvocation (PartTree × Part)
-  lowered_invocation =
-      map-Invocation Create Tree Invocation PartTree (Create × Expr) LoweredTree LoweredInvocation (PartTree × Part) (of_create scene) (told scene) (of_invocation scene) (of_part scene)
-
-  abbrev lowered_part : Part-F Create Tree Invocation PartTree → Part-F (Create × Expr) LoweredTree LoweredInvocation (PartTree × Part)
-  lowered_part = map-Part Create Tree Invocation PartTree (Create × Expr) LoweredTree LoweredInvocation (PartTree × Part) (of_create scene) (told scene) (of_invocation scene) (of_part scene)
-
-  abbrev named_create : Create-F Create Tree Invocation PartTree → Create-F (List Span) (List Span) (List Span) (List Span)
-  named_create = map-Create Create Tree Invocation PartTree (List Span) (List Span) (List Span) (List Span) create_names expr_names invocation_names part_names
-
-  abbrev named_expr : Expr-F Create Tree Invocation PartTree → Expr-F (List Span) (List Span) (List Span) (List Span)
-  named_expr = map-Expr Create Tree Invocation PartTree (List Span) (List Span) (List Span) (List Span) create_names expr_names invocation_names part_names
-
-  abbrev named_invocation : Invocation-F Create Tree Invocation PartTree → Invocation-F (List Span) (List Span) (List Span) (List Span)
-  named_invocation = map-Invocation Create Tree Invocation PartTree (List Span) (List Span) (List Span) (List Span) create_names expr_names invocation_names part_names
-
-  abbrev named_part : Part-F Create Tree Invocation PartTree → Part-F (List Span) (List Span) (List Span) (List Span)
-  named_part = map-Part Create Tree Invocation PartTree (List Span) (List Span) (List Span) (List Span) create_names expr_names invocation_names part_names
-
-  all_good : (trees : List T) → NamesPass (joined (map expr_names (map (λ (tree : T). tree.0) trees))) → AllGood (map (λ (one : LoweredTree). one.1) (map (told scene) (map (λ (tree : T). tree.0) trees)))
+  all_good : (trees : List (Known TreeGood)) → NamesPass (joined (map expr_names (map (λ (tree : Known TreeGood). tree.0) trees))) → AllGood (map (λ (one : LoweredTree). one.1) (map (told scene) (map (λ (tree : Known TreeGood). tree.0) trees)))
   all_good [] names = refl
   all_good (tree ∷ trees) names = and_from _ _ (tree.1 (each-left NamePasses (expr_names tree.0) _ names)) (all_good trees (each-right NamePasses (expr_names tree.0) _ names))
 
-  parts_good : (parts : List P) → NamesPass (joined (map part_names (map (λ (part : P). part.0) parts)))
-      → IsTrue (list_all (part_passes test) (map (λ (part : PartTree × Part). part.1) (map (of_part scene) (map (λ (part : P). part.0) parts))))
+  parts_good : (parts : List (Known PartGood)) → NamesPass (joined (map part_names (map (λ (part : Known PartGood). part.0) parts)))
+      → IsTrue (list_all (part_passes test) (map (λ (part : PartTree × Part). part.1) (map (of_part scene) (map (λ (part : Known PartGood). part.0) parts))))
   parts_good [] names = refl
   parts_good (part ∷ parts) names = and_from _ _ (part.1 (each-left NamePasses (part_names part.0) _ names)) (parts_good parts (each-right NamePasses (part_names part.0) _ names))
 
-  value_good : (tree : T) → NamesPass (expr_names tree.0) → IsTrue (expr_passes test (core_value scene tree.0))
+  value_good : (tree : Known TreeGood) → NamesPass (expr_names tree.0) → IsTrue (expr_passes test (core_value scene tree.0))
   value_good tree names = value_of_passes (core_expr scene tree.0) (tree.1 names)
 
-  create_good : (y : Create-F C T I P) → NamesPass (create_names_step (named_create (first_create y))) → IsTrue (expr_passes test (create_core scene (lowered_create (first_create y))))
+  create_good : (y : CreateNode good) → NamesPass (from_create expr_naming (bare_create good y)) → IsTrue (expr_passes test (from_create (lowering scene) (bare_create good y)).1)
   create_good (Create-F.Resource span resource arguments None) names =
       let after = each-right NamePasses (qualified_names resource) _ names in
-      instance_passes (meant_by scene.facts (deciding resource)) _ _ (values_passes _ (all_good arguments (each-left NamePasses (joined (map expr_names (map (λ (tree : T). tree.0) arguments))) _ after)))
+      instance_passes (meant_by scene.facts (deciding resource)) _ _ (values_passes _ (all_good arguments (each-left NamePasses (joined (map expr_names (map (λ (tree : Known TreeGood). tree.0) arguments))) _ after)))
       (leaf_rule test leaf.MyMachine (and_from _ _ means.machine refl))
   create_good (Create-F.Resource span resource arguments (Some machine)) names =
       let after = each-right NamePasses (qualified_names resource) _ names in
-      let passed = joined (map expr_names (map (λ (tree : T). tree.0) arguments)) in
+      let passed = joined (map expr_names (map (λ (tree : Known TreeGood). tree.0) arguments)) in
       instance_passes (meant_by scene.facts (deciding resource)) _ _ (values_passes _ (all_good arguments (each-left NamePasses passed _ after)))
       (value_good machine (each-right NamePasses passed _ after))
   create_good (Create-F.Machine span) names = leaf_rule test leaf.MakeMachine refl
 
-  expr_good : (y : Expr-F C T I P) → NamesPass (expr_names_step (named_expr (first_expr y))) → Good (expr_core scene (lowered_expr (first_expr y)))
+  expr_good : (y : ExprNode good) → NamesPass (from_expr expr_naming (bare_expr good y)) → Good (from_expr (lowering scene) (bare_expr good y)).1
   expr_good (Expr-F.Literal span literal) names = constant_passes (known (literal_typed literal).value)
   expr_good (Expr-F.Name name) names = names.0
   expr_good (Expr-F.BasicType span basic) names = nothing_passes
@@ -385,58 +340,34 @@ module _ (scene : Scene) (test : Mention → Bool) (means : Means scene test) wh
       binary_passes operator (core_value scene left.0) (core_value scene right.0)
       (value_good left (each-left NamePasses (expr_names left.0) _ names)) (value_good right (each-right NamePasses (expr_names left.0) _ names))
 
-  invocation_good : (y : Invocation-F C T I P) → NamesPass (invocation_names_step (named_invocation (first_invocation y))) → SendingGood (invocation_lowered (lowered_invocation (first_invocation y)))
+  invocation_good : (y : InvocationNode good) → NamesPass (from_invocation expr_naming (bare_invocation good y)) → SendingGood (from_invocation (lowering scene) (bare_invocation good y))
   invocation_good y names = (y.callee.1 (each-left NamePasses (expr_names y.callee.0) _ names), all_good y.arguments (each-right NamePasses (expr_names y.callee.0) _ names))
 
-  parts_of_good : (span : Span) (count : Option T) (value : T) → NamesPass (part_names_step (named_part (first_part (record { span = span; count = count; value = value }))))
-      → IsTrue (part_passes test (part_lowered (lowered_part (first_part (record { span = span; count = count; value = value })))).1)
+  parts_of_good : (span : Span) (count : Option (Known TreeGood)) (value : Known TreeGood) → NamesPass (from_part expr_naming (bare_part good (record { span = span; count = count; value = value })))
+      → IsTrue (part_passes test (from_part (lowering scene) (bare_part good (record { span = span; count = count; value = value }))).1)
   parts_of_good span None value names = one_rule test (core_value scene value.0) (value_good value names)
   parts_of_good span (Some count) value names =
       repeated_rule test (core_value scene count.0) (core_value scene value.0)
       (value_good count (each-left NamePasses (expr_names count.0) _ names)) (value_good value (each-right NamePasses (expr_names count.0) _ names))
 
-  part_good : (y : Part-F C T I P) → NamesPass (part_names_step (named_part (first_part y))) → IsTrue (part_passes test (part_lowered (lowered_part (first_part y))).1)
+  part_good : (y : PartNode good) → NamesPass (from_part expr_naming (bare_part good y)) → IsTrue (part_passes test (from_part (lowering scene) (bare_part good y)).1)
   part_good y = parts_of_good y.span y.count y.value
 
   -- ---- all trees
 
-  create_step : (x : Create-F Create Tree Invocation PartTree) (y : Create-F C T I P) → first_create y ≡ x → CreateGood (roll-Create x)
-  create_step x y is = subst (λ z. CreateGood (roll-Create z)) is
-      (subst (λ (spans : List Span). NamesPass spans → IsTrue (expr_passes test (of_create scene (roll-Create (first_create y))).1))
-      (sym (fold-roll-Create (List Span) (List Span) (List Span) (List Span) create_names_step expr_names_step invocation_names_step part_names_step (first_create y)))
-      (subst (λ (one : Create × Expr). NamesPass (create_names_step (named_create (first_create y))) → IsTrue (expr_passes test one.1))
-      (sym (fold-roll-Create (Create × Expr) LoweredTree LoweredInvocation (PartTree × Part) (create_lowered scene) (expr_lowered scene) invocation_lowered part_lowered (first_create y)))
-      (create_good y)))
-
-  expr_step : (x : Expr-F Create Tree Invocation PartTree) (y : Expr-F C T I P) → first_expr y ≡ x → TreeGood (roll-Expr x)
-  expr_step x y is = subst (λ z. TreeGood (roll-Expr z)) is
-      (subst (λ (spans : List Span). NamesPass spans → Good (told scene (roll-Expr (first_expr y))).1)
-      (sym (fold-roll-Expr (List Span) (List Span) (List Span) (List Span) create_names_step expr_names_step invocation_names_step part_names_step (first_expr y)))
-      (subst (λ (one : LoweredTree). NamesPass (expr_names_step (named_expr (first_expr y))) → Good one.1)
-      (sym (fold-roll-Expr (Create × Expr) LoweredTree LoweredInvocation (PartTree × Part) (create_lowered scene) (expr_lowered scene) invocation_lowered part_lowered (first_expr y)))
-      (expr_good y)))
-
-  invocation_step : (x : Invocation-F Create Tree Invocation PartTree) (y : Invocation-F C T I P) → first_invocation y ≡ x → InvocationGood (roll-Invocation x)
-  invocation_step x y is = subst (λ z. InvocationGood (roll-Invocation z)) is
-      (subst (λ (spans : List Span). NamesPass spans → SendingGood (of_invocation scene (roll-Invocation (first_invocation y))))
-      (sym (fold-roll-Invocation (List Span) (List Span) (List Span) (List Span) create_names_step expr_names_step invocation_names_step part_names_step (first_invocation y)))
-      (subst (λ (one : LoweredInvocation). NamesPass (invocation_names_step (named_invocation (first_invocation y))) → SendingGood one)
-      (sym (fold-roll-Invocation (Create × Expr) LoweredTree LoweredInvocation (PartTree × Part) (create_lowered scene) (expr_lowered scene) invocation_lowered part_lowered (first_invocation y)))
-      (invocation_good y)))
-
-  part_step : (x : Part-F Create Tree Invocation PartTree) (y : Part-F C T I P) → first_part y ≡ x → PartGood (roll-Part x)
-  part_step x y is = subst (λ z. PartGood (roll-Part z)) is
-      (subst (λ (spans : List Span). NamesPass spans → IsTrue (part_passes test (of_part scene (roll-Part (first_part y))).1))
-      (sym (fold-roll-Part (List Span) (List Span) (List Span) (List Span) create_names_step expr_names_step invocation_names_step part_names_step (first_part y)))
-      (subst (λ (one : PartTree × Part). NamesPass (part_names_step (named_part (first_part y))) → IsTrue (part_passes test one.1))
-      (sym (fold-roll-Part (Create × Expr) LoweredTree LoweredInvocation (PartTree × Part) (create_lowered scene) (expr_lowered scene) invocation_lowered part_lowered (first_part y)))
-      (part_good y)))
+  by_parts : ByParts good
+  by_parts = record {
+    create = λ y. subst (λ t. t) (λ i. NamesPass (create_folds expr_naming (bare_create good y) i) → IsTrue (expr_passes test (create_folds (lowering scene) (bare_create good y) i).1)) (create_good y);
+    expr = λ y. subst (λ t. t) (λ i. NamesPass (expr_folds expr_naming (bare_expr good y) i) → Good (expr_folds (lowering scene) (bare_expr good y) i).1) (expr_good y);
+    invocation = λ y. subst (λ t. t) (λ i. NamesPass (invocation_folds expr_naming (bare_invocation good y) i) → SendingGood (invocation_folds (lowering scene) (bare_invocation good y) i)) (invocation_good y);
+    part = λ y. subst (λ t. t) (λ i. NamesPass (part_folds expr_naming (bare_part good y) i) → IsTrue (part_passes test (part_folds (lowering scene) (bare_part good y) i).1)) (part_good y);
+  }
 
   pub tree_passes : (tree : Tree) → NamesPass (expr_names tree) → IsTrue (lowered_passes (core_expr scene tree))
-  tree_passes tree = ind-Expr CreateGood TreeGood InvocationGood PartGood create_step expr_step invocation_step part_step tree
+  tree_passes = each_expr good by_parts
 
   pub create_passes : (tree : Create) → NamesPass (create_names tree) → IsTrue (expr_passes test (core_create scene tree))
-  create_passes tree = ind-Create CreateGood TreeGood InvocationGood PartGood create_step expr_step invocation_step part_step tree
+  create_passes = each_create good by_parts
 
   pub core_value_passes : (tree : Tree) → NamesPass (expr_names tree) → IsTrue (expr_passes test (core_value scene tree))
   core_value_passes tree names = value_of_passes (core_expr scene tree) (tree_passes tree names)

@@ -25,11 +25,9 @@ use Rattle.sr_front.proofs.Mentions.{Means, all_names_pass, core_value_passes}
 -- the variable or the operation that is mentioned is there, and so is its global
 abbrev pub mention_exists : Mention → Test
 mention_exists (mention.Variable root) at = root_exists root at
-mention_exists (mention.Operation whose.Mine) at = true
 mention_exists (mention.Operation (whose.Imported import)) at = nat_lt import at.imports
-mention_exists (mention.Operation whose.Process) at = true
-mention_exists mention.Machine at = true
 mention_exists (mention.Count op) at = count_exists op at
+mention_exists _ at = true
 
 module _ (scene : Scene) (at : Where) (fits : Fits scene at) where
   abbrev pub there : Mention → Bool

@@ -49,10 +49,12 @@ use Rattle.sr_check_decl.specs.Parts.{component_decl}
 use Rattle.sr_check_decl.specs.TypeTrees.{fixed_bounds, free_bounds, named_decl, signature_read, signature_type, type_kinding}
 use Rattle.sr_check_decl.specs.Variables.{declare, variable, vars_declared}
 use Rattle.sr_check.proofs.Each.{Each, each-weaker}
-use Rattle.sr_front.proofs.NumberedExprs.{expr_numbered}
-use Rattle.sr_front.proofs.NumberedGrows.{declared_numbered, entered_numbered, found_numbered, standing_numbered, type_lifted}
-use Rattle.sr_front.proofs.NumberedReads.{ParamsNumbered, decl_found_numbered, decl_numbered, formals_entered_numbered, formals_so, kinding_so, signature_entered_numbered, signed_entered_numbered, signed_grown, signed_type_numbered, type_entered_numbered}
-use Rattle.sr_front.proofs.NumberedTypes.{AllNumbered, FieldsNumbered, FoundNumbered, IsNumbered, enum_numbered, int_numbered, untyped_numbered}
+use Rattle.sr_front.proofs.NumberedGrows.{declared_numbered, entered_numbered, found_numbered, standing_numbered}
+use Rattle.sr_front.proofs.NumberedReads.{by_numbers, decl_found_numbered}
+use Rattle.sr_front.proofs.NumberedTypes.{AllNumbered, FieldsNumbered, FoundNumbered, IsNumbered, untyped_numbered, numbered_test, expr_numbered}
+use Rattle.sr_front.proofs.PassingParts.{ParamsPass}
+use Rattle.sr_front.proofs.PassingReads.{decl_passes, formals_entered_so, formals_so, kinding_so, signature_entered_so, signed_entered_so, signed_lifts, signed_type_so, type_entered_so}
+use Rattle.sr_front.proofs.PassingTypes.{enum_passes, int_passes}
 
 -- ---- constants and variables
 
@@ -65,14 +67,14 @@ value_numbered table type numbered = by (is_of_nulls type)
 
 written_numbered : (type : Option TypeTree) (facts : Facts) → AllNumbered facts → AllNumbered (written_entered type facts)
 written_numbered None facts all = all
-written_numbered (Some tree) facts all = type_entered_numbered tree facts all
+written_numbered (Some tree) facts all = type_entered_so by_numbers tree facts all
 
 constant_type : (type : Option TypeTree) (facts : Facts) (value : Ty) → AllNumbered facts → IsNumbered facts.signatures value → IsNumbered facts.signatures (const_type (written_kind facts type) value)
 constant_type None facts value all numbered = value_numbered facts.signatures value numbered
-constant_type (Some tree) facts value all numbered = kinding_so facts all tree fixed_bounds
+constant_type (Some tree) facts value all numbered = kinding_so by_numbers facts all tree fixed_bounds
 
 declared_so : (b : Bool) (name : Name) (typed : Typed) (facts : Facts) → IsNumbered facts.signatures typed.ty → AllNumbered facts → AllNumbered (declared_if b name typed facts)
-declared_so true name typed facts numbered all = declared_numbered facts (spot_of name.span) (info.Value typed) numbered all
+declared_so true name typed facts numbered all = declared_numbered facts (spot_of name.span) (info.Value typed) (numbered, tt) all
 declared_so false name typed facts numbered all = all
 
 const_numbered : (in_spec : Bool) (constant : ConstDecl) (facts : Facts) → AllNumbered facts → AllNumbered (const_declared in_spec constant facts)
@@ -80,13 +82,13 @@ const_numbered in_spec constant facts all =
     let after = written_entered constant.ty facts in
     let known = written_numbered constant.ty facts all in
     declared_so _ constant.name (const_of in_spec after constant) after
-    (constant_type constant.ty after (infer_expr constant.value after).typed_expr.typed.ty known (expr_numbered after known constant.value).0) known
+    (constant_type constant.ty after (infer_expr constant.value after).typed_expr.typed.ty known (expr_numbered after known constant.value)) known
 
 vars_numbered : (type : Ty) (decls : List DeclTree) (facts : Facts) → IsNumbered facts.signatures type → AllNumbered facts → AllNumbered (vars_declared type decls facts)
 vars_numbered type [] facts numbered all = all
 vars_numbered type (decl ∷ decls) facts numbered all =
     vars_numbered type decls (declare facts (spot_of decl.name.span) (variable _)) numbered
-    (declared_numbered facts (spot_of decl.name.span) (variable _) (decl_numbered facts.signatures decl.dims type numbered) all)
+    (declared_numbered facts (spot_of decl.name.span) (variable _) (decl_passes by_numbers facts.signatures decl.dims type numbered, tt) all)
 
 untyped_so : (b : Bool) (decls : List DeclTree) (facts : Facts) → AllNumbered facts → AllNumbered (untyped_vars_declared b decls facts)
 untyped_so true decls facts all = all
@@ -94,7 +96,7 @@ untyped_so false decls facts all = vars_numbered ty.Untyped decls facts (untyped
 
 var_by : (type : Option TypeTree) (variables : VarDecl) (facts : Facts) → AllNumbered facts → AllNumbered (var_declared_by type variables facts)
 var_by None variables facts all = untyped_so _ variables.decls facts all
-var_by (Some tree) variables facts all = vars_numbered (type_kinding tree facts free_bounds).kind.ty variables.decls facts (kinding_so facts all tree free_bounds) all
+var_by (Some tree) variables facts all = vars_numbered (type_kinding tree facts free_bounds).kind.ty variables.decls facts (kinding_so by_numbers facts all tree free_bounds) all
 
 var_numbered : (variables : VarDecl) (facts : Facts) → AllNumbered facts → AllNumbered (var_declared variables facts)
 var_numbered variables facts all = var_by variables.ty variables (written_entered variables.ty facts) (written_numbered variables.ty facts all)
@@ -105,16 +107,16 @@ literals_numbered : (spot : Spot) (number index : ℕ) (names : List Name) (fact
 literals_numbered spot number index [] facts all = all
 literals_numbered spot number index (name ∷ names) facts all =
     literals_numbered spot number (index + 1) names (declare facts (spot_of name.span) (literal_info spot number index))
-    (declared_numbered facts (spot_of name.span) (literal_info spot number index) (enum_numbered facts.signatures (type_spot spot)) all)
+    (declared_numbered facts (spot_of name.span) (literal_info spot number index) (enum_passes (numbered_test facts.signatures) (type_spot spot), tt) all)
 
-fields_numbered : (table : List Signature) (params : List NamedParam) → ParamsNumbered table params → FieldsNumbered table (map field_info params)
+fields_numbered : (table : List Signature) (params : List NamedParam) → ParamsPass (numbered_test table) params → FieldsNumbered table (map field_info params)
 fields_numbered table [] each = tt
 fields_numbered table (param ∷ params) each = (each.0, fields_numbered table params each.1)
 
 layer_numbered : (layer : TypeTree-F TypeTree Formal Returned SignatureTree) (tally : Tally) → AllNumbered tally.facts → AllNumbered (layer_declared layer tally).facts
 layer_numbered (TypeTree-F.Enum span literals) tally all = literals_numbered (spot_of span) tally.enumerations 0 literals _ (declared_numbered tally.facts (spot_of span) (info.Enumeration tally.enumerations _) tt all)
 layer_numbered (TypeTree-F.Rec span fields) tally all =
-    declared_numbered tally.facts (spot_of span) (info.Record (fields_of tally.facts fields)) (fields_numbered tally.facts.signatures _ (formals_so tally.facts all fields true)) all
+    declared_numbered tally.facts (spot_of span) (info.Record (fields_of tally.facts fields)) (fields_numbered tally.facts.signatures _ (formals_so by_numbers tally.facts all fields true)) all
 layer_numbered _ tally all = all
 
 types_numbered : (trees : List TypeTree) (tally : Tally) → AllNumbered tally.facts → AllNumbered (types_declared trees tally).facts
@@ -125,8 +127,8 @@ type_numbered : (named : TypeDecl) (tally : Tally) → AllNumbered tally.facts �
 type_numbered named tally all =
     let entering = at_facts tally (type_entered named.ty tally.facts) in
     let written = types_declared (types_within named.ty) entering in
-    let known = types_numbered (types_within named.ty) entering (type_entered_numbered named.ty tally.facts all) in
-    declared_numbered written.facts (spot_of named.name.span) (info.«Type» (type_kinding named.ty written.facts fixed_bounds).kind.ty) (kinding_so written.facts known named.ty fixed_bounds) known
+    let known = types_numbered (types_within named.ty) entering (type_entered_so by_numbers named.ty tally.facts all) in
+    declared_numbered written.facts (spot_of named.name.span) (info.«Type» (type_kinding named.ty written.facts fixed_bounds).kind.ty) (kinding_so by_numbers written.facts known named.ty fixed_bounds) known
 
 -- ---- operations
 
@@ -134,17 +136,11 @@ operation_so : (facts : Facts) (spot : Spot) (type : Ty) (component : Spot) (is_
 operation_so facts spot type component is_local numbered all = declared_numbered facts spot (info.Operation type component is_local) numbered all
 
 written_so : (tree : SignatureTree) (facts : Facts) → IsNumbered facts.signatures (signature_type facts (signature_read tree facts).signed)
-written_so tree facts = signed_type_numbered facts (signature_read tree facts).signed
+written_so tree facts = signed_type_so by_numbers facts (signature_read tree facts).signed
 
 or_untyped_so : (table : List Signature) (found : Option Info) → FoundNumbered table found → IsNumbered table (or_untyped (optype_of found))
-or_untyped_so table None h = untyped_numbered table
 or_untyped_so table (Some (info.OpType type)) h = h
-or_untyped_so table (Some (info.Value typed)) h = untyped_numbered table
-or_untyped_so table (Some (info.«Type» type)) h = untyped_numbered table
-or_untyped_so table (Some (info.Enumeration number literals)) h = untyped_numbered table
-or_untyped_so table (Some (info.Record fields)) h = untyped_numbered table
-or_untyped_so table (Some (info.Operation type component is_local)) h = untyped_numbered table
-or_untyped_so table (Some (info.Component type)) h = untyped_numbered table
+or_untyped_so table _ h = untyped_numbered table
 
 op_so : (op : OpItem) (facts : Facts) → AllNumbered facts → IsNumbered facts.signatures (op_type facts op)
 op_so (OfSignature span name signature) facts all = written_so signature facts
@@ -156,7 +152,7 @@ ops_numbered (op ∷ ops) facts all = ops_numbered ops _ (operation_so facts (sp
 
 ops_entered_so : (ops : List OpItem) (facts : Facts) → AllNumbered facts → AllNumbered (ops_entered ops facts)
 ops_entered_so [] facts all = all
-ops_entered_so (OfSignature span name signature ∷ ops) facts all = ops_entered_so ops (signature_entered signature facts) (signature_entered_numbered signature facts all)
+ops_entered_so (OfSignature span name signature ∷ ops) facts all = ops_entered_so ops (signature_entered signature facts) (signature_entered_so by_numbers signature facts all)
 ops_entered_so (OfType span name optype ∷ ops) facts all = ops_entered_so ops facts all
 
 sems_numbered : (semaphores : List Semaphore) (facts : Facts) → AllNumbered facts → AllNumbered (sems_declared false semaphores facts)
@@ -167,7 +163,7 @@ sems_numbered (semaphore ∷ more) facts all =
 
 process_numbered : (table : List Signature) (quantifiers : List Quantifier) → Each (λ (param : Param). IsNumbered table param.ty) (process_params quantifiers)
 process_numbered table [] = tt
-process_numbered table (quantifier ∷ more) = (int_numbered table, process_numbered table more)
+process_numbered table (quantifier ∷ more) = (int_passes (numbered_test table), process_numbered table more)
 
 -- ---- items
 
@@ -177,7 +173,7 @@ spec_numbered in_spec (spec.Const constant) tally all = const_numbered in_spec c
 spec_numbered in_spec (spec.«Type» named) tally all = type_numbered named tally all
 spec_numbered in_spec (spec.OpType named) tally all =
     let after = signature_entered named.signature tally.facts in
-    declared_numbered after (spot_of named.name.span) (info.OpType (signature_type after (signature_read named.signature after).signed)) (written_so named.signature after) (signature_entered_numbered named.signature tally.facts all)
+    declared_numbered after (spot_of named.name.span) (info.OpType (signature_type after (signature_read named.signature after).signed)) (written_so named.signature after) (signature_entered_so by_numbers named.signature tally.facts all)
 spec_numbered in_spec (spec.Op operations) tally all = ops_numbered operations.items (ops_entered operations.items tally.facts) (ops_entered_so operations.items tally.facts all)
 spec_numbered in_spec (spec.Var variables) tally all = var_numbered variables tally.facts all
 spec_numbered in_spec (spec.Sem semaphores) tally all = sems_numbered semaphores.semaphores tally.facts all
@@ -186,15 +182,13 @@ item_numbered : (one : Item) (tally : Tally) → AllNumbered tally.facts → All
 item_numbered (item.Spec inner) tally all = spec_numbered false inner tally all
 item_numbered (item.Procedure procedure) tally all =
     let after = signature_entered procedure.signature tally.facts in
-    operation_so after (spot_of procedure.name.span) _ _ false (written_so procedure.signature after) (signature_entered_numbered procedure.signature tally.facts all)
+    operation_so after (spot_of procedure.name.span) _ _ false (written_so procedure.signature after) (signature_entered_so by_numbers procedure.signature tally.facts all)
 item_numbered (item.Process process) tally all =
     let signature = process_signature process.quantifiers in
     let after = entered signature tally.facts in
     operation_so after (spot_of process.name.span) _ _ false (found_numbered after.signatures signature)
     (entered_numbered tally.facts signature (record { params = process_numbered tally.facts.signatures process.quantifiers; returns = tt }) all)
-item_numbered (item.Proc proc) tally all = all
-item_numbered (item.Final final) tally all = all
-item_numbered (item.Statement statement) tally all = all
+item_numbered _ tally all = all
 
 specs_numbered : (items : List SpecItem) (tally : Tally) → AllNumbered tally.facts → AllNumbered (spec_items_declared items tally).facts
 specs_numbered [] tally all = all
@@ -206,21 +200,21 @@ items_numbered (one ∷ items) tally all = items_numbered items (item_declared o
 
 -- ---- components
 
-params_numbered : (params : List NamedParam) (facts : Facts) → ParamsNumbered facts.signatures params → AllNumbered facts → AllNumbered (params_declared params facts)
+params_numbered : (params : List NamedParam) (facts : Facts) → ParamsPass (numbered_test facts.signatures) params → AllNumbered facts → AllNumbered (params_declared params facts)
 params_numbered [] facts each all = all
-params_numbered (param ∷ params) facts each all = params_numbered params (declare facts param.spot (variable param.ty)) each.1 (declared_numbered facts param.spot (variable param.ty) each.0 all)
+params_numbered (param ∷ params) facts each all = params_numbered params (declare facts param.spot (variable param.ty)) each.1 (declared_numbered facts param.spot (variable param.ty) (each.0, tt) all)
 
 head_numbered : (component : Component) (facts : Facts) → AllNumbered facts → AllNumbered (head_declared component facts)
 head_numbered component facts all =
     let after = formals_entered (formals_of component) facts in
-    let known = formals_entered_numbered (formals_of component) facts all in
+    let known = formals_entered_so by_numbers (formals_of component) facts all in
     let params = component_formals after (formals_of component) in
-    let each = formals_so after known (formals_of component) false in
+    let each = formals_so by_numbers after known (formals_of component) false in
     let signed = making params in
     let made = signed_entered signed after in
-    let lifted = each-weaker (λ (param : NamedParam). IsNumbered after.signatures param.ty) (λ (param : NamedParam). IsNumbered made.signatures param.ty) (λ param. type_lifted after.signatures made.signatures (signed_grown after signed) param.ty) params each in
+    let lifted = each-weaker (λ (param : NamedParam). IsNumbered after.signatures param.ty) (λ (param : NamedParam). IsNumbered made.signatures param.ty) (λ param. signed_lifts by_numbers after signed param.ty) params each in
     params_numbered params (component_typed (name_of component) signed made) lifted
-    (declared_numbered made (spot_of (name_of component).span) (info.Component (signature_type made signed)) (signed_type_numbered made signed) (signed_entered_numbered after signed each tt known))
+    (declared_numbered made (spot_of (name_of component).span) (info.Component (signature_type made signed)) (signed_type_so by_numbers made signed) (signed_entered_so by_numbers after signed (record { params = each; returned = tt }) known))
 
 component_numbered : (component : Component) (tally : Tally) → AllNumbered tally.facts → AllNumbered (component_declared component tally).facts
 component_numbered component tally all =

@@ -1,15 +1,12 @@
 -- What has numbers in a table of signatures has them when the table has grown.
-use Rattle.std.proofs.Common.{◌≡◌, ◌⊎◌, inl, inr, ℕ, zero, suc, Bool, true, false, List, [], ◌∷◌, ◌++◌, Option, Some, None, IsTrue, is_some, refl, sym, ap, subst, if◌then◌else◌, slice_get}
+use Rattle.std.proofs.Common.{◌≡◌, ℕ, zero, suc, Bool, true, false, List, [], ◌∷◌, ◌++◌, Option, Some, None, IsTrue, is_some, refl, sym, ap, if◌then◌else◌, slice_get}
 use Rattle.std.specs.List.{list_any}
 use Rattle.std.proofs.lemmas.Bool.{false≢true}
 use Rattle.sr_names.specs.declared.meaning.Decl.{Decl}
 use Rattle.sr_names.specs.declared.spot.Spot.{Spot}
-use Rattle.sr_names.specs.Spots.{same_spot}
-use Rattle.sr_names.proofs.Marking.{entry-other, entry-same, same_spot-cases}
 use Rattle.sr_types.specs.declared.signature.Param.{Param}
 use Rattle.sr_types.specs.declared.signature.Signature.{Signature}
-use Rattle.sr_types.specs.declared.ty.Ty.{Ty, out-Ty}
-use Rattle.sr_types.specs.declared.ty.Ty.TheOpen.{Ty-F}
+use Rattle.sr_types.specs.declared.ty.Ty.{Ty}
 use Rattle.sr_types.specs.Equality.{equal_signatures}
 use Rattle.sr_types.specs.Signatures.{number_of, signature_at, with_signature}
 use Rattle.sr_types.proofs.Numbers.{number-found}
@@ -23,7 +20,10 @@ use Rattle.sr_check_decl.specs.Entering.{entered}
 use Rattle.sr_check_decl.specs.TypeTrees.{numbered_type}
 use Rattle.sr_check_decl.specs.Variables.{declare}
 use Rattle.sr_check.proofs.Each.{each-weaker}
-use Rattle.sr_front.proofs.NumberedTypes.{AllNumbered, FoundNumbered, InfoNumbered, IsNumbered, MaybeNumbered, SignatureFound, SignatureNumbered, item_numbered, layer_numbered, op_numbered, untyped_numbered}
+use Rattle.sr_front.proofs.NumberedTypes.{AllNumbered, FoundNumbered, InfoNumbered, IsNumbered, SignatureFound, SignatureNumbered, numbered_test, untyped_numbered}
+use Rattle.sr_front.proofs.PassingParts.{maybe_lifted, type_lifted as lifted}
+use Rattle.sr_front.proofs.PassingTypes.{op_passes}
+use Rattle.sr_front.proofs.Put.{put_holds}
 
 -- each number of the one is one of the other
 abbrev pub Grown : List Signature → List Signature → Type 0
@@ -49,27 +49,11 @@ grown_with table one = by (list_any (equal_signatures one) table)
     by false = pushed_grown table one
 
 module _ (old new : List Signature) (grown : Grown old new) where
-  item_lifted : (layer : Ty-F Ty) → IsTrue (item_numbered old layer) → IsTrue (item_numbered new layer)
-  item_lifted (Ty-F.Op number) h = grown number h
-  item_lifted (Ty-F.Vector item) h = absurd (false≢true h)
-  item_lifted (Ty-F.Matrix item) h = absurd (false≢true h)
-  item_lifted _ h = refl
-
-  layer_lifted : (layer : Ty-F Ty) → IsTrue (layer_numbered old layer) → IsTrue (layer_numbered new layer)
-  layer_lifted (Ty-F.Op number) h = grown number h
-  layer_lifted (Ty-F.Vector item) h = item_lifted (out-Ty item) h
-  layer_lifted (Ty-F.Matrix item) h = item_lifted (out-Ty item) h
-  layer_lifted _ h = refl
-
   pub type_lifted : (type : Ty) → IsNumbered old type → IsNumbered new type
-  type_lifted type h = layer_lifted (out-Ty type) h
-
-  maybe_lifted : (type : Option Ty) → MaybeNumbered old type → MaybeNumbered new type
-  maybe_lifted None h = tt
-  maybe_lifted (Some type) h = type_lifted type h
+  type_lifted = lifted (numbered_test old) (numbered_test new) grown (λ h. refl)
 
   info_lifted : (one : Info) → InfoNumbered old one → InfoNumbered new one
-  info_lifted (info.Value typed) h = type_lifted typed.ty h
+  info_lifted (info.Value typed) h = (type_lifted typed.ty h.0, tt)
   info_lifted (info.«Type» type) h = type_lifted type h
   info_lifted (info.Enumeration number literals) h = tt
   info_lifted (info.Record fields) h = each-weaker (λ (field : FieldInfo). IsNumbered old field.ty) (λ (field : FieldInfo). IsNumbered new field.ty) (λ field. type_lifted field.ty) fields h
@@ -84,7 +68,7 @@ module _ (old new : List Signature) (grown : Grown old new) where
   signature_lifted : (signature : Signature) → SignatureNumbered old signature → SignatureNumbered new signature
   signature_lifted signature h = record {
     params = each-weaker (λ (param : Param). IsNumbered old param.ty) (λ (param : Param). IsNumbered new param.ty) (λ param. type_lifted param.ty) signature.params h.params;
-    returns = maybe_lifted signature.returns h.returns;
+    returns = maybe_lifted (numbered_test old) (numbered_test new) grown (λ h. refl) signature.returns h.returns;
   }
 
   signed_lifted : (found : Option Signature) → SignatureFound old found → SignatureFound new found
@@ -119,11 +103,10 @@ entered_numbered facts one numbered all = record {
 
 -- where something is declared whose type has numbers
 pub declared_numbered : (facts : Facts) (spot : Spot) (one : Info) → InfoNumbered facts.signatures one → AllNumbered facts → AllNumbered (declare facts spot one)
-declared_numbered facts spot one numbered all = record { infos = λ other. by other (same_spot-cases other spot); signatures = all.signatures }
-  where
-    by : (other : Spot) → (other ≡ spot) ⊎ (same_spot other spot ≡ false) → FoundNumbered facts.signatures (info_at (declare facts spot one).infos other)
-    by other (inl same) = subst (λ s. FoundNumbered facts.signatures (info_at (declare facts spot one).infos s)) (sym same) (subst (FoundNumbered facts.signatures) (sym (entry-same facts.infos spot one)) numbered)
-    by other (inr apart) = subst (FoundNumbered facts.signatures) (sym (entry-other facts.infos spot one other apart)) (all.infos other)
+declared_numbered facts spot one numbered all = record {
+  infos = λ other. put_holds facts spot one (λ at. FoundNumbered facts.signatures) numbered other (λ apart. all.infos other);
+  signatures = all.signatures;
+}
 
 pub standing_numbered : (facts : Facts) (component : Decl) → AllNumbered facts → AllNumbered (standing facts component)
 standing_numbered facts component all = record { infos = all.infos; signatures = all.signatures }
@@ -137,4 +120,4 @@ found_numbered table signature = by (number_of table signature) refl
 
     by : (found : Option ℕ) → number_of table signature ≡ found → IsNumbered table (numbered_type found)
     by None is = untyped_numbered table
-    by (Some number) is = op_numbered table number (at number (sym is))
+    by (Some number) is = op_passes (numbered_test table) number (at number (sym is))

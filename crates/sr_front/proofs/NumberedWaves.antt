@@ -1,12 +1,11 @@
 -- In an accepted program all that is known before any statement is looked at has a type, but for operations and components, where all that is declared has one: waves give types whose operations have signatures in the table.
-use Rattle.std.proofs.Common.{◌≡◌, ◌⊎◌, inl, inr, ℕ, suc, zero, Bool, true, false, List, [], ◌∷◌, flat_map, length, map, Option, Some, None, Ok, is_some, sym, ap, subst, if◌then◌else◌}
+use Rattle.std.proofs.Common.{◌≡◌, ℕ, suc, zero, Bool, true, false, List, [], ◌∷◌, flat_map, length, map, Option, Some, None, Ok, is_some, sym, ap, subst}
 use Rattle.std.proofs.lemmas.Bool.{false≢true}
+use Rattle.std.proofs.lemmas.Option.{same_Some}
 use Rattle.std.specs.List.{IsDistinct, filter}
 use Rattle.sr_check.specs.Checked.{first_refused}
-use Rattle.sr_check_decl.specs.Constants.{type_of_value}
 use Rattle.sr_check_decl.specs.Declaring.{program_declared, standing}
 use Rattle.sr_check_decl.specs.Inferring.{all_settled, can_settle, info_by, program_known, settled, waiting_info, wave, waves}
-use Rattle.sr_check_decl.specs.Variables.{declare}
 use Rattle.sr_check_decl.specs.Waiting.{Waiting, files_waiting}
 use Rattle.sr_check_expr.specs.declared.facts.Facts.{Facts}
 use Rattle.sr_check_expr.specs.declared.info.Info.{Info}
@@ -15,9 +14,7 @@ use Rattle.sr_check_expr.specs.Creating.{component_type, resource_if, resource_t
 use Rattle.sr_check_expr.specs.Exprs.{infer_expr}
 use Rattle.sr_check_expr.specs.Infos.{info_at}
 use Rattle.sr_check_expr.specs.PredefinedCalls.{is_resource}
-use Rattle.sr_names.proofs.Marking.{entry-other, entry-same, same_spot-cases}
 use Rattle.sr_names.specs.declared.meaning.Decl.{Decl}
-use Rattle.sr_names.specs.declared.spot.Spot.{Spot}
 use Rattle.sr_names.specs.Spots.{same_spot, spot_of}
 use Rattle.sr_order.specs.Names.{file_names}
 use Rattle.sr_scope.specs.declared.program.Names.{Names}
@@ -26,49 +23,29 @@ use Rattle.sr_tree.specs.declared.component.File.{File}
 use Rattle.sr_types.specs.declared.signature.Signature.{Signature}
 use Rattle.sr_types.specs.declared.ty.Ty.{Ty, out-Ty}
 use Rattle.sr_types.specs.declared.ty.Ty.TheOpen.{Ty-F}
-use Rattle.sr_types.specs.declared.ty.Ty.TheVariants as ty
 use Rattle.sr_types.specs.declared.typed.Typed.{Typed}
-use Rattle.sr_types.specs.Types.{is_of_nulls}
 use Rattle.sr_front.proofs.AlikeInside.{LayerHas}
 use Rattle.sr_front.proofs.AllSettled.{known_is_inferred}
 use Rattle.sr_front.proofs.HalfKnown.{half_known}
-use Rattle.sr_front.proofs.NumberedDeclared.{numbered_declared}
-use Rattle.sr_front.proofs.NumberedExprs.{expr_numbered}
-use Rattle.sr_front.proofs.NumberedTypes.{AllNumbered, FoundNumbered, InfoNumbered, IsNumbered, layer_numbered, untyped_numbered}
+use Rattle.sr_front.proofs.NumberedDeclared.{numbered_declared, value_numbered}
+use Rattle.sr_front.proofs.NumberedGrows.{declared_numbered, standing_numbered}
+use Rattle.sr_front.proofs.NumberedTypes.{AllNumbered, FoundNumbered, InfoNumbered, IsNumbered, layer_numbered, expr_numbered}
 use Rattle.sr_front.proofs.TypedCode.{AllSigned}
 use Rattle.sr_front.proofs.TypedHalf.{Half}
 
 -- ---- what is settled
 
-numbered_with : (facts : Facts) (at : Spot) (one : Info) → InfoNumbered facts.signatures one → AllNumbered facts → AllNumbered (declare facts at one)
-numbered_with facts at one numbered all = record { infos = λ spot. by spot (same_spot-cases spot at); signatures = all.signatures }
-  where
-    by : (spot : Spot) → (spot ≡ at) ⊎ (same_spot spot at ≡ false) → FoundNumbered facts.signatures (info_at (declare facts at one).infos spot)
-    by spot (inl same) =
-        subst (λ s. FoundNumbered facts.signatures (info_at (declare facts at one).infos s)) (sym same) (subst (FoundNumbered facts.signatures) (sym (entry-same facts.infos at one)) numbered)
-    by spot (inr apart) = subst (FoundNumbered facts.signatures) (sym (entry-other facts.infos at one spot apart)) (all.infos spot)
-
-own_numbered : (table : List Signature) (own : Ty) → IsNumbered table own → IsNumbered table (type_of_value own)
-own_numbered table own h = by (is_of_nulls own)
-  where
-    by : (nulls : Bool) → IsNumbered table (if nulls then ty.Untyped else own)
-    by true = untyped_numbered table
-    by false = h
-
 info_numbered : (table : List Signature) (is_constant in_spec : Bool) (value : Typed) → IsNumbered table value.ty → InfoNumbered table (info_by is_constant in_spec value)
-info_numbered table true in_spec value h = own_numbered table value.ty h
-info_numbered table false in_spec value h = own_numbered table value.ty h
-
-standing_numbered : (facts : Facts) (component : Decl) → AllNumbered facts → AllNumbered (standing facts component)
-standing_numbered facts component all = record { infos = all.infos; signatures = all.signatures }
+info_numbered table true in_spec value h = (value_numbered table value.ty h, tt)
+info_numbered table false in_spec value h = (value_numbered table value.ty h, tt)
 
 numbered_settled : (some : List Waiting) (facts : Facts) → AllNumbered facts → AllNumbered (all_settled some facts)
 numbered_settled [] facts all = all
 numbered_settled (waiting ∷ some) facts all =
     let here = standing facts waiting.component in
     numbered_settled some (settled facts waiting)
-    (numbered_with facts waiting.spot (waiting_info here waiting)
-    (info_numbered facts.signatures waiting.is_constant waiting.in_spec (infer_expr waiting.value here).typed_expr.typed (expr_numbered here (standing_numbered facts waiting.component all) waiting.value).0) all)
+    (declared_numbered facts waiting.spot (waiting_info here waiting)
+    (info_numbered facts.signatures waiting.is_constant waiting.in_spec (infer_expr waiting.value here).typed_expr.typed (expr_numbered here (standing_numbered facts waiting.component all) waiting.value)) all)
 
 -- waves keep it
 pub numbered_waves : (n : ℕ) (waiting : List Waiting) (facts : Facts) → AllNumbered facts → AllNumbered (waves n waiting facts)
@@ -79,10 +56,7 @@ numbered_waves (suc n) waiting facts all = numbered_waves n waiting (wave waitin
 
 made_by : (table : List Signature) (found : Option Info) → FoundNumbered table found → (type : Ty) → component_type found ≡ Some type → IsNumbered table type
 made_by table None h type is = absurd (false≢true (ap is_some is))
-made_by table (Some (info.Component formals)) h type is = subst (IsNumbered table) (same formals type is) h
-  where
-    same : (a b : Ty) → Some a ≡ Some b → a ≡ b
-    same a b e = cc
+made_by table (Some (info.Component formals)) h type is = subst (IsNumbered table) (same_Some formals type is) h
 made_by table (Some (info.Value typed)) h type is = absurd (false≢true (ap is_some is))
 made_by table (Some (info.«Type» other)) h type is = absurd (false≢true (ap is_some is))
 made_by table (Some (info.Enumeration number literals)) h type is = absurd (false≢true (ap is_some is))
@@ -120,4 +94,4 @@ module _ (files : List File) (names : Names) (named : resolved files ≡ Ok name
   pub known_half : Half first → AllSigned known → Half known
   known_half half signed =
       half_known files names named distinct none (IsNumbered known.signatures) (λ type h. layer_has known.signatures (out-Ty type) h)
-      (λ component tree. (expr_numbered (standing known component) (standing_numbered known component known_numbered) tree).0) (made_numbered known known_numbered) half signed
+      (λ component tree. expr_numbered (standing known component) (standing_numbered known component known_numbered) tree) (made_numbered known known_numbered) half signed

@@ -1,20 +1,18 @@
 -- A signature that has a number keeps it.
-use Rattle.std.proofs.Common.{◌≡◌, ℕ, ◌+◌, Bool, true, false, cond, List, [], ◌∷◌, ◌++◌, Some, None, if◌then◌else◌, sym, ◌∙◌}
+use Rattle.std.proofs.Common.{◌≡◌, ℕ, ◌+◌, Bool, true, false, cond, List, [], ◌∷◌, ◌++◌, Some, if◌then◌else◌, sym, ◌∙◌}
 use Rattle.std.proofs.lemmas.Iterator.Adapters.{position_from-zero}
+use Rattle.std.proofs.lemmas.Option.{none-some}
 use Rattle.std.specs.List.{list_any, position_from}
 use Rattle.sr_check_expr.specs.declared.facts.Facts.{Facts}
-use Rattle.sr_names.specs.declared.spot.Spot.{Spot}
 use Rattle.sr_types.specs.declared.signature.Signature.{Signature}
 use Rattle.sr_types.specs.Equality.{equal_signatures}
 use Rattle.sr_types.specs.Signatures.{number_of, with_signature}
 use Rattle.sr_front.proofs.InfosStay.{Steady}
 use Rattle.sr_front.proofs.KeptDeclared.{Declares}
-
-none_some : (number : ℕ) → None ≡ Some number → ⊥
-none_some number e = cc
+use Rattle.sr_front.proofs.KeptNames.{Anywhere}
 
 found_more : (test : Signature → Bool) (first : ℕ) (xs ys : List Signature) (number : ℕ) → position_from test first xs ≡ Some number → position_from test first (xs ++ ys) ≡ Some number
-found_more test first [] ys number h = absurd (none_some number h)
+found_more test first [] ys number h = absurd (none-some number h)
 found_more test first (x ∷ xs) ys number h = by (test x) h (found_more test (first + 1) xs ys number)
   where
     by : (b : Bool) → cond b (Some first) (position_from test (first + 1) xs) ≡ Some number → (position_from test (first + 1) xs ≡ Some number → position_from test (first + 1) (xs ++ ys) ≡ Some number)
@@ -34,9 +32,6 @@ module _ (signature : Signature) (number : ℕ) where
       by false =
           position_from-zero (equal_signatures signature) (signatures ++ other ∷ [])
           ∙ found_more (equal_signatures signature) 0 signatures (other ∷ []) number (sym (position_from-zero (equal_signatures signature) signatures) ∙ h)
-
-  abbrev Anywhere : Spot → Type 0
-  Anywhere spot = Unit {0}
 
   pub numbered_declares : Declares Numbered Anywhere
   numbered_declares = record {

@@ -1,6 +1,8 @@
 -- The types that heads make are those that are declared: an operation that is known by the type of its head has a
 -- signature that fits it.
 use Rattle.std.proofs.Common.{◌≡◌, true, List, Option, Some, None, is_some, unwrap_or, option_map, refl, sym, ap, ◌∙◌, subst}
+use Rattle.std.proofs.lemmas.Bool.{and_parts}
+use Rattle.std.proofs.lemmas.Option.{none-some, same_Some}
 use Rattle.sr_names.specs.declared.finding.Rule.TheVariants.{BadType}
 use Rattle.sr_names.specs.declared.meaning.Decl.{Decl}
 use Rattle.sr_names.specs.declared.spot.Spot.{Spot}
@@ -23,14 +25,15 @@ use Rattle.sr_check_expr.specs.declared.info.Info.TheVariants as info
 use Rattle.sr_check_expr.specs.Infos.{info_at}
 use Rattle.sr_check_expr.specs.Naming.{decl_info, decl_of, deciding}
 use Rattle.sr_check_decl.specs.Declaring.{op_type, optype_of, or_untyped}
-use Rattle.sr_check_decl.specs.Heads.{declared_type, head_found, is_known_as, is_of}
+use Rattle.sr_front.proofs.Heads.{declared_type, head_found, is_known_as, is_of}
 use Rattle.sr_check_decl.specs.TypeTrees.{named_decl}
 use Rattle.sr_outline.specs.Heads.{Heads, head_at, named_head, op_head}
 use Rattle.sr_tables.specs.declared.tables.Head.{Head}
 use Rattle.sr_tables.specs.Parts.{deciding as table_deciding}
 use Rattle.sr_tables.specs.Shapes.{Shapes}
-use Rattle.sr_front.proofs.HeadCounts.{FitsTable, HasTable, both_true, none_some, same_signed, same_some, some_of, untyped_unsigned}
+use Rattle.sr_front.proofs.HeadCounts.{FitsTable, HasTable, same_signed, untyped_unsigned}
 use Rattle.sr_front.proofs.HeadTrees.{written_fits}
+use Rattle.sr_front.proofs.Options.{some_of}
 
 -- each type of operations that is known has a signature that fits the head of its declaration, by the signatures that
 -- are known and by all that keep their numbers
@@ -40,7 +43,7 @@ OptypesHeaded heads now =
 
 pub layer_stays : (old new : List Signature) (layer : Ty-F Ty) (signature : Signature) → KeepsNumbers old new → layer_signature old layer ≡ Some signature → layer_signature new layer ≡ Some signature
 layer_stays old new (Ty-F.Op number) signature keeps at = keeps number signature at
-layer_stays old new _ signature keeps at = absurd (none_some signature at)
+layer_stays old new _ signature keeps at = absurd (none-some signature at)
 
 pub table_stays : (old new : List Signature) (head : Head) (ty : Ty) → KeepsNumbers old new → HasTable old head ty → HasTable new head ty
 table_stays old new head ty keeps has = record { signature = has.signature; at = layer_stays old new (out-Ty ty) has.signature keeps has.at; fits = has.fits }
@@ -52,7 +55,7 @@ pub known_signed : (now : Facts) (name : Name) (made declared : Ty) → ErrorFre
     → (signature : Signature) × (signature_of now.signatures made ≡ Some signature) × (signature_of now.signatures declared ≡ Some signature)
 known_signed now name made declared nothing is =
     let met = rule_met (is_known_as now name made) BadType name.span nothing in
-    let parts = both_true (is_some (signature_of now.signatures made)) _ met in
+    let parts = and_parts (is_some (signature_of now.signatures made)) _ met in
     let signed = some_of (signature_of now.signatures made) parts.0 in
     let same : same_type made declared ≡ true = ap (is_of made) (sym is) ∙ parts.1 in
     (signed.0, signed.1, same_signed now.signatures signed.0 made declared same signed.1)
@@ -82,7 +85,7 @@ module _ (facts : Facts) (shapes : Shapes) (heads : Heads) (now : Facts) (uses :
       by : (found : Option Info) → info_at now.infos decl.spot ≡ found → signature_of now.signatures (or_untyped (optype_of found)) ≡ Some signature → FitsTable (head_at heads decl.spot) signature
       by (Some (info.OpType type)) is e =
           let has = optypes decl.spot type is now.signatures (λ number kept k. k) in
-          subst (FitsTable (head_at heads decl.spot)) (same_some has.signature signature (sym has.at ∙ e)) has.fits
+          subst (FitsTable (head_at heads decl.spot)) (same_Some has.signature signature (sym has.at ∙ e)) has.fits
       by _ is e = absurd (untyped_unsigned now.signatures signature e)
 
   named_fits : (name : QualifiedName) (signature : Signature) → signature_of now.signatures (or_untyped (optype_of (decl_info now.infos (named_decl now name)))) ≡ Some signature

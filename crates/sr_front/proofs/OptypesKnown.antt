@@ -1,6 +1,6 @@
 -- Each type of operations that is known before any statement is looked at has a signature that fits the head of its
 -- declaration.
-use Rattle.std.proofs.Common.{◌≡◌, List, [], ◌∷◌, ◌++◌, None, unwrap_or, map, flat_map, refl, sym, ap, ◌∙◌, subst}
+use Rattle.std.proofs.Common.{◌≡◌, List, [], ◌∷◌, ◌++◌, unwrap_or, map, flat_map, refl, sym, ap, ◌∙◌, subst}
 use Rattle.std.specs.List.{IsDistinct}
 use Rattle.sr_names.specs.Noted.{Meanings}
 use Rattle.sr_names.specs.Specs.{Specs}
@@ -14,15 +14,13 @@ use Rattle.sr_tree.specs.declared.component.SpecItem.{SpecItem}
 use Rattle.sr_tree.specs.declared.component.SpecItem.TheVariants as spec
 use Rattle.sr_tree.specs.declared.declaration.OpTypeDecl.{OpTypeDecl}
 use Rattle.sr_tree.specs.Parts.{body_of, name_of, spec_of}
-use Rattle.sr_check.specs.Checked.{first_refused}
 use Rattle.sr_check.specs.ErrorFree.{ErrorFree}
 use Rattle.sr_check.proofs.Each.{Each, each-append}
 use Rattle.sr_check.proofs.ErrorFree.{error_free_first, error_free_second}
-use Rattle.sr_check.proofs.Kept.{none_headed}
 use Rattle.sr_check_expr.specs.declared.facts.Facts.{Facts}
 use Rattle.sr_check_expr.specs.Infos.{info_at}
 use Rattle.sr_check_decl.specs.Declaring.{written_type}
-use Rattle.sr_check_decl.specs.Heads.{component_headed, declared_type, head_found, item_headed, items_headed, making_type, spec_item_headed, spec_items_headed}
+use Rattle.sr_front.proofs.Heads.{component_headed, declared_type, head_found, heads_found, item_headed, items_headed, making_type, spec_item_headed, spec_items_headed}
 use Rattle.sr_check_decl.specs.Inferring.{program_known}
 use Rattle.sr_outline.specs.Heads.{head_at, head_entry, head_of, heads_of, sent_head, spec_item_optypes}
 use Rattle.sr_outline.specs.Outline.{all_optypes}
@@ -95,7 +93,7 @@ module _ (facts : Facts) (shapes : Shapes) where
       ∙ ap (λ found. unwrap_or found (sent_head []))
       (found_there entries among.0 (spot_named named.name) (head_of facts shapes named.signature) apart (at_map (head_entry facts shapes) optypes among.0 named among.1))
 
-module _ (uses : Meanings) (specs : Specs) (files : List File) (facts : Facts) (shapes : Shapes) (none : first_refused uses specs files ≡ None) (distinct : IsDistinct same_spot (map spot_of (flat_map file_names files))) where
+module _ (uses : Meanings) (specs : Specs) (files : List File) (facts : Facts) (shapes : Shapes) (headed : ErrorFree (heads_found uses specs files)) (distinct : IsDistinct same_spot (map spot_of (flat_map file_names files))) where
   abbrev known : Facts
   known = program_known uses specs files
 
@@ -103,7 +101,7 @@ module _ (uses : Meanings) (specs : Specs) (files : List File) (facts : Facts) (
   optypes_known spot ty is more keeps =
       let one = (optype_first uses specs files spot ty is).1 in
       let named = one.0 in
-      let headed = among_each (NamedHeaded known) (all_optypes (components_in files)) one.1.0 named (all_named known (components_in files) (files_each known files (none_headed uses specs files none))) one.1.1 in
+      let headed = among_each (NamedHeaded known) (all_optypes (components_in files)) one.1.0 named (all_named known (components_in files) (files_each known files headed)) one.1.1 in
       let has = known_fits known named.name (head_of facts shapes named.signature) (written_type named.signature known) ty (written_fits facts shapes named.signature known) headed
       (ap declared_type (ap (info_at known.infos) one.2 ∙ is)) in
       subst (λ head. HasTable more head ty) (sym (head_there facts shapes files distinct named one.1) ∙ ap (head_at (heads_of facts shapes (components_in files))) one.2)

@@ -15,7 +15,7 @@ use Rattle.sr_check_expr.specs.Infos.{info_at}
 use Rattle.sr_names.specs.declared.spot.Spot.{Spot}
 use Rattle.sr_names.specs.Specs.{Specs}
 use Rattle.sr_names.specs.Spots.{same_spot, spot_of}
-use Rattle.sr_names.proofs.Marking.{entry-other, entry-same, same_spot-cases}
+use Rattle.sr_names.proofs.Marking.{entry-other}
 use Rattle.sr_order.specs.Names.{file_names, formal_names}
 use Rattle.sr_scope.specs.declared.program.Names.{Names}
 use Rattle.sr_scope.specs.Resolved.{resolved}
@@ -30,13 +30,14 @@ use Rattle.sr_tree.specs.Parts.{formals_of, name_of}
 use Rattle.sr_types.specs.declared.ty.Ty.{Ty}
 use Rattle.sr_types.specs.declared.ty.Ty.TheVariants as ty
 use Rattle.sr_value.specs.declared.place.Span.{Span}
-use Rattle.sr_front.proofs.ConstantsMet.{Anywhere, anywhere}
 use Rattle.sr_front.proofs.DeclaredIn.{Stands}
 use Rattle.sr_front.proofs.DeclaredThen.{Leads, names_of_components}
 use Rattle.sr_front.proofs.KeptDeclared.{Declares, keeps_if, keeps_params}
 use Rattle.sr_front.proofs.KeptFormals.{component_params_free}
+use Rattle.sr_front.proofs.KeptNames.{Anywhere, anywhere}
 use Rattle.sr_front.proofs.Lasting.{Away, is_operation}
 use Rattle.sr_front.proofs.ProgramReads.{firm_away, whole_last}
+use Rattle.sr_front.proofs.Put.{put_holds}
 use Rattle.sr_front.proofs.Rising.{Rises}
 use Rattle.sr_front.proofs.TypedTypes.{Counts, entered_counts, type_part}
 use Rattle.sr_front.proofs.TypeSites.{all, all_are_firm, firm, last, part_at, typing}
@@ -60,13 +61,7 @@ module _ (spot : Spot) (part : Option Info) where
   part_with facts at one apart (inr h) = inr (ap is_operation (entry-other facts.infos at one spot apart) ∙ h)
 
   part_operation : (facts : Facts) (at : Spot) (type : Ty) (component : Spot) (is_local : Bool) → StillPart facts → StillPart (declare facts at (info.Operation type component is_local))
-  part_operation facts at type component is_local h = by (same_spot-cases spot at)
-    where
-      by : (spot ≡ at) ⊎ (same_spot spot at ≡ false) → StillPart (declare facts at (info.Operation type component is_local))
-      by (inl same) =
-          let after = declare facts at (info.Operation type component is_local) in
-          inr (ap (λ s. is_operation (info_at after.infos s)) same ∙ ap is_operation (entry-same facts.infos at (info.Operation type component is_local)))
-      by (inr apart) = part_with facts at (info.Operation type component is_local) apart h
+  part_operation facts at type component is_local h = put_holds facts at (info.Operation type component is_local) (λ other found. (type_part found ≡ part) ⊎ (is_operation found ≡ true)) (inr refl) spot (λ apart. h)
 
   pub still_part : Declares StillPart Other
   still_part = record { entered = λ facts signature h. h; put = part_with; operation = part_operation; standing = λ facts component h. h }

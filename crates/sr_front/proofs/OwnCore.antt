@@ -1,6 +1,7 @@
 -- In the core of accepted files the formals of services are own variables of the code that services.
 use Rattle.std.proofs.Common.{◌≡◌, ℕ, suc, ◌+◌, Bool, true, true≢false, List, [], ◌∷◌, Option, Some, None, is_some, length, map, flat_map, unwrap_or, refl, sym, ap, subst, ◌∙◌, arith}
 use Rattle.std.proofs.lemmas.List.{length-append, length-map}
+use Rattle.std.proofs.lemmas.Option.{same_Some}
 use Rattle.std.specs.List.{IsDistinct, enumerate_from, list_all}
 use Rattle.std.specs.Option.{option_map}
 use Rattle.std.specs.Prelude.{IsTrue}
@@ -50,6 +51,7 @@ use Rattle.sr_tree.specs.Parts.{body_of, spec_of}
 use Rattle.sr_types.specs.declared.signature.Signature.{Signature}
 use Rattle.sr_types.specs.declared.ty.Ty.TheVariants.{Untyped}
 use Rattle.sr_front.specs.Formals.{arms_own, proc_own}
+use Rattle.sr_front.proofs.FreeBlocks.{FreeComponents}
 use Rattle.sr_front.proofs.AllowedCode.{files_error_free}
 use Rattle.sr_front.proofs.Declared.{Apart, entries, keys_apart, table_is}
 use Rattle.sr_front.proofs.Distinct.{found_there}
@@ -198,9 +200,6 @@ pub record LocalIn (files : List File) (facts : Facts) (shapes : Shapes) (heads 
   pub among : Each (Among (component_opened facts shapes heads tree)) (inner_opened facts shapes heads inner)
   pub lasts : Each (λ (owned : Owned). Lasts owned.0 facts) (inner_owned component inner)
 
-some_same : {A : Type 0} (a b : A) → Some a ≡ Some b → a ≡ b
-some_same a b e = cc
-
 module _ (uses : Meanings) (specs : Specs) (files : List File) (facts : Facts) (kept : facts.uses ≡ uses) (final : facts ≡ (checked uses specs files).facts) (none : first_refused uses specs files ≡ None)
     (apart : Apart files) (names_apart : IsDistinct same_spot (map spot_of (flat_map file_names files))) where
   abbrev known : Facts
@@ -294,9 +293,9 @@ module _ (uses : Meanings) (specs : Specs) (files : List File) (facts : Facts) (
       holding_statement uses files facts kept own_shapes own_heads_of own_procs apart component statement context h.0,
       keeps_statement Lasting uses component statement context h.1,
     );
-    inner = λ component inner context local h whole. (
+    inner = λ component inner context local types h whole. (
       subst (λ at. Holds at (proc_item_read inner context).facts) local.at
-          (local_headed uses files facts kept own_shapes own_heads_of own_procs apart local.number local.tree local.there inner context local.among
+          (local_headed uses files facts kept own_shapes own_heads_of own_procs apart local.number local.tree local.there inner context local.among types
           (subst (λ at. Holds at context.facts) (sym local.at) h.0) whole),
       keeps_inner Lasting uses component inner (each-weaker (λ (owned : Owned). Lasts owned.0 facts) (Allows Lasting) (λ owned lasts signatures ty. lasts) (inner_owned component inner) local.lasts) context h.1,
     );
@@ -320,19 +319,19 @@ module _ (uses : Meanings) (specs : Specs) (files : List File) (facts : Facts) (
       files_error_free files known
       (error_free_second (type_cycles_found (leads_left (program_inferred uses specs files) (files_waiting files))) (files_read files known).found (none_found uses specs files none))
 
-  module _ (plain : Plain Heading uses known) (optypes : OptypesHeaded own_heads_of known) where
+  module _ (plain : Plain Heading uses known) (optypes : OptypesHeaded own_heads_of known) (types : FreeComponents (components_in files) known) where
     begins : Between known
     begins = ((plain, optypes), known_lasts)
 
     -- in the end every operation that is known has its head
     after : Between facts
-    after = subst Between (sym final_is) (keeps_components Both uses Local Between Within carries (components_in files) known all_local begins whole)
+    after = subst Between (sym final_is) (keeps_components Both uses Local Between Within carries (components_in files) known all_local types begins whole)
 
     returns_last : (spot : Spot) (operation : Operation) → found_at (tables files facts).operations spot ≡ Some operation → (found : Option Info) → info_at facts.infos spot ≡ found → is_operation found ≡ true
         → is_some (returned_by facts (type_at facts spot)) ≡ is_some operation.returns
     returns_last spot operation there (Some (info.Operation ty component is_local)) at is =
         let headed = known_now Heading facts after.0.0.1 spot ty component is_local at in
-        let same : headed.entered.operation ≡ operation = some_same headed.entered.operation operation (sym headed.entered.found ∙ there) in
+        let same : headed.entered.operation ≡ operation = same_Some headed.entered.operation operation (sym headed.entered.found ∙ there) in
         ap (λ (one : Option Info). is_some (returned_by facts (unwrap_or (option_map info_type one) Untyped))) at
         ∙ ap (λ (one : Option Signature). is_some (returned_in one)) headed.head.at
         ∙ headed.head.fits.returns
@@ -354,4 +353,4 @@ module _ (uses : Meanings) (specs : Specs) (files : List File) (facts : Facts) (
     -- the formals of all services are own variables
     pub all_own : ComponentsOkay (λ number count owns. arms_own owns) facts (tables files facts) (imports files facts) 0 (components files facts) × IsTrue (list_all proc_own (core files facts).procs)
     all_own =
-        components_own Both uses Local Between Within carries facts kept (tables files facts) fitting (imports files facts) 0 (components_in files) known all_local (own_heads files facts apart) begins whole
+        components_own Both uses Local Between Within carries facts kept (tables files facts) fitting (imports files facts) 0 (components_in files) known all_local (own_heads files facts apart) types begins whole

@@ -33,6 +33,7 @@ use Rattle.sr_scope.specs.Resolved.{findings, program, resolved}
 use Rattle.sr_scope.specs.Types.{Formals, Signed, formal_read, formal_step, formals_found, returned_step, signature_step, type_step}
 use Rattle.sr_scope.specs.Uses.{IsIn, OneMeaning}
 use Rattle.sr_scope.proofs.Findings.{in_either, in_flat, in_left, in_program, in_right, use_means}
+use Rattle.sr_scope.proofs.Operations.{from_flat}
 use Rattle.sr_scope.proofs.OwnNames.{formal_own, item_own, own_names, spec_own}
 use Rattle.sr_scope.proofs.Tables.{sorted}
 use Rattle.sr_tables.specs.Parts.{component_spot, components_in, spot_named}
@@ -61,6 +62,8 @@ use Rattle.sr_front.proofs.UsesInStatements.{is_inner}
 use Rattle.sr_front.proofs.UsesVisible as visible
 use Rattle.sr_front.proofs.UsesVisible.{IsSeen}
 use Rattle.sr_front.proofs.DeclaredIn.{Stands, all_variables, item_operations, item_variables, quantifier_stands, stands_left, stands_right, variables_both}
+use Rattle.sr_front.proofs.KeptNames.{Anywhere, all_fit}
+use Rattle.sr_front.proofs.Lists.{each_at}
 
 -- what is used as a variable
 abbrev pub is_variable : Sort → Bool
@@ -168,9 +171,7 @@ module _ (facts : Facts) where
   body_shared (item.Spec declared) = spec_shared declared
   body_shared (item.Procedure procedure) = one_not Operation procedure.name [] refl
   body_shared (item.Process process) = one_not Operation process.name [] refl
-  body_shared (item.Proc proc) = none_shared []
-  body_shared (item.Final final) = none_shared []
-  body_shared (item.Statement statement) = none_shared []
+  body_shared _ = none_shared []
 
   formal_shared : (formal : Formal) → AreShared (formal_own formal) (formal_spots formal)
   formal_shared formal =
@@ -231,15 +232,6 @@ resource_or_global (Resource span name formals items) = inl refl
 resource_or_global (SplitResource span name spec formals items) = inl refl
 resource_or_global (Global span name spec body) = inr refl
 
-pub of_part : {A B : Type 0} (parts : A → List B) (items : List A) (part : B) → IsIn part (flat_map parts items) → (item : A) × (IsIn item items) × (IsIn part (parts item))
-of_part parts [] part k = absurd k
-of_part {A = A} parts (item ∷ items) part k = by (in_either part (parts item) (flat_map parts items) k) (of_part parts items part)
-  where
-    by : IsIn part (parts item) ⊎ IsIn part (flat_map parts items) → (IsIn part (flat_map parts items) → (one : A) × (IsIn one items) × (IsIn part (parts one)))
-        → (one : A) × (IsIn one (item ∷ items)) × (IsIn part (parts one))
-    by (inl h) more = (item, inl refl, h)
-    by (inr h) more = let rest = more h in (rest.0, inr rest.1, rest.2)
-
 static_not : (facts : Facts) (constant : ConstDecl) (spot : Spot) → is_constant facts (spot_named constant.name) ≡ true → IsIn spot (const_names facts constant) → ⊥
 unfolding const_names
 static_not facts constant spot is k = subst (λ b. IsIn spot (if b then [] else spot_named constant.name ∷ [])) is k
@@ -258,7 +250,7 @@ module _ (files : List File) (facts : Facts) (rules : SpecsStatic files facts) (
   -- so what is used as a variable and declared in the spec of a resource is a static constant
   spec_static : (one : Sort × Name) → IsIn one (flat_map spec_own (spec_of component)) → is_variable one.0 ≡ true → is_constant facts (spot_named one.1) ≡ true
   spec_static one k variable =
-      let part = of_part spec_own (spec_of component) one k in
+      let part = from_flat spec_own one (spec_of component) k in
       item_static part.0 part.1 (spot_named one.1) (spec_shared facts part.0 one part.2 variable)
 
 -- ---- what a name may mean that is used in a component
@@ -334,13 +326,6 @@ module _ (files : List File) (facts : Facts) (rules : SpecsStatic files facts) (
   static_may : (at : Spot) (span : Span) → is_constant facts (spot_of span) ≡ true → P at (declaration Constant span)
   static_may at span is = (λ variable. inr (inr (inr is)), λ component. absurd (false≢true component))
 
-  abbrev Anywhere : Spot → Type 0
-  Anywhere spot = Unit {0}
-
-  anywhere : (spots : List Spot) → Each Anywhere spots
-  anywhere [] = tt
-  anywhere (spot ∷ spots) = (tt, anywhere spots)
-
   operation_may : (at : Spot) (span : Span) → Anywhere (spot_of span) → P at (declaration Operation span)
   operation_may at span operated = (λ variable. absurd (false≢true variable), λ component. absurd (false≢true component))
 
@@ -354,7 +339,7 @@ module _ (files : List File) (facts : Facts) (rules : SpecsStatic files facts) (
   -- each use in an item whose variables are among the own ones
   pub item_means : (one : Item) (within : Option Spot) → ((spot : Spot) → IsIn spot (item_variables facts one) → Owned spot) → exprs.AllFit P (item_found one (inside outer within) no_blocks)
   item_means one within owned =
-      items.item_fits P facts Owned Anywhere owned_may static_may operation_may (inside outer within) (place_fits within) one (each_in (item_variables facts one) owned) (anywhere (item_operations one))
+      items.item_fits P facts Owned Anywhere owned_may static_may operation_may (inside outer within) (place_fits within) one (each_in (item_variables facts one) owned) (all_fit (λ spot. spot) (item_operations one))
 
   -- each use in the quantifiers of a process, which stand in initial code
   pub sends_mean : (process : Process) (within : Option Spot) → ((spot : Spot) → IsIn spot (quantifier_names process.quantifiers) → Owned spot)
@@ -378,12 +363,9 @@ item_owns facts component one = initial_spots facts component
 
 all_owned : (facts : Facts) (component : Component) (one : Item) → IsIn one (body_of component) → (spot : Spot) → IsIn spot (all_variables facts one) → IsIn spot (item_owns facts component one)
 all_owned facts component (item.Spec declared) among spot h = absurd h
-all_owned facts component (item.Proc proc) among spot h = in_once spot _ h
-all_owned facts component (item.Procedure procedure) among spot h = in_once spot _ h
-all_owned facts component (item.Process process) among spot h = in_once spot _ h
-all_owned facts component (item.Final final) among spot h = in_once spot _ h
 all_owned facts component (item.Statement statement) among spot h =
     in_once spot (flat_map (item_names facts) (body_of component)) (in_flat (item_names facts) (item.Statement statement) spot (body_of component) among h)
+all_owned facts component _ among spot h = in_once spot _ h
 
 pub stands_among : {A : Type 0} (names : A → List Span) (items : List A) (item : A) (spot : Spot) → IsIn item items → Stands spot (names item) → Stands spot (flat_map names items)
 stands_among names [] item spot k h = absurd k
@@ -413,11 +395,6 @@ sends_owned facts component process among spot h = (
 )
 
 -- ---- the meanings of uses
-
-pub each_at : {A : Type 0} (Q : A → Type 0) (xs : List A) → Each Q xs → (a : A) → IsIn a xs → Q a
-each_at Q [] h a k = absurd k
-each_at Q (x ∷ xs) h a (inl e) = subst Q e h.0
-each_at Q (x ∷ xs) h a (inr k) = each_at Q xs h.1 a k
 
 in_items : (items : List Item) (place : Place) (one : Item) → IsIn one items → (finding : Finding) → IsIn finding (item_found one (inside place (item_within one)) no_blocks)
     → IsIn finding (items_found items place no_blocks)

@@ -2,6 +2,7 @@
 use Rattle.std.proofs.Common.{◌≡◌, ◌∙◌, ℕ, ◌<◌, Bool, true, false, true≢false, ◌||◌, List, [], ◌∷◌, ◌++◌, Option, Some, None, IsTrue, is_some, length, map, refl, sym, ap, subst, arith}
 use Rattle.std.proofs.lemmas.Bool.{and_parts, false≢true}
 use Rattle.std.proofs.lemmas.List.{length-map}
+use Rattle.std.proofs.lemmas.Option.{none-some}
 use Rattle.sr_check.proofs.ErrorFree.{error_free_first, error_free_second, rule_met, same_error_free}
 use Rattle.sr_check.proofs.Named.{Meant, by_expr, meant_by as meant_operation}
 use Rattle.sr_check.proofs.Owners.{Meets, Sound, known_now}
@@ -27,7 +28,7 @@ use Rattle.sr_lower_expr.specs.Places.{parameters_at, returns_at}
 use Rattle.sr_names.specs.declared.finding.Rule.TheVariants.{BadType}
 use Rattle.sr_names.specs.declared.meaning.Decl.{Decl}
 use Rattle.sr_names.specs.declared.meaning.Meaning.{Meaning}
-use Rattle.sr_names.specs.declared.meaning.Meaning.TheVariants.{Declared, Predefined as MeansPredefined}
+use Rattle.sr_names.specs.declared.meaning.Meaning.TheVariants.{Predefined as MeansPredefined}
 use Rattle.sr_names.specs.declared.predefined.Predefined.TheVariants as predefined
 use Rattle.sr_names.specs.declared.spot.Spot.{Spot}
 use Rattle.sr_names.specs.Spots.{spot_of}
@@ -83,11 +84,8 @@ told true other both is = refl
 told false true both is = absurd (false≢true both)
 told false false both is = absurd (false≢true is)
 
-none_some : {A : Type 0} (thing : A) → None ≡ Some thing → ⊥
-none_some thing e = cc
-
 typed_by : (signatures : List Signature) (signature : Signature) (layer : Ty-F Ty) → layer_signature signatures layer ≡ Some signature → layer_is_untyped layer ≡ false
-typed_by signatures signature (Ty-F.Untyped) e = absurd (none_some signature e)
+typed_by signatures signature (Ty-F.Untyped) e = absurd (none-some signature e)
 typed_by signatures signature _ e = refl
 
 second_of : (a b : Bool) → a ≡ false → IsTrue (a || b) → IsTrue b
@@ -242,9 +240,7 @@ module _ (P : Meets) (scene : Scene) (owns : ℕ) (fitting : Fitting P scene.fac
       → Waited span arguments
   meaning_room context h span used arguments (Some (MeansPredefined predefined.P)) is whole =
       arguments_room context h span arguments (error_free_second (all_valued (typed_exprs_of (typings_of context.facts arguments))) _ whole)
-  meaning_room context h span used arguments (Some (MeansPredefined _)) is whole = absurd (false≢true is)
-  meaning_room context h span used arguments (Some (Declared decl)) is whole = absurd (false≢true is)
-  meaning_room context h span used arguments None is whole = absurd (false≢true is)
+  meaning_room context h span used arguments _ is whole = absurd (false≢true is)
 
   abbrev infer_layer : Expr-F Create Expr Invocation Part → Expr-F Inferrer Inferrer CalledInferrer PartInferrer
   infer_layer = map-Expr Create Expr Invocation Part Inferrer Inferrer CalledInferrer PartInferrer infer_create infer_expr infer_invocation infer_part

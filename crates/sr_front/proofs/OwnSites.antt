@@ -1,5 +1,5 @@
 -- Where no rule is broken in a statement, the formals of the arms of its sites are own variables where it stands.
-use Rattle.std.proofs.Common.{◌≡◌, ℕ, ◌≤◌, Bool, true, false, List, [], ◌∷◌, ◌++◌, Option, Some, None, IsTrue, is_some, length, map, if◌then◌else◌, refl, sym, subst}
+use Rattle.std.proofs.Common.{◌≡◌, ℕ, ◌≤◌, Bool, true, false, List, [], ◌∷◌, ◌++◌, Option, Some, None, IsTrue, is_some, length, map, if◌then◌else◌, refl, subst}
 use Rattle.std.proofs.lemmas.Bool.{and_from}
 use Rattle.std.specs.List.{list_all}
 use Rattle.sr_check.proofs.ErrorFree.{error_free_first, error_free_second}
@@ -10,38 +10,34 @@ use Rattle.sr_check.specs.ErrorFree.{ErrorFree}
 use Rattle.sr_check.specs.Invoking.{started_found}
 use Rattle.sr_check.specs.Quantifying.{expr_with, quantifiers_found, quantifiers_known}
 use Rattle.sr_check.specs.Services.{head_found, operation_named, type_of}
-use Rattle.sr_check.specs.Statements.{ArmSteps, CoArmSteps, arm_context, arm_read, arm_step, arms_at, block_item_read, branch_read, branch_step, co_arm_read, co_arm_step, co_arms_at, guards_found, item_step, mixture_found, statement_read, statement_step}
+use Rattle.sr_check.specs.Statements.{ArmSteps, arm_context, arm_read, arms_at, block_item_read, branch_read, co_arm_read, co_arms_at, guards_found, mixture_found, statement_read}
 use Rattle.sr_check.specs.Uses.{condition_rule}
 use Rattle.sr_check_expr.specs.declared.facts.Facts.{Facts}
 use Rattle.sr_check_expr.specs.Exprs.{infer_invocation}
 use Rattle.sr_check_expr.specs.Meanings.{function_called, meant_by}
 use Rattle.sr_core.specs.declared.site.Arm.{Arm as CoreArm}
 use Rattle.sr_core.specs.declared.site.Site.{Site}
-use Rattle.sr_core.specs.declared.statement.CoArm.{CoArm as CoreCoArm}
-use Rattle.sr_core.specs.declared.statement.Guarded.{Guarded}
-use Rattle.sr_core.specs.declared.statement.Statement.{Statement as CoreStatement}
-use Rattle.sr_desugar.specs.Statements.{Block, LoweredArm, WithSites, act, all_sites, alone, arm_made, arms_of, branch_made, call_action, co_arm_made, core_arm, core_block_item, core_branch, core_co_arm, core_statement, item_made, receive_made, statement_made}
+use Rattle.sr_desugar.specs.Statements.{LoweredArm, WithSites, act, all_sites, alone, arms_of, call_action, core_arm, core_block_item, core_branch, core_co_arm, core_statement, receive_made}
 use Rattle.sr_lower_expr.specs.declared.scene.Scene.{Scene}
 use Rattle.sr_lower_expr.proofs.Each.{both_pass}
 use Rattle.sr_names.specs.declared.spot.Spot.{Spot}
 use Rattle.sr_names.specs.Spots.{spot_of}
-use Rattle.sr_outline.specs.Numbers.{arm_in, arm_names, block_item_names, branch_in, call_names, co_arm_in, co_arm_names, is_p, is_wait, item_in, names_in, place_spots, quantifier_names, receive_names, receive_returned, received_names, returned_names, statement_names, wait_operation}
+use Rattle.sr_outline.specs.Numbers.{arm_in, branch_in, call_names, co_arm_in, is_p, is_wait, item_in, names_in, place_spots, quantifier_names, receive_names, receive_returned, received_names, returned_names, wait_operation}
 use Rattle.sr_tables.specs.Lists.{lists}
 use Rattle.sr_tables.specs.Parts.{spot_named}
 use Rattle.sr_tree.specs.declared.expr.Expr.{Expr}
 use Rattle.sr_tree.specs.declared.expr.Invocation.{Invocation}
 use Rattle.sr_tree.specs.declared.name.Name.{Name}
-use Rattle.sr_tree.specs.declared.statement.Arm.{Arm, roll-Arm}
-use Rattle.sr_tree.specs.declared.statement.BlockItem.{BlockItem, roll-BlockItem}
-use Rattle.sr_tree.specs.declared.statement.BlockItem.TheFolds.{fold-roll-Arm, fold-roll-BlockItem, fold-roll-Branch, fold-roll-CoArm, fold-roll-Statement, ind-Statement, map-Arm, map-BlockItem, map-Branch, map-CoArm, map-Statement}
-use Rattle.sr_tree.specs.declared.statement.BlockItem.TheOpen.{Arm-F, BlockItem-F, Branch-F, CoArm-F, Statement-F}
-use Rattle.sr_tree.specs.declared.statement.Branch.{Branch, roll-Branch}
-use Rattle.sr_tree.specs.declared.statement.CoArm.{CoArm, roll-CoArm}
-use Rattle.sr_tree.specs.declared.statement.Statement.{Statement, roll-Statement}
+use Rattle.sr_tree.specs.declared.statement.BlockItem.TheOpen.{BlockItem-F, Statement-F}
+use Rattle.sr_tree.specs.declared.statement.Statement.{Statement}
 use Rattle.sr_value.specs.declared.place.Span.{Span}
 use Rattle.sr_front.specs.Formals.{arms_own, formals_own}
+use Rattle.sr_desugar.proofs.CodeFold.{making}
+use Rattle.sr_check.proofs.ReadFolds.{reading}
+use Rattle.sr_outline.proofs.NumberFolds.{owned}
 use Rattle.sr_front.proofs.OwnFormals.{HasRoom, Room, own_formals_pass, room_left, room_right}
 use Rattle.sr_front.proofs.OwnServices.{Fitting, call_room, head_room, receive_room}
+use Rattle.sr_tree.proofs.StatementFolds.{ArmNode, BranchNode, ByParts, Claim, CoArmNode, ItemNode, Known, StatementNode, arm_folds, bare_arm, bare_branch, bare_co_arm, bare_item, bare_statement, branch_folds, co_arm_folds, each_statement, from_arm, from_branch, from_co_arm, from_item, from_statement, item_folds, statement_folds}
 
 -- what is received has the names of its places, and of what is returned
 received_room : (facts : Facts) (owns : ℕ) (span : Span) (operation : Name) (places : List Expr) → Room owns (received_names facts span operation places) → Room owns (receive_names facts span (meant_by facts operation) places)
@@ -85,9 +81,6 @@ module _ (P : Meets) (scene : Scene) (owns : ℕ) (some : length scene.own ≤ o
   abbrev pub Good : Steps → List Spot → List Site → Type 0
   Good steps names sites = (context : Context) → Holds context.facts → ErrorFree (steps context).found → Fits names → AllOwn sites
 
-  abbrev ItemGood : BlockItem → Type 0
-  ItemGood tree = Good (block_item_read tree) (item_in scene.facts tree) (core_block_item scene tree).sites
-
   abbrev pub StatementGood : Statement → Type 0
   StatementGood tree = Good (statement_read tree) (names_in scene.facts tree) (core_statement scene tree).sites
 
@@ -95,29 +88,26 @@ module _ (P : Meets) (scene : Scene) (owns : ℕ) (some : length scene.own ≤ o
   abbrev ArmGoodIn : ArmSteps → List Spot → WithSites LoweredArm → Type 0
   ArmGoodIn arm names made = (span : Span) (context : Context) → Holds context.facts → ErrorFree (arm.steps span context).found → Fits names → ArmOwn made.made.arm × AllOwn made.sites
 
-  abbrev ArmGood : Arm → Type 0
-  ArmGood tree = ArmGoodIn (arm_read tree) (arm_in scene.facts tree) (core_arm scene tree)
-
-  abbrev BranchGood : Branch → Type 0
-  BranchGood tree = Good (branch_read tree) (branch_in scene.facts tree) (core_branch scene tree).sites
-
-  abbrev CoArmGood : CoArm → Type 0
-  CoArmGood tree = (span : Span) → Good (co_arm_read tree span) (co_arm_in scene.facts tree) (core_co_arm scene tree).sites
+  abbrev sites_own : Claim
+  sites_own = record {
+    item = λ tree. Good (block_item_read tree) (item_in scene.facts tree) (core_block_item scene tree).sites;
+    statement = StatementGood;
+    arm = λ tree. ArmGoodIn (arm_read tree) (arm_in scene.facts tree) (core_arm scene tree);
+    branch = λ tree. Good (branch_read tree) (branch_in scene.facts tree) (core_branch scene tree).sites;
+    co_arm = λ tree. (span : Span) → Good (co_arm_read tree span) (co_arm_in scene.facts tree) (core_co_arm scene tree).sites;
+  }
 
   abbrev I : Type 0
-  I = (tree : BlockItem) × ItemGood tree
-
-  abbrev S : Type 0
-  S = (tree : Statement) × StatementGood tree
+  I = Known sites_own.item
 
   abbrev A : Type 0
-  A = (tree : Arm) × ArmGood tree
+  A = Known sites_own.arm
 
   abbrev B : Type 0
-  B = (tree : Branch) × BranchGood tree
+  B = Known sites_own.branch
 
   abbrev C : Type 0
-  C = (tree : CoArm) × CoArmGood tree
+  C = Known sites_own.co_arm
 
   items_good : (items : List I)
       → Good (in_order (map block_item_read (map (λ e. e.0) items))) (lists (map (item_in scene.facts) (map (λ e. e.0) items))) (all_sites (map (core_block_item scene) (map (λ e. e.0) items)))
@@ -174,85 +164,9 @@ module _ (P : Meets) (scene : Scene) (owns : ℕ) (some : length scene.own ≤ o
   arms_keep span [] context h = h
   arms_keep span (arm ∷ arms) context h = arms_keep span arms (with_facts context ((arm_read arm.0).steps span context).facts) (keeps_arm P scene.facts.uses component arm.0 span context h)
 
-  -- ---- the open trees
-
-  abbrev bare_item : BlockItem-F I S A B C → BlockItem-F BlockItem Statement Arm Branch CoArm
-  bare_item = map-BlockItem I S A B C BlockItem Statement Arm Branch CoArm (λ e. e.0) (λ e. e.0) (λ e. e.0) (λ e. e.0) (λ e. e.0)
-
-  abbrev bare : Statement-F I S A B C → Statement-F BlockItem Statement Arm Branch CoArm
-  bare = map-Statement I S A B C BlockItem Statement Arm Branch CoArm (λ e. e.0) (λ e. e.0) (λ e. e.0) (λ e. e.0) (λ e. e.0)
-
-  abbrev bare_arm : Arm-F I S A B C → Arm-F BlockItem Statement Arm Branch CoArm
-  bare_arm = map-Arm I S A B C BlockItem Statement Arm Branch CoArm (λ e. e.0) (λ e. e.0) (λ e. e.0) (λ e. e.0) (λ e. e.0)
-
-  abbrev bare_branch : Branch-F I S A B C → Branch-F BlockItem Statement Arm Branch CoArm
-  bare_branch = map-Branch I S A B C BlockItem Statement Arm Branch CoArm (λ e. e.0) (λ e. e.0) (λ e. e.0) (λ e. e.0) (λ e. e.0)
-
-  abbrev bare_co_arm : CoArm-F I S A B C → CoArm-F BlockItem Statement Arm Branch CoArm
-  bare_co_arm = map-CoArm I S A B C BlockItem Statement Arm Branch CoArm (λ e. e.0) (λ e. e.0) (λ e. e.0) (λ e. e.0) (λ e. e.0)
-
-  -- how the parts of a tree are read, named and made
-  abbrev steps_of_item : BlockItem-F BlockItem Statement Arm Branch CoArm → Steps
-  steps_of_item x = item_step (map-BlockItem BlockItem Statement Arm Branch CoArm Steps Steps ArmSteps Steps CoArmSteps block_item_read statement_read arm_read branch_read co_arm_read x)
-
-  abbrev steps_of_statement : Statement-F BlockItem Statement Arm Branch CoArm → Steps
-  steps_of_statement x = statement_step (map-Statement BlockItem Statement Arm Branch CoArm Steps Steps ArmSteps Steps CoArmSteps block_item_read statement_read arm_read branch_read co_arm_read x)
-
-  abbrev steps_of_arm : Arm-F BlockItem Statement Arm Branch CoArm → ArmSteps
-  steps_of_arm x = arm_step (map-Arm BlockItem Statement Arm Branch CoArm Steps Steps ArmSteps Steps CoArmSteps block_item_read statement_read arm_read branch_read co_arm_read x)
-
-  abbrev steps_of_branch : Branch-F BlockItem Statement Arm Branch CoArm → Steps
-  steps_of_branch x = branch_step (map-Branch BlockItem Statement Arm Branch CoArm Steps Steps ArmSteps Steps CoArmSteps block_item_read statement_read arm_read branch_read co_arm_read x)
-
-  abbrev steps_of_co_arm : CoArm-F BlockItem Statement Arm Branch CoArm → CoArmSteps
-  steps_of_co_arm x = co_arm_step (map-CoArm BlockItem Statement Arm Branch CoArm Steps Steps ArmSteps Steps CoArmSteps block_item_read statement_read arm_read branch_read co_arm_read x)
-
-  abbrev Names : Type 0
-  Names = List Spot
-
-  abbrev names_of_item : BlockItem-F BlockItem Statement Arm Branch CoArm → Names
-  names_of_item x = block_item_names scene.facts (map-BlockItem BlockItem Statement Arm Branch CoArm Names Names Names Names Names (item_in scene.facts) (names_in scene.facts) (arm_in scene.facts) (branch_in scene.facts) (co_arm_in scene.facts) x)
-
-  abbrev names_of_statement : Statement-F BlockItem Statement Arm Branch CoArm → Names
-  names_of_statement x = statement_names scene.facts (map-Statement BlockItem Statement Arm Branch CoArm Names Names Names Names Names (item_in scene.facts) (names_in scene.facts) (arm_in scene.facts) (branch_in scene.facts) (co_arm_in scene.facts) x)
-
-  abbrev names_of_arm : Arm-F BlockItem Statement Arm Branch CoArm → Names
-  names_of_arm x = arm_names (map-Arm BlockItem Statement Arm Branch CoArm Names Names Names Names Names (item_in scene.facts) (names_in scene.facts) (arm_in scene.facts) (branch_in scene.facts) (co_arm_in scene.facts) x)
-
-  abbrev names_of_branch : Branch-F BlockItem Statement Arm Branch CoArm → Names
-  names_of_branch x = (λ (branch : Branch-F Names Names Names Names Names). lists branch.block) (map-Branch BlockItem Statement Arm Branch CoArm Names Names Names Names Names (item_in scene.facts) (names_in scene.facts) (arm_in scene.facts) (branch_in scene.facts) (co_arm_in scene.facts) x)
-
-  abbrev names_of_co_arm : CoArm-F BlockItem Statement Arm Branch CoArm → Names
-  names_of_co_arm x = co_arm_names (map-CoArm BlockItem Statement Arm Branch CoArm Names Names Names Names Names (item_in scene.facts) (names_in scene.facts) (arm_in scene.facts) (branch_in scene.facts) (co_arm_in scene.facts) x)
-
-  abbrev made_of_item : BlockItem-F BlockItem Statement Arm Branch CoArm → WithSites Block
-  made_of_item x =
-      item_made scene (map-BlockItem BlockItem Statement Arm Branch CoArm (WithSites Block) (WithSites CoreStatement) (WithSites LoweredArm) (WithSites Guarded) (WithSites CoreCoArm)
-      (core_block_item scene) (core_statement scene) (core_arm scene) (core_branch scene) (core_co_arm scene) x)
-
-  abbrev made_of_statement : Statement-F BlockItem Statement Arm Branch CoArm → WithSites CoreStatement
-  made_of_statement x =
-      statement_made scene (map-Statement BlockItem Statement Arm Branch CoArm (WithSites Block) (WithSites CoreStatement) (WithSites LoweredArm) (WithSites Guarded) (WithSites CoreCoArm)
-      (core_block_item scene) (core_statement scene) (core_arm scene) (core_branch scene) (core_co_arm scene) x)
-
-  abbrev made_of_arm : Arm-F BlockItem Statement Arm Branch CoArm → WithSites LoweredArm
-  made_of_arm x =
-      arm_made scene (map-Arm BlockItem Statement Arm Branch CoArm (WithSites Block) (WithSites CoreStatement) (WithSites LoweredArm) (WithSites Guarded) (WithSites CoreCoArm)
-      (core_block_item scene) (core_statement scene) (core_arm scene) (core_branch scene) (core_co_arm scene) x)
-
-  abbrev made_of_branch : Branch-F BlockItem Statement Arm Branch CoArm → WithSites Guarded
-  made_of_branch x =
-      branch_made scene (map-Branch BlockItem Statement Arm Branch CoArm (WithSites Block) (WithSites CoreStatement) (WithSites LoweredArm) (WithSites Guarded) (WithSites CoreCoArm)
-      (core_block_item scene) (core_statement scene) (core_arm scene) (core_branch scene) (core_co_arm scene) x)
-
-  abbrev made_of_co_arm : CoArm-F BlockItem Statement Arm Branch CoArm → WithSites CoreCoArm
-  made_of_co_arm x =
-      co_arm_made scene (map-CoArm BlockItem Statement Arm Branch CoArm (WithSites Block) (WithSites CoreStatement) (WithSites LoweredArm) (WithSites Guarded) (WithSites CoreCoArm)
-      (core_block_item scene) (core_statement scene) (core_arm scene) (core_branch scene) (core_co_arm scene) x)
-
   -- ---- each tree, when its parts are so
 
-  item_good : (y : BlockItem-F I S A B C) → Good (steps_of_item (bare_item y)) (names_of_item (bare_item y)) (made_of_item (bare_item y)).sites
+  item_good : (y : ItemNode sites_own) → Good (from_item reading (bare_item sites_own y)) (from_item (owned scene.facts) (bare_item sites_own y)) (from_item (making scene) (bare_item sites_own y)).sites
   item_good (BlockItem-F.Const constant) context h whole room = refl
   item_good (BlockItem-F.Var variables) context h whole room = refl
   item_good (BlockItem-F.Statement statement) context h whole room = statement.1 context h whole room
@@ -275,7 +189,7 @@ module _ (P : Meets) (scene : Scene) (owns : ℕ) (some : length scene.own ≤ o
   alone_good make steps names parts good context h whole room =
       both_pass (arms_own owns) (all_sites (map make parts)) [] (good context h (error_free_first (steps context).found [] whole) (room_left owns names [] room)) refl
 
-  statement_good : (y : Statement-F I S A B C) → Good (steps_of_statement (bare y)) (names_of_statement (bare y)) (made_of_statement (bare y)).sites
+  statement_good : (y : StatementNode sites_own) → Good (from_statement reading (bare_statement sites_own y)) (from_statement (owned scene.facts) (bare_statement sites_own y)) (from_statement (making scene) (bare_statement sites_own y)).sites
   statement_good (Statement-F.Call span with_call invocation) context h whole room =
       call_good span invocation (is_p (function_called scene.facts invocation))
       (λ is. call_room P scene owns fitting component context h span invocation is whole (called_room scene.facts owns span invocation is room))
@@ -314,7 +228,7 @@ module _ (P : Meets) (scene : Scene) (owns : ℕ) (some : length scene.own ≤ o
   statement_good (Statement-F.Co span arms) context h whole room = co_arms_good span arms context h whole room
   statement_good _ context h whole room = refl
 
-  arm_good : (y : Arm-F I S A B C) → ArmGoodIn (steps_of_arm (bare_arm y)) (names_of_arm (bare_arm y)) (made_of_arm (bare_arm y))
+  arm_good : (y : ArmNode sites_own) → ArmGoodIn (from_arm reading (bare_arm sites_own y)) (from_arm (owned scene.facts) (bare_arm sites_own y)) (from_arm (making scene) (bare_arm sites_own y))
   arm_good y span context h whole room =
       let operation = operation_named context.facts y.operation in
       let inner = arm_context context (spot_of y.operation.span) y.formals y.returned operation in
@@ -330,11 +244,10 @@ module _ (P : Meets) (scene : Scene) (owns : ℕ) (some : length scene.own ≤ o
             (error_free_second (guards_found inner.facts y.condition y.order) _ (error_free_second head _ whole)) (room_right owns returned block after),
       )
 
-  branch_good : (y : Branch-F I S A B C) → Good (steps_of_branch (bare_branch y)) (names_of_branch (bare_branch y)) (made_of_branch (bare_branch y)).sites
+  branch_good : (y : BranchNode sites_own) → Good (from_branch reading (bare_branch sites_own y)) (from_branch (owned scene.facts) (bare_branch sites_own y)) (from_branch (making scene) (bare_branch sites_own y)).sites
   branch_good y context h whole room = items_good y.block context h (error_free_second (expr_with condition_rule context.facts y.guard) _ whole) room
 
-  co_arm_by : (y : CoArm-F I S A B C) (block : Option (List I)) (span : Span)
-      → Good (steps_of_co_arm (bare_co_arm (record y { block = block })) span) (names_of_co_arm (bare_co_arm (record y { block = block }))) (made_of_co_arm (bare_co_arm (record y { block = block }))).sites
+  co_arm_by : (y : CoArmNode sites_own) (block : Option (List I)) → (span : Span) → Good (from_co_arm reading (bare_co_arm sites_own (record y { block = block })) span) (from_co_arm (owned scene.facts) (bare_co_arm sites_own (record y { block = block }))) (from_co_arm (making scene) (bare_co_arm sites_own (record y { block = block }))).sites
   co_arm_by y None span context h whole room = refl
   co_arm_by y (Some items) span context h whole room =
       let known = quantifiers_known context.facts y.quantifiers in
@@ -342,60 +255,17 @@ module _ (P : Meets) (scene : Scene) (owns : ℕ) (some : length scene.own ≤ o
       items_good items (looping (with_facts context known)) (keeps_quantifiers P scene.facts.uses component y.quantifiers context.facts h)
       (error_free_second (started_found known span y.target (infer_invocation y.invocation known)) _ after) (room_right owns (quantifier_names y.quantifiers) _ room)
 
-  co_arm_good : (y : CoArm-F I S A B C) (span : Span) → Good (steps_of_co_arm (bare_co_arm y) span) (names_of_co_arm (bare_co_arm y)) (made_of_co_arm (bare_co_arm y)).sites
+  co_arm_good : (y : CoArmNode sites_own) → (span : Span) → Good (from_co_arm reading (bare_co_arm sites_own y) span) (from_co_arm (owned scene.facts) (bare_co_arm sites_own y)) (from_co_arm (making scene) (bare_co_arm sites_own y)).sites
   co_arm_good y = co_arm_by y y.block
 
-  -- ---- all trees
-
-  step_item : (x : BlockItem-F BlockItem Statement Arm Branch CoArm) (y : BlockItem-F I S A B C) → bare_item y ≡ x → ItemGood (roll-BlockItem x)
-  step_item x y is = subst (λ z. ItemGood (roll-BlockItem z)) is
-      (subst (λ (steps : Steps). Good steps (item_in scene.facts (roll-BlockItem (bare_item y))) (core_block_item scene (roll-BlockItem (bare_item y))).sites)
-      (sym (fold-roll-BlockItem Steps Steps ArmSteps Steps CoArmSteps item_step statement_step arm_step branch_step co_arm_step (bare_item y)))
-      (subst (λ (names : Names). Good (steps_of_item (bare_item y)) names (core_block_item scene (roll-BlockItem (bare_item y))).sites)
-      (sym (fold-roll-BlockItem Names Names Names Names Names (block_item_names scene.facts) (statement_names scene.facts) arm_names (λ (branch : Branch-F Names Names Names Names Names). lists branch.block) co_arm_names (bare_item y)))
-      (subst (λ (made : WithSites Block). Good (steps_of_item (bare_item y)) (names_of_item (bare_item y)) made.sites)
-      (sym (fold-roll-BlockItem (WithSites Block) (WithSites CoreStatement) (WithSites LoweredArm) (WithSites Guarded) (WithSites CoreCoArm) (item_made scene) (statement_made scene) (arm_made scene) (branch_made scene) (co_arm_made scene) (bare_item y)))
-      (item_good y))))
-
-  step_statement : (x : Statement-F BlockItem Statement Arm Branch CoArm) (y : Statement-F I S A B C) → bare y ≡ x → StatementGood (roll-Statement x)
-  step_statement x y is = subst (λ z. StatementGood (roll-Statement z)) is
-      (subst (λ (steps : Steps). Good steps (names_in scene.facts (roll-Statement (bare y))) (core_statement scene (roll-Statement (bare y))).sites)
-      (sym (fold-roll-Statement Steps Steps ArmSteps Steps CoArmSteps item_step statement_step arm_step branch_step co_arm_step (bare y)))
-      (subst (λ (names : Names). Good (steps_of_statement (bare y)) names (core_statement scene (roll-Statement (bare y))).sites)
-      (sym (fold-roll-Statement Names Names Names Names Names (block_item_names scene.facts) (statement_names scene.facts) arm_names (λ (branch : Branch-F Names Names Names Names Names). lists branch.block) co_arm_names (bare y)))
-      (subst (λ (made : WithSites CoreStatement). Good (steps_of_statement (bare y)) (names_of_statement (bare y)) made.sites)
-      (sym (fold-roll-Statement (WithSites Block) (WithSites CoreStatement) (WithSites LoweredArm) (WithSites Guarded) (WithSites CoreCoArm) (item_made scene) (statement_made scene) (arm_made scene) (branch_made scene) (co_arm_made scene) (bare y)))
-      (statement_good y))))
-
-  step_arm : (x : Arm-F BlockItem Statement Arm Branch CoArm) (y : Arm-F I S A B C) → bare_arm y ≡ x → ArmGood (roll-Arm x)
-  step_arm x y is = subst (λ z. ArmGood (roll-Arm z)) is
-      (subst (λ (steps : ArmSteps). ArmGoodIn steps (arm_in scene.facts (roll-Arm (bare_arm y))) (core_arm scene (roll-Arm (bare_arm y))))
-      (sym (fold-roll-Arm Steps Steps ArmSteps Steps CoArmSteps item_step statement_step arm_step branch_step co_arm_step (bare_arm y)))
-      (subst (λ (names : Names). ArmGoodIn (steps_of_arm (bare_arm y)) names (core_arm scene (roll-Arm (bare_arm y))))
-      (sym (fold-roll-Arm Names Names Names Names Names (block_item_names scene.facts) (statement_names scene.facts) arm_names (λ (branch : Branch-F Names Names Names Names Names). lists branch.block) co_arm_names (bare_arm y)))
-      (subst (λ (made : WithSites LoweredArm). ArmGoodIn (steps_of_arm (bare_arm y)) (names_of_arm (bare_arm y)) made)
-      (sym (fold-roll-Arm (WithSites Block) (WithSites CoreStatement) (WithSites LoweredArm) (WithSites Guarded) (WithSites CoreCoArm) (item_made scene) (statement_made scene) (arm_made scene) (branch_made scene) (co_arm_made scene) (bare_arm y)))
-      (arm_good y))))
-
-  step_branch : (x : Branch-F BlockItem Statement Arm Branch CoArm) (y : Branch-F I S A B C) → bare_branch y ≡ x → BranchGood (roll-Branch x)
-  step_branch x y is = subst (λ z. BranchGood (roll-Branch z)) is
-      (subst (λ (steps : Steps). Good steps (branch_in scene.facts (roll-Branch (bare_branch y))) (core_branch scene (roll-Branch (bare_branch y))).sites)
-      (sym (fold-roll-Branch Steps Steps ArmSteps Steps CoArmSteps item_step statement_step arm_step branch_step co_arm_step (bare_branch y)))
-      (subst (λ (names : Names). Good (steps_of_branch (bare_branch y)) names (core_branch scene (roll-Branch (bare_branch y))).sites)
-      (sym (fold-roll-Branch Names Names Names Names Names (block_item_names scene.facts) (statement_names scene.facts) arm_names (λ (branch : Branch-F Names Names Names Names Names). lists branch.block) co_arm_names (bare_branch y)))
-      (subst (λ (made : WithSites Guarded). Good (steps_of_branch (bare_branch y)) (names_of_branch (bare_branch y)) made.sites)
-      (sym (fold-roll-Branch (WithSites Block) (WithSites CoreStatement) (WithSites LoweredArm) (WithSites Guarded) (WithSites CoreCoArm) (item_made scene) (statement_made scene) (arm_made scene) (branch_made scene) (co_arm_made scene) (bare_branch y)))
-      (branch_good y))))
-
-  step_co_arm : (x : CoArm-F BlockItem Statement Arm Branch CoArm) (y : CoArm-F I S A B C) → bare_co_arm y ≡ x → CoArmGood (roll-CoArm x)
-  step_co_arm x y is = subst (λ z. CoArmGood (roll-CoArm z)) is
-      (subst (λ (steps : CoArmSteps). (span : Span) → Good (steps span) (co_arm_in scene.facts (roll-CoArm (bare_co_arm y))) (core_co_arm scene (roll-CoArm (bare_co_arm y))).sites)
-      (sym (fold-roll-CoArm Steps Steps ArmSteps Steps CoArmSteps item_step statement_step arm_step branch_step co_arm_step (bare_co_arm y)))
-      (subst (λ (names : Names). (span : Span) → Good ((steps_of_co_arm (bare_co_arm y)) span) names (core_co_arm scene (roll-CoArm (bare_co_arm y))).sites)
-      (sym (fold-roll-CoArm Names Names Names Names Names (block_item_names scene.facts) (statement_names scene.facts) arm_names (λ (branch : Branch-F Names Names Names Names Names). lists branch.block) co_arm_names (bare_co_arm y)))
-      (subst (λ (made : WithSites CoreCoArm). (span : Span) → Good ((steps_of_co_arm (bare_co_arm y)) span) (names_of_co_arm (bare_co_arm y)) made.sites)
-      (sym (fold-roll-CoArm (WithSites Block) (WithSites CoreStatement) (WithSites LoweredArm) (WithSites Guarded) (WithSites CoreCoArm) (item_made scene) (statement_made scene) (arm_made scene) (branch_made scene) (co_arm_made scene) (bare_co_arm y)))
-      (co_arm_good y))))
+  by_parts : ByParts sites_own
+  by_parts = record {
+    item = λ y. subst (λ t. t) (λ i. Good (item_folds reading (bare_item sites_own y) i) (item_folds (owned scene.facts) (bare_item sites_own y) i) (item_folds (making scene) (bare_item sites_own y) i).sites) (item_good y);
+    statement = λ y. subst (λ t. t) (λ i. Good (statement_folds reading (bare_statement sites_own y) i) (statement_folds (owned scene.facts) (bare_statement sites_own y) i) (statement_folds (making scene) (bare_statement sites_own y) i).sites) (statement_good y);
+    arm = λ y. subst (λ t. t) (λ i. ArmGoodIn (arm_folds reading (bare_arm sites_own y) i) (arm_folds (owned scene.facts) (bare_arm sites_own y) i) (arm_folds (making scene) (bare_arm sites_own y) i)) (arm_good y);
+    branch = λ y. subst (λ t. t) (λ i. Good (branch_folds reading (bare_branch sites_own y) i) (branch_folds (owned scene.facts) (bare_branch sites_own y) i) (branch_folds (making scene) (bare_branch sites_own y) i).sites) (branch_good y);
+    co_arm = λ y. subst (λ t. t) (λ i. (span : Span) → Good (co_arm_folds reading (bare_co_arm sites_own y) i span) (co_arm_folds (owned scene.facts) (bare_co_arm sites_own y) i) (co_arm_folds (making scene) (bare_co_arm sites_own y) i).sites) (co_arm_good y);
+  }
 
   pub statement_owns : (tree : Statement) → StatementGood tree
-  statement_owns = ind-Statement ItemGood StatementGood ArmGood BranchGood CoArmGood step_item step_statement step_arm step_branch step_co_arm
+  statement_owns = each_statement sites_own by_parts

@@ -1,5 +1,5 @@
 -- What is known after the quantifiers of a process is known in its body, in which their names are formals.
-use Rattle.std.proofs.Common.{◌≡◌, ◌⊎◌, inl, inr, false, List, [], ◌∷◌, flat_map, Some, sym, ap, ◌∙◌}
+use Rattle.std.proofs.Common.{◌≡◌, ◌⊎◌, inl, inr, false, List, [], ◌∷◌, flat_map, Some, sym, ap, ◌∙◌, refl}
 use Rattle.std.specs.Option.{option_map}
 use Rattle.std.proofs.lemmas.Bool.{false≢true}
 use Rattle.sr_names.specs.declared.spot.Spot.{Spot}
@@ -24,10 +24,8 @@ use Rattle.sr_front.proofs.KeptNames.{keeps_formal_quantifiers}
 use Rattle.sr_front.proofs.Leading.{leads_on, leads_through}
 use Rattle.sr_front.proofs.Placed.{Placed}
 use Rattle.sr_front.proofs.Placeless.{placeless_info}
+use Rattle.sr_front.proofs.Put.{put_known}
 use Rattle.sr_front.proofs.ReadsCode.{reads_quantifiers}
-
-some_info : (a b : Info) → Some a ≡ Some b → a ≡ b
-some_info a b e = cc
 
 abbrev spot_name : Quantifier → Spot
 spot_name quantifier = spot_of quantifier.name.span
@@ -38,14 +36,9 @@ IsInt facts spot = (one : Info) → info_at facts.infos spot ≡ Some one → pl
 
 ints_kept : (spot : Spot) (quantifiers : List Quantifier) (facts : Facts) → IsInt facts spot → IsInt (quantifiers_known facts quantifiers) spot
 ints_kept spot [] facts int = int
-ints_kept spot (quantifier ∷ more) facts int = ints_kept spot more (quantified facts quantifier.name) (λ one is. by one is (same_spot-cases spot (spot_name quantifier)))
-  where
-    by : (one : Info) → info_at (quantified facts quantifier.name).infos spot ≡ Some one → (spot ≡ spot_name quantifier) ⊎ (same_spot spot (spot_name quantifier) ≡ false) → placeless_info one ≡ info.Value (computed ty.Int Unknown)
-    by one is (inl same) =
-        let entry : Some (info.Value (computed ty.Int Unknown)) ≡ Some one =
-        sym (entry-same facts.infos (spot_name quantifier) (info.Value (computed ty.Int Unknown))) ∙ ap (λ s. info_at (quantified facts quantifier.name).infos s) (sym same) ∙ is in
-        ap placeless_info (sym (some_info (info.Value (computed ty.Int Unknown)) one entry))
-    by one is (inr apart) = int one (sym (entry-other facts.infos (spot_name quantifier) (info.Value (computed ty.Int Unknown)) spot apart) ∙ is)
+ints_kept spot (quantifier ∷ more) facts int =
+    ints_kept spot more (quantified facts quantifier.name)
+    (λ one is. put_known facts (spot_name quantifier) (info.Value (computed ty.Int Unknown)) (λ at it. placeless_info it ≡ info.Value (computed ty.Int Unknown)) refl spot one is (int one))
 
 all_kept : (all quantifiers : List Quantifier) (facts : Facts) → Each (λ quantifier. IsInt facts (spot_name quantifier)) all → Each (λ quantifier. IsInt (quantifiers_known facts quantifiers) (spot_name quantifier)) all
 all_kept [] quantifiers facts ints = tt

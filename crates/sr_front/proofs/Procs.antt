@@ -77,13 +77,11 @@ service_serves : (scene : Scene) (span : Span) (spot : Spot) (formals returned :
 service_serves scene span spot formals returned block = serves (in_body scene (own_spots scene.facts formals returned block)) formals returned spot
 
 item_serves : (scene : Scene) (one : Item) → AllServe scene.tables.operations (item_output scene one).procs (item_served scene.facts one)
-item_serves scene (item.Spec declared) = tt
 item_serves scene (item.Proc proc) = (service_serves scene proc.span (meant_by scene.facts proc.name) (map spot_named proc.formals) (returned_names proc.returned) proc.block, tt)
 item_serves scene (item.Procedure procedure) =
     (service_serves scene procedure.span (spot_named procedure.name) (formal_names (out-Signature procedure.signature).formals) (signature_returned procedure.signature) procedure.block, tt)
 item_serves scene (item.Process process) = (service_serves scene process.span (spot_named process.name) (quantifier_names process.quantifiers) [] process.block, tt)
-item_serves scene (item.Final final) = tt
-item_serves scene (item.Statement statement) = tt
+item_serves scene _ = tt
 
 items_serve : (scene : Scene) (items : List Item) → AllServe scene.tables.operations (all_procs (item_outputs scene items)) (flat_map (item_served scene.facts) items)
 items_serve scene [] = tt

@@ -1,5 +1,6 @@
 -- What is known after the declarations of a program fits, and so does what is known where each constant is declared.
-use Rattle.std.proofs.Common.{◌≡◌, inl, inr, List, [], ◌∷◌, ◌++◌, flat_map, map, Some, None, refl}
+use Rattle.std.proofs.Common.{inl, inr, List, [], ◌∷◌, ◌++◌, flat_map, map, refl}
+use Rattle.std.proofs.lemmas.Option.{none-some}
 use Rattle.std.specs.List.{IsDistinct}
 use Rattle.sr_check.proofs.Each.{Each, each-left, each-right}
 use Rattle.sr_check_decl.specs.Declaring.{components_named, files_named, no_facts, program_declared}
@@ -24,9 +25,6 @@ use Rattle.sr_front.proofs.Lasting.{Away}
 use Rattle.sr_front.proofs.ProgramFits.{FirmAt, LooseAt, PartsGood, ProgramFits, component_good}
 use Rattle.sr_front.proofs.Rising.{Rises}
 use Rattle.sr_front.proofs.TypesBefore.{FitsBefore, Inv, ItemGood, SpecGood, inv_kept}
-
-none_some : (one : Info) → None ≡ Some one → ⊥
-none_some one e = cc
 
 module _ (files : List File) (distinct : IsDistinct same_spot (map spot_of (flat_map file_names files))) (Word : Spot → Type 0) where
   abbrev all : List Component
@@ -99,7 +97,7 @@ module _ (files : List File) (distinct : IsDistinct same_spot (map spot_of (flat
         own_split (x ∷ xs) ys h = let rest = own_split xs ys h.1 in ((h.0, rest.0), rest.1)
 
     pub first_fit : (after : List Span) → Inv Word OuterFits after (files_named files (no_facts uses specs))
-    first_fit after = files_fit after files (no_facts uses specs) (own_from_loose files distinct) (λ spot one is. absurd (none_some one is))
+    first_fit after = files_fit after files (no_facts uses specs) (own_from_loose files distinct) (λ spot one is. absurd (none-some one is))
 
     -- what is known after all declarations fits
     pub declared_fits : Rises (flat_map file_names files) → Inv Word OuterFits [] last

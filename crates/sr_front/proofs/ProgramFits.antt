@@ -82,9 +82,7 @@ module _ (loose own firm : List Span) where
     item_good (item.Spec declared) away at = spec_good declared away at
     item_good (item.Procedure procedure) away at = (λ type component is_local. (inl tt, (inr away.0.0, inr away.0.1)), tt)
     item_good (item.Process process) away at = (λ type component is_local. (inl tt, (inr away.0.0, inr away.0.1)), tt)
-    item_good (item.Proc proc) away at = (tt, tt)
-    item_good (item.Final final) away at = (tt, tt)
-    item_good (item.Statement statement) away at = (tt, tt)
+    item_good _ away at = (tt, tt)
 
     parts_good : {A : Type 0} (xs ys : A → List Span) (Good : A → Type 0) → ((one : A) → Each LooseAt (xs one) → Each FirmAt (ys one) → Good one) → (all : List A)
         → Each LooseAt (flat_map xs all) → Each FirmAt (flat_map ys all) → Each Good all

@@ -43,7 +43,7 @@ use Rattle.sr_front.proofs.Rising.{Rises}
 use Rattle.sr_front.proofs.StaticExprs.{SameUses}
 use Rattle.sr_front.proofs.StaticNames.{SameMeaning}
 use Rattle.sr_front.proofs.TypesBefore.{Inv, ItemGood, SpecGood, inv_kept}
-use Rattle.sr_front.proofs.UsableNames.{RightName, body_name_right, spec_name_right}
+use Rattle.sr_front.proofs.RightNames.{RightAt, body_names_right, spec_names_right}
 use Rattle.sr_front.proofs.WavedEnds.{Outer, not_away, own_map, own_stands, waved_ends}
 use Rattle.sr_front.proofs.WavesIdle.{Waved, waved_known, waved_standing}
 
@@ -126,7 +126,7 @@ module _ (files : List File) (names : Names) (named : resolved files ≡ Ok name
 
     -- the names in its value tell the same
     pub uses_same : (end : Facts) → Ends files components Fits (Outer files distinct last) last end → end.uses ≡ names.uses
-        → ((used : Span) → IsIn used (const_names constant) → RightName files names named distinct here there constant used)
+        → ((used : Span) → IsIn used (const_names constant) → RightAt files names named distinct here there (Some (spot_of constant.name.span)) used)
         → SameUses (reading Base components last in_spec constant declared) end (expr_names constant.value)
     uses_same end ends uses right =
         value_same files components Fits (Outer files distinct last) last end ends in_spec constant declared known_then
@@ -134,14 +134,14 @@ module _ (files : List File) (names : Names) (named : resolved files ≡ Ok name
 
     -- the names in its type mean the same
     pub meanings_then : (end : Facts) → Ends files components Fits (Outer files distinct last) last end → end.uses ≡ names.uses
-        → ((used : Span) → IsIn used (const_names constant) → RightName files names named distinct here there constant used)
+        → ((used : Span) → IsIn used (const_names constant) → RightAt files names named distinct here there (Some (spot_of constant.name.span)) used)
         → Each (λ used. SameMeaning (reading Base components last in_spec constant declared) end (meaning_at end.uses (spot_of used))) (where_some type_names constant.ty)
     meanings_then end ends uses right =
         types_same files components Fits (Outer files distinct last) last end ends in_spec constant declared known_then
         (λ used k decl means. let so = right used k decl (ap (λ meanings. meaning_at meanings (spot_of used)) (sym uses) ∙ means) in (so.0.0, so.1))
 
     abbrev pub read_then : Away (spot_of constant.name.span) components → Stands (spot_of constant.name.span) firm
-        → ((used : Span) → IsIn used (const_names constant) → RightName files names named distinct here there constant used) → ReadThen Base components last in_spec constant
+        → ((used : Span) → IsIn used (const_names constant) → RightAt files names named distinct here there (Some (spot_of constant.name.span)) used) → ReadThen Base components last in_spec constant
     read_then away stands right = record {
       declared = declared;
       away = away;
@@ -171,12 +171,12 @@ module _ (files : List File) (names : Names) (named : resolved files ≡ Ok name
   pub spec_read : (component : Component) → IsIn component all → (constant : ConstDecl) → IsIn (spec.Const constant) (spec_of component) → ReadThen Base components last true constant
   spec_read component there constant among =
       let stands = spec_stands component there constant among in
-      read_then component there true constant ((wholes component there).specs constant among) (firm_away (spot_of constant.name.span) stands) stands (spec_name_right files names named distinct component there constant among)
+      read_then component there true constant ((wholes component there).specs constant among) (firm_away (spot_of constant.name.span) stands) stands (spec_names_right files names named distinct component there (spec.Const constant) refl among)
 
   body_read : (component : Component) → IsIn component all → (constant : ConstDecl) → IsIn (item.Spec (spec.Const constant)) (body_of component) → ReadThen Base components last false constant
   body_read component there constant among =
       let stands = body_stands component there constant among in
-      read_then component there false constant ((wholes component there).body constant among) (firm_away (spot_of constant.name.span) stands) stands (body_name_right files names named distinct component there constant among)
+      read_then component there false constant ((wholes component there).body constant among) (firm_away (spot_of constant.name.span) stands) stands (body_names_right files names named distinct component there (spec.Const constant) refl among)
 
   all_read : (component : Component) → IsIn component all → AllRead Base components last component
   all_read component there = record { specs = spec_read component there; body = body_read component there }

@@ -18,6 +18,7 @@ use Rattle.sr_front.proofs.ConstantNames.{Word}
 use Rattle.sr_front.proofs.DeclaredIn.{Stands}
 use Rattle.sr_front.proofs.DeclaredThen.{names_of_components}
 use Rattle.sr_front.proofs.FirmNames.{component_firm, component_own, firm_from_own, firm_outer}
+use Rattle.sr_front.proofs.KeptNames.{Anywhere, anywhere}
 use Rattle.sr_front.proofs.Lasting.{Away, is_operation}
 use Rattle.sr_front.proofs.ProgramDeclared.{OuterFits, declared_fits}
 use Rattle.sr_front.proofs.Rising.{Rises}
@@ -29,14 +30,6 @@ module _ (files : List File) (distinct : IsDistinct same_spot (map spot_of (flat
 
   abbrev last : Facts
   last = program_declared uses specs files
-
-  -- any spot
-  abbrev Anywhere : Spot → Type 0
-  Anywhere spot = Unit {0}
-
-  anywhere : (names : List Span) → Each (λ span. Anywhere (spot_of span)) names
-  anywhere [] = tt
-  anywhere (name ∷ names) = (tt, anywhere names)
 
   -- no operation is known at a firm name
   pub firm_plain : (spot : Spot) → Stands spot firm → is_operation (info_at last.infos spot) ≡ false

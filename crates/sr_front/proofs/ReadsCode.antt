@@ -53,10 +53,7 @@ component_code_operations component = flat_map code_operations (body_of componen
 
 -- ---- what declarations keep, the code of components keeps
 
-module _ (Q : Facts → Type 0) (Free Fit : Spot → Type 0) (steady : Steady Q Free Fit) where
-  abbrev closed : Closed Q Free Fit
-  closed = steady.closed
-
+module _ (Q : Facts → Type 0) (Free Fit : Spot → Type 0) (closed : Closed Q Free Fit) where
   abbrev FreeName : Span → Type 0
   FreeName span = Free (spot_of span)
 
@@ -112,17 +109,18 @@ module _ (Q : Facts → Type 0) (Free Fit : Spot → Type 0) (steady : Steady Q 
       keeps_items procs items (item_read procs one facts).facts (each-right FreeName (code_plain one) _ free) (each-right FitName (code_operations one) _ fit)
       (keeps_item procs one facts (each-left FreeName (code_plain one) _ free) (each-left FitName (code_operations one) _ fit) h)
 
-  pub keeps_component : (tree : Component) (facts : Facts) → Each FreeName (component_code_plain tree) → Each FitName (component_code_operations tree) → Q facts → Q (component_read tree facts).facts
+module _ (Q : Facts → Type 0) (Free Fit : Spot → Type 0) (steady : Steady Q Free Fit) where
+  pub keeps_component : (tree : Component) (facts : Facts) → Each (λ span. Free (spot_of span)) (component_code_plain tree) → Each (λ span. Fit (spot_of span)) (component_code_operations tree) → Q facts → Q (component_read tree facts).facts
   keeps_component tree facts free fit h =
       let start = standing facts (component_decl tree) in
-      keeps_items (items_procs start (body_of tree) []) (body_of tree) start free fit (steady.standing facts (component_decl tree) h)
+      keeps_items Q Free Fit steady.closed (items_procs start (body_of tree) []) (body_of tree) start free fit (steady.standing facts (component_decl tree) h)
 
-  pub keeps_components : (trees : List Component) (facts : Facts) → Each FreeName (flat_map component_code_plain trees) → Each FitName (flat_map component_code_operations trees) → Q facts
+  pub keeps_components : (trees : List Component) (facts : Facts) → Each (λ span. Free (spot_of span)) (flat_map component_code_plain trees) → Each (λ span. Fit (spot_of span)) (flat_map component_code_operations trees) → Q facts
       → Q (components_read trees facts).facts
   keeps_components [] facts free fit h = h
   keeps_components (tree ∷ more) facts free fit h =
-      keeps_components more (component_read tree facts).facts (each-right FreeName (component_code_plain tree) _ free) (each-right FitName (component_code_operations tree) _ fit)
-      (keeps_component tree facts (each-left FreeName (component_code_plain tree) _ free) (each-left FitName (component_code_operations tree) _ fit) h)
+      keeps_components more (component_read tree facts).facts (each-right (λ span. Free (spot_of span)) (component_code_plain tree) _ free) (each-right (λ span. Fit (spot_of span)) (component_code_operations tree) _ fit)
+      (keeps_component tree facts (each-left (λ span. Free (spot_of span)) (component_code_plain tree) _ free) (each-left (λ span. Fit (spot_of span)) (component_code_operations tree) _ fit) h)
 
 -- ---- the names in code
 
@@ -146,9 +144,7 @@ parts_share xs ys zs each (a ∷ all) = both_share (each a) (parts_share xs ys z
 inner_plain_share : (one : ProcItem) → Shares (proc_item_names one) (inner_plain one) []
 inner_plain_share (inner.Op operations) = all_left_out _
 inner_plain_share (inner.Sem semaphores) = all_left_out _
-inner_plain_share (inner.Const constant) = all_first _
-inner_plain_share (inner.Var variables) = all_first _
-inner_plain_share (inner.Statement statement) = all_first _
+inner_plain_share _ = all_first _
 
 block_plain_share : (block : List ProcItem) → Shares (block_names block) (block_plain block) []
 block_plain_share [] = none
@@ -187,9 +183,7 @@ sems_share (semaphore ∷ more) = in_first semaphore.name.span (both_share (all_
 inner_operations_share : (one : ProcItem) → Shares (proc_item_names one) (inner_operations one) []
 inner_operations_share (inner.Op operations) = ops_share operations.items
 inner_operations_share (inner.Sem semaphores) = sems_share semaphores.semaphores
-inner_operations_share (inner.Const constant) = all_left_out _
-inner_operations_share (inner.Var variables) = all_left_out _
-inner_operations_share (inner.Statement statement) = all_left_out _
+inner_operations_share _ = all_left_out _
 
 block_operations_share : (block : List ProcItem) → Shares (block_names block) (block_operations block) []
 block_operations_share [] = none
@@ -222,16 +216,16 @@ module _ (Free : Spot → Type 0) where
   some_names shares free = first_each AtName shares free
 
 pub reads_inner : (one : ProcItem) (context : Context) → Reads (proc_item_names one) context.facts (proc_item_read one context).facts
-reads_inner one context Q Free steady free h = keeps_inner Q Free Free steady one context (some_names Free (inner_plain_share one) free) (some_names Free (inner_operations_share one) free) h
+reads_inner one context Q Free steady free h = keeps_inner Q Free Free steady.closed one context (some_names Free (inner_plain_share one) free) (some_names Free (inner_operations_share one) free) h
 
 pub reads_block : (items : List ProcItem) (context : Context) → Reads (block_names items) context.facts (block_read items context).facts
-reads_block items context Q Free steady free h = keeps_block Q Free Free steady items context (some_names Free (block_plain_share items) free) (some_names Free (block_operations_share items) free) h
+reads_block items context Q Free steady free h = keeps_block Q Free Free steady.closed items context (some_names Free (block_plain_share items) free) (some_names Free (block_operations_share items) free) h
 
 pub reads_item : (procs : Procs) (one : Item) (facts : Facts) → Reads (item_inside one) facts (item_read procs one facts).facts
-reads_item procs one facts Q Free steady free h = keeps_item Q Free Free steady procs one facts (some_names Free (item_plain_share one) free) (some_names Free (item_operations_share one) free) h
+reads_item procs one facts Q Free steady free h = keeps_item Q Free Free steady.closed procs one facts (some_names Free (item_plain_share one) free) (some_names Free (item_operations_share one) free) h
 
 pub reads_items : (procs : Procs) (items : List Item) (facts : Facts) → Reads (flat_map item_inside items) facts (items_read procs items facts).facts
-reads_items procs items facts Q Free steady free h = keeps_items Q Free Free steady procs items facts (some_names Free (items_plain_share items) free) (some_names Free (items_operations_share items) free) h
+reads_items procs items facts Q Free steady free h = keeps_items Q Free Free steady.closed procs items facts (some_names Free (items_plain_share items) free) (some_names Free (items_operations_share items) free) h
 
 pub reads_component : (tree : Component) (facts : Facts) → Reads (component_inside tree) facts (component_read tree facts).facts
 reads_component tree facts Q Free steady free h =

@@ -2,7 +2,7 @@
 use Rattle.std.proofs.Common.{◌≡◌, ◌⊎◌, inl, inr, ℕ, suc, ◌<◌, Bool, true, false, ◌&&◌, ◌||◌, List, [], ◌∷◌, ◌++◌, flat_map, refl, sym, subst, ◌∙◌, arith}
 use Rattle.std.specs.Prelude.{◌==◌, nat_lt}
 use Rattle.std.proofs.lemmas.Bool.{and_left, and_right, eqb-true, false≢true, ltb-true, ne_eqb}
-use Rattle.sr_check.proofs.Each.{Each, each-append}
+use Rattle.sr_check.proofs.Each.{Each, each-append, each-left}
 use Rattle.sr_front.proofs.Lasting.{Away}
 use Rattle.sr_front.specs.Phases.{AllPass, none_left, one_more}
 use Rattle.sr_front.specs.Reading.{AreRead, HasTree}
@@ -95,6 +95,10 @@ before_more spot at (span ∷ spans) first rest = (before_through spot at (spot_
 pub before_away : (spot : Spot) (spans : List Span) → BeforeAll spot spans → Away spot spans
 before_away spot [] before = tt
 before_away spot (span ∷ spans) before = (before_other spot (spot_of span) before.0, before_away spot spans before.1)
+
+pub rises_left : (xs ys : List Span) → Rises (xs ++ ys) → Rises xs
+rises_left [] ys rising = tt
+rises_left (x ∷ xs) ys rising = (each-left _ xs ys rising.0, rises_left xs ys rising.1)
 
 pub rises_right : (xs ys : List Span) → Rises (xs ++ ys) → Rises ys
 rises_right [] ys rises = rises

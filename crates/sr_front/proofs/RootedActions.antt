@@ -1,5 +1,5 @@
 -- Where no rule is broken in an invocation that is a statement or an arm of `co`, what its core mentions passes.
-use Rattle.std.proofs.Common.{◌≡◌, Bool, true, List, [], ◌∷◌, ◌++◌, Option, Some, None, map, IsTrue, refl, sym, ap, subst, ◌∙◌}
+use Rattle.std.proofs.Common.{◌≡◌, Bool, true, List, [], ◌∷◌, ◌++◌, Option, Some, None, map, IsTrue, refl, ap, subst, ◌∙◌}
 use Rattle.std.proofs.lemmas.Bool.{and_parts}
 use Rattle.std.specs.List.{list_all}
 use Rattle.std.specs.Option.{option_map}
@@ -14,10 +14,9 @@ use Rattle.sr_check_expr.specs.declared.typed_expr.TypedExpr.{TypedExpr}
 use Rattle.sr_check_expr.specs.declared.typed_expr.Named.{Named}
 use Rattle.sr_check_expr.specs.declared.typed_expr.Named.TheVariants as named
 use Rattle.sr_check_expr.specs.Arguments.{all_found, all_valued, is_callable, is_sendable, returned_by}
-use Rattle.sr_check_expr.specs.Calls.{Called, invocation_found, parts_found}
-use Rattle.sr_check_expr.specs.Exprs.{CalledInferrer, Inferrer, PartInferrer, create_step, expr_step, infer_create, infer_expr, infer_invocation, infer_part, invocation_step, part_step}
-use Rattle.sr_check_expr.specs.Meanings.{function_called, layer_function, predefined_in, type_of, typed_expr}
-use Rattle.sr_check_expr.specs.Naming.{meaning_typing, predefined_at}
+use Rattle.sr_check_expr.specs.Calls.{invocation_found, parts_found}
+use Rattle.sr_check_expr.specs.Exprs.{infer_expr, infer_invocation}
+use Rattle.sr_check_expr.specs.Meanings.{function_called, type_of, typed_expr}
 use Rattle.sr_check_expr.specs.PredefinedCalls.{function_found as typing_found}
 use Rattle.sr_check_expr.specs.Typings.{typed_exprs_of, value_found, valued}
 use Rattle.sr_core.specs.declared.expression.Function.TheVariants as function
@@ -29,27 +28,21 @@ use Rattle.sr_lower_expr.proofs.Each.{both_pass}
 use Rattle.sr_names.specs.declared.finding.Rule.TheVariants.{BadType}
 use Rattle.sr_names.specs.declared.predefined.Predefined.{Predefined}
 use Rattle.sr_names.specs.declared.predefined.Predefined.TheVariants as predefined
-use Rattle.sr_names.specs.declared.meaning.Meaning.{Meaning}
-use Rattle.sr_names.specs.declared.meaning.Meaning.TheVariants.{Predefined as MeansPredefined, Declared}
-use Rattle.sr_names.specs.Spots.{spot_of}
-use Rattle.sr_names.specs.Uses.{meaning_at}
 use Rattle.sr_order.specs.Names.{create_names_step, expr_names, expr_names_step, invocation_names, invocation_names_step, part_names_step, where_some}
 use Rattle.sr_order.specs.Spans.{joined}
 use Rattle.sr_tables.specs.declared.sites.Mention.{Mention}
 use Rattle.sr_front.specs.Imports.{co_call_mentions, arguments_mentions}
 use Rattle.sr_tables.specs.Sites.{mentions_at, mentions_in, mentions_in_argument}
 use Rattle.sr_tables.specs.Lists.{maybe}
-use Rattle.sr_tree.specs.declared.expr.Create.TheFolds.{fold_out-Expr, fold_out-Invocation, map-Expr}
-use Rattle.sr_tree.specs.declared.expr.Create.{Create}
-use Rattle.sr_tree.specs.declared.expr.Create.TheOpen.{Expr-F}
-use Rattle.sr_tree.specs.declared.expr.Part.{Part}
-use Rattle.sr_tree.specs.declared.expr.Expr.{Expr, out-Expr}
-use Rattle.sr_tree.specs.declared.expr.Invocation.{Invocation, out-Invocation}
+use Rattle.sr_tree.specs.declared.expr.Create.TheFolds.{fold_out-Invocation}
+use Rattle.sr_tree.specs.declared.expr.Expr.{Expr}
+use Rattle.sr_tree.specs.declared.expr.Invocation.{Invocation}
 use Rattle.sr_types.specs.declared.ty.Ty.{Ty}
 use Rattle.sr_types.specs.Storing.{store_rule}
 use Rattle.sr_types.specs.Outcomes.{computed}
 use Rattle.sr_types.specs.declared.typed.Static.TheVariants.{Unknown}
 use Rattle.sr_value.specs.declared.place.Span.{Span}
+use Rattle.sr_front.proofs.CalledParts.{arguments_typed, called_at, called_is, callee_is, callee_of, callee_typed, trees_in}
 use Rattle.sr_front.proofs.CodeRules.{action_passes}
 use Rattle.sr_front.proofs.ExprsStay.{expr_stays}
 use Rattle.sr_front.proofs.InvokesMet.{invoked_met}
@@ -95,33 +88,14 @@ module _ (scene : Scene) (test : Mention → Bool) (others : Others scene test) 
     args_fine trees (each-right HadName (expr_names tree) _ had) (error_free_second (infer_expr tree known).found _ whole),
   )
 
-  abbrev callee_of : Invocation → Expr
-  callee_of invocation = (out-Invocation invocation).callee
-
-  abbrev trees_in : Invocation → List Expr
-  trees_in invocation = (out-Invocation invocation).arguments
-
-  abbrev callee_typed : Invocation → TypedExpr
-  callee_typed invocation = (infer_expr (callee_of invocation) known).typed_expr
-
-  abbrev arguments_typed : Invocation → List TypedExpr
-  arguments_typed invocation = typed_exprs_of (typings_of known (trees_in invocation))
-
-  -- what an invocation is by its parts
-  abbrev called_at : Invocation → Called
-  called_at invocation = record { span = (out-Invocation invocation).span; callee = infer_expr (callee_of invocation) known; arguments = typings_of known (trees_in invocation) }
-
-  called_is : (invocation : Invocation) → infer_invocation invocation known ≡ called_at invocation
-  called_is invocation = ap (λ (infer : CalledInferrer). infer known) (fold_out-Invocation Inferrer Inferrer CalledInferrer PartInferrer create_step expr_step invocation_step part_step invocation)
-
   -- the parts of an invocation are so
   record Parts (invocation : Invocation) : Type 0 where
-    callee : Fine scene test (callee_typed invocation) (core_expr scene (callee_of invocation))
-    arguments : AllFine scene test (arguments_typed invocation) (lowered_of (core_sending scene invocation).arguments)
-    named : (callee_typed invocation).named ≡ (typed_expr scene.facts (callee_of invocation)).named
-    same : (callee_typed invocation).typed.ty ≡ type_of scene.facts (callee_of invocation)
+    callee : Fine scene test (callee_typed known invocation) (core_expr scene (callee_of invocation))
+    arguments : AllFine scene test (arguments_typed known invocation) (lowered_of (core_sending scene invocation).arguments)
+    named : (callee_typed known invocation).named ≡ (typed_expr scene.facts (callee_of invocation)).named
+    same : (callee_typed known invocation).typed.ty ≡ type_of scene.facts (callee_of invocation)
 
-  parts_fine : (invocation : Invocation) → Names (invocation_names invocation) → ErrorFree (parts_found (called_at invocation)) → Parts invocation
+  parts_fine : (invocation : Invocation) → Names (invocation_names invocation) → ErrorFree (parts_found (called_at known invocation)) → Parts invocation
   parts_fine invocation all whole =
       let callee = callee_of invocation in
       let names = subst Names (fold_out-Invocation (List Span) (List Span) (List Span) (List Span) create_names_step expr_names_step invocation_names_step part_names_step invocation) all in
@@ -135,11 +109,11 @@ module _ (scene : Scene) (test : Mention → Bool) (others : Others scene test) 
       }
 
   -- what is invoked, and its arguments
-  sent : (span : Span) (invocation : Invocation) (allowed : Bool) → Parts invocation → ErrorFree (invoked_found known span allowed (callee_typed invocation) (arguments_typed invocation))
+  sent : (span : Span) (invocation : Invocation) (allowed : Bool) → Parts invocation → ErrorFree (invoked_found known span allowed (callee_typed known invocation) (arguments_typed known invocation))
       → Invoked scene test others known at (core_sending scene invocation)
   sent span invocation allowed parts whole =
-      let callee = callee_typed invocation in
-      let typed = arguments_typed invocation in
+      let callee = callee_typed known invocation in
+      let typed = arguments_typed known invocation in
       invoked scene test others known at span callee typed (core_sending scene invocation) parts.callee.passes parts.arguments parts.same
       (error_free_first (invocation_found known span callee typed) _ whole) (invoked_met known span allowed callee typed whole).takes
 
@@ -151,74 +125,33 @@ module _ (scene : Scene) (test : Mention → Bool) (others : Others scene test) 
       let sending = core_sending scene invocation in
       both (mentions_in (value_of sending.callee.1)) (arguments_mentions (sent_arguments scene.facts sending)) one.target (rows test mentions_in_argument (sent_arguments scene.facts sending) one.arguments)
 
-  told_pass : (invocation : Invocation) → Parts invocation → ErrorFree (all_valued (arguments_typed invocation)) → IsTrue (list_all (expr_passes test) (all_told (core_sending scene invocation)))
+  told_pass : (invocation : Invocation) → Parts invocation → ErrorFree (all_valued (arguments_typed known invocation)) → IsTrue (list_all (expr_passes test) (all_told (core_sending scene invocation)))
   told_pass invocation parts whole =
       let all = lowered_of (core_sending scene invocation).arguments in
-      values_pass scene test all (all_fine scene test (arguments_typed invocation) all parts.arguments whole)
+      values_pass scene test all (all_fine scene test (arguments_typed known invocation) all parts.arguments whole)
 
   -- ---- `send` and `forward`
 
   pub send_passes : (span : Span) (invocation : Invocation) → Names (invocation_names invocation) → ErrorFree (send_found known span (infer_invocation invocation known)) → IsTrue (action_passes test (send_of scene (core_sending scene invocation)))
   send_passes span invocation had found =
-      let whole = subst (λ called. ErrorFree (send_found known span called)) (called_is invocation) found in
-      let parts = parts_fine invocation had (error_free_first (parts_found (called_at invocation)) _ whole) in
-      sent_pass invocation (sent span invocation (is_sendable known.signatures (callee_typed invocation).typed.ty) parts (error_free_second (parts_found (called_at invocation)) _ whole))
+      let whole = subst (λ called. ErrorFree (send_found known span called)) (called_is known invocation) found in
+      let parts = parts_fine invocation had (error_free_first (parts_found (called_at known invocation)) _ whole) in
+      sent_pass invocation (sent span invocation (is_sendable known.signatures (callee_typed known invocation).typed.ty) parts (error_free_second (parts_found (called_at known invocation)) _ whole))
 
   -- ---- calls
 
   -- the function that is called as a statement
-  function_called_passes : (context : Context) → context.facts ≡ known → (span : Span) (invocation : Invocation) (name : Predefined) → Parts invocation → ErrorFree (function_found context span name (arguments_typed invocation))
+  function_called_passes : (context : Context) → context.facts ≡ known → (span : Span) (invocation : Invocation) (name : Predefined) → Parts invocation → ErrorFree (function_found context span name (arguments_typed known invocation))
       → IsTrue (expr_passes test (function_core scene name (trees_of (core_sending scene invocation).arguments) (lowered_of (core_sending scene invocation).arguments)))
   function_called_passes context same span invocation predefined.Read parts whole =
       let sending = core_sending scene invocation in
-      function_passes scene test others.machine context.facts span predefined.Read (trees_of sending.arguments) (arguments_typed invocation) (lowered_of sending.arguments) parts.arguments
-      (error_free_first (typing_found context.facts span predefined.Read (arguments_typed invocation)) _ whole)
+      function_passes scene test others.machine context.facts span predefined.Read (trees_of sending.arguments) (arguments_typed known invocation) (lowered_of sending.arguments) parts.arguments
+      (error_free_first (typing_found context.facts span predefined.Read (arguments_typed known invocation)) _ whole)
   function_called_passes context same span invocation predefined.Write parts whole = nothing_passes scene test
   function_called_passes context same span invocation predefined.Writes parts whole = nothing_passes scene test
   function_called_passes context same span invocation predefined.P parts whole = nothing_passes scene test
   function_called_passes context same span invocation predefined.V parts whole = nothing_passes scene test
-  function_called_passes context same span invocation name parts whole = absurd (error_free_second (all_valued (arguments_typed invocation)) _ whole)
-
-  -- ---- predefined functions by their names
-
-  some_same : (a b : Predefined) → Some a ≡ Some b → a ≡ b
-  some_same a b e = cc
-
-  none_some : (a : Predefined) → None ≡ Some a → ⊥
-  none_some a e = cc
-
-  -- a function's name is nothing else
-  abbrev IsNamed : Predefined → Type 0
-  IsNamed name = (span : Span) → (predefined_at span name).named ≡ named.Predefined name
-
-  meaning_is : (name : Predefined) → IsNamed name → (span : Span) (meaning : Option Meaning) → predefined_in meaning ≡ Some name → (meaning_typing known.infos span meaning).typed_expr.named ≡ named.Predefined name
-  meaning_is name is span None e = absurd (none_some name e)
-  meaning_is name is span (Some (MeansPredefined one)) e = subst (λ other. (meaning_typing known.infos span (Some (MeansPredefined other))).typed_expr.named ≡ named.Predefined name) (sym (some_same one name e)) (is span)
-  meaning_is name is span (Some (Declared decl)) e = absurd (none_some name e)
-
-  abbrev inferred_layer : Expr-F Create Expr Invocation Part → Expr-F Inferrer Inferrer CalledInferrer PartInferrer
-  inferred_layer = map-Expr Create Expr Invocation Part Inferrer Inferrer CalledInferrer PartInferrer infer_create infer_expr infer_invocation infer_part
-
-  layer_is : (name : Predefined) → IsNamed name → (layer : Expr-F Create Expr Invocation Part) → layer_function scene.facts layer ≡ Some name → (expr_step (inferred_layer layer) known).typed_expr.named ≡ named.Predefined name
-  layer_is name is (Expr-F.Name one) e =
-      meaning_is name is one.span (meaning_at known.uses (spot_of one.span)) (ap (λ uses. predefined_in (meaning_at uses (spot_of one.span))) at.grows.uses ∙ e)
-  layer_is name is (Expr-F.Literal span literal) e = absurd (none_some name e)
-  layer_is name is (Expr-F.BasicType span basic) e = absurd (none_some name e)
-  layer_is name is (Expr-F.Conversion span conversion value) e = absurd (none_some name e)
-  layer_is name is (Expr-F.Group span inner) e = absurd (none_some name e)
-  layer_is name is (Expr-F.Parts span parts) e = absurd (none_some name e)
-  layer_is name is (Expr-F.Field span owner field) e = absurd (none_some name e)
-  layer_is name is (Expr-F.Index span array first second) e = absurd (none_some name e)
-  layer_is name is (Expr-F.Call invocation) e = absurd (none_some name e)
-  layer_is name is (Expr-F.Create create) e = absurd (none_some name e)
-  layer_is name is (Expr-F.Unary span operator operand) e = absurd (none_some name e)
-  layer_is name is (Expr-F.Pending span operation) e = absurd (none_some name e)
-  layer_is name is (Expr-F.Binary span left operator right) e = absurd (none_some name e)
-
-  callee_is : (name : Predefined) → IsNamed name → (invocation : Invocation) → function_called scene.facts invocation ≡ Some name → (callee_typed invocation).named ≡ named.Predefined name
-  callee_is name is invocation e =
-      ap (λ (infer : Inferrer). (infer known).typed_expr.named) (fold_out-Expr Inferrer Inferrer CalledInferrer PartInferrer create_step expr_step invocation_step part_step (callee_of invocation))
-      ∙ layer_is name is (out-Expr (callee_of invocation)) e
+  function_called_passes context same span invocation name parts whole = absurd (error_free_second (all_valued (arguments_typed known invocation)) _ whole)
 
   arguments_had : (invocation : Invocation) → Names (invocation_names invocation) → Names (joined (map expr_names (trees_in invocation)))
   arguments_had invocation all =
@@ -227,24 +160,24 @@ module _ (scene : Scene) (test : Mention → Bool) (others : Others scene test) 
 
   module _ (context : Context) (same : context.facts ≡ known) (span : Span) (invocation : Invocation) where
     abbrev Found : Named → Type 0
-    Found what = ErrorFree (called_found context span (callee_typed invocation) (arguments_typed invocation) what)
+    Found what = ErrorFree (called_found context span (callee_typed known invocation) (arguments_typed known invocation) what)
 
     evaluated : (what : Named) → Parts invocation → Found what → IsTrue (expr_passes test (call_core scene (core_sending scene invocation) what))
     evaluated (named.Predefined name) parts found = function_called_passes context same span invocation name parts found
     evaluated (named.«Type» ty) parts found =
         let sending = core_sending scene invocation in
-        let after = error_free_second (value_found (callee_typed invocation)) _ (error_free_first (invocation_found context.facts span (callee_typed invocation) (arguments_typed invocation)) _ found) in
+        let after = error_free_second (value_found (callee_typed known invocation)) _ (error_free_first (invocation_found context.facts span (callee_typed known invocation) (arguments_typed known invocation)) _ found) in
         applied scene test function.Record (lowered_of sending.arguments)
-        (all_fine scene test (arguments_typed invocation) (lowered_of sending.arguments) parts.arguments (error_free_first (all_valued (arguments_typed invocation)) _ after))
+        (all_fine scene test (arguments_typed known invocation) (lowered_of sending.arguments) parts.arguments (error_free_first (all_valued (arguments_typed known invocation)) _ after))
     evaluated _ parts found =
         let sending = core_sending scene invocation in
-        let callable = is_callable known.signatures (callee_typed invocation).typed.ty in
-        let here = subst (λ facts. ErrorFree (invoked_found facts span (is_callable facts.signatures (callee_typed invocation).typed.ty) (callee_typed invocation) (arguments_typed invocation))) same found in
+        let callable = is_callable known.signatures (callee_typed known invocation).typed.ty in
+        let here = subst (λ facts. ErrorFree (invoked_found facts span (is_callable facts.signatures (callee_typed known invocation).typed.ty) (callee_typed known invocation) (arguments_typed known invocation))) same found in
         let one = sent span invocation callable parts here in
         call_rule test (value_of sending.callee.1) (sent_arguments scene.facts sending) (call_returns scene sending) one.target one.arguments
 
-    evaluation_passes : Parts invocation → Found (callee_typed invocation).named → IsTrue (expr_passes test (call_of scene (core_sending scene invocation)))
-    evaluation_passes parts found = subst (λ what. IsTrue (expr_passes test (call_core scene (core_sending scene invocation) what))) parts.named (evaluated (callee_typed invocation).named parts found)
+    evaluation_passes : Parts invocation → Found (callee_typed known invocation).named → IsTrue (expr_passes test (call_of scene (core_sending scene invocation)))
+    evaluation_passes parts found = subst (λ what. IsTrue (expr_passes test (call_core scene (core_sending scene invocation) what))) parts.named (evaluated (callee_typed known invocation).named parts found)
 
     -- ---- the statements among the predefined functions
 
@@ -259,36 +192,36 @@ module _ (scene : Scene) (test : Mention → Bool) (others : Others scene test) 
         (fine_value scene test callee (core_expr scene tree) (fine tree (each-left HadName (expr_names tree) [] had) (error_free_first here.found [] found)) valid)
     value_of_told (tree ∷ other ∷ trees) had found whole = absurd whole
 
-    named_passes : (name : Predefined) → function_called scene.facts invocation ≡ Some name → Names (invocation_names invocation) → ErrorFree (parts_found (called_at invocation)) → Parts invocation → Found (callee_typed invocation).named
+    named_passes : (name : Predefined) → function_called scene.facts invocation ≡ Some name → Names (invocation_names invocation) → ErrorFree (parts_found (called_at known invocation)) → Parts invocation → Found (callee_typed known invocation).named
         → IsTrue (action_passes test (named_action scene invocation name))
     named_passes predefined.Write e had whole parts found =
-        let told = told_pass invocation parts (error_free_first (all_valued (arguments_typed invocation)) _ (subst Found (callee_is predefined.Write (λ span. refl) invocation e) found)) in
+        let told = told_pass invocation parts (error_free_first (all_valued (arguments_typed known invocation)) _ (subst Found (callee_is scene known at.grows.uses predefined.Write (λ span. refl) invocation e) found)) in
         rows test mentions_in (all_told (core_sending scene invocation)) told
     named_passes predefined.Writes e had whole parts found =
-        let told = told_pass invocation parts (error_free_first (all_valued (arguments_typed invocation)) _ (subst Found (callee_is predefined.Writes (λ span. refl) invocation e) found)) in
+        let told = told_pass invocation parts (error_free_first (all_valued (arguments_typed known invocation)) _ (subst Found (callee_is scene known at.grows.uses predefined.Writes (λ span. refl) invocation e) found)) in
         rows test mentions_in (all_told (core_sending scene invocation)) told
     named_passes predefined.V e had whole parts found =
         both (mentions_in (first_expr (all_told (core_sending scene invocation)))) []
-        (value_of_told (trees_in invocation) (arguments_had invocation had) (error_free_second (infer_expr (callee_of invocation) known).found _ whole) (subst Found (callee_is predefined.V (λ span. refl) invocation e) found)) refl
+        (value_of_told (trees_in invocation) (arguments_had invocation had) (error_free_second (infer_expr (callee_of invocation) known).found _ whole) (subst Found (callee_is scene known at.grows.uses predefined.V (λ span. refl) invocation e) found)) refl
     named_passes name e had whole parts found = evaluation_passes parts found
 
-    action_by : (function : Option Predefined) → function_called scene.facts invocation ≡ function → Names (invocation_names invocation) → ErrorFree (parts_found (called_at invocation)) → Parts invocation → Found (callee_typed invocation).named
+    action_by : (function : Option Predefined) → function_called scene.facts invocation ≡ function → Names (invocation_names invocation) → ErrorFree (parts_found (called_at known invocation)) → Parts invocation → Found (callee_typed known invocation).named
         → IsTrue (action_passes test (call_action scene invocation function))
     action_by None e had whole parts found = evaluation_passes parts found
     action_by (Some name) e had whole parts found = named_passes name e had whole parts found
 
     pub call_action_passes : Names (invocation_names invocation) → ErrorFree (call_found context span (infer_invocation invocation context.facts)) → IsTrue (action_passes test (call_action scene invocation (function_called scene.facts invocation)))
     call_action_passes had found =
-        let whole = subst (λ called. ErrorFree (call_found context span called)) (ap (infer_invocation invocation) same ∙ called_is invocation) found in
-        let first = error_free_first (parts_found (called_at invocation)) _ whole in
-        action_by (function_called scene.facts invocation) refl had first (parts_fine invocation had first) (error_free_second (parts_found (called_at invocation)) _ whole)
+        let whole = subst (λ called. ErrorFree (call_found context span called)) (ap (infer_invocation invocation) same ∙ called_is known invocation) found in
+        let first = error_free_first (parts_found (called_at known invocation)) _ whole in
+        action_by (function_called scene.facts invocation) refl had first (parts_fine invocation had first) (error_free_second (parts_found (called_at known invocation)) _ whole)
 
     pub forward_passes : Names (invocation_names invocation) → ErrorFree (forward_found context span (infer_invocation invocation context.facts)) → IsTrue (action_passes test (forward_of scene (core_sending scene invocation)))
     forward_passes had found =
-        let whole = subst (λ called. ErrorFree (forward_found context span called)) (ap (infer_invocation invocation) same ∙ called_is invocation) found in
-        let parts = parts_fine invocation had (error_free_first (parts_found (called_at invocation)) _ whole) in
-        let there = error_free_first (invoked_found context.facts span true (callee_typed invocation) (arguments_typed invocation)) _ (error_free_second (parts_found (called_at invocation)) _ whole) in
-        let here = subst (λ facts. ErrorFree (invoked_found facts span true (callee_typed invocation) (arguments_typed invocation))) same there in
+        let whole = subst (λ called. ErrorFree (forward_found context span called)) (ap (infer_invocation invocation) same ∙ called_is known invocation) found in
+        let parts = parts_fine invocation had (error_free_first (parts_found (called_at known invocation)) _ whole) in
+        let there = error_free_first (invoked_found context.facts span true (callee_typed known invocation) (arguments_typed known invocation)) _ (error_free_second (parts_found (called_at known invocation)) _ whole) in
+        let here = subst (λ facts. ErrorFree (invoked_found facts span true (callee_typed known invocation) (arguments_typed known invocation))) same there in
         sent_pass invocation (sent span invocation true parts here)
 
   -- ---- arms of `co`
@@ -306,11 +239,11 @@ module _ (scene : Scene) (test : Mention → Bool) (others : Others scene test) 
   pub co_call_passes : (span : Span) (target : Option Expr) (invocation : Invocation) → Names (where_some expr_names target) → Names (invocation_names invocation) → ErrorFree (started_found known span target (infer_invocation invocation known))
       → Pass (co_call_mentions (co_call scene target (core_sending scene invocation)))
   co_call_passes span target invocation had names found =
-      let called = called_at invocation in
-      let whole = subst (λ one. ErrorFree (started_found known span target one)) (called_is invocation) found in
+      let called = called_at known invocation in
+      let whole = subst (λ one. ErrorFree (started_found known span target one)) (called_is known invocation) found in
       let parts = parts_fine invocation names (error_free_first (parts_found called) _ whole) in
       let after = error_free_second (parts_found called) _ whole in
       let invoked = invoked_found known called.span (is_callable known.signatures called.callee.typed_expr.typed.ty) called.callee.typed_expr (typed_exprs_of called.arguments) in
-      let one = sent called.span invocation (is_callable known.signatures (callee_typed invocation).typed.ty) parts (error_free_first invoked _ after) in
+      let one = sent called.span invocation (is_callable known.signatures (callee_typed known invocation).typed.ty) parts (error_free_first invoked _ after) in
       both (maybe mentions_at (option_map (core_place scene) target)) (sent_in invocation)
       (co_target span target called.callee.typed_expr.typed.ty called.span had (error_free_second invoked _ after)) (sent_pass invocation one)

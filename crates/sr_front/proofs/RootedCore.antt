@@ -1,16 +1,12 @@
 -- What all code of an accepted program mentions passes a test, and what the guards of its sites mention and read, where what names mean passes.
-use Rattle.std.proofs.Common.{◌≡◌, ℕ, Bool, List, map, None, Ok, IsTrue, sym, ◌∙◌, flat_map, subst}
+use Rattle.std.proofs.Common.{◌≡◌, ℕ, Bool, List, map, None, Ok, IsTrue, flat_map}
 use Rattle.std.specs.List.{IsDistinct, list_all}
 use Rattle.std.proofs.lemmas.Bool.{and_parts}
-use Rattle.sr_check.proofs.ErrorFree.{error_free_second}
-use Rattle.sr_check.proofs.Kept.{none_found}
 use Rattle.sr_check.specs.Checked.{checked, first_refused}
 use Rattle.sr_check.specs.Components.{components_read}
 use Rattle.sr_check.specs.ErrorFree.{ErrorFree}
 use Rattle.sr_check.specs.Servicing.{AllServiceOwn}
-use Rattle.sr_check_decl.specs.Cycles.{leads_left, type_cycles_found}
-use Rattle.sr_check_decl.specs.Inferring.{program_inferred, program_known}
-use Rattle.sr_check_decl.specs.Waiting.{files_waiting}
+use Rattle.sr_check_decl.specs.Inferring.{program_known}
 use Rattle.sr_check_expr.specs.declared.facts.Facts.{Facts}
 use Rattle.sr_core.specs.declared.component.Core.{Core}
 use Rattle.sr_core.specs.Waiting.{all_code, SiteTest, block_waits}
@@ -23,20 +19,16 @@ use Rattle.sr_scope.specs.declared.program.Names.{Names}
 use Rattle.sr_scope.specs.Resolved.{resolved}
 use Rattle.sr_tree.specs.declared.component.Component.{Component}
 use Rattle.sr_tree.specs.declared.component.File.{File}
-use Rattle.sr_value.specs.declared.place.Span.{Span}
-use Rattle.sr_front.proofs.AllowedCode.{files_error_free}
+use Rattle.sr_tables.specs.Parts.{components_in}
+use Rattle.sr_front.proofs.Heads.{heads_found}
+use Rattle.sr_front.proofs.FreeBlocks.{FreeComponents}
 use Rattle.sr_front.proofs.Declared.{Apart}
-use Rattle.sr_front.proofs.EffectFreeCode.{files_facts}
-use Rattle.sr_front.proofs.FirstStays.{all_settled}
-use Rattle.sr_front.proofs.InfosStay.{Reads, Settled, settled_here, stays_itself}
 use Rattle.sr_front.proofs.InvokesKnown.{Between, Free, between, between_first, code_is_free, grows, heads, shapes}
-use Rattle.sr_front.proofs.KeptNames.{Anywhere, all_fit}
-use Rattle.sr_front.proofs.Leading.{leads_on, leads_self}
 use Rattle.sr_front.proofs.Members.{Among, all_among}
 use Rattle.sr_front.proofs.Operations.{components, core, imports, tables, wholes}
-use Rattle.sr_front.proofs.Placed.{Placed, Ending}
+use Rattle.sr_front.proofs.Placed.{Ending}
+use Rattle.sr_front.proofs.ProgramCode.{code_ends, code_error_free, code_placed}
 use Rattle.sr_front.proofs.ProcNumbers.{all_code_ok}
-use Rattle.sr_front.proofs.ReadsCode.{component_inside, reads_components}
 use Rattle.sr_core.specs.declared.site.Site.{Site}
 use Rattle.sr_desugar.specs.Laws.{WaitApart}
 use Rattle.sr_desugar.proofs.WaitsCode.{code_fits, sites_found}
@@ -44,10 +36,9 @@ use Rattle.sr_tables.specs.Sites.{arm_mentions}
 use Rattle.sr_tables.specs.declared.sites.Mention.{Mention}
 use Rattle.sr_front.specs.Imports.{block_mentions}
 use Rattle.sr_front.proofs.MentionedCode.{mentions_test}
-use Rattle.sr_front.proofs.RootedComponents.{AllRooted, components_fit}
+use Rattle.sr_front.proofs.RootedCode.{AllRooted, components_fit}
 use Rattle.sr_front.proofs.SiteCode.{from_zero}
 use Rattle.sr_front.proofs.TypedCode.{Good}
-use Rattle.sr_front.proofs.TypedItems.{FreeComponents}
 use Rattle.sr_front.proofs.TypedPlaces.{AtPlace}
 use Rattle.sr_front.proofs.VariablesReads.{read_passes, site_passes}
 use Rattle.sr_front.proofs.KeptBy.{KeptBetween}
@@ -60,50 +51,31 @@ pub record CorePasses (core : Core) (test : ℕ → Mention → Bool) : Type 0 w
 
 module _ (specs : Specs) (files : List File) (facts : Facts) (names : Names) (named : resolved files ≡ Ok names) (kept : facts.uses ≡ names.uses)
     (services : AllServiceOwn names.uses files (program_known names.uses specs files)) (apart : Apart files)
-    (names_apart : IsDistinct same_spot (map spot_of (flat_map file_names files))) (none : first_refused names.uses specs files ≡ None) (checked_so : facts ≡ (checked names.uses specs files).facts) where
+    (names_apart : IsDistinct same_spot (map spot_of (flat_map file_names files))) (none : first_refused names.uses specs files ≡ None) (headed : ErrorFree (heads_found names.uses specs files))
+    (types : FreeComponents (components_in files) (program_known names.uses specs files)) (checked_so : facts ≡ (checked names.uses specs files).facts) where
   abbrev first : Facts
   first = program_known names.uses specs files
 
-  pub whole : ErrorFree (components_read (components files facts) first).found
-  whole =
-      files_error_free files first
-      (error_free_second (type_cycles_found (leads_left (program_inferred names.uses specs files) (files_waiting files))) _ (none_found names.uses specs files none))
+  whole : ErrorFree (components_read (components files facts) first).found
+  whole = code_error_free specs files facts names none
 
-  pub final : facts ≡ (components_read (components files facts) first).facts
-  final = checked_so ∙ files_facts files first
-
-  abbrev inside : List Span
-  inside = flat_map component_inside (components files facts)
-
-  code_read : Reads inside first facts
-  code_read = subst (Reads inside first) (sym final) (reads_components (components files facts) first)
-
-  -- all code stands where nothing is known at first, and what is known after it is known in the end
-  start : Placed Anywhere facts inside first (components_read (components files facts) first).facts
-  start =
-      let settled : Settled facts inside first facts = subst (λ (end : Facts). Settled end inside first end) (sym final) (all_settled names.uses specs files names_apart) in
-      subst (Placed Anywhere facts inside first) final
-      (record {
-        free = all_fit (λ span. spot_of span) inside;
-        settled = settled;
-        start = record { stays = settled_here facts inside first facts code_read settled; leads = leads_on inside first facts code_read };
-        end = record { stays = stays_itself facts; leads = leads_self facts };
-      })
+  final : facts ≡ (components_read (components files facts) first).facts
+  final = code_ends specs files facts names checked_so
 
   abbrev pub scene : ℕ → Component → Scene
   scene number component = scene_of facts (tables files facts) (imports files facts) number component
 
   abbrev Between_here : Facts → Type 0
-  Between_here = Between specs files facts names.uses kept apart none names_apart
+  Between_here = Between specs files facts names.uses kept apart headed names_apart
 
-  abbrev between_here : (component : Component) (there : Among (components files facts) component) → KeptBetween facts (shapes specs files facts names.uses kept apart none names_apart)
-      (heads specs files facts names.uses kept apart none names_apart) Between_here (Free specs files facts names.uses kept apart none names_apart) component
-  between_here = between specs files facts names.uses kept apart none names_apart
+  abbrev between_here : (component : Component) (there : Among (components files facts) component) → KeptBetween facts (shapes specs files facts names.uses kept apart headed names_apart)
+      (heads specs files facts names.uses kept apart headed names_apart) Between_here (Free specs files facts names.uses kept apart headed names_apart) component
+  between_here = between specs files facts names.uses kept apart headed names_apart
 
   at_place : (number : ℕ) (component : Component) (there : Among (components files facts) component) (now : Facts) → (between_here component there).Q now → Ending (scene number component).facts now → Good now → AtPlace (scene number component) now
   at_place number component there now h ending good = record {
     typed = good.typed;
-    grows = grows specs files facts names.uses kept apart none names_apart whole final number there.0 component now h ending;
+    grows = grows specs files facts names.uses kept apart headed names_apart whole types final number there.0 component now h ending;
     operations = h.1.0;
   }
 
@@ -121,11 +93,11 @@ module _ (specs : Specs) (files : List File) (facts : Facts) (names : Names) (na
     abbrev reads_test : ℕ → ℕ → ℕ → SiteTest
     reads_test number count owns site blocks other = list_all (read_passes (test number)) site.reads
 
-    pub core_passes : Rooted test → FreeComponents (components files facts) first → Good first → WaitApart files facts → CorePasses (core files facts) test
-    core_passes had types good distinct =
-        let fits = components_fit test facts (tables files facts) (imports files facts) (shapes specs files facts names.uses kept apart none names_apart) (heads specs files facts names.uses kept apart none names_apart) facts
-        Between_here (Free specs files facts names.uses kept apart none names_apart) (Among (components files facts)) between_here at_place
-        0 (components files facts) (all_among (components files facts)) (code_is_free specs files facts names.uses kept apart none names_apart) had first types start (between_first specs files facts names.uses kept apart none names_apart) good whole in
+    pub core_passes : Rooted test → Good first → WaitApart files facts → CorePasses (core files facts) test
+    core_passes had good distinct =
+        let fits = components_fit test facts (tables files facts) (imports files facts) (shapes specs files facts names.uses kept apart headed names_apart) (heads specs files facts names.uses kept apart headed names_apart) facts
+        Between_here (Free specs files facts names.uses kept apart headed names_apart) (Among (components files facts)) between_here at_place
+        0 (components files facts) (all_among (components files facts)) (code_is_free specs files facts names.uses kept apart headed names_apart) had first types (code_placed specs files facts names checked_so names_apart) (between_first specs files facts names.uses kept apart headed names_apart) (λ asked. good) whole in
         let guards = sites_found site_test guards_test (λ number count owns site blocks other passes has. (and_parts (list_all (test number) (flat_map arm_mentions site.arms)) _ passes).0) files facts distinct fits.sites in
         let reads = sites_found site_test reads_test (λ number count owns site blocks other passes has. (and_parts (list_all (test number) (flat_map arm_mentions site.arms)) _ passes).1) files facts distinct fits.sites in
         record {

@@ -1,69 +1,43 @@
 -- Where no rule is broken in a declaration, what its core mentions passes.
-use Rattle.std.proofs.Common.{Bool, true, false, ℤ, List, [], ◌∷◌, ◌++◌, Option, Some, None, IsTrue, flat_map, if◌then◌else◌, refl, subst, length}
-use Rattle.std.proofs.lemmas.Bool.{and_from}
+use Rattle.std.proofs.Common.{Bool, List, ◌++◌, IsTrue, flat_map, refl}
 use Rattle.std.specs.List.{list_all}
-use Rattle.sr_core.specs.declared.statement.Statement.{Statement}
-use Rattle.sr_names.specs.declared.spot.Spot.{Spot}
-use Rattle.sr_tree.specs.declared.expr.Expr.{Expr}
 use Rattle.sr_value.specs.declared.place.Span.{Span}
-use Rattle.sr_check_expr.specs.Meanings.{is_constant}
 use Rattle.sr_tables.specs.Lists.{maybe}
-use Rattle.sr_tables.specs.Parts.{line_of, spot_named}
+use Rattle.sr_tables.specs.Parts.{spot_named}
 use Rattle.sr_lower_expr.specs.declared.scene.Scene.{Scene}
-use Rattle.sr_lower_expr.specs.Expressions.{core_value}
-use Rattle.sr_lower_expr.specs.Places.{nothing, operation_expr}
-use Rattle.sr_desugar.specs.Statements.{semaphore_sends, semaphores_core, value_sends}
+use Rattle.sr_lower_expr.specs.Places.{operation_expr}
+use Rattle.sr_desugar.specs.Statements.{semaphores_core}
 use Rattle.sr_core.specs.declared.statement.DimsExpr.{DimsExpr}
 use Rattle.sr_core.specs.declared.statement.Scope.{Scope}
 use Rattle.sr_core.specs.declared.statement.Setup.{Setup}
 use Rattle.sr_tree.specs.declared.declaration.ConstDecl.{ConstDecl}
 use Rattle.sr_tree.specs.declared.declaration.Semaphore.{Semaphore}
 use Rattle.sr_tree.specs.declared.declaration.VarDecl.{VarDecl}
-use Rattle.sr_tree.specs.declared.types.Decl.{Decl}
-use Rattle.sr_tree.specs.declared.types.DimsTree.{DimsTree}
-use Rattle.sr_tree.specs.declared.types.RangeTree.{RangeTree}
-use Rattle.sr_order.specs.Names.{const_names, decl_names, dims_names, expr_names, formal_names, formal_names_step, range_names, returned_names, returned_names_step, semaphore_names, signature_names, signature_names_step, type_names, type_names_step, var_names, where_some}
-use Rattle.sr_tree.specs.declared.types.Formal.{Formal}
-use Rattle.sr_tree.specs.declared.types.Returned.{Returned}
-use Rattle.sr_tree.specs.declared.types.Signature.{Signature}
-use Rattle.sr_tree.specs.declared.types.TypeTree.TheFolds.{fold_out-TypeTree, map-TypeTree}
-use Rattle.sr_tree.specs.declared.types.TypeTree.{TypeTree, out-TypeTree}
-use Rattle.sr_tree.specs.declared.types.TypeTree.TheOpen.{TypeTree-F}
-use Rattle.sr_value.specs.declared.place.Place.{Place}
+use Rattle.sr_order.specs.Names.{const_names, semaphore_names, var_names}
 use Rattle.sr_tables.specs.declared.sites.Mention.{Mention}
 use Rattle.sr_tables.specs.Sites.{mentions_in}
-use Rattle.sr_desugar.specs.Declarations.{after_first, const_core, declare, dims_core, first_of, int_expr, item_core, layer_item, layer_place, maybe_dims, range_core, shape_expr, typed, typed_vars, untyped, untyped_vars, var_core, var_number}
-use Rattle.sr_check.proofs.Each.{each-left, each-right}
+use Rattle.sr_desugar.specs.Declarations.{const_core, var_core}
 use Rattle.sr_lower_expr.proofs.Each.{both_pass}
 use Rattle.sr_front.specs.Imports.{dims_mentions, item_mentions, range_mentions, setup_mentions}
 use Rattle.sr_front.proofs.CodeRules.{declare_rule, one_passes, sends_rule}
 use Rattle.sr_front.proofs.MentionRules.{all_pass, leaf_rule}
-use Rattle.sr_check.proofs.ErrorFree.{error_free_first, error_free_second, error_free_both}
 use Rattle.sr_check.specs.ErrorFree.{ErrorFree}
-use Rattle.sr_check_decl.specs.declared.kind.BoundPolicy.{BoundPolicy}
-use Rattle.sr_check_decl.specs.declared.kind.Kind.{Kind}
-use Rattle.sr_check_decl.specs.Constants.{const_found, written_found}
-use Rattle.sr_check_decl.specs.Declarations.{initial_found, sems_found}
-use Rattle.sr_check_decl.specs.TypeTrees.{Kinds, Kinding, ReadsFormals, ReadsReturned, ReadsSignature, bound_found, decl_found, decls_found, dims_found, formal_read, formal_step, free_bounds, range_found, returned_read, returned_step, second_range_found, signature_read, signature_step, type_kinding, type_step}
-use Rattle.sr_check_decl.specs.Variables.{typings_of, var_found, var_rules_found}
+use Rattle.sr_check_decl.specs.Constants.{const_found}
+use Rattle.sr_check_decl.specs.Declarations.{sems_found}
+use Rattle.sr_check_decl.specs.Variables.{var_found}
 use Rattle.sr_check_expr.specs.declared.facts.Facts.{Facts}
-use Rattle.sr_check_expr.specs.Arguments.{all_found, all_valued}
-use Rattle.sr_check_expr.specs.Exprs.{infer_expr}
-use Rattle.sr_check_expr.specs.Typings.{typed_exprs_of, value_found, valued}
 use Rattle.sr_core.specs.declared.statement.DimsExpr.TheVariants as dims
 use Rattle.sr_core.specs.declared.expression.Leaf.TheVariants as leaf
-use Rattle.sr_tree.specs.declared.types.RangeTree.TheVariants as range
-use Rattle.std.specs.Option.{option_map}
-use Rattle.sr_value.specs.declared.value.Value.TheVariants.{Int as int_value}
 use Rattle.sr_front.proofs.RootedActions.{value}
 use Rattle.sr_front.proofs.RootedExprs.{AllHad, operation_expr_passes}
 use Rattle.sr_front.proofs.RootedParts.{Had, Others, nothing_passes}
 use Rattle.sr_front.proofs.TypedPlaces.{AtPlace}
-
--- what the dimensions of a declaration are
-abbrev dims_by : Scene → RangeTree → Option RangeTree → DimsExpr
-dims_by scene first None = dims.One (range_core scene first)
-dims_by scene first (Some second) = dims.Two (range_core scene first) (range_core scene second)
+use Rattle.sr_core.specs.declared.statement.ItemShape.{ItemShape}
+use Rattle.sr_core.specs.declared.statement.ItemShape.TheVariants as item
+use Rattle.sr_core.specs.declared.statement.Setup.TheVariants as setup
+use Rattle.sr_front.proofs.KeptNames.{Anywhere, all_fit}
+use Rattle.sr_front.proofs.MadeDecls.{DeclRules, DimsFit, ItemFits, SetupFits, const_passes as every_const, semaphores_pass as all_semaphores, vars_pass as all_vars}
+use Rattle.sr_front.proofs.RootedFits.{maybe_pass, mention_tests}
 
 module _ (scene : Scene) (test : Mention → Bool) (others : Others scene test) (known : Facts) (at : AtPlace scene known) where
   abbrev HadName : Span → Type 0
@@ -72,186 +46,38 @@ module _ (scene : Scene) (test : Mention → Bool) (others : Others scene test) 
   abbrev Names : List Span → Type 0
   Names = AllHad scene test others
 
-  abbrev Pass : List Mention → Type 0
-  Pass mentions = IsTrue (all_pass test mentions)
-
-  both : (xs ys : List Mention) → Pass xs → Pass ys → Pass (xs ++ ys)
+  both : (xs ys : List Mention) → IsTrue (all_pass test xs) → IsTrue (all_pass test ys) → IsTrue (all_pass test (xs ++ ys))
   both = both_pass test
 
-  value_at : (tree : Expr) → Names (expr_names tree) → ErrorFree (valued (infer_expr tree known)) → Pass (mentions_in (core_value scene tree))
-  value_at = value scene test others known at
+  dims_by : (one : DimsExpr) → DimsFit (mention_tests test) one → IsTrue (all_pass test (dims_mentions one))
+  dims_by dims.None fits = refl
+  dims_by (dims.One range) fits = both (mentions_in range.lo) (mentions_in range.hi) fits.0 fits.1
+  dims_by (dims.Two range second) fits = both (range_mentions range) (range_mentions second) (both (mentions_in range.lo) (mentions_in range.hi) fits.0.0 fits.0.1) (both (mentions_in second.lo) (mentions_in second.hi) fits.1.0 fits.1.1)
 
-  none_passes : Pass (mentions_in nothing)
-  none_passes = nothing_passes scene test
+  item_by : (one : ItemShape) → ItemFits (mention_tests test) one → IsTrue (all_pass test (item_mentions one))
+  item_by (item.Fixed shape) fits = refl
+  item_by (item.Str most) fits = fits
 
-  pub int_passes : (number : ℤ) → Pass (mentions_in (int_expr number))
-  int_passes number = leaf_rule test (leaf.Constant (int_value number)) refl
+  setup_by : (one : Setup) → SetupFits (mention_tests test) one → IsTrue (all_pass test (setup_mentions one))
+  setup_by (setup.Typed shape value) fits =
+      both (dims_mentions shape.dims ++ item_mentions shape.item) (maybe mentions_in value)
+      (both (dims_mentions shape.dims) (item_mentions shape.item) (dims_by shape.dims fits.0.0) (item_by shape.item fits.0.1)) (maybe_pass test value fits.1)
+  setup_by (setup.Untyped shape value) fits = fits
 
-  -- ---- bounds
-
-  bound : (fixed : Bool) (tree : Expr) → Names (expr_names tree) → ErrorFree (bound_found fixed (infer_expr tree known)) → Pass (mentions_in (core_value scene tree))
-  bound fixed tree had whole = value_at tree had (error_free_first (valued (infer_expr tree known)) _ whole)
-
-  range_passes : (policy : BoundPolicy) (tree : RangeTree) → Names (range_names tree) → ErrorFree (range_found policy known tree) → Pass (range_mentions (range_core scene tree))
-  range_passes policy (range.Length span length) had whole =
-      both _ _ (int_passes _) (bound policy.fixed length had (error_free_first (bound_found policy.fixed (infer_expr length known)) _ whole))
-  range_passes policy (range.Bounds span low high) had whole =
-      let after = error_free_second (bound_found policy.fixed (infer_expr low known)) _ whole in
-      both _ _ (bound policy.fixed low (each-left HadName (expr_names low) _ had) (error_free_first (bound_found policy.fixed (infer_expr low known)) _ whole))
-      (bound policy.fixed high (each-right HadName (expr_names low) _ had) (error_free_first (bound_found policy.fixed (infer_expr high known)) _ after))
-  range_passes policy (range.From span low) had whole =
-      both _ _ (bound policy.fixed low had (error_free_first (bound_found policy.fixed (infer_expr low known)) _ whole)) none_passes
-  range_passes policy (range.Any span) had whole = both _ _ (int_passes _) none_passes
-
-  dims_pass : (policy : BoundPolicy) (tree : DimsTree) → Names (dims_names tree) → ErrorFree (dims_found policy known tree) → Pass (dims_mentions (dims_core scene tree))
-  dims_pass policy tree = by tree.second
-    where
-      by : (second : Option RangeTree) → Names (range_names tree.first ++ where_some range_names second) → ErrorFree (range_found policy known tree.first ++ second_range_found policy known second)
-          → Pass (dims_mentions (dims_by scene tree.first second))
-      by None had whole = range_passes policy tree.first (each-left HadName (range_names tree.first) [] had) (error_free_first (range_found policy known tree.first) [] whole)
-      by (Some second) had whole =
-          both (range_mentions (range_core scene tree.first)) (range_mentions (range_core scene second))
-          (range_passes policy tree.first (each-left HadName (range_names tree.first) _ had) (error_free_first (range_found policy known tree.first) _ whole))
-          (range_passes policy second (each-right HadName (range_names tree.first) _ had) (error_free_second (range_found policy known tree.first) _ whole))
-
-  decl_dims_pass : (item : Kind) (written : Option DimsTree) → Names (where_some dims_names written) → ErrorFree (decl_found free_bounds known item written) → Pass (dims_mentions (maybe_dims scene written))
-  decl_dims_pass item None had whole = refl
-  decl_dims_pass item (Some tree) had whole = dims_pass free_bounds tree had (error_free_first (dims_found free_bounds known tree) _ whole)
-
-  -- ---- types
-
-  abbrev layer_names : TypeTree-F TypeTree Formal Returned Signature → List Span
-  layer_names layer = type_names_step (map-TypeTree TypeTree Formal Returned Signature (List Span) (List Span) (List Span) (List Span) type_names formal_names returned_names signature_names layer)
-
-  type_layer : (ty : TypeTree) → Names (type_names ty) → Names (layer_names (out-TypeTree ty))
-  type_layer ty = subst Names (fold_out-TypeTree (List Span) (List Span) (List Span) (List Span) type_names_step formal_names_step returned_names_step signature_names_step ty)
-
-  abbrev kinded : TypeTree-F TypeTree Formal Returned Signature → Kinding
-  kinded layer = type_step (map-TypeTree TypeTree Formal Returned Signature Kinds ReadsFormals ReadsReturned ReadsSignature type_kinding formal_read returned_read signature_read layer) known free_bounds
-
-  -- what is found in a type is found in its layer
-  layer_found : (ty : TypeTree) → ErrorFree (type_kinding ty known free_bounds).found → ErrorFree (kinded (out-TypeTree ty)).found
-  layer_found ty = subst (λ (kinds : Kinds). ErrorFree (kinds known free_bounds).found) (fold_out-TypeTree Kinds ReadsFormals ReadsReturned ReadsSignature type_step formal_step returned_step signature_step ty)
-
-  layer_item_passes : (ty : TypeTree) (layer : TypeTree-F TypeTree Formal Returned Signature) → Names (layer_names layer) → ErrorFree (kinded layer).found → Pass (item_mentions (layer_item scene ty layer))
-  layer_item_passes ty (TypeTree-F.Str span None) had whole = refl
-  layer_item_passes ty (TypeTree-F.Str span (Some length)) had whole = value_at length had (error_free_first (valued (infer_expr length known)) _ whole)
-  layer_item_passes ty _ had whole = refl
-
-  item_passes : (ty : TypeTree) → Names (type_names ty) → ErrorFree (type_kinding ty known free_bounds).found → Pass (item_mentions (item_core scene ty))
-  item_passes ty had whole = layer_item_passes ty (out-TypeTree ty) (type_layer ty had) (layer_found ty whole)
-
-  layer_place_passes : (item : Kind) (written : Option DimsTree) (ty : TypeTree) (layer : TypeTree-F TypeTree Formal Returned Signature) → Names (where_some dims_names written) → Names (type_names ty) → Names (layer_names layer)
-      → ErrorFree (decl_found free_bounds known item written) → ErrorFree (kinded layer).found → ErrorFree (type_kinding ty known free_bounds).found
-      → Pass (dims_mentions (layer_place scene written ty layer).dims ++ item_mentions (layer_place scene written ty layer).item)
-  layer_place_passes item None ty (TypeTree-F.Array span tree inner) dims had names around layer whole =
-      let after = error_free_second (type_kinding inner known free_bounds).found _ layer in
-      both (dims_mentions (dims_core scene tree)) (item_mentions (item_core scene inner))
-      (dims_pass free_bounds tree (each-left HadName (dims_names tree) _ names) (error_free_first (dims_found free_bounds known tree) _ after))
-      (item_passes inner (each-right HadName (dims_names tree) _ names) (error_free_first (type_kinding inner known free_bounds).found _ layer))
-  layer_place_passes item written ty _ dims had names around layer whole =
-      both (dims_mentions (maybe_dims scene written)) (item_mentions (item_core scene ty)) (decl_dims_pass item written dims around) (item_passes ty had whole)
-
-  -- ---- what is set up
-
-  declare_passes : (scope : Scope) (place : Place) (spot : Spot) (setup : Setup) → Pass (setup_mentions setup) → IsTrue (one_passes test (declare scene scope place spot setup))
-  declare_passes scope place spot setup ok = declare_rule test place (record { scope = scope; var = var_number scene scope spot; setup = setup }) ok
-
-  -- values that are given
-  record Given (values : List Expr) : Type 0 where
-    had : Names (flat_map expr_names values)
-    found : ErrorFree (all_found (typings_of known values))
-    valid : ErrorFree (all_valued (typed_exprs_of (typings_of known values)))
-
-  given_value : (tree : Expr) (values : List Expr) → Given (tree ∷ values) → Pass (mentions_in (core_value scene tree))
-  given_value tree values given =
-      let here = infer_expr tree known in
-      value_at tree (each-left HadName (expr_names tree) _ given.had)
-      (error_free_both here.found (value_found here.typed_expr) (error_free_first here.found _ given.found) (error_free_first (value_found here.typed_expr) _ given.valid))
-
-  given_after : (tree : Expr) (values : List Expr) → Given (tree ∷ values) → Given values
-  given_after tree values given =
-      let here = infer_expr tree known in
-      record {
-        had = each-right HadName (expr_names tree) _ given.had;
-        found = error_free_second here.found _ given.found;
-        valid = error_free_second (value_found here.typed_expr) _ given.valid;
-      }
-
-  first_value : (values : List Expr) → Given values → Pass (maybe mentions_in (option_map (core_value scene) (first_of values)))
-  first_value [] given = refl
-  first_value (tree ∷ values) given = given_value tree values given
-
-  values_after : (values : List Expr) → Given values → Given (after_first values)
-  values_after [] given = given
-  values_after (tree ∷ values) given = given_after tree values given
-
-  typed_vars_pass : (scope : Scope) (place : Place) (item : Kind) (ty : TypeTree) (decls : List Decl) (values : List Expr) → Names (flat_map decl_names decls) → Names (type_names ty) → Given values
-      → ErrorFree (type_kinding ty known free_bounds).found → ErrorFree (decls_found free_bounds known item decls) → IsTrue (list_all (one_passes test) (typed_vars scene scope place ty decls values))
-  typed_vars_pass scope place item ty [] values declared had given kind found = refl
-  typed_vars_pass scope place item ty (decl ∷ decls) values declared had given kind found =
-      and_from _ _
-      (declare_passes scope place (spot_named decl.name) (typed scene decl ty (first_of values))
-      (both (dims_mentions (shape_expr scene decl.dims ty).dims ++ item_mentions (shape_expr scene decl.dims ty).item) (maybe mentions_in (option_map (core_value scene) (first_of values)))
-      (layer_place_passes item decl.dims ty (out-TypeTree ty) (each-left HadName (decl_names decl) _ declared).1 had (type_layer ty had) (error_free_first (decl_found free_bounds known item decl.dims) _ found) (layer_found ty kind) kind)
-      (first_value values given)))
-      (typed_vars_pass scope place item ty decls (after_first values) (each-right HadName (decl_names decl) _ declared) had (values_after values given) kind (error_free_second (decl_found free_bounds known item decl.dims) _ found))
-
-  untyped_vars_pass : (scope : Scope) (place : Place) (decls : List Decl) (values : List Expr) → Given values → IsTrue (list_all (one_passes test) (untyped_vars scene scope place decls values))
-  untyped_vars_pass scope place [] values given = refl
-  untyped_vars_pass scope place (decl ∷ decls) [] given = refl
-  untyped_vars_pass scope place (decl ∷ decls) (tree ∷ values) given =
-      and_from _ _ (declare_passes scope place (spot_named decl.name) (untyped scene (spot_named decl.name) tree) (given_value tree values given)) (untyped_vars_pass scope place decls values (given_after tree values given))
-
-  abbrev vars_by : Scope → VarDecl → Option TypeTree → List Statement
-  vars_by scope variables (Some ty) = typed_vars scene scope (line_of variables.span) ty variables.decls variables.values
-  vars_by scope variables None = untyped_vars scene scope (line_of variables.span) variables.decls variables.values
+  decl_rules : DeclRules scene (mention_tests test) Anywhere
+  decl_rules = record {
+    int = leaf_rule test (leaf.Constant _) refl;
+    none = nothing_passes scene test;
+    declare_rule = λ place declaration fits. declare_rule test place declaration (setup_by declaration.setup fits);
+    sends_rule = λ place spot count sent ok. sends_rule test place (operation_expr scene spot) count (operation_expr_passes scene test others spot) ok;
+  }
 
   pub vars_pass : (scope : Scope) (variables : VarDecl) → Names (var_names variables) → ErrorFree (var_found known variables) → IsTrue (list_all (one_passes test) (var_core scene scope variables))
-  vars_pass scope variables all whole =
-      let typings = typings_of known variables.values in
-      let after = error_free_second (all_found typings) _ whole in
-      by variables.ty (each-right HadName (flat_map decl_names variables.decls) _ all) (error_free_first (all_found typings) _ whole) (error_free_first (all_valued (typed_exprs_of typings)) _ after)
-      (error_free_second (all_valued (typed_exprs_of typings)) _ after)
-    where
-      declared : Names (flat_map decl_names variables.decls)
-      declared = each-left HadName (flat_map decl_names variables.decls) _ all
-
-      by : (ty : Option TypeTree) → Names (where_some type_names ty ++ flat_map expr_names variables.values) → ErrorFree (all_found (typings_of known variables.values)) → ErrorFree (all_valued (typed_exprs_of (typings_of known variables.values)))
-          → ErrorFree (var_rules_found known variables.span ty variables.decls (typed_exprs_of (typings_of known variables.values))) → IsTrue (list_all (one_passes test) (vars_by scope variables ty))
-      by None had found valid rules = untyped_vars_pass scope (line_of variables.span) variables.decls variables.values (record { had = had; found = found; valid = valid })
-      by (Some ty) had found valid rules =
-          let kind = type_kinding ty known free_bounds in
-          let rest = error_free_second kind.found _ rules in
-          typed_vars_pass scope (line_of variables.span) kind.kind ty variables.decls variables.values declared (each-left HadName (type_names ty) _ had)
-          (record { had = each-right HadName (type_names ty) _ had; found = found; valid = valid })
-          (error_free_first kind.found _ rules) (error_free_first (decls_found free_bounds known kind.kind variables.decls) _ rest)
-
-  if_not : (b : Bool) (one : Statement) → IsTrue (one_passes test one) → IsTrue (list_all (one_passes test) (if b then [] else one ∷ []))
-  if_not true one ok = refl
-  if_not false one ok = and_from _ _ ok refl
+  vars_pass = all_vars scene (mention_tests test) Anywhere decl_rules known HadName (value scene test others known at)
 
   pub const_passes : (in_spec : Bool) (scope : Scope) (constant : ConstDecl) → Names (const_names constant) → ErrorFree (const_found in_spec known constant) → IsTrue (list_all (one_passes test) (const_core scene scope constant))
-  const_passes in_spec scope constant had whole =
-      let after = error_free_second (written_found known constant.ty) _ whole in
-      if_not (is_constant scene.facts (spot_named constant.name)) _
-      (declare_passes scope (line_of constant.span) (spot_named constant.name) (untyped scene (spot_named constant.name) constant.value)
-      (value_at constant.value (each-right HadName (where_some type_names constant.ty) _ had.1) (error_free_first (valued (infer_expr constant.value known)) _ after)))
-
-  -- ---- semaphores
-
-  semaphore_passes : (place : Place) (semaphore : Semaphore) → Names (semaphore_names semaphore) → ErrorFree (initial_found known semaphore.value) → IsTrue (list_all (one_passes test) (semaphore_sends scene place semaphore))
-  semaphore_passes place semaphore all = by semaphore.value all.1
-    where
-      by : (written : Option Expr) → Names (where_some expr_names written) → ErrorFree (initial_found known written) → IsTrue (list_all (one_passes test) (maybe (value_sends scene place (spot_named semaphore.name)) written))
-      by None had whole = refl
-      by (Some tree) had whole =
-          and_from _ _ (sends_rule test place (operation_expr scene (spot_named semaphore.name)) (core_value scene tree) (operation_expr_passes scene test others (spot_named semaphore.name))
-          (value_at tree had (error_free_first (valued (infer_expr tree known)) _ whole))) refl
+  const_passes = every_const scene (mention_tests test) Anywhere decl_rules known HadName (value scene test others known at)
 
   pub semaphores_pass : (span : Span) (semaphores : List Semaphore) → Names (flat_map semaphore_names semaphores) → ErrorFree (sems_found known semaphores) → IsTrue (list_all (one_passes test) (semaphores_core scene span semaphores))
-  semaphores_pass span [] had whole = refl
-  semaphores_pass span (semaphore ∷ semaphores) had whole =
-      both_pass (one_passes test) (semaphore_sends scene (line_of span) semaphore) (semaphores_core scene span semaphores)
-      (semaphore_passes (line_of span) semaphore (each-left HadName (semaphore_names semaphore) _ had) (error_free_first (initial_found known semaphore.value) _ whole))
-      (semaphores_pass span semaphores (each-right HadName (semaphore_names semaphore) _ had) (error_free_second (initial_found known semaphore.value) _ whole))
+  semaphores_pass span semaphores had =
+      all_semaphores scene (mention_tests test) Anywhere decl_rules known HadName (value scene test others known at) span semaphores had (all_fit (λ semaphore. spot_named semaphore.name) semaphores)

@@ -16,7 +16,7 @@ use Rattle.sr_check_expr.specs.declared.typed_expr.TypedExpr.{TypedExpr}
 use Rattle.sr_check_expr.specs.Arguments.{all_found, all_valued, formals_found, invoked_found, invoked_outcome, returned_by, returned_outcome, takes_as_many, takes_by, arguments_found, is_callable}
 use Rattle.sr_check_expr.specs.Calls.{call_typing, called_by, invocation_found, made_found, parts_found as called_found}
 use Rattle.sr_check_expr.specs.Creating.{instance_typing, machine_found, machine_valued, made_found as creation_found, resource_named, resource_type}
-use Rattle.sr_check_expr.specs.Exprs.{Inferrer, CalledInferrer, PartInferrer, create_step, expr_step, field_typing, infer_create, infer_expr, infer_invocation, infer_part, invocation_step, part_found, part_step, parts_found, prefix_of}
+use Rattle.sr_check_expr.specs.Exprs.{Inferrer, PartInferrer, field_typing, infer_create, infer_expr, infer_invocation, infer_part, part_found, parts_found, prefix_of}
 use Rattle.sr_check_expr.specs.Infos.{info_at}
 use Rattle.sr_check_expr.specs.LiteralTypes.{literal_typed}
 use Rattle.sr_check_expr.specs.Meanings.{constant_at, known as known_value, meant_by, params_in, params_of, type_of, typed_expr}
@@ -38,17 +38,16 @@ use Rattle.sr_names.specs.declared.predefined.Predefined.TheVariants.{Eof}
 use Rattle.sr_names.specs.declared.spot.Spot.{Spot}
 use Rattle.sr_names.specs.Spots.{spot_of}
 use Rattle.sr_names.specs.Uses.{meaning_at}
-use Rattle.sr_order.specs.Names.{create_names, create_names_step, expr_names, expr_names_step, invocation_names, invocation_names_step, part_names, part_names_step, qualified_names}
+use Rattle.sr_order.specs.Names.{create_names, expr_names, invocation_names, part_names, qualified_names}
 use Rattle.sr_order.specs.Spans.{joined}
 use Rattle.sr_tables.specs.declared.sites.Mention.{Mention}
 use Rattle.sr_tables.specs.declared.sites.Mention.TheVariants as mention
 use Rattle.sr_tables.specs.Parts.{deciding}
-use Rattle.sr_tree.specs.declared.expr.Create.{Create, roll-Create}
-use Rattle.sr_tree.specs.declared.expr.Create.TheFolds.{fold-roll-Create, fold-roll-Expr, fold-roll-Invocation, fold-roll-Part, ind-Create, ind-Expr, map-Create, map-Expr, map-Invocation, map-Part}
-use Rattle.sr_tree.specs.declared.expr.Create.TheOpen.{Create-F, Expr-F, Invocation-F, Part-F}
-use Rattle.sr_tree.specs.declared.expr.Expr.{Expr as Tree, roll-Expr}
-use Rattle.sr_tree.specs.declared.expr.Invocation.{Invocation, roll-Invocation}
-use Rattle.sr_tree.specs.declared.expr.Part.{Part as PartTree, roll-Part}
+use Rattle.sr_tree.specs.declared.expr.Create.{Create}
+use Rattle.sr_tree.specs.declared.expr.Create.TheOpen.{Create-F, Expr-F}
+use Rattle.sr_tree.specs.declared.expr.Expr.{Expr as Tree}
+use Rattle.sr_tree.specs.declared.expr.Invocation.{Invocation}
+use Rattle.sr_tree.specs.declared.expr.Part.{Part as PartTree}
 use Rattle.sr_tree.specs.declared.name.Name.{Name}
 use Rattle.sr_tree.specs.declared.name.QualifiedName.{QualifiedName}
 use Rattle.sr_types.specs.declared.signature.Signature.{Signature}
@@ -61,11 +60,14 @@ use Rattle.sr_value.specs.declared.value.Value.{Value}
 use Rattle.sr_value.specs.declared.value.Value.TheVariants.{Int as int_value}
 use Rattle.sr_lower_expr.specs.declared.scene.Lowered.{Lowered}
 use Rattle.sr_lower_expr.specs.declared.scene.Scene.{Scene}
-use Rattle.sr_lower_expr.specs.Expressions.{LoweredTree, LoweredInvocation, call_core, call_of, call_returns, core_expr, core_value, lowered_of, create_core, create_lowered, expr_core, expr_lowered, field_core, field_number, instance_core, invocation_lowered, layer_member, meaning_core, name_core, named_core, part_lowered, sent_arguments, spec_operation, told, trees_of, values}
+use Rattle.sr_lower_expr.specs.Expressions.{LoweredTree, LoweredInvocation, call_core, call_of, call_returns, core_expr, core_value, lowered_of, field_core, field_number, instance_core, layer_member, meaning_core, name_core, named_core, sent_arguments, spec_operation, told, trees_of, values}
 use Rattle.sr_lower_expr.specs.Operators.{conversion_function}
 use Rattle.sr_lower_expr.specs.Places.{operation_at, operation_expr, operation_number, root_of, value_of, whose_by}
 use Rattle.sr_lower_expr.proofs.Trees.{of_create, of_invocation, of_part, told_is}
-use Rattle.sr_front.proofs.ExprParts.{inferred_create, inferred_expr, inferred_invocation, inferred_part, lowered_create, lowered_expr, lowered_invocation, lowered_part}
+use Rattle.sr_tree.proofs.ExprFolds.{ByParts, Claim, CreateNode, ExprNode, InvocationNode, Known, PartNode, bare_create, bare_expr, bare_invocation, bare_part, create_folds, each_create, each_expr, expr_folds, from_create, from_expr, from_invocation, from_part, invocation_folds, part_folds}
+use Rattle.sr_order.proofs.NameFolds.{expr_naming}
+use Rattle.sr_lower_expr.proofs.LowerFold.{lowering}
+use Rattle.sr_front.proofs.TypingFolds.{inferring}
 use Rattle.sr_front.proofs.ExprsStay.{expr_stays}
 use Rattle.sr_front.proofs.MentionRules.{apply_rule, argument_passes, array_rule, at2_rule, at_rule, call_rule, expr_passes, field_rule, leaf_rule, member_rule, one_rule, part_passes, repeated_rule, unary_rule}
 use Rattle.sr_front.proofs.Placeless.{placeless_info}
@@ -230,87 +232,54 @@ module _ (scene : Scene) (test : Mention → Bool) (others : Others scene test) 
     abbrev PartGood : PartTree → Type 0
     PartGood tree = AllHad (part_names tree) → ErrorFree (part_found (infer_part tree known)) → IsTrue (part_passes test (of_part scene tree).1)
 
-    abbrev C : Type 0
-    C = (tree : Create) × CreateGood tree
+    abbrev good : Claim
+    good = record { create = CreateGood; expr = TreeGood; invocation = InvocationGood; part = PartGood }
 
-    abbrev T : Type 0
-    T = (tree : Tree) × TreeGood tree
-
-    abbrev I : Type 0
-    I = (tree : Invocation) × InvocationGood tree
-
-    abbrev P : Type 0
-    P = (tree : PartTree) × PartGood tree
-
-    abbrev first_create : Create-F C T I P → Create-F Create Tree Invocation PartTree
-    first_create = map-Create C T I P Create Tree Invocation PartTree (λ c. c.0) (λ e. e.0) (λ s. s.0) (λ p. p.0)
-
-    abbrev first_expr : Expr-F C T I P → Expr-F Create Tree Invocation PartTree
-    first_expr = map-Expr C T I P Create Tree Invocation PartTree (λ c. c.0) (λ e. e.0) (λ s. s.0) (λ p. p.0)
-
-    abbrev first_invocation : Invocation-F C T I P → Invocation-F Create Tree Invocation PartTree
-    first_invocation = map-Invocation C T I P Create Tree Invocation PartTree (λ c. c.0) (λ e. e.0) (λ s. s.0) (λ p. p.0)
-
-    abbrev first_part : Part-F C T I P → Part-F Create Tree Invocation PartTree
-    first_part = map-Part C T I P Create Tree Invocation PartTree (λ c. c.0) (λ e. e.0) (λ s. s.0) (λ p. p.0)
-
-    abbrev named_create : Create-F Create Tree Invocation PartTree → Create-F (List Span) (List Span) (List Span) (List Span)
-    named_create = map-Create Create Tree Invocation PartTree (List Span) (List Span) (List Span) (List Span) create_names expr_names invocation_names part_names
-
-    abbrev named_expr : Expr-F Create Tree Invocation PartTree → Expr-F (List Span) (List Span) (List Span) (List Span)
-    named_expr = map-Expr Create Tree Invocation PartTree (List Span) (List Span) (List Span) (List Span) create_names expr_names invocation_names part_names
-
-    abbrev named_invocation : Invocation-F Create Tree Invocation PartTree → Invocation-F (List Span) (List Span) (List Span) (List Span)
-    named_invocation = map-Invocation Create Tree Invocation PartTree (List Span) (List Span) (List Span) (List Span) create_names expr_names invocation_names part_names
-
-    abbrev named_part : Part-F Create Tree Invocation PartTree → Part-F (List Span) (List Span) (List Span) (List Span)
-    named_part = map-Part Create Tree Invocation PartTree (List Span) (List Span) (List Span) (List Span) create_names expr_names invocation_names part_names
-
-    tree_fine : (tree : T) → AllHad (expr_names tree.0) → ErrorFree (infer_expr tree.0 known).found → Fine scene test (infer_expr tree.0 known).typed_expr (core_expr scene tree.0)
+    tree_fine : (tree : Known TreeGood) → AllHad (expr_names tree.0) → ErrorFree (infer_expr tree.0 known).found → Fine scene test (infer_expr tree.0 known).typed_expr (core_expr scene tree.0)
     tree_fine tree had whole = record { passes = tree.1 had whole; placed = tree_placed scene known at tree.0 whole }
 
-    all_good : (trees : List T) → AllHad (joined (map expr_names (map (λ (tree : T). tree.0) trees))) → ErrorFree (all_found (map (λ (infer : Inferrer). infer known) (map infer_expr (map (λ (tree : T). tree.0) trees))))
-        → AllFine scene test (typed_exprs_of (map (λ (infer : Inferrer). infer known) (map infer_expr (map (λ (tree : T). tree.0) trees)))) (map (λ (one : LoweredTree). one.1) (map (told scene) (map (λ (tree : T). tree.0) trees)))
+    all_good : (trees : List (Known TreeGood)) → AllHad (joined (map expr_names (map (λ (tree : Known TreeGood). tree.0) trees))) → ErrorFree (all_found (map (λ (infer : Inferrer). infer known) (map infer_expr (map (λ (tree : Known TreeGood). tree.0) trees))))
+        → AllFine scene test (typed_exprs_of (map (λ (infer : Inferrer). infer known) (map infer_expr (map (λ (tree : Known TreeGood). tree.0) trees)))) (map (λ (one : LoweredTree). one.1) (map (told scene) (map (λ (tree : Known TreeGood). tree.0) trees)))
     all_good [] had whole = tt
     all_good (tree ∷ trees) had whole = (
       tree_fine tree (each-left HadName (expr_names tree.0) _ had) (error_free_first (infer_expr tree.0 known).found _ whole),
       all_good trees (each-right HadName (expr_names tree.0) _ had) (error_free_second (infer_expr tree.0 known).found _ whole),
     )
 
-    parts_good : (parts : List P) → AllHad (joined (map part_names (map (λ (part : P). part.0) parts))) → ErrorFree (parts_found (map (λ (infer : PartInferrer). infer known) (map infer_part (map (λ (part : P). part.0) parts))))
-        → IsTrue (list_all (part_passes test) (map (λ (part : PartTree × Part). part.1) (map (of_part scene) (map (λ (part : P). part.0) parts))))
+    parts_good : (parts : List (Known PartGood)) → AllHad (joined (map part_names (map (λ (part : Known PartGood). part.0) parts))) → ErrorFree (parts_found (map (λ (infer : PartInferrer). infer known) (map infer_part (map (λ (part : Known PartGood). part.0) parts))))
+        → IsTrue (list_all (part_passes test) (map (λ (part : PartTree × Part). part.1) (map (of_part scene) (map (λ (part : Known PartGood). part.0) parts))))
     parts_good [] had whole = refl
     parts_good (part ∷ parts) had whole =
         and_from _ _ (part.1 (each-left HadName (part_names part.0) _ had) (error_free_first (part_found (infer_part part.0 known)) _ whole))
         (parts_good parts (each-right HadName (part_names part.0) _ had) (error_free_second (part_found (infer_part part.0 known)) _ whole))
 
     -- what stands as a value
-    value_good : (tree : T) → AllHad (expr_names tree.0) → ErrorFree (infer_expr tree.0 known).found → ErrorFree (value_found (infer_expr tree.0 known).typed_expr) → ExprPasses (core_value scene tree.0)
+    value_good : (tree : Known TreeGood) → AllHad (expr_names tree.0) → ErrorFree (infer_expr tree.0 known).found → ErrorFree (value_found (infer_expr tree.0 known).typed_expr) → ExprPasses (core_value scene tree.0)
     value_good tree had whole value =
         let typed = (infer_expr tree.0 known).typed_expr in
         value_of_passes scene test (core_expr scene tree.0) (tree.1 had whole (rule_met (is_value_name typed.named) BadType typed.span value))
 
-    create_good : (y : Create-F C T I P) → AllHad (create_names_step (named_create (first_create y))) → ErrorFree (create_step (inferred_create (first_create y)) known).found → ExprPasses (create_core scene (lowered_create scene (first_create y)))
+    create_good : (y : CreateNode good) → AllHad (from_create expr_naming (bare_create good y)) → ErrorFree (from_create inferring (bare_create good y) known).found → ExprPasses (from_create (lowering scene) (bare_create good y)).1
     create_good (Create-F.Resource span resource arguments None) had whole =
-        let typings = map (λ (infer : Inferrer). infer known) (map infer_expr (map (λ (tree : T). tree.0) arguments)) in
+        let typings = map (λ (infer : Inferrer). infer known) (map infer_expr (map (λ (tree : Known TreeGood). tree.0) arguments)) in
         let after = each-right HadName (qualified_names resource) _ had in
         let parts = error_free_first (all_found typings ++ machine_found None) _ whole in
-        made_passes span resource (typed_exprs_of typings) None (map (λ (one : LoweredTree). one.1) (map (told scene) (map (λ (tree : T). tree.0) arguments))) (core.Leaf leaf.MyMachine)
-        (all_good arguments (each-left HadName (joined (map expr_names (map (λ (tree : T). tree.0) arguments))) _ after) (error_free_first (all_found typings) _ parts))
+        made_passes span resource (typed_exprs_of typings) None (map (λ (one : LoweredTree). one.1) (map (told scene) (map (λ (tree : Known TreeGood). tree.0) arguments))) (core.Leaf leaf.MyMachine)
+        (all_good arguments (each-left HadName (joined (map expr_names (map (λ (tree : Known TreeGood). tree.0) arguments))) _ after) (error_free_first (all_found typings) _ parts))
         (λ found. leaf_rule test leaf.MyMachine (and_from _ _ others.machine refl)) (error_free_second (all_found typings ++ machine_found None) _ whole)
     create_good (Create-F.Resource span resource arguments (Some machine)) had whole =
-        let typings = map (λ (infer : Inferrer). infer known) (map infer_expr (map (λ (tree : T). tree.0) arguments)) in
+        let typings = map (λ (infer : Inferrer). infer known) (map infer_expr (map (λ (tree : Known TreeGood). tree.0) arguments)) in
         let on = infer_expr machine.0 known in
-        let passed = joined (map expr_names (map (λ (tree : T). tree.0) arguments)) in
+        let passed = joined (map expr_names (map (λ (tree : Known TreeGood). tree.0) arguments)) in
         let after = each-right HadName (qualified_names resource) _ had in
         let parts = error_free_first (all_found typings ++ machine_found (Some on)) _ whole in
-        made_passes span resource (typed_exprs_of typings) (Some on.typed_expr) (map (λ (one : LoweredTree). one.1) (map (told scene) (map (λ (tree : T). tree.0) arguments))) (core_value scene machine.0)
+        made_passes span resource (typed_exprs_of typings) (Some on.typed_expr) (map (λ (one : LoweredTree). one.1) (map (told scene) (map (λ (tree : Known TreeGood). tree.0) arguments))) (core_value scene machine.0)
         (all_good arguments (each-left HadName passed _ after) (error_free_first (all_found typings) _ parts))
         (λ found. value_good machine (each-right HadName passed _ after) (error_free_second (all_found typings) _ parts) (error_free_first (value_found on.typed_expr) _ found))
         (error_free_second (all_found typings ++ machine_found (Some on)) _ whole)
     create_good (Create-F.Machine span) had whole = leaf_rule test leaf.MakeMachine refl
 
-    expr_good : (y : Expr-F C T I P) → AllHad (expr_names_step (named_expr (first_expr y))) → Valued (expr_step (inferred_expr (first_expr y)) known) (expr_core scene (lowered_expr scene (first_expr y)))
+    expr_good : (y : ExprNode good) → AllHad (from_expr expr_naming (bare_expr good y)) → Valued (from_expr inferring (bare_expr good y) known) (from_expr (lowering scene) (bare_expr good y)).1
     expr_good (Expr-F.Literal span literal) had whole value = constant_passes scene test (known_value (literal_typed literal).value)
     expr_good (Expr-F.Name name) had whole value = name_passes name.span name.span had.0 whole value
     expr_good (Expr-F.BasicType span basic) had whole value = nothing_passes scene test
@@ -322,7 +291,7 @@ module _ (scene : Scene) (test : Mention → Bool) (others : Others scene test) 
         let here = infer_expr inner.0 known in
         value_good inner had (error_free_first here.found _ whole) (error_free_first (value_found here.typed_expr) _ (error_free_second here.found _ whole))
     expr_good (Expr-F.Parts span parts) had whole value =
-        array_rule test _ (parts_good parts had (error_free_first (parts_found (map (λ (infer : PartInferrer). infer known) (map infer_part (map (λ (part : P). part.0) parts)))) _ whole))
+        array_rule test _ (parts_good parts had (error_free_first (parts_found (map (λ (infer : PartInferrer). infer known) (map infer_part (map (λ (part : Known PartGood). part.0) parts)))) _ whole))
     expr_good (Expr-F.Field span owner field) had whole value =
         let here = (infer_expr owner.0 known).typed_expr in
         let found = error_free_first (infer_expr owner.0 known).found _ whole in
@@ -378,11 +347,11 @@ module _ (scene : Scene) (test : Mention → Bool) (others : Others scene test) 
         (value_good left (each-left HadName (expr_names left.0) _ had) (error_free_first a.found _ found) (error_free_first (value_found a.typed_expr) _ values))
         (value_good right (each-right HadName (expr_names left.0) _ had) (error_free_second a.found _ found) (error_free_second (value_found a.typed_expr) _ values))
 
-    invocation_good : (y : Invocation-F C T I P) → AllHad (invocation_names_step (named_invocation (first_invocation y))) → ErrorFree (call_typing known (invocation_step (inferred_invocation (first_invocation y)) known)).found
-        → ExprPasses (call_of scene (invocation_lowered (lowered_invocation scene (first_invocation y))))
+    invocation_good : (y : InvocationNode good) → AllHad (from_invocation expr_naming (bare_invocation good y)) → ErrorFree (call_typing known (from_invocation inferring (bare_invocation good y) known)).found
+        → ExprPasses (call_of scene (from_invocation (lowering scene) (bare_invocation good y)))
     invocation_good y had whole =
-        let called = invocation_step (inferred_invocation (first_invocation y)) known in
-        let sending = invocation_lowered (lowered_invocation scene (first_invocation y)) in
+        let called = from_invocation inferring (bare_invocation good y) known in
+        let sending = from_invocation (lowering scene) (bare_invocation good y) in
         let callee = called.callee.typed_expr in
         let first = error_free_first (called_found called) _ whole in
         let found = error_free_first called.callee.found _ first in
@@ -396,9 +365,9 @@ module _ (scene : Scene) (test : Mention → Bool) (others : Others scene test) 
         (all_good y.arguments (each-right HadName (expr_names y.callee.0) _ had) (error_free_second called.callee.found _ first))
         (typed ∙ ap (type_of scene.facts) (sym tree)) (error_free_second (called_found called) _ whole))
 
-    parts_of_good : (span : Span) (count : Option T) (value : T) → AllHad (part_names_step (named_part (first_part (record { span = span; count = count; value = value }))))
-        → ErrorFree (part_found (part_step (inferred_part (first_part (record { span = span; count = count; value = value }))) known))
-        → IsTrue (part_passes test (part_lowered (lowered_part scene (first_part (record { span = span; count = count; value = value })))).1)
+    parts_of_good : (span : Span) (count : Option (Known TreeGood)) (value : Known TreeGood) → AllHad (from_part expr_naming (bare_part good (record { span = span; count = count; value = value })))
+        → ErrorFree (part_found (from_part inferring (bare_part good (record { span = span; count = count; value = value })) known))
+        → IsTrue (part_passes test (from_part (lowering scene) (bare_part good (record { span = span; count = count; value = value }))).1)
     parts_of_good span None value had whole =
         let here = infer_expr value.0 known in
         one_rule test (core_value scene value.0) (value_good value had (error_free_first here.found _ whole) (error_free_second here.found _ whole))
@@ -411,57 +380,25 @@ module _ (scene : Scene) (test : Mention → Bool) (others : Others scene test) 
         (value_good count (each-left HadName (expr_names count.0) _ had) (error_free_first a.found _ found) (error_free_first (value_found a.typed_expr) _ values))
         (value_good value (each-right HadName (expr_names count.0) _ had) (error_free_second a.found _ found) (error_free_second (value_found a.typed_expr) _ values))
 
-    part_good : (y : Part-F C T I P) → AllHad (part_names_step (named_part (first_part y))) → ErrorFree (part_found (part_step (inferred_part (first_part y)) known))
-        → IsTrue (part_passes test (part_lowered (lowered_part scene (first_part y))).1)
+    part_good : (y : PartNode good) → AllHad (from_part expr_naming (bare_part good y)) → ErrorFree (part_found (from_part inferring (bare_part good y) known)) → IsTrue (part_passes test (from_part (lowering scene) (bare_part good y)).1)
     part_good y = parts_of_good y.span y.count y.value
 
     -- ---- all trees
 
-    step_create : (x : Create-F Create Tree Invocation PartTree) (y : Create-F C T I P) → first_create y ≡ x → CreateGood (roll-Create x)
-    step_create x y is = subst (λ z. CreateGood (roll-Create z)) is
-        (subst (λ (spans : List Span). AllHad spans → ErrorFree (infer_create (roll-Create (first_create y)) known).found → ExprPasses (of_create scene (roll-Create (first_create y))).1)
-        (sym (fold-roll-Create (List Span) (List Span) (List Span) (List Span) create_names_step expr_names_step invocation_names_step part_names_step (first_create y)))
-        (subst (λ (infer : Inferrer). AllHad (create_names_step (named_create (first_create y))) → ErrorFree (infer known).found → ExprPasses (of_create scene (roll-Create (first_create y))).1)
-        (sym (fold-roll-Create Inferrer Inferrer CalledInferrer PartInferrer create_step expr_step invocation_step part_step (first_create y)))
-        (subst (λ (one : Create × Expr). AllHad (create_names_step (named_create (first_create y))) → ErrorFree (create_step (inferred_create (first_create y)) known).found → ExprPasses one.1)
-        (sym (fold-roll-Create (Create × Expr) LoweredTree LoweredInvocation (PartTree × Part) (create_lowered scene) (expr_lowered scene) invocation_lowered part_lowered (first_create y)))
-        (create_good y))))
-
-    step_expr : (x : Expr-F Create Tree Invocation PartTree) (y : Expr-F C T I P) → first_expr y ≡ x → TreeGood (roll-Expr x)
-    step_expr x y is = subst (λ z. TreeGood (roll-Expr z)) is
-        (subst (λ (spans : List Span). AllHad spans → Valued (infer_expr (roll-Expr (first_expr y)) known) (core_expr scene (roll-Expr (first_expr y))))
-        (sym (fold-roll-Expr (List Span) (List Span) (List Span) (List Span) create_names_step expr_names_step invocation_names_step part_names_step (first_expr y)))
-        (subst (λ (infer : Inferrer). AllHad (expr_names_step (named_expr (first_expr y))) → Valued (infer known) (core_expr scene (roll-Expr (first_expr y))))
-        (sym (fold-roll-Expr Inferrer Inferrer CalledInferrer PartInferrer create_step expr_step invocation_step part_step (first_expr y)))
-        (subst (λ (one : LoweredTree). AllHad (expr_names_step (named_expr (first_expr y))) → Valued (expr_step (inferred_expr (first_expr y)) known) one.1)
-        (sym (fold-roll-Expr (Create × Expr) LoweredTree LoweredInvocation (PartTree × Part) (create_lowered scene) (expr_lowered scene) invocation_lowered part_lowered (first_expr y)))
-        (expr_good y))))
-
-    step_invocation : (x : Invocation-F Create Tree Invocation PartTree) (y : Invocation-F C T I P) → first_invocation y ≡ x → InvocationGood (roll-Invocation x)
-    step_invocation x y is = subst (λ z. InvocationGood (roll-Invocation z)) is
-        (subst (λ (spans : List Span). AllHad spans → ErrorFree (call_typing known (infer_invocation (roll-Invocation (first_invocation y)) known)).found → ExprPasses (call_of scene (of_invocation scene (roll-Invocation (first_invocation y)))))
-        (sym (fold-roll-Invocation (List Span) (List Span) (List Span) (List Span) create_names_step expr_names_step invocation_names_step part_names_step (first_invocation y)))
-        (subst (λ (infer : CalledInferrer). AllHad (invocation_names_step (named_invocation (first_invocation y))) → ErrorFree (call_typing known (infer known)).found → ExprPasses (call_of scene (of_invocation scene (roll-Invocation (first_invocation y)))))
-        (sym (fold-roll-Invocation Inferrer Inferrer CalledInferrer PartInferrer create_step expr_step invocation_step part_step (first_invocation y)))
-        (subst (λ (one : LoweredInvocation). AllHad (invocation_names_step (named_invocation (first_invocation y))) → ErrorFree (call_typing known (invocation_step (inferred_invocation (first_invocation y)) known)).found → ExprPasses (call_of scene one))
-        (sym (fold-roll-Invocation (Create × Expr) LoweredTree LoweredInvocation (PartTree × Part) (create_lowered scene) (expr_lowered scene) invocation_lowered part_lowered (first_invocation y)))
-        (invocation_good y))))
-
-    step_part : (x : Part-F Create Tree Invocation PartTree) (y : Part-F C T I P) → first_part y ≡ x → PartGood (roll-Part x)
-    step_part x y is = subst (λ z. PartGood (roll-Part z)) is
-        (subst (λ (spans : List Span). AllHad spans → ErrorFree (part_found (infer_part (roll-Part (first_part y)) known)) → IsTrue (part_passes test (of_part scene (roll-Part (first_part y))).1))
-        (sym (fold-roll-Part (List Span) (List Span) (List Span) (List Span) create_names_step expr_names_step invocation_names_step part_names_step (first_part y)))
-        (subst (λ (infer : PartInferrer). AllHad (part_names_step (named_part (first_part y))) → ErrorFree (part_found (infer known)) → IsTrue (part_passes test (of_part scene (roll-Part (first_part y))).1))
-        (sym (fold-roll-Part Inferrer Inferrer CalledInferrer PartInferrer create_step expr_step invocation_step part_step (first_part y)))
-        (subst (λ (one : PartTree × Part). AllHad (part_names_step (named_part (first_part y))) → ErrorFree (part_found (part_step (inferred_part (first_part y)) known)) → IsTrue (part_passes test one.1))
-        (sym (fold-roll-Part (Create × Expr) LoweredTree LoweredInvocation (PartTree × Part) (create_lowered scene) (expr_lowered scene) invocation_lowered part_lowered (first_part y)))
-        (part_good y))))
-
-    tree_passes : (tree : Tree) → TreeGood tree
-    tree_passes = ind-Expr CreateGood TreeGood InvocationGood PartGood step_create step_expr step_invocation step_part
+    by_parts : ByParts good
+    by_parts = record {
+      create = λ y. subst (λ t. t)
+          (λ i. AllHad (create_folds expr_naming (bare_create good y) i) → ErrorFree (create_folds inferring (bare_create good y) i known).found → ExprPasses (create_folds (lowering scene) (bare_create good y) i).1) (create_good y);
+      expr = λ y. subst (λ t. t) (λ i. AllHad (expr_folds expr_naming (bare_expr good y) i) → Valued (expr_folds inferring (bare_expr good y) i known) (expr_folds (lowering scene) (bare_expr good y) i).1) (expr_good y);
+      invocation = λ y. subst (λ t. t)
+          (λ i. AllHad (invocation_folds expr_naming (bare_invocation good y) i) → ErrorFree (call_typing known (invocation_folds inferring (bare_invocation good y) i known)).found
+          → ExprPasses (call_of scene (invocation_folds (lowering scene) (bare_invocation good y) i))) (invocation_good y);
+      part = λ y. subst (λ t. t)
+          (λ i. AllHad (part_folds expr_naming (bare_part good y) i) → ErrorFree (part_found (part_folds inferring (bare_part good y) i known)) → IsTrue (part_passes test (part_folds (lowering scene) (bare_part good y) i).1)) (part_good y);
+    }
 
     pub create_passes : (tree : Create) → CreateGood tree
-    create_passes = ind-Create CreateGood TreeGood InvocationGood PartGood step_create step_expr step_invocation step_part
+    create_passes = each_create good by_parts
 
     pub expr_fine : (tree : Tree) → AllHad (expr_names tree) → ErrorFree (infer_expr tree known).found → Fine scene test (infer_expr tree known).typed_expr (core_expr scene tree)
-    expr_fine tree had whole = record { passes = tree_passes tree had whole; placed = tree_placed scene known at tree whole }
+    expr_fine tree had whole = record { passes = each_expr good by_parts tree had whole; placed = tree_placed scene known at tree whole }

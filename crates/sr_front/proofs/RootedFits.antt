@@ -1,56 +1,79 @@
--- What is made of a tree passes a test of what is mentioned, and so do the sites in it.
-use Rattle.std.proofs.Common.{Bool, List, flat_map, IsTrue}
+-- Tests of what is mentioned by what is made of code, and their rules.
+use Rattle.std.proofs.Common.{Bool, List, [], ◌∷◌, ◌++◌, Option, Some, None, flat_map, IsTrue, refl}
+use Rattle.std.proofs.lemmas.Bool.{and_from, and_parts}
 use Rattle.std.specs.List.{list_all}
-use Rattle.sr_core.specs.declared.statement.CoArm.{CoArm as CoreCoArm}
-use Rattle.sr_core.specs.declared.statement.Guarded.{Guarded}
-use Rattle.sr_core.specs.declared.statement.Statement.{Statement as CoreStatement}
-use Rattle.sr_desugar.specs.Statements.{Block, LoweredArm, WithSites, all_made, blocks_of, all_sites, arms_of}
-use Rattle.sr_tables.specs.Lists.{lists}
-use Rattle.sr_core.specs.declared.site.Site.{Site}
-use Rattle.sr_tables.specs.Sites.{arm_mentions}
+use Rattle.sr_core.specs.declared.expression.Expr.{Expr}
+use Rattle.sr_core.specs.declared.site.Arm.{Arm}
+use Rattle.sr_core.specs.Tests.{if_some}
+use Rattle.sr_lower_expr.proofs.Each.{both_pass}
 use Rattle.sr_tables.specs.declared.sites.Mention.{Mention}
-use Rattle.sr_front.proofs.CodeRules.{arm_passes, block_passes, branch_passes, one_passes}
-use Rattle.sr_front.proofs.VariablesReads.{site_passes}
+use Rattle.sr_tables.specs.Lists.{maybe}
+use Rattle.sr_tables.specs.Sites.{arm_mentions, mentions_at, mentions_in}
+use Rattle.sr_front.specs.Imports.{co_call_mentions}
+use Rattle.sr_front.proofs.CodeRules.{act_rule, action_passes, arm_passes, arm_rule, block_passes, block_rule, branch_passes, branch_rule, co_rule, do_else_rule, do_rule, fa_rule, if_rule, in_rule, one_passes, quantifier_passes}
+use Rattle.sr_front.proofs.MadeTests.{ActionRules, MadeRules, MadeTests}
+use Rattle.sr_front.proofs.MentionRules.{all_pass, expr_passes, place_passes}
+use Rattle.sr_front.proofs.VariablesReads.{reads_pass, site_passes}
 
--- what is made passes, and so do the sites in it
-abbrev pub SitesPass : (Mention → Bool) → List Site → Type 0
-SitesPass test sites = IsTrue (list_all (site_passes test) sites)
+abbrev pub mention_tests : (Mention → Bool) → MadeTests
+mention_tests test = record {
+  expr = expr_passes test;
+  place = place_passes test;
+  action = action_passes test;
+  quantifier = quantifier_passes test;
+  call = λ call. all_pass test (co_call_mentions call);
+  one = one_passes test;
+  branch = branch_passes test;
+  co_arm = arm_passes test;
+  block = block_passes test;
+  arm = λ arm. all_pass test (arm_mentions arm);
+  site = site_passes test;
+}
 
-pub record BlockFits (test : Mention → Bool) (one : WithSites Block) : Type 0 where
-  pub made : IsTrue (list_all (one_passes test) one.made)
-  pub sites : SitesPass test one.sites
+module _ (test : Mention → Bool) where
+  both : (xs ys : List Mention) → IsTrue (all_pass test xs) → IsTrue (all_pass test ys) → IsTrue (all_pass test (xs ++ ys))
+  both = both_pass test
 
-pub record StatementFits (test : Mention → Bool) (one : WithSites CoreStatement) : Type 0 where
-  pub made : IsTrue (one_passes test one.made)
-  pub sites : SitesPass test one.sites
+  pub maybe_pass : (expr : Option Expr) → IsTrue (if_some (expr_passes test) expr) → IsTrue (all_pass test (maybe mentions_in expr))
+  maybe_pass None ok = refl
+  maybe_pass (Some expr) ok = ok
 
-pub record ArmFits (test : Mention → Bool) (one : WithSites LoweredArm) : Type 0 where
-  pub block : IsTrue (block_passes test one.made.block)
-  pub arm : IsTrue (list_all test (arm_mentions one.made.arm))
-  pub sites : SitesPass test one.sites
+  action_rules : ActionRules (mention_tests test)
+  action_rules = record {
+    skips = refl;
+    exits = refl;
+    nexts = refl;
+    returns = refl;
+    replies = refl;
+    stops = maybe_pass;
+    assigns = λ place value first second. both (mentions_at place) (mentions_in value) first second;
+    swaps = λ left right first second. both (mentions_at left) (mentions_at right) first second;
+    bumps = λ place bump ok. ok;
+    destroys = λ target ok. ok;
+    evaluates = λ expr ok. ok;
+  }
 
-pub record BranchFits (test : Mention → Bool) (one : WithSites Guarded) : Type 0 where
-  pub made : IsTrue (branch_passes test one.made)
-  pub sites : SitesPass test one.sites
+  arms_pass : (arms : List Arm) → IsTrue (list_all (λ arm. all_pass test (arm_mentions arm)) arms) → IsTrue (all_pass test (flat_map arm_mentions arms))
+  arms_pass [] all = refl
+  arms_pass (arm ∷ arms) all =
+      let parts = and_parts (all_pass test (arm_mentions arm)) _ all in
+      both (arm_mentions arm) (flat_map arm_mentions arms) parts.0 (arms_pass arms parts.1)
 
-pub record CoArmFits (test : Mention → Bool) (one : WithSites CoreCoArm) : Type 0 where
-  pub made : IsTrue (arm_passes test one.made)
-  pub sites : SitesPass test one.sites
-
--- lists of them
-pub record BlocksFit (test : Mention → Bool) (all : List (WithSites Block)) : Type 0 where
-  pub made : IsTrue (list_all (one_passes test) (lists (all_made all)))
-  pub sites : SitesPass test (all_sites all)
-
-pub record ArmsFit (test : Mention → Bool) (all : List (WithSites LoweredArm)) : Type 0 where
-  pub blocks : IsTrue (list_all (block_passes test) (blocks_of all))
-  pub arms : IsTrue (list_all test (flat_map arm_mentions (arms_of all)))
-  pub sites : SitesPass test (all_sites all)
-
-pub record BranchesFit (test : Mention → Bool) (all : List (WithSites Guarded)) : Type 0 where
-  pub made : IsTrue (list_all (branch_passes test) (all_made all))
-  pub sites : SitesPass test (all_sites all)
-
-pub record CoArmsFit (test : Mention → Bool) (all : List (WithSites CoreCoArm)) : Type 0 where
-  pub made : IsTrue (list_all (arm_passes test) (all_made all))
-  pub sites : SitesPass test (all_sites all)
+  pub mention_rules : MadeRules (mention_tests test)
+  mention_rules = record {
+    actions = action_rules;
+    block_rule = block_rule test;
+    act_rule = act_rule test;
+    if_rule = λ place guards otherwise first second. if_rule test place guards otherwise first (block_rule test otherwise second);
+    do_rule = do_rule test;
+    do_else_rule = λ place guards otherwise first second. do_else_rule test place guards otherwise first (block_rule test otherwise second);
+    fa_rule = λ place quantifiers body first second. fa_rule test place quantifiers body first (block_rule test body second);
+    in_rule = λ place site arms otherwise first second. in_rule test place site arms otherwise first (block_rule test otherwise second);
+    co_rule = co_rule test;
+    branch_rule = λ condition body first second. branch_rule test condition body first (block_rule test body second);
+    arm_rule = λ quantifiers call body first second third. arm_rule test quantifiers call body first second (block_rule test body third);
+    quantifier_rule = λ one from to by condition.
+        both (mentions_in one.from ++ mentions_in one.to) (mentions_in one.by ++ maybe mentions_in one.condition) (both (mentions_in one.from) (mentions_in one.to) from to)
+        (both (mentions_in one.by) (maybe mentions_in one.condition) by (maybe_pass one.condition condition));
+    site_rule = λ scope arms has_else ok. let passes = arms_pass arms ok in and_from _ _ passes (reads_pass test arms passes);
+  }

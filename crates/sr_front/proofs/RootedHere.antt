@@ -1,18 +1,19 @@
--- Where no rule is broken, what the expressions of statements mention passes, and what quantifiers and `receive` mention.
+-- Where no rule is broken, what the parts of statements mention passes.
 use Rattle.std.proofs.Common.{◌≡◌, Bool, true, false, List, [], ◌∷◌, ◌++◌, ◌||◌, Option, Some, None, map, flat_map, IsTrue, refl, subst}
 use Rattle.std.proofs.lemmas.Bool.{and_from, and_parts, false≢true}
+use Rattle.std.proofs.lemmas.Option.{none-some}
 use Rattle.std.specs.List.{list_all}
 use Rattle.std.specs.Option.{option_map}
 use Rattle.sr_value.specs.declared.place.Span.{Span}
-use Rattle.sr_check.proofs.Each.{Each, each-append, each-left, each-right}
+use Rattle.sr_check.proofs.Each.{Each, each-left, each-right}
 use Rattle.sr_check.proofs.ErrorFree.{error_free_both, error_free_first, error_free_second, rule_met}
 use Rattle.sr_check.specs.declared.operation.Operation.{Operation}
 use Rattle.sr_check.specs.Contexts.{Context}
 use Rattle.sr_check.specs.ErrorFree.{ErrorFree}
-use Rattle.sr_check.specs.Quantifying.{bounds_found, expr_with, maybe_with, quantified, quantifier_found, quantifiers_found, quantifiers_known}
+use Rattle.sr_check.specs.Quantifying.{maybe_with}
 use Rattle.sr_check.specs.Receiving.{receive_by, receive_found, received_found, received_rule, takes_all}
 use Rattle.sr_check.specs.Services.{decl_named, operation_named, params_of}
-use Rattle.sr_check.specs.Uses.{condition_rule, number_rule}
+use Rattle.sr_check.specs.Uses.{choice_rule}
 use Rattle.sr_check_decl.specs.Variables.{typings_of}
 use Rattle.sr_check_expr.specs.declared.facts.Facts.{Facts}
 use Rattle.sr_check_expr.specs.declared.typed_expr.TypedExpr.{TypedExpr}
@@ -20,8 +21,9 @@ use Rattle.sr_check_expr.specs.Arguments.{all_found, all_valued, as_many}
 use Rattle.sr_check_expr.specs.Exprs.{infer_expr}
 use Rattle.sr_check_expr.specs.Typings.{broken_unless, typed_exprs_of, value_found, valued}
 use Rattle.sr_core.specs.declared.expression.Expr.TheVariants as core
+use Rattle.sr_core.specs.declared.expression.Leaf.TheVariants as leaf
 use Rattle.sr_core.specs.declared.statement.Action.TheVariants as action
-use Rattle.sr_desugar.specs.Statements.{quantifier_core, quantifiers_core, receive_assign, receive_made, step_core}
+use Rattle.sr_desugar.specs.Statements.{receive_assign, receive_made, condition_of}
 use Rattle.sr_lower_expr.specs.declared.scene.Scene.{Scene}
 use Rattle.sr_lower_expr.specs.Expressions.{core_place, core_value}
 use Rattle.sr_lower_expr.specs.Places.{own_place, own_root, site_number}
@@ -29,7 +31,7 @@ use Rattle.sr_lower_expr.proofs.Each.{both_pass}
 use Rattle.sr_names.specs.declared.finding.Rule.TheVariants.{BadType}
 use Rattle.sr_names.specs.declared.spot.Spot.{Spot}
 use Rattle.sr_names.specs.Spots.{spot_of}
-use Rattle.sr_order.specs.Names.{expr_names, quantifier_names, where_some}
+use Rattle.sr_order.specs.Names.{expr_names, where_some, condition_names, const_names, create_names, invocation_names, var_names}
 use Rattle.sr_outline.specs.Numbers.{place_spots}
 use Rattle.sr_tables.specs.declared.sites.Mention.{Mention}
 use Rattle.sr_tables.specs.declared.sites.Mention.TheVariants as mention
@@ -38,35 +40,35 @@ use Rattle.sr_tables.specs.Parts.{line_of}
 use Rattle.sr_tables.specs.Sites.{mentions_at, mentions_in}
 use Rattle.sr_tree.specs.declared.expr.Expr.{Expr}
 use Rattle.sr_tree.specs.declared.name.Name.{Name}
-use Rattle.sr_tree.specs.declared.statement.Quantifier.{Quantifier}
 use Rattle.sr_tree.specs.Expressions.{expr_span}
 use Rattle.sr_types.specs.declared.signature.Param.{Param}
 use Rattle.sr_types.specs.declared.signature.Signature.{Signature}
 use Rattle.sr_types.specs.declared.ty.Ty.{Ty, out-Ty}
 use Rattle.sr_types.specs.declared.ty.Ty.TheOpen.{Ty-F}
-use Rattle.sr_types.specs.declared.typed.Typed.{Typed}
 use Rattle.sr_types.specs.Signatures.{layer_signature}
 use Rattle.sr_types.specs.Types.{layer_is_untyped}
-use Rattle.sr_front.proofs.CodeRules.{act_rule, block_rule, in_rule, one_passes, quantifier_passes}
-use Rattle.sr_front.proofs.KeptBy.{KeptBy, Names}
-use Rattle.sr_front.proofs.MentionRules.{all_pass, load_rule, place_passes}
-use Rattle.sr_front.proofs.Placed.{Ending, Placed, placed_both, reads_quantifier}
-use Rattle.sr_front.proofs.ReadsCode.{reads_quantifiers}
-use Rattle.sr_front.proofs.RootedActions.{place, value}
-use Rattle.sr_front.proofs.RootedDecls.{int_passes}
-use Rattle.sr_front.proofs.RootedExprs.{AllHad}
+use Rattle.sr_front.proofs.CodeRules.{act_rule, block_rule, in_rule, one_passes}
+use Rattle.sr_front.proofs.KeptBy.{Names}
+use Rattle.sr_front.proofs.MentionRules.{all_pass, leaf_rule, load_rule, place_passes}
+use Rattle.sr_front.proofs.Placed.{Ending}
+use Rattle.sr_front.proofs.RootedActions.{place, value, call_action_passes, co_call_passes, forward_passes, send_passes}
+use Rattle.sr_front.proofs.RootedDecls.{const_passes, vars_pass}
+use Rattle.sr_front.proofs.RootedExprs.{AllHad, create_passes}
 use Rattle.sr_front.proofs.RootedParts.{Had, Others, place_at_passes}
-use Rattle.sr_front.proofs.TypedCode.{Good, HasSignature, SignedBy, operation_signed, quantifiers_good}
+use Rattle.sr_front.proofs.TypedCode.{Good, HasSignature, SignedBy, operation_signed}
 use Rattle.sr_front.proofs.TypedPlaces.{AtPlace}
+use Rattle.sr_check.specs.Statements.{condition_found, guarding, guards_found}
+use Rattle.sr_check_expr.specs.Meanings.{meant_by}
+use Rattle.sr_tree.specs.declared.statement.ArmCondition.{ArmCondition}
+use Rattle.sr_front.proofs.MadeHere.{AndTyped, HeldIn, MadeParts}
+use Rattle.sr_front.proofs.RootedFits.{mention_tests}
+use Rattle.sr_front.proofs.TypedSteps.{guarding_place}
 
 -- ---- what is received
 
-unsigned : (signature : Signature) → None ≡ Some signature → ⊥
-unsigned signature e = cc
-
 -- what has a signature has a type
 signed_layer : (facts : Facts) (layer : Ty-F Ty) (signature : Signature) → layer_signature facts.signatures layer ≡ Some signature → layer_is_untyped layer ≡ false
-signed_layer facts Ty-F.Untyped signature is = absurd (unsigned signature is)
+signed_layer facts Ty-F.Untyped signature is = absurd (none-some signature is)
 signed_layer facts _ signature is = refl
 
 taken_all : (facts : Facts) (ty : Ty) (places : List TypedExpr) → HasSignature facts ty → takes_all facts ty places ≡ true → as_many (params_of facts.signatures ty) places ≡ true
@@ -96,34 +98,29 @@ receive_places context span places (Some operation) signed whole =
     received_places (params_of context.facts.signatures operation.ty) places (taken_all context.facts operation.ty places signed met)
     (error_free_first (received_found (params_of context.facts.signatures operation.ty) places) _ (error_free_second rule _ whole))
 
-module _ (scene : Scene) (test : Mention → Bool) (others : Others scene test) (Q : Facts → Type 0) (Free : Spot → Type 0) (kept : KeptBy Q Free) (had : (span : Span) → Free (spot_of span) → Had scene test span)
+module _ (scene : Scene) (test : Mention → Bool) (others : Others scene test) (Q : Facts → Type 0) (Free : Spot → Type 0) (had : (span : Span) → Free (spot_of span) → Had scene test span)
     (reads : (facts : Facts) → Q facts → Ending scene.facts facts → Good facts → AtPlace scene facts) where
   abbrev FreeName : Span → Type 0
   FreeName span = Free (spot_of span)
 
-  -- names are read here
-  abbrev pub Here : List Span → Facts → Facts → Type 0
-  Here = Placed Free scene.facts
-
-  -- what is kept, and that all has a type
-  abbrev pub Holds : Facts → Type 0
-  Holds facts = Q facts × Good facts
+  abbrev Holds : Facts → Type 0
+  Holds = AndTyped (Unit {0}) Q
 
   -- what is known where expressions are read
-  abbrev pub Held : Facts → Type 0
-  Held facts = Holds facts × Ending scene.facts facts
+  abbrev Held : Facts → Type 0
+  Held = HeldIn scene Holds
 
-  pub known_by : (facts : Facts) → Held facts → AtPlace scene facts
-  known_by facts held = reads facts held.0.0 held.1 held.0.1
+  known_by : (facts : Facts) → Held facts → AtPlace scene facts
+  known_by facts held = reads facts held.0.0 held.1 (held.0.1 tt)
 
   -- variables that are declared here pass
   abbrev pub OwnPasses : Spot → Type 0
   OwnPasses spot = IsTrue (test (mention.Variable (own_root scene spot)))
 
-  abbrev pub Owns : List Spot → Type 0
+  abbrev Owns : List Spot → Type 0
   Owns = Each OwnPasses
 
-  pub hads : (names : List Span) → Names Free names → AllHad scene test others names
+  hads : (names : List Span) → Names Free names → AllHad scene test others names
   hads [] free = tt
   hads (name ∷ names) free = (had name free.0, hads names free.1)
 
@@ -135,61 +132,15 @@ module _ (scene : Scene) (test : Mention → Bool) (others : Others scene test) 
   both : (xs ys : List Mention) → Pass xs → Pass ys → Pass (xs ++ ys)
   both = both_pass test
 
-  pub value_at : (facts : Facts) → Held facts → (tree : Expr) → Names Free (expr_names tree) → ErrorFree (valued (infer_expr tree facts)) → Pass (mentions_in (core_value scene tree))
+  value_at : (facts : Facts) → Held facts → (tree : Expr) → Names Free (expr_names tree) → ErrorFree (valued (infer_expr tree facts)) → Pass (mentions_in (core_value scene tree))
   value_at facts held tree free = value scene test others facts (known_by facts held) tree (hads (expr_names tree) free)
 
-  pub place_in : (facts : Facts) → Held facts → (tree : Expr) → Names Free (expr_names tree) → ErrorFree (valued (infer_expr tree facts)) → IsTrue (infer_expr tree facts).typed_expr.typed.is_place → Pass (mentions_at (core_place scene tree))
+  place_in : (facts : Facts) → Held facts → (tree : Expr) → Names Free (expr_names tree) → ErrorFree (valued (infer_expr tree facts)) → IsTrue (infer_expr tree facts).typed_expr.typed.is_place → Pass (mentions_at (core_place scene tree))
   place_in facts held tree free = place scene test others facts (known_by facts held) tree (hads (expr_names tree) free)
-
-  pub with_rule : (rule : Typed → Bool) (facts : Facts) → Held facts → (tree : Expr) → Names Free (expr_names tree) → ErrorFree (expr_with rule facts tree) → Pass (mentions_in (core_value scene tree))
-  with_rule rule facts held tree free whole = value_at facts held tree free (error_free_first (valued (infer_expr tree facts)) _ whole)
-
-  pub maybe_rule : (rule : Typed → Bool) (facts : Facts) → Held facts → (tree : Option Expr) → Names Free (where_some expr_names tree) → ErrorFree (maybe_with rule facts tree)
-      → Pass (maybe mentions_in (option_map (core_value scene) tree))
-  maybe_rule rule facts held None free whole = refl
-  maybe_rule rule facts held (Some tree) free whole = with_rule rule facts held tree free whole
-
-  step_rule : (facts : Facts) → Held facts → (tree : Option Expr) → Names Free (where_some expr_names tree) → ErrorFree (maybe_with number_rule facts tree) → Pass (mentions_in (step_core scene tree))
-  step_rule facts held None free whole = int_passes scene test others facts (known_by facts held) _
-  step_rule facts held (Some tree) free whole = with_rule number_rule facts held tree free whole
-
-  -- ---- quantifiers
-
-  quantifier_keeps : (facts : Facts) (quantifier : Quantifier) → Names Free (quantifier_names quantifier) → Holds facts → Holds (quantified facts quantifier.name)
-  quantifier_keeps facts quantifier free h = (kept.quantifiers (quantifier ∷ []) facts (each-append FreeName (quantifier_names quantifier) [] free tt) h.0, quantifiers_good (quantifier ∷ []) facts h.1)
-
-  pub quantifiers_keep : (quantifiers : List Quantifier) (facts : Facts) → Names Free (flat_map quantifier_names quantifiers) → Holds facts → Holds (quantifiers_known facts quantifiers)
-  quantifiers_keep quantifiers facts free h = (kept.quantifiers quantifiers facts free h.0, quantifiers_good quantifiers facts h.1)
-
-  quantifier_good : (facts : Facts) (quantifier : Quantifier) → Here (quantifier_names quantifier) facts (quantified facts quantifier.name) → Holds facts → ErrorFree (quantifier_found facts quantifier) → IsTrue (quantifier_passes test (quantifier_core scene quantifier))
-  quantifier_good facts quantifier here h whole =
-      let bounds = error_free_first (bounds_found facts quantifier) _ whole in
-      let after = error_free_second (expr_with number_rule facts quantifier.first) _ bounds in
-      let held : Held facts = (h, here.start) in
-      let names = each-right FreeName (expr_names quantifier.first) _ here.free.1 in
-      let rest = each-right FreeName (expr_names quantifier.last) _ names in
-      both (mentions_in (core_value scene quantifier.first) ++ mentions_in (core_value scene quantifier.last)) (mentions_in (step_core scene quantifier.step) ++ maybe mentions_in (option_map (core_value scene) quantifier.such_that))
-      (both (mentions_in (core_value scene quantifier.first)) (mentions_in (core_value scene quantifier.last))
-      (with_rule number_rule facts held quantifier.first (each-left FreeName (expr_names quantifier.first) _ here.free.1) (error_free_first (expr_with number_rule facts quantifier.first) _ bounds))
-      (with_rule number_rule facts held quantifier.last (each-left FreeName (expr_names quantifier.last) _ names) (error_free_first (expr_with number_rule facts quantifier.last) _ after)))
-      (both (mentions_in (step_core scene quantifier.step)) (maybe mentions_in (option_map (core_value scene) quantifier.such_that))
-      (step_rule facts held quantifier.step (each-left FreeName (where_some expr_names quantifier.step) _ rest) (error_free_second (expr_with number_rule facts quantifier.last) _ after))
-      (maybe_rule condition_rule (quantified facts quantifier.name) (quantifier_keeps facts quantifier here.free h, here.end) quantifier.such_that (each-right FreeName (where_some expr_names quantifier.step) _ rest)
-      (error_free_second (bounds_found facts quantifier) _ whole)))
-
-  pub quantifiers_pass : (facts : Facts) (quantifiers : List Quantifier) → Here (flat_map quantifier_names quantifiers) facts (quantifiers_known facts quantifiers) → Holds facts → ErrorFree (quantifiers_found facts quantifiers)
-      → IsTrue (list_all (quantifier_passes test) (quantifiers_core scene quantifiers))
-  quantifiers_pass facts [] here h whole = refl
-  quantifiers_pass facts (quantifier ∷ more) here h whole =
-      let next = quantified facts quantifier.name in
-      let end = quantifiers_known next more in
-      let parts = placed_both Free scene.facts (quantifier_names quantifier) (flat_map quantifier_names more) facts next end (reads_quantifier quantifier facts) (reads_quantifiers more next) here in
-      and_from _ _ (quantifier_good facts quantifier parts.0 h (error_free_first (quantifier_found facts quantifier) _ whole))
-      (quantifiers_pass next more parts.1 (quantifier_keeps facts quantifier parts.0.free h) (error_free_second (quantifier_found facts quantifier) _ whole))
 
   -- ---- `receive`
 
-  pub own_place_passes : (spot : Spot) → OwnPasses spot → IsTrue (place_passes test (own_place scene spot))
+  own_place_passes : (spot : Spot) → OwnPasses spot → IsTrue (place_passes test (own_place scene spot))
   own_place_passes spot ok = place_at_passes scene test (own_root scene spot) ok
 
   -- places that are assigned to
@@ -224,13 +175,9 @@ module _ (scene : Scene) (test : Mention → Bool) (others : Others scene test) 
       in_rule test (line_of span) (site_number scene (spot_of span)) (map (receive_assign scene span) places ∷ []) []
       (and_from _ _ (block_rule test (map (receive_assign scene span) places) ok) refl) refl
 
-  -- a wait for an operation without formals
-  pub wait_passes : (span : Span) (operation : Spot) → IsTrue (one_passes test (receive_made scene span operation []).made)
-  wait_passes span operation = made_passes span operation [] refl
-
-  pub receive_passes : (context : Context) → Held context.facts → (span : Span) (name : Name) (operation : Spot) (places : List Expr) → Names Free (flat_map expr_names places) → Owns (place_spots places)
-      → ErrorFree (receive_found context span name places) → IsTrue (one_passes test (receive_made scene span operation places).made)
-  receive_passes context held span name operation places free own whole =
+  received_by : (context : Context) → Held context.facts → (span : Span) (name : Name) (operation : Spot) (places : List Expr) → Names Free (flat_map expr_names places) → Owns (place_spots places) → ErrorFree (receive_found context span name places)
+      → IsTrue (one_passes test (receive_made scene span operation places).made)
+  received_by context held span name operation places free own whole =
       let typings = typings_of context.facts places in
       let after = error_free_second (all_found typings) _ whole in
       made_passes span operation places
@@ -239,6 +186,45 @@ module _ (scene : Scene) (test : Mention → Bool) (others : Others scene test) 
         own = own;
         found = error_free_first (all_found typings) _ whole;
         valid = error_free_first (all_valued (typed_exprs_of typings)) _ after;
-        placed = receive_places context span (typed_exprs_of typings) (operation_named context.facts name) (operation_signed context.facts held.0.1.signed (decl_named context.facts name))
+        placed = receive_places context span (typed_exprs_of typings) (operation_named context.facts name) (operation_signed context.facts (held.0.1 tt).signed (decl_named context.facts name))
             (error_free_second (all_valued (typed_exprs_of typings)) _ after);
       }))
+
+  -- ---- the guards and orders of arms
+
+  condition_passes : (facts : Facts) → AtPlace scene facts → (condition : Option ArmCondition) → Names Free (where_some condition_names condition) → ErrorFree (condition_found facts condition) → Pass (maybe mentions_in (condition_of scene condition))
+  condition_passes facts at None free whole = refl
+  condition_passes facts at (Some written) free whole =
+      value scene test others facts at written.condition (hads (expr_names written.condition) free) (error_free_first (valued (infer_expr written.condition facts)) _ whole)
+
+  order_passes : (facts : Facts) → AtPlace scene facts → (order : Option Expr) → Names Free (where_some expr_names order) → ErrorFree (maybe_with choice_rule facts order) → Pass (maybe mentions_in (option_map (core_value scene) order))
+  order_passes facts at None free whole = refl
+  order_passes facts at (Some tree) free whole = value scene test others facts at tree (hads (expr_names tree) free) (error_free_first (valued (infer_expr tree facts)) _ whole)
+
+  guards_pass : (facts : Facts) → Held facts → (condition : Option ArmCondition) (order : Option Expr) → Names Free (where_some condition_names condition) → Names Free (where_some expr_names order) → ErrorFree (guards_found facts condition order)
+      → Pass (maybe mentions_in (condition_of scene condition) ++ maybe mentions_in (option_map (core_value scene) order))
+  guards_pass facts held condition order free free_order whole =
+      let at = guarding_place scene facts (known_by facts held) in
+      both (maybe mentions_in (condition_of scene condition)) (maybe mentions_in (option_map (core_value scene) order))
+      (condition_passes (guarding facts) at condition free (error_free_first (condition_found (guarding facts) condition) _ whole))
+      (order_passes (guarding facts) at order free_order (error_free_second (condition_found (guarding facts) condition) _ whole))
+
+  -- ---- all parts
+
+  pub parts_pass : MadeParts scene (mention_tests test) Holds Free OwnPasses
+  parts_pass = record {
+    int = leaf_rule test (leaf.Constant _) refl;
+    value = value_at;
+    place = place_in;
+    create = λ facts held create free whole. create_passes scene test others facts (known_by facts held) create (hads (create_names create) free) whole;
+    const = λ facts held in_spec scope constant free whole. const_passes scene test others facts (known_by facts held) in_spec scope constant (hads (const_names constant) free) whole;
+    var = λ facts held scope variables free whole. vars_pass scene test others facts (known_by facts held) scope variables (hads (var_names variables) free) whole;
+    call = λ context held span invocation free whole. call_action_passes scene test others context.facts (known_by context.facts held) context refl span invocation (hads (invocation_names invocation) free) whole;
+    send = λ facts held span invocation free whole. send_passes scene test others facts (known_by facts held) span invocation (hads (invocation_names invocation) free) whole;
+    forward = λ context held span invocation free whole. forward_passes scene test others context.facts (known_by context.facts held) context refl span invocation (hads (invocation_names invocation) free) whole;
+    started = λ facts held span target invocation free names whole.
+        co_call_passes scene test others facts (known_by facts held) span target invocation (hads (where_some expr_names target) free) (hads (invocation_names invocation) names) whole;
+    guards = λ facts held condition order free free_order whole span operation formals returned. guards_pass facts held condition order free free_order whole;
+    receive = λ context held span name places free own whole. record { made = received_by context held span name (meant_by scene.facts name) places free own whole; sites = refl };
+    wait = λ span operation. record { made = made_passes span operation [] refl; sites = refl };
+  }

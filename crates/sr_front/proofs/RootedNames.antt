@@ -20,7 +20,7 @@ use Rattle.sr_names.specs.declared.meaning.Meaning.TheVariants.{Declared}
 use Rattle.sr_names.specs.declared.spot.Spot.{Spot}
 use Rattle.sr_names.specs.Spots.{same_spot, spot_of}
 use Rattle.sr_names.specs.Uses.{meaning_at}
-use Rattle.sr_order.specs.Names.{block_names, component_names, const_names, file_names, formal_names as formal_spans, item_names as names_of_item, name_names, names_spans, quantifier_names as quantifier_spans, semaphore_names, signature_names, spec_item_names, statement_names, var_names, where_some}
+use Rattle.sr_order.specs.Names.{block_names, component_names, const_names, file_names, item_names as names_of_item, name_names, names_spans, quantifier_names as quantifier_spans, semaphore_names, signature_names, spec_item_names, statement_names, var_names, where_some}
 use Rattle.sr_outline.specs.Numbers.{formal_names, initial_spots, inner_names, item_names, names_in, own_spots, quantifier_names, returned_names, signature_returned}
 use Rattle.sr_scope.specs.declared.program.Names.{Names}
 use Rattle.sr_scope.specs.Components.{component_found, imported_names, item_imports}
@@ -37,7 +37,7 @@ use Rattle.sr_tree.specs.declared.component.Process.{Process}
 use Rattle.sr_tree.specs.declared.component.ProcItem.{ProcItem}
 use Rattle.sr_tree.specs.declared.component.SpecItem.{SpecItem}
 use Rattle.sr_tree.specs.declared.types.Signature.{out-Signature}
-use Rattle.sr_tree.specs.Parts.{body_of, formals_of, name_of, spec_of}
+use Rattle.sr_tree.specs.Parts.{body_of, spec_of}
 use Rattle.sr_value.specs.declared.place.Span.{Span}
 use Rattle.sr_front.specs.Variables.{mention_had, mention_stands}
 use Rattle.sr_front.proofs.CoreComponents.{component_at}
@@ -45,14 +45,12 @@ use Rattle.sr_front.proofs.Declared.{Apart}
 use Rattle.sr_front.proofs.Globals.{in_at}
 use Rattle.sr_front.proofs.Operations.{components, core, imports, tables}
 use Rattle.sr_front.proofs.OwnOrShared.{in_once, is_variable, item_owns}
-use Rattle.sr_front.proofs.RightNames.{spec_found_in}
-use Rattle.sr_front.proofs.RootedCode.{ItemHad, NamesHad, OwnedAt, SpecHad}
-use Rattle.sr_front.proofs.RootedComponents.{AllRooted, ComponentHad}
+use Rattle.sr_front.proofs.RootedCode.{AllRooted, ComponentHad, ItemHad, NamesHad, OwnedAt, SpecHad}
 use Rattle.sr_front.proofs.RootedParts.{Had, means_value}
 use Rattle.sr_front.proofs.RootsHad.{RootHad, SharedRules, UseHad, own_had, send_use_had, spec_use_had, use_had}
-use Rattle.sr_front.proofs.UsableNames.{file_fewer, item_among, spec_among}
-use Rattle.sr_front.proofs.UsesOfItems.{in_quantifiers, item_found_in, item_once}
-use Rattle.sr_front.proofs.UsesWithin.{meant_within, stands_left, stands_right}
+use Rattle.sr_front.proofs.UsableNames.{file_fewer}
+use Rattle.sr_front.proofs.UsesOfItems.{in_quantifiers, item_found_in, item_in_component, item_once, spec_found_in, spec_in_component}
+use Rattle.sr_front.proofs.UsesWithin.{meant_within}
 use Rattle.sr_scope.proofs.Findings.{in_flat, in_right}
 use Rattle.sr_names.proofs.LinkLemmas.{same_spot-refl}
 use Rattle.sr_tables.specs.declared.sites.Mention.TheVariants as mention
@@ -161,11 +159,7 @@ module _ (files : List File) (names : Names) (named : resolved files ≡ Ok name
     own = item_owns (standing facts component) component one
 
     in_component : (span : Span) (decl : Decl) → 1 ≤ names_at (spot_of span) (names_of_item one) → 1 ≤ names_at (spot_of span) (component_names component)
-    in_component span decl stands =
-        let spot = spot_of span in
-        stands_right spot decl ((name_of component).span ∷ []) _
-        (stands_right spot decl (flat_map spec_item_names (spec_of component)) _
-        (stands_right spot decl (flat_map formal_spans (formals_of component)) _ (item_among spot decl (body_of component) one among stands)))
+    in_component span decl = item_in_component (spot_of span) decl component one among
 
     item_name : (span : Span) → 1 ≤ names_at (spot_of span) (names_of_item one) → Had (in_body scene own) test span
     item_name span stands decl meant value constant operation =
@@ -184,9 +178,7 @@ module _ (files : List File) (names : Names) (named : resolved files ≡ Ok name
     own_initial = initial_spots (standing facts component) component
 
     in_whole : (span : Span) (decl : Decl) → 1 ≤ names_at (spot_of span) (spec_item_names one) → 1 ≤ names_at (spot_of span) (component_names component)
-    in_whole span decl stands =
-        let spot = spot_of span in
-        stands_right spot decl ((name_of component).span ∷ []) _ (stands_left spot decl (flat_map spec_item_names (spec_of component)) _ (spec_among spot decl (spec_of component) one among stands))
+    in_whole span decl = spec_in_component (spot_of span) decl component one among
 
     spec_name : (span : Span) → 1 ≤ names_at (spot_of span) (spec_item_names one) → Had (in_body scene own_initial) test span
     spec_name span stands decl meant value constant operation =
@@ -281,8 +273,7 @@ module _ (files : List File) (names : Names) (named : resolved files ≡ Ok name
       machine = passes mention.Machine refl;
       counts = λ spot operation is. passes (mention.Count (operation_number scene spot)) refl;
     };
-    in_spec = each_so (SpecHad scene test) (spec_of component) spec_had;
-    in_body = each_so (ItemHad scene test) (body_of component) item_had;
+    code = record { in_spec = each_so (SpecHad scene test) (spec_of component) spec_had; in_body = each_so (ItemHad scene test) (body_of component) item_had };
   }
 
 -- ---- all components

@@ -6,7 +6,7 @@ use Rattle.std.specs.List.{AllByRecursion, IsDistinct, enumerate_from, list_any,
 use Rattle.std.proofs.lemmas.Bool.{false≢true, eq-eqb, eqb-true, or_cases, or_left, or_right}
 use Rattle.std.proofs.lemmas.Iterator.Adapters.{position_from-zero}
 use Rattle.std.proofs.lemmas.List.Concat.{flat_map-append}
-use Rattle.std.proofs.lemmas.Option.{slice_get-map}
+use Rattle.std.proofs.lemmas.Option.{none-some, same_Some, slice_get-map}
 use Rattle.sr_check_expr.specs.declared.facts.Facts.{Facts}
 use Rattle.sr_check_expr.specs.Meanings.{is_constant}
 use Rattle.sr_check_expr.specs.Naming.{decl_of as decl_meant}
@@ -75,12 +75,6 @@ use Rattle.sr_front.specs.Variables.{has_variable, mention_had, shared_vars}
 
 -- ---- lists
 
-no_none : {A : Type 0} {a : A} → None ≡ Some a → ⊥
-no_none e = false≢true (ap is_some e)
-
-pub some_is : {A : Type 0} {a b : A} → Some a ≡ Some b → a ≡ b
-some_is e = cc
-
 every : {A : Type 0} (Q : A → Type 0) (xs : List A) (x : A) → AllByRecursion Q xs → IsIn x xs → Q x
 every Q [] x all k = absurd k
 every Q (y ∷ xs) x all (inl e) = subst Q e all.0
@@ -92,8 +86,8 @@ placed (y ∷ xs) x (inl e) = (0, e)
 placed (y ∷ xs) x (inr k) = let more = placed xs x k in (suc more.0, more.1)
 
 pub get_at : {A : Type 0} (xs : List A) (place : ℕ) (x : A) → slice_get xs place ≡ Some x → At xs place x
-get_at [] place x e = absurd (no_none e)
-get_at (y ∷ xs) zero x e = some_is e
+get_at [] place x e = absurd (none-some _ e)
+get_at (y ∷ xs) zero x e = same_Some _ _ e
 get_at (y ∷ xs) (suc place) x e = get_at xs place x e
 
 numbered_in : {A : Type 0} (first : ℕ) (xs : List A) (number : ℕ) (x : A) → IsIn (number, x) (enumerate_from first xs) → (place : ℕ) × (number ≡ first + place) × At xs place x
@@ -181,12 +175,7 @@ among_all spot spots k = by (once_from spot spots [] k)
 module _ {A : Type 0} (of : Name → List A) where
   name_in_item : (inner : SpecItem) (name : Name) (a : A) → IsIn name (imported_names inner) → IsIn a (of name) → IsIn a (flat_map of (spec_item_imports inner))
   name_in_item (spec.Import declared) name a k h = in_flat of name a declared.names k h
-  name_in_item (spec.Const constant) name a k h = absurd k
-  name_in_item (spec.Type named) name a k h = absurd k
-  name_in_item (spec.OpType named) name a k h = absurd k
-  name_in_item (spec.Op operations) name a k h = absurd k
-  name_in_item (spec.Var variables) name a k h = absurd k
-  name_in_item (spec.Sem declared) name a k h = absurd k
+  name_in_item _ name a k h = absurd k
 
   abbrev part : SpecItem → List A
   part inner = flat_map of (spec_item_imports inner)
@@ -229,19 +218,11 @@ module _ (facts : Facts) where
   pub spec_stands : (one : SpecItem) (spot : Spot) → IsIn spot (spec_item_shared facts one) → Stands spot (spec_item_names one)
   spec_stands (spec.Const constant) spot k = const_stands facts constant spot k
   spec_stands (spec.Var variables) spot k = var_stands variables spot k
-  spec_stands (spec.Import declared) spot k = absurd k
-  spec_stands (spec.Type named) spot k = absurd k
-  spec_stands (spec.OpType named) spot k = absurd k
-  spec_stands (spec.Op operations) spot k = absurd k
-  spec_stands (spec.Sem semaphores) spot k = absurd k
+  spec_stands _ spot k = absurd k
 
   pub item_stands : (one : Item) (spot : Spot) → IsIn spot (item_shared facts one) → Stands spot (names_of_item one)
   item_stands (item.Spec declared) spot k = spec_stands declared spot k
-  item_stands (item.Proc proc) spot k = absurd k
-  item_stands (item.Procedure procedure) spot k = absurd k
-  item_stands (item.Process process) spot k = absurd k
-  item_stands (item.Final final) spot k = absurd k
-  item_stands (item.Statement statement) spot k = absurd k
+  item_stands _ spot k = absurd k
 
   pub all_stand : {A : Type 0} (spots : A → List Spot) (names : A → List Span) → ((a : A) (spot : Spot) → IsIn spot (spots a) → Stands spot (names a))
       → (items : List A) (spot : Spot) → IsIn spot (flat_map spots items) → Stands spot (flat_map names items)
@@ -458,7 +439,7 @@ module _ (files : List File) (names : Names) (named : resolved files ≡ Ok name
         meant = import_means files names named single k.name component there k.among
 
         means : meaning_at facts.uses (spot_of k.name.span) ≡ Some (Declared d)
-        means = ap (λ uses. meaning_at uses (spot_of k.name.span)) kept ∙ meant.2 ∙ ap (λ one. Some (Declared one)) (some_is (sym meant.1 ∙ k.is))
+        means = ap (λ uses. meaning_at uses (spot_of k.name.span)) kept ∙ meant.2 ∙ ap (λ one. Some (Declared one)) (same_Some _ _ (sym meant.1 ∙ k.is))
 
         spots : global_spot (decl_meant (meaning_at facts.uses (spot_of k.name.span))) ≡ d.spot ∷ []
         spots = ap (λ meaning. global_spot (decl_meant meaning)) means ∙ global_at d is
@@ -481,7 +462,7 @@ module _ (files : List File) (names : Names) (named : resolved files ≡ Ok name
 
         mine : variable.component ≡ number → wf.member variable.var (shared_vars made) ≡ true
         mine same =
-            let one : entry.component ≡ component = some_is (sym at ∙ ap (λ n. slice_get all n) same ∙ here) in
+            let one : entry.component ≡ component = same_Some _ _ (sym at ∙ ap (λ n. slice_get all n) same ∙ here) in
             subst (λ (pair : ℕ × Component). wf.member variable.var (shared_vars (whole_of facts (tables files facts) (imports files facts) pair).component) ≡ true) (λ i. (same i, one i)) has
 
         imported : (import : Option ℕ) → eqb variable.component number ≡ false → import_place scene variable.component ≡ import → is_some import ≡ true
@@ -537,7 +518,7 @@ module _ (files : List File) (names : Names) (named : resolved files ≡ Ok name
             let named = declared_component files k.name.text h.shower k.is in
             let stood = placed all named.0 named.1 in
             let same = one_component files stood.0 there.0 named.0 h.component apart stood.1 there.1 (ap (λ (d : Decl). d.spot) named.2 ∙ sym h.at) in
-            let one : named.0 ≡ h.component = some_is (sym (at_get all stood.0 named.0 stood.1) ∙ ap (λ n. slice_get all n) same ∙ at_get all there.0 h.component there.1) in
+            let one : named.0 ≡ h.component = same_Some _ _ (sym (at_get all stood.0 named.0 stood.1) ∙ ap (λ n. slice_get all n) same ∙ at_get all there.0 h.component there.1) in
             sym (ap (λ (d : Decl). d.sort) named.2) ∙ (ap sort_of one ∙ h.global)
 
         shown : (h : IsShown files (standing facts component) component spot) → IsSeen files component h.shower → (variable.component ≡ number) ⊎ IsIn variable.component scene.imports

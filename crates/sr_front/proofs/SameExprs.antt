@@ -1,7 +1,7 @@
 -- What an expression is, and what is found in it, is the same by all facts that tell the same of the names in it: the walk over expressions.
-use Rattle.std.proofs.Common.{◌≡◌, inl, Bool, true, false, List, [], ◌∷◌, ◌++◌, map, Option, Some, None, refl, sym, ap, subst, ◌∙◌}
+use Rattle.std.proofs.Common.{◌≡◌, inl, Bool, true, false, List, [], ◌∷◌, ◌++◌, map, Option, Some, None, refl, ap, subst, ◌∙◌}
 use Rattle.std.specs.Prelude.{ℕ}
-use Rattle.sr_check_decl.specs.NamesIn.{concat_spans, create_names as create_needs, expr_names as expr_needs, invocation_names as invocation_needs, names_in, names_in_create, names_in_invocation, names_in_part, part_names as part_needs}
+use Rattle.sr_check_decl.specs.NamesIn.{concat_spans, names_in, names_in_create, names_in_invocation, names_in_part}
 use Rattle.sr_check_expr.specs.declared.facts.Facts.{Facts}
 use Rattle.sr_check_expr.specs.declared.facts.Here.{Here}
 use Rattle.sr_check_expr.specs.declared.info.FieldInfo.{FieldInfo}
@@ -11,7 +11,7 @@ use Rattle.sr_check_expr.specs.declared.typed_expr.TypedExpr.{TypedExpr}
 use Rattle.sr_check_expr.specs.Arguments.{all_found, all_valued, as_many, fields_found, formals_found, forms_in, may_call, returned_in, returned_outcome, takes_by}
 use Rattle.sr_check_expr.specs.Calls.{Called, call_typing, called_by, layer_made, layer_record, parts_found as called_found, record_if}
 use Rattle.sr_check_expr.specs.Creating.{component_type, instance_type, instance_typing, machine_found, machine_of, machine_valued, made_found, made_of, resource_if, resource_named, resource_type}
-use Rattle.sr_check_expr.specs.Exprs.{CalledInferrer, Inferrer, PartInferrer, around, between, conversion_outcome, create_step, expr_step, field_typing, grouped, indexed, infer_all, infer_create, infer_expr, infer_invocation, infer_part, infer_parts, invocation_step, operation_component, operator_of, part_step, parts_found, pending_counted, pending_typing, prefix_of, repeated, second_found, second_typed}
+use Rattle.sr_check_expr.specs.Exprs.{around, between, conversion_outcome, field_typing, grouped, indexed, infer_all, infer_create, infer_expr, infer_invocation, infer_part, infer_parts, operation_component, operator_of, parts_found, pending_counted, pending_typing, prefix_of, repeated, second_found, second_typed}
 use Rattle.sr_check_expr.specs.Infos.{info_at, name_spot}
 use Rattle.sr_check_expr.specs.Naming.{capability_part, deciding, decl_info, decl_of, declared_typing, field_named, field_part, layer_field, meaning_typing, name_typing, record_fields, spec_operation}
 use Rattle.sr_check_expr.specs.PredefinedCalls.{by_none, by_one, function_found, function_outcome, function_typing, guard_found, high_outcome, info_shape, is_resource, layer_shape, low_outcome, one_outcome, only, places_found, unless_untyped}
@@ -26,12 +26,11 @@ use Rattle.sr_names.specs.Spots.{spot_of}
 use Rattle.sr_names.specs.Uses.{meaning_at}
 use Rattle.sr_scope.proofs.Findings.{in_left, in_right}
 use Rattle.sr_scope.specs.Uses.{IsIn}
-use Rattle.sr_tree.specs.declared.expr.Create.{Create, roll-Create}
-use Rattle.sr_tree.specs.declared.expr.Create.TheFolds.{fold-roll-Create, fold-roll-Expr, fold-roll-Invocation, fold-roll-Part, ind-Expr, map-Create, map-Expr, map-Invocation, map-Part}
-use Rattle.sr_tree.specs.declared.expr.Create.TheOpen.{Create-F, Expr-F, Invocation-F, Part-F}
-use Rattle.sr_tree.specs.declared.expr.Expr.{Expr as Tree, roll-Expr}
-use Rattle.sr_tree.specs.declared.expr.Invocation.{Invocation, roll-Invocation}
-use Rattle.sr_tree.specs.declared.expr.Part.{Part as PartTree, roll-Part}
+use Rattle.sr_tree.specs.declared.expr.Create.{Create}
+use Rattle.sr_tree.specs.declared.expr.Create.TheOpen.{Create-F, Expr-F}
+use Rattle.sr_tree.specs.declared.expr.Expr.{Expr as Tree}
+use Rattle.sr_tree.specs.declared.expr.Invocation.{Invocation}
+use Rattle.sr_tree.specs.declared.expr.Part.{Part as PartTree}
 use Rattle.sr_tree.specs.declared.name.Name.{Name}
 use Rattle.sr_tree.specs.declared.name.QualifiedName.{QualifiedName}
 use Rattle.sr_value.specs.declared.shape.Shape.{Shape}
@@ -50,8 +49,8 @@ use Rattle.sr_types.specs.Predefined.{high_rule, low_rule}
 use Rattle.sr_types.specs.Signatures.{signature_of}
 use Rattle.sr_types.specs.Types.{is_no_type}
 use Rattle.sr_value.specs.declared.place.Span.{Span}
-use Rattle.sr_front.proofs.ExprParts.{inferred_create, inferred_expr, inferred_invocation, inferred_part}
-use Rattle.sr_front.proofs.NamesAmong.{needs_of_create, needs_of_expr, needs_of_invocation, needs_of_part}
+use Rattle.sr_tree.proofs.ExprFolds.{ByParts, Claim, CreateNode, ExprNode, InvocationNode, Known, PartNode, bare_create, bare_expr, bare_invocation, bare_part, create_folds, each_expr, expr_folds, from_create, from_expr, from_invocation, from_part, invocation_folds, part_folds}
+use Rattle.sr_front.proofs.TypingFolds.{inferring, needing}
 
 -- facts that tell the same: `Numbered type`: the signature of the type has its number
 pub record Alike (Numbered : Ty → Type 0) (now end : Facts) : Type 0 where
@@ -111,8 +110,6 @@ module _ (Numbered : Ty → Type 0) (now end : Facts) (alike : Alike Numbered no
   -- ---- predefined functions
 
   shape_same : (layer : Ty-F Ty) → layer_shape now.infos layer ≡ layer_shape end.infos layer
-  shape_same Ty-F.Bool = refl
-  shape_same Ty-F.Char = refl
   shape_same (Ty-F.Enum spot) = alike.shapes spot
   shape_same _ = refl
 
@@ -127,10 +124,6 @@ module _ (Numbered : Ty → Type 0) (now end : Facts) (alike : Alike Numbered no
   one_same : (name : Predefined) (argument : TypedExpr) → one_outcome now.infos name argument ≡ one_outcome end.infos name argument
   one_same predefined.Low argument = low_same argument.named
   one_same predefined.High argument = high_same argument.named
-  one_same predefined.Abs argument = refl
-  one_same predefined.Length argument = refl
-  one_same predefined.Pred argument = refl
-  one_same predefined.Succ argument = refl
   one_same _ argument = refl
 
   by_one_same : (name : Predefined) (argument : Option TypedExpr) → by_one now.infos name argument ≡ by_one end.infos name argument
@@ -148,8 +141,6 @@ module _ (Numbered : Ty → Type 0) (now end : Facts) (alike : Alike Numbered no
   outcome_same name arguments = by_one_same name (only arguments)
 
   found_same : (span : Span) (name : Predefined) (arguments : List TypedExpr) → function_found now span name arguments ≡ function_found end span name arguments
-  found_same span predefined.Low arguments = refl
-  found_same span predefined.High arguments = refl
   found_same span predefined.Read arguments = ap (λ (here : Here). all_valued arguments ++ (places_found arguments ++ guard_found here span)) alike.here
   found_same span predefined.MyResource arguments = ap (λ (here : Here). all_valued arguments ++ broken_unless (is_resource here.component.sort) BadUse span) alike.here
   found_same span _ arguments = refl
@@ -231,40 +222,19 @@ module _ (Numbered : Ty → Type 0) (now end : Facts) (alike : Alike Numbered no
   abbrev PartGood : PartTree → Type 0
   PartGood tree = SameNames (names_in_part tree) → infer_part tree now ≡ infer_part tree end
 
-  abbrev C : Type 0
-  C = (tree : Create) × CreateGood tree
+  abbrev good : Claim
+  good = record { create = CreateGood; expr = TreeGood; invocation = InvocationGood; part = PartGood }
 
-  abbrev T : Type 0
-  T = (tree : Tree) × TreeGood tree
+  abbrev trees_of : List (Known TreeGood) → List Tree
+  trees_of xs = map (λ (x : Known TreeGood). x.0) xs
 
-  abbrev I : Type 0
-  I = (tree : Invocation) × InvocationGood tree
+  abbrev parts_of : List (Known PartGood) → List PartTree
+  parts_of xs = map (λ (x : Known PartGood). x.0) xs
 
-  abbrev P : Type 0
-  P = (tree : PartTree) × PartGood tree
-
-  abbrev first_create : Create-F C T I P → Create-F Create Tree Invocation PartTree
-  first_create = map-Create C T I P Create Tree Invocation PartTree (λ c. c.0) (λ e. e.0) (λ s. s.0) (λ p. p.0)
-
-  abbrev first_expr : Expr-F C T I P → Expr-F Create Tree Invocation PartTree
-  first_expr = map-Expr C T I P Create Tree Invocation PartTree (λ c. c.0) (λ e. e.0) (λ s. s.0) (λ p. p.0)
-
-  abbrev first_invocation : Invocation-F C T I P → Invocation-F Create Tree Invocation PartTree
-  first_invocation = map-Invocation C T I P Create Tree Invocation PartTree (λ c. c.0) (λ e. e.0) (λ s. s.0) (λ p. p.0)
-
-  abbrev first_part : Part-F C T I P → Part-F Create Tree Invocation PartTree
-  first_part = map-Part C T I P Create Tree Invocation PartTree (λ c. c.0) (λ e. e.0) (λ s. s.0) (λ p. p.0)
-
-  abbrev trees_of : List T → List Tree
-  trees_of xs = map (λ (x : T). x.0) xs
-
-  abbrev parts_of : List P → List PartTree
-  parts_of xs = map (λ (x : P). x.0) xs
-
-  abbrev typings : List T → Facts → List Typing
+  abbrev typings : List (Known TreeGood) → Facts → List Typing
   typings xs facts = infer_all (map infer_expr (trees_of xs)) facts
 
-  abbrev part_typings : List P → Facts → List (Option Typing × Typing)
+  abbrev part_typings : List (Known PartGood) → Facts → List (Option Typing × Typing)
   part_typings xs facts = infer_parts (map infer_part (parts_of xs)) facts
 
   names_left : (xs ys : List Span) → SameNames (xs ++ ys) → SameNames xs
@@ -273,14 +243,14 @@ module _ (Numbered : Ty → Type 0) (now end : Facts) (alike : Alike Numbered no
   names_right : (xs ys : List Span) → SameNames (xs ++ ys) → SameNames ys
   names_right xs ys same used k = same used (in_right used xs ys k)
 
-  all_same : (xs : List T) → SameNames (concat_spans (map names_in (trees_of xs))) → typings xs now ≡ typings xs end
+  all_same : (xs : List (Known TreeGood)) → SameNames (concat_spans (map names_in (trees_of xs))) → typings xs now ≡ typings xs end
   all_same [] same = refl
   all_same (x ∷ xs) same =
       let one = x.1 (names_left (names_in x.0) (concat_spans (map names_in (trees_of xs))) same) in
       let more = all_same xs (names_right (names_in x.0) (concat_spans (map names_in (trees_of xs))) same) in
       ap (λ (e : Typing). e ∷ typings xs now) one ∙ ap (λ (es : List Typing). infer_expr x.0 end ∷ es) more
 
-  parts_same : (xs : List P) → SameNames (concat_spans (map names_in_part (parts_of xs))) → part_typings xs now ≡ part_typings xs end
+  parts_same : (xs : List (Known PartGood)) → SameNames (concat_spans (map names_in_part (parts_of xs))) → part_typings xs now ≡ part_typings xs end
   parts_same [] same = refl
   parts_same (x ∷ xs) same =
       let one = x.1 (names_left (names_in_part x.0) (concat_spans (map names_in_part (parts_of xs))) same) in
@@ -296,7 +266,7 @@ module _ (Numbered : Ty → Type 0) (now end : Facts) (alike : Alike Numbered no
       ∙ (ap (λ (arguments : List Typing). with_found (all_found arguments ++ machine_found machine) (instance_typing end span (resource_named end resource) (typed_exprs_of arguments) (machine_of machine))) same
       ∙ ap (λ (one : Option Typing). with_found (all_found there ++ machine_found one) (instance_typing end span (resource_named end resource) (typed_exprs_of there) (machine_of one))) on))
 
-  create_good : (y : Create-F C T I P) → SameNames (needs_of_create (first_create y)) → create_step (inferred_create (first_create y)) now ≡ create_step (inferred_create (first_create y)) end
+  create_good : (y : CreateNode good) → SameNames (from_create needing (bare_create good y)) → from_create inferring (bare_create good y) now ≡ from_create inferring (bare_create good y) end
   create_good (Create-F.Resource span resource arguments None) same =
       create_by span resource (typings arguments now) (typings arguments end) None None (all_same arguments (names_left (concat_spans (map names_in (trees_of arguments))) [] same)) refl
   create_good (Create-F.Resource span resource arguments (Some machine)) same =
@@ -308,8 +278,8 @@ module _ (Numbered : Ty → Type 0) (now end : Facts) (alike : Alike Numbered no
   abbrev called_of : Span → Typing → List Typing → Called
   called_of span callee arguments = record { span = span; callee = callee; arguments = arguments }
 
-  invocation_good : (y : Invocation-F C T I P) → SameNames (needs_of_invocation (first_invocation y))
-      → (invocation_step (inferred_invocation (first_invocation y)) now ≡ invocation_step (inferred_invocation (first_invocation y)) end) × Numbered (invocation_step (inferred_invocation (first_invocation y)) now).callee.typed_expr.typed.ty
+  invocation_good : (y : InvocationNode good) → SameNames (from_invocation needing (bare_invocation good y))
+      → (from_invocation inferring (bare_invocation good y) now ≡ from_invocation inferring (bare_invocation good y) end) × Numbered (from_invocation inferring (bare_invocation good y) now).callee.typed_expr.typed.ty
   invocation_good y same =
       let names = concat_spans (map names_in (trees_of y.arguments)) in (
         ap (λ (callee : Typing). called_of y.span callee (typings y.arguments now)) (y.callee.1 (names_left (names_in y.callee.0) names same))
@@ -317,14 +287,14 @@ module _ (Numbered : Ty → Type 0) (now end : Facts) (alike : Alike Numbered no
         alike.numbered y.callee.0,
       )
 
-  part_by : (y : Part-F C T I P) (count : Option T) → SameNames (needs_of_part (first_part (record y { count = count })))
-      → part_step (inferred_part (first_part (record y { count = count }))) now ≡ part_step (inferred_part (first_part (record y { count = count }))) end
+  part_by : (y : PartNode good) (count : Option (Known TreeGood)) → SameNames (from_part needing (bare_part good (record y { count = count })))
+      → from_part inferring (bare_part good (record y { count = count })) now ≡ from_part inferring (bare_part good (record y { count = count })) end
   part_by y None same = ap (λ (value : Typing). (None, value)) (y.value.1 same)
   part_by y (Some count) same =
       ap (λ (one : Typing). (Some one, infer_expr y.value.0 now)) (count.1 (names_left (names_in count.0) (names_in y.value.0) same))
       ∙ ap (λ (value : Typing). (Some (infer_expr count.0 end), value)) (y.value.1 (names_right (names_in count.0) (names_in y.value.0) same))
 
-  part_good : (y : Part-F C T I P) → SameNames (needs_of_part (first_part y)) → part_step (inferred_part (first_part y)) now ≡ part_step (inferred_part (first_part y)) end
+  part_good : (y : PartNode good) → SameNames (from_part needing (bare_part good y)) → from_part inferring (bare_part good y) now ≡ from_part inferring (bare_part good y) end
   part_good y = part_by y y.count
 
   abbrev field_of : Facts → Span → Name → Typing → Typing
@@ -336,7 +306,7 @@ module _ (Numbered : Ty → Type 0) (now end : Facts) (alike : Alike Numbered no
   index_same : (span : Span) (a b c d : Typing) (e f : Option Typing) → a ≡ b → c ≡ d → e ≡ f → index_of span a c e ≡ index_of span b d f
   index_same span a b c d e f first second third = ap (λ (it : Typing). index_of span it c e) first ∙ (ap (λ (it : Typing). index_of span b it e) second ∙ ap (index_of span b d) third)
 
-  expr_good : (y : Expr-F C T I P) → SameNames (needs_of_expr (first_expr y)) → expr_step (inferred_expr (first_expr y)) now ≡ expr_step (inferred_expr (first_expr y)) end
+  expr_good : (y : ExprNode good) → SameNames (from_expr needing (bare_expr good y)) → from_expr inferring (bare_expr good y) now ≡ from_expr inferring (bare_expr good y) end
   expr_good (Expr-F.Literal span literal) same = refl
   expr_good (Expr-F.Name name) same = name_same name.span name.span (same name.span (inl refl))
   expr_good (Expr-F.BasicType span basic) same = refl
@@ -371,28 +341,14 @@ module _ (Numbered : Ty → Type 0) (now end : Facts) (alike : Alike Numbered no
 
   -- ---- all trees
 
-  step_create : (x : Create-F Create Tree Invocation PartTree) (y : Create-F C T I P) → first_create y ≡ x → CreateGood (roll-Create x)
-  step_create x y is = subst (λ z. CreateGood (roll-Create z)) is
-      (subst (λ needs. SameNames needs → infer_create (roll-Create (first_create y)) now ≡ infer_create (roll-Create (first_create y)) end) (sym (fold-roll-Create (List Span) (List Span) (List Span) (List Span) create_needs expr_needs invocation_needs part_needs (first_create y)))
-      (subst (λ (infer : Inferrer). SameNames (needs_of_create (first_create y)) → infer now ≡ infer end) (sym (fold-roll-Create Inferrer Inferrer CalledInferrer PartInferrer create_step expr_step invocation_step part_step (first_create y))) (create_good y)))
-
-  step_expr : (x : Expr-F Create Tree Invocation PartTree) (y : Expr-F C T I P) → first_expr y ≡ x → TreeGood (roll-Expr x)
-  step_expr x y is = subst (λ z. TreeGood (roll-Expr z)) is
-      (subst (λ needs. SameNames needs → infer_expr (roll-Expr (first_expr y)) now ≡ infer_expr (roll-Expr (first_expr y)) end) (sym (fold-roll-Expr (List Span) (List Span) (List Span) (List Span) create_needs expr_needs invocation_needs part_needs (first_expr y)))
-      (subst (λ (infer : Inferrer). SameNames (needs_of_expr (first_expr y)) → infer now ≡ infer end) (sym (fold-roll-Expr Inferrer Inferrer CalledInferrer PartInferrer create_step expr_step invocation_step part_step (first_expr y))) (expr_good y)))
-
-  step_invocation : (x : Invocation-F Create Tree Invocation PartTree) (y : Invocation-F C T I P) → first_invocation y ≡ x → InvocationGood (roll-Invocation x)
-  step_invocation x y is = subst (λ z. InvocationGood (roll-Invocation z)) is
-      (subst (λ needs. SameNames needs → (infer_invocation (roll-Invocation (first_invocation y)) now ≡ infer_invocation (roll-Invocation (first_invocation y)) end) × Numbered (infer_invocation (roll-Invocation (first_invocation y)) now).callee.typed_expr.typed.ty)
-      (sym (fold-roll-Invocation (List Span) (List Span) (List Span) (List Span) create_needs expr_needs invocation_needs part_needs (first_invocation y)))
-      (subst (λ (infer : CalledInferrer). SameNames (needs_of_invocation (first_invocation y)) → (infer now ≡ infer end) × Numbered (infer now).callee.typed_expr.typed.ty)
-      (sym (fold-roll-Invocation Inferrer Inferrer CalledInferrer PartInferrer create_step expr_step invocation_step part_step (first_invocation y))) (invocation_good y)))
-
-  step_part : (x : Part-F Create Tree Invocation PartTree) (y : Part-F C T I P) → first_part y ≡ x → PartGood (roll-Part x)
-  step_part x y is = subst (λ z. PartGood (roll-Part z)) is
-      (subst (λ needs. SameNames needs → infer_part (roll-Part (first_part y)) now ≡ infer_part (roll-Part (first_part y)) end) (sym (fold-roll-Part (List Span) (List Span) (List Span) (List Span) create_needs expr_needs invocation_needs part_needs (first_part y)))
-      (subst (λ (infer : PartInferrer). SameNames (needs_of_part (first_part y)) → infer now ≡ infer end) (sym (fold-roll-Part Inferrer Inferrer CalledInferrer PartInferrer create_step expr_step invocation_step part_step (first_part y))) (part_good y)))
+  by_parts : ByParts good
+  by_parts = record {
+    create = λ y. subst (λ t. t) (λ i. SameNames (create_folds needing (bare_create good y) i) → create_folds inferring (bare_create good y) i now ≡ create_folds inferring (bare_create good y) i end) (create_good y);
+    expr = λ y. subst (λ t. t) (λ i. SameNames (expr_folds needing (bare_expr good y) i) → expr_folds inferring (bare_expr good y) i now ≡ expr_folds inferring (bare_expr good y) i end) (expr_good y);
+    invocation = λ y. subst (λ t. t) (λ i. SameNames (invocation_folds needing (bare_invocation good y) i) → (invocation_folds inferring (bare_invocation good y) i now ≡ invocation_folds inferring (bare_invocation good y) i end) × Numbered (invocation_folds inferring (bare_invocation good y) i now).callee.typed_expr.typed.ty) (invocation_good y);
+    part = λ y. subst (λ t. t) (λ i. SameNames (part_folds needing (bare_part good y) i) → part_folds inferring (bare_part good y) i now ≡ part_folds inferring (bare_part good y) i end) (part_good y);
+  }
 
   -- an expression is the same by both
   pub expr_same : (tree : Tree) → SameNames (names_in tree) → infer_expr tree now ≡ infer_expr tree end
-  expr_same = ind-Expr CreateGood TreeGood InvocationGood PartGood step_create step_expr step_invocation step_part
+  expr_same = each_expr good by_parts

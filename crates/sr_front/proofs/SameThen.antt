@@ -19,31 +19,16 @@ use Rattle.sr_front.proofs.WavesIdle.{IsWaiting}
 pub waiting_idle : (found : Option Info) → IsWaiting found → IsIdle found
 waiting_idle None h = tt
 waiting_idle (Some (info.Value typed)) h = h
-waiting_idle (Some (info.«Type» ty)) h = absurd h
-waiting_idle (Some (info.Enumeration number literals)) h = absurd h
-waiting_idle (Some (info.Record fields)) h = absurd h
-waiting_idle (Some (info.OpType ty)) h = absurd h
-waiting_idle (Some (info.Operation ty component is_local)) h = absurd h
-waiting_idle (Some (info.Component ty)) h = absurd h
+waiting_idle (Some _) h = absurd h
 
 operation_idle : (one : Info) → is_operation (Some one) ≡ true → IsIdle (Some one)
 operation_idle (info.Operation ty component is_local) h = tt
-operation_idle (info.Value typed) h = absurd (false≢true h)
-operation_idle (info.«Type» ty) h = absurd (false≢true h)
-operation_idle (info.Enumeration number literals) h = absurd (false≢true h)
-operation_idle (info.Record fields) h = absurd (false≢true h)
-operation_idle (info.OpType ty) h = absurd (false≢true h)
-operation_idle (info.Component ty) h = absurd (false≢true h)
+operation_idle _ h = absurd (false≢true h)
 
 waiting_shape : (found : Option Info) → IsWaiting found → info_shape found ≡ shape.Int
 waiting_shape None h = refl
 waiting_shape (Some (info.Value typed)) h = refl
-waiting_shape (Some (info.«Type» ty)) h = absurd h
-waiting_shape (Some (info.Enumeration number literals)) h = absurd h
-waiting_shape (Some (info.Record fields)) h = absurd h
-waiting_shape (Some (info.OpType ty)) h = absurd h
-waiting_shape (Some (info.Operation ty component is_local)) h = absurd h
-waiting_shape (Some (info.Component ty)) h = absurd h
+waiting_shape (Some _) h = absurd h
 
 module _ (now last end : Facts) where
   -- known in the end of the declarations as where one is read, or an operation
@@ -108,7 +93,4 @@ module _ (now last end : Facts) where
   types_then decl (info.Enumeration number literals) word =
       ap (layer_shape now.infos) (out_enum decl.spot) ∙ layer_then (Ty-F.Enum (type_spot decl.spot)) word ∙ sym (ap (layer_shape end.infos) (out_enum decl.spot))
   types_then decl (info.Record fields) words = ap (layer_shape now.infos) (out_record decl.spot) ∙ sym (ap (layer_shape end.infos) (out_record decl.spot))
-  types_then decl (info.Value typed) words = tt
-  types_then decl (info.OpType ty) words = tt
-  types_then decl (info.Operation ty component is_local) words = tt
-  types_then decl (info.Component ty) words = tt
+  types_then decl _ words = tt

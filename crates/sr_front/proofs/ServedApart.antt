@@ -44,6 +44,7 @@ use Rattle.sr_tree.specs.Parts.{body_of, spec_of}
 use Rattle.sr_value.specs.declared.place.Span.{Span}
 use Rattle.sr_front.proofs.Declared.{Apart, one_component}
 use Rattle.sr_front.proofs.Distinct.{one_place}
+use Rattle.sr_front.proofs.Lists.{in_mapped}
 use Rattle.sr_front.proofs.Members.{Among, all_at, among_parts, at_contained, at_get, at_map, at_read, part_of}
 use Rattle.sr_front.proofs.Services.{meant_is, serves_own, services_own}
 
@@ -59,16 +60,11 @@ among_in [] one h = absurd h
 among_in (first ∷ items) one (inl h) = (0, h)
 among_in (first ∷ items) one (inr h) = let more = among_in items one h in (suc more.0, more.1)
 
-in_map : {A B : Type 0} (f : A → B) (items : List A) (one : A) → IsIn one items → IsIn (f one) (map f items)
-in_map f [] one h = absurd h
-in_map f (first ∷ items) one (inl h) = inl (ap f h)
-in_map f (first ∷ items) one (inr h) = inr (in_map f items one h)
-
 -- where a part stands, there the whole stands
 in_spots : {A : Type 0} (spans : A → List Span) (items : List A) (one : A) (spot : Spot) → IsIn one items → IsIn spot (map spot_of (spans one)) → IsIn spot (map spot_of (flat_map spans items))
 in_spots spans items one spot among h =
     let at = from_map spot (spans one) h in
-    subst (λ other. IsIn other (map spot_of (flat_map spans items))) at.2 (in_map spot_of (flat_map spans items) at.0 (in_flat spans one at.0 items among at.1))
+    subst (λ other. IsIn other (map spot_of (flat_map spans items))) at.2 (in_mapped spot_of (flat_map spans items) at.0 (in_flat spans one at.0 items among at.1))
 
 flat_same : {A B : Type 0} (f g : A → List B) → ((one : A) → f one ≡ g one) → (items : List A) → flat_map f items ≡ flat_map g items
 flat_same f g same [] = refl
@@ -168,7 +164,7 @@ owned_in files spot component is_local h =
 -- an operation that is declared stands among those of the files
 declared_there : (files : List File) (spot component : Spot) (is_local : Bool) → Declared files spot component is_local → IsIn spot (map spot_of (flat_map operation_spans files))
 declared_there files spot component is_local h =
-    subst (IsIn spot) (operation_spots files) (in_map spot_owned (declared_operations files) (spot, (component, is_local)) (owned_in files spot component is_local h))
+    subst (IsIn spot) (operation_spots files) (in_mapped spot_owned (declared_operations files) (spot, (component, is_local)) (owned_in files spot component is_local h))
 
 -- where no two operations stand at one spot each is declared once
 pub one_owner : (files : List File) → IsDistinct same_spot (map spot_of (flat_map operation_spans files)) → OneOwner files
@@ -210,7 +206,7 @@ spec_shared component at spot (spec.Sem semaphores) h = sems_shared component at
 spec_shared component at spot _ h = h
 
 block_local : (component at : Spot) (spot : Spot) (block : List ProcItem) → IsIn (spot, (at, true)) (block_owned component block) → IsIn spot (map spot_of (block_operations block))
-block_local component at spot block h = subst (IsIn spot) (block_spots component block) (in_map spot_owned (block_owned component block) (spot, (at, true)) h)
+block_local component at spot block h = subst (IsIn spot) (block_spots component block) (in_mapped spot_owned (block_owned component block) (spot, (at, true)) h)
 
 item_local : (component at : Spot) (spot : Spot) (one : Item) → IsIn (spot, (at, true)) (item_owned component one) → IsIn spot (map spot_of (inner_operations_of one))
 item_local component at spot (item.Spec declared) h = absurd (spec_shared component at spot declared h)
@@ -294,11 +290,7 @@ module _ (files : List File) (names : Names) (accepted : resolved files ≡ Ok n
     item_means : (number place : ℕ) (component : Component) (one : Item) → At (components_in files) number component → At (body_of component) place one
         → ItemMeansOperation names.uses (meant_by facts) one
     item_means number place component (item.Proc proc) there here = proc_means number place component proc there here
-    item_means number place component (item.Procedure procedure) there here = tt
-    item_means number place component (item.Process process) there here = tt
-    item_means number place component (item.Spec declared) there here = tt
-    item_means number place component (item.Final final) there here = tt
-    item_means number place component (item.Statement statement) there here = tt
+    item_means number place component _ there here = tt
 
     all_mean : (number : ℕ) (component : Component) → At (components_in files) number component → (items : List Item)
         → ((one : Item) → IsIn one items → IsIn one (body_of component)) → AllMeanOperations names.uses (meant_by facts) items
@@ -309,11 +301,7 @@ module _ (files : List File) (names : Names) (accepted : resolved files ≡ Ok n
 
     item_same : (one : Item) → item_serves (meant_by facts) one ≡ item_served facts one
     item_same (item.Proc proc) = refl
-    item_same (item.Procedure procedure) = refl
-    item_same (item.Process process) = refl
-    item_same (item.Spec declared) = refl
-    item_same (item.Final final) = refl
-    item_same (item.Statement statement) = refl
+    item_same _ = refl
 
     -- no two items of a component serve one operation
     component_apart : (component : Component) → IsIn component (components_in files) → IsDistinct same_spot (component_served facts component)

@@ -40,7 +40,7 @@ use Rattle.sr_tree.specs.declared.token.Token.{Token}
 use Rattle.sr_tree.specs.declared.types.Decl.{Decl}
 use Rattle.sr_tree.specs.Parts.{body_of, spec_of}
 use Rattle.sr_front.proofs.AllowedCode.{files_error_free}
-use Rattle.sr_front.proofs.OwnOrShared.{each_at}
+use Rattle.sr_front.proofs.Lists.{each_at}
 use Rattle.sr_front.proofs.SharedVars.{HasValues, IsValued, ItemValued, SpecValued}
 use Rattle.sr_front.proofs.Spelled.{spelled}
 use Rattle.sr_front.specs.Phases.{AllPass}
@@ -53,11 +53,8 @@ typings_length facts [] = refl
 typings_length facts (value ∷ values) = let same = typings_length facts values in omega (arith, same)
 
 one_each : (decls : List Decl) (values : List TypedExpr) → IsTrue (untyped_var_rule decls values) → length decls ≡ length values
-one_each [] values is = absurd (false≢true is)
-one_each (decl ∷ []) [] is = absurd (false≢true is)
 one_each (decl ∷ []) (value ∷ []) is = refl
-one_each (decl ∷ []) (value ∷ other ∷ values) is = absurd (false≢true is)
-one_each (decl ∷ other ∷ decls) values is = absurd (false≢true is)
+one_each _ _ is = absurd (false≢true is)
 
 var_valued : (facts : Facts) (variables : VarDecl) → ErrorFree (var_found facts variables) → HasValues variables
 var_valued facts variables whole untyped =
@@ -70,12 +67,7 @@ var_valued facts variables whole untyped =
 
 spec_valued : (in_spec : Bool) (facts : Facts) (one : SpecItem) → ErrorFree (spec_item_found in_spec facts one) → SpecValued one
 spec_valued in_spec facts (spec.Var variables) whole = var_valued facts variables whole
-spec_valued in_spec facts (spec.Const constant) whole = tt
-spec_valued in_spec facts (spec.Import declared) whole = tt
-spec_valued in_spec facts (spec.Type named) whole = tt
-spec_valued in_spec facts (spec.OpType named) whole = tt
-spec_valued in_spec facts (spec.Op operations) whole = tt
-spec_valued in_spec facts (spec.Sem declared) whole = tt
+spec_valued in_spec facts _ whole = tt
 
 specs_valued : (facts : Facts) (items : List SpecItem) → ErrorFree (spec_items_found facts items) → Each SpecValued items
 specs_valued facts [] whole = tt
@@ -86,11 +78,7 @@ specs_valued facts (one ∷ items) whole = (
 
 item_valued : (procs : Procs) (one : Item) (facts : Facts) → ErrorFree (item_read procs one facts).found → ItemValued one
 item_valued procs (item.Spec declared) facts whole = spec_valued false facts declared whole
-item_valued procs (item.Proc proc) facts whole = tt
-item_valued procs (item.Procedure procedure) facts whole = tt
-item_valued procs (item.Process process) facts whole = tt
-item_valued procs (item.Final final) facts whole = tt
-item_valued procs (item.Statement statement) facts whole = tt
+item_valued procs _ facts whole = tt
 
 items_valued : (procs : Procs) (items : List Item) (facts : Facts) → ErrorFree (items_read procs items facts).found → Each ItemValued items
 items_valued procs [] facts whole = tt

@@ -1,25 +1,25 @@
 -- A shared variable of a component is in the table of shared variables, with the component and its place among the component's variables.
-use Rattle.std.proofs.Common.{◌≡◌, ◌⊎◌, ℕ, ◌+◌, true, false, List, [], ◌∷◌, Some, map, flat_map, refl, sym, ap, ◌∙◌, subst, inl, inr, is_some}
+use Rattle.std.proofs.Common.{◌≡◌, ◌⊎◌, ℕ, ◌+◌, true, false, List, [], ◌∷◌, Some, flat_map, sym, ap, ◌∙◌, subst, inl, inr, is_some}
 use Rattle.std.specs.List.{enumerate_from}
 use Rattle.std.proofs.lemmas.Bool.{false≢true}
+use Rattle.std.proofs.lemmas.Option.{same_Some}
 use Rattle.sr_check_expr.specs.declared.facts.Facts.{Facts}
 use Rattle.sr_names.proofs.Marking.{entry-same, entry-other, same_spot-cases}
 use Rattle.sr_names.specs.declared.spot.Spot.{Spot}
 use Rattle.sr_names.specs.Spots.{same_spot}
 use Rattle.sr_outline.specs.Numbers.{component_shared, shared_of, shared_spots}
 use Rattle.sr_scope.specs.Uses.{IsIn}
-use Rattle.sr_scope.proofs.Findings.{in_either, in_flat}
+use Rattle.sr_scope.proofs.Findings.{in_flat}
+use Rattle.sr_scope.proofs.Operations.{from_flat}
 use Rattle.sr_tables.specs.declared.tables.SharedVariable.{SharedVariable}
 use Rattle.sr_tables.specs.Tables.{each_once, found_at, with_entries, with_entry}
 use Rattle.sr_tree.specs.declared.component.Component.{Component}
+use Rattle.sr_front.proofs.Lists.{from_mapped, in_mapped}
 use Rattle.sr_front.proofs.OwnOrShared.{in_once}
 
 -- ---- tables
 
 module _ {A : Type 0} where
-  some_is : {a b : A} → Some a ≡ Some b → a ≡ b
-  some_is e = cc
-
   -- what a table has for a spot stays
   kept : (entries table : List (Spot × A)) (spot : Spot) → is_some (found_at table spot) ≡ true → is_some (found_at (with_entries table entries) spot) ≡ true
   kept [] table spot h = h
@@ -46,7 +46,7 @@ module _ {A : Type 0} where
       by : (spot ≡ first.0) ⊎ (same_spot spot first.0 ≡ false) → found_at (with_entry table first.0 first.1) spot ≡ Some thing
           → IsIn (spot, thing) (first ∷ entries) ⊎ (found_at table spot ≡ Some thing)
       by (inl same) found =
-          let there : first.1 ≡ thing = some_is (sym (entry-same table first.0 first.1) ∙ ap (λ s. found_at (with_entry table first.0 first.1) s) (sym same) ∙ found) in
+          let there : first.1 ≡ thing = same_Some _ _ (sym (entry-same table first.0 first.1) ∙ ap (λ s. found_at (with_entry table first.0 first.1) s) (sym same) ∙ found) in
           inl (inl (λ i. (sym same i, there i)))
       by (inr other) found = inr (sym (entry-other table first.0 first.1 spot other) ∙ found)
 
@@ -60,24 +60,6 @@ in_numbered : {A : Type 0} (first : ℕ) (xs : List A) (x : A) → IsIn x xs →
 in_numbered first [] x h = absurd h
 in_numbered first (y ∷ xs) x (inl e) = (first, inl (ap (λ z. (first, z)) e))
 in_numbered first (y ∷ xs) x (inr k) = let more = in_numbered (first + 1) xs x k in (more.0, inr more.1)
-
-pub in_mapped : {A B : Type 0} (f : A → B) (xs : List A) (x : A) → IsIn x xs → IsIn (f x) (map f xs)
-in_mapped f [] x h = absurd h
-in_mapped f (y ∷ xs) x (inl e) = inl (ap f e)
-in_mapped f (y ∷ xs) x (inr k) = inr (in_mapped f xs x k)
-
-from_mapped : {A B : Type 0} (f : A → B) (xs : List A) (b : B) → IsIn b (map f xs) → (x : A) × (IsIn x xs) × (f x ≡ b)
-from_mapped f [] b h = absurd h
-from_mapped f (y ∷ xs) b (inl e) = (y, inl refl, e)
-from_mapped f (y ∷ xs) b (inr k) = let more = from_mapped f xs b k in (more.0, inr more.1, more.2)
-
-from_flat : {A B : Type 0} (f : A → List B) (xs : List A) (b : B) → IsIn b (flat_map f xs) → (x : A) × (IsIn x xs) × (IsIn b (f x))
-from_flat f [] b h = absurd h
-from_flat f (y ∷ xs) b h = by (in_either b (f y) (flat_map f xs) h) (from_flat f xs b)
-  where
-    by : IsIn b (f y) ⊎ IsIn b (flat_map f xs) → (IsIn b (flat_map f xs) → (x : _) × (IsIn x xs) × (IsIn b (f x))) → (x : _) × (IsIn x (y ∷ xs)) × (IsIn b (f x))
-    by (inl k) more = (y, inl refl, k)
-    by (inr k) more = let rest = more k in (rest.0, inr rest.1, rest.2)
 
 -- ---- shared variables
 
@@ -98,7 +80,7 @@ module _ (facts : Facts) (all : List Component) where
       by : IsIn (spot, variable) (flat_map entries_of (enumerate_from 0 all)) ⊎ (found_at [] spot ≡ Some variable) → IsEntry facts all spot variable
       by (inr none) = absurd (false≢true (ap is_some none))
       by (inl k) =
-          let part = from_flat entries_of (enumerate_from 0 all) (spot, variable) k in
+          let part = from_flat entries_of (spot, variable) (enumerate_from 0 all) k in
           let one = from_mapped (λ (numbered : ℕ × Spot). (numbered.1, record { component = part.0.0; var = numbered.0 })) (enumerate_from 0 (each_once (shared_spots facts part.0.1))) (spot, variable) part.2 in
           let component : part.0.0 ≡ variable.component = ap (λ (entry : Spot × SharedVariable). entry.1.component) one.2 in
           let var : one.0.0 ≡ variable.var = ap (λ (entry : Spot × SharedVariable). entry.1.var) one.2 in

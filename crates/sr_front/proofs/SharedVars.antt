@@ -42,7 +42,7 @@ use Rattle.sr_tree.specs.declared.types.Formal.{Formal, out-Formal}
 use Rattle.sr_tree.specs.declared.types.TypeTree.{TypeTree}
 use Rattle.sr_tree.specs.Parts.{body_of, formals_of, spec_of}
 use Rattle.sr_value.specs.declared.place.Place.{Place}
-use Rattle.sr_front.proofs.SharedTable.{in_mapped}
+use Rattle.sr_front.proofs.Lists.{in_mapped}
 use Rattle.sr_front.specs.Variables.{declared_vars, scoped_var, shared_vars}
 
 -- ---- variables without a type have as many values
@@ -156,11 +156,7 @@ module _ (scene : Scene) where
   spec_numbered : (one : SpecItem) → SpecValued one → Numbered (spec_item_shared scene.facts one) (vars_of (spec_item_core scene one))
   spec_numbered (spec.Const constant) has = const_numbered constant
   spec_numbered (spec.Var variables) has = var_numbered variables has
-  spec_numbered (spec.Import imports) has = λ spot k. absurd k
-  spec_numbered (spec.Type named) has = λ spot k. absurd k
-  spec_numbered (spec.OpType named) has = λ spot k. absurd k
-  spec_numbered (spec.Op operations) has = λ spot k. absurd k
-  spec_numbered (spec.Sem semaphores) has = λ spot k. absurd k
+  spec_numbered _ has = λ spot k. absurd k
 
   specs_numbered : (items : List SpecItem) → Each SpecValued items → Numbered (flat_map (spec_item_shared scene.facts) items) (vars_of (spec_code scene items))
   specs_numbered [] has = λ spot k. absurd k

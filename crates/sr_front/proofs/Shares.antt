@@ -20,18 +20,15 @@ use Rattle.sr_check.proofs.Each.{Each}
 use Rattle.sr_front.proofs.EffectFreeCode.{code_names, component_code}
 use Rattle.sr_front.proofs.Sharing.{Shares, none, left_out, in_first, in_second, both_share, all_left_out, all_second, all_first}
 use Rattle.sr_front.proofs.PlainNames.{component_plain, item_plain, spec_plain}
+use Rattle.sr_front.proofs.ReadsCode.{parts_share}
 use Rattle.sr_front.proofs.TypeSpots.{Elsewhere}
 
 -- ---- names
 
 spec_item_shares : (one : SpecItem) → Shares (spec_item_names one) (spec_plain one) []
-spec_item_shares (spec.«Type» named) = all_first _
-spec_item_shares (spec.Import declared) = all_first _
-spec_item_shares (spec.Const declared) = all_first _
-spec_item_shares (spec.OpType declared) = all_first _
 spec_item_shares (spec.Op declared) = all_left_out _
-spec_item_shares (spec.Var declared) = all_first _
 spec_item_shares (spec.Sem declared) = all_left_out _
+spec_item_shares _ = all_first _
 
 spec_shares : (items : List SpecItem) → Shares (flat_map spec_item_names items) (flat_map spec_plain items) []
 spec_shares [] = none
@@ -39,31 +36,11 @@ spec_shares (one ∷ items) = both_share (spec_item_shares one) (spec_shares ite
 
 item_shares : (one : Item) → Shares (item_names one) (item_plain one) (code_names one)
 item_shares (item.Spec declared) = spec_item_shares declared
-item_shares (item.Proc proc) = all_second _
-item_shares (item.Procedure procedure) = all_second _
-item_shares (item.Process process) = all_second _
-item_shares (item.Final final) = all_second _
-item_shares (item.Statement statement) = all_second _
-
-items_share : (items : List Item) → Shares (flat_map item_names items) (flat_map item_plain items) (flat_map code_names items)
-items_share [] = none
-items_share (one ∷ items) = both_share (item_shares one) (items_share items)
+item_shares _ = all_second _
 
 component_shares : (component : Component) → Shares (component_names component) (component_plain component) (component_code component)
 component_shares component =
-    in_first _ (both_share (spec_shares (spec_of component)) (both_share (all_first (flat_map formal_names (formals_of component))) (items_share (body_of component))))
-
-components_share : (components : List Component) → Shares (flat_map component_names components) (flat_map component_plain components) (flat_map component_code components)
-components_share [] = none
-components_share (component ∷ more) = both_share (component_shares component) (components_share more)
-
-pub files_share : (files : List File) → Shares (flat_map file_names files) (flat_map component_plain (components_in files)) (flat_map component_code (components_in files))
-files_share [] = none
-files_share (file ∷ files) =
-    subst (λ types. Shares (flat_map file_names (file ∷ files)) types (flat_map component_code (components_in (file ∷ files)))) (sym (flat_map-append component_plain file.components (components_in files)))
-    (subst (λ code. Shares (flat_map file_names (file ∷ files)) (flat_map component_plain file.components ++ flat_map component_plain (components_in files)) code)
-    (sym (flat_map-append component_code file.components (components_in files)))
-    (both_share (components_share file.components) (files_share files)))
+    in_first _ (both_share (spec_shares (spec_of component)) (both_share (all_first (flat_map formal_names (formals_of component))) (parts_share item_names item_plain code_names item_shares (body_of component))))
 
 -- ---- at different spots
 
@@ -99,3 +76,21 @@ shares_apart none distinct = tt
 shares_apart (left_out x shares) distinct = shares_apart shares distinct.1
 shares_apart (in_first x shares) distinct = one_elsewhere x shares distinct.0 _ (shares_apart shares distinct.1)
 shares_apart (in_second x shares) distinct = (first_after x shares distinct.0, shares_apart shares distinct.1)
+
+-- ---- in all files
+
+module _ (first second : Component → List Span) (share : (component : Component) → Shares (component_names component) (first component) (second component)) where
+  pub files_share : (files : List File) → Shares (flat_map file_names files) (flat_map first (components_in files)) (flat_map second (components_in files))
+  files_share [] = none
+  files_share (file ∷ files) =
+      subst (λ names. Shares (flat_map file_names (file ∷ files)) names (flat_map second (components_in (file ∷ files)))) (sym (flat_map-append first file.components (components_in files)))
+      (subst (λ more. Shares (flat_map file_names (file ∷ files)) (flat_map first file.components ++ flat_map first (components_in files)) more)
+      (sym (flat_map-append second file.components (components_in files)))
+      (both_share (parts_share component_names first second share file.components) (files_share files)))
+
+  pub apart_in : (files : List File) → IsDistinct same_spot (map spot_of (flat_map file_names files)) → Each (λ span. Each (Elsewhere (spot_of span)) (flat_map first (components_in files))) (flat_map second (components_in files))
+  apart_in files distinct = shares_apart (files_share files) distinct
+
+-- the names of procs and statements stand elsewhere than those of types and components
+pub code_apart : (files : List File) → IsDistinct same_spot (map spot_of (flat_map file_names files)) → Each (λ span. Each (Elsewhere (spot_of span)) (flat_map component_plain (components_in files))) (flat_map component_code (components_in files))
+code_apart = apart_in component_plain component_code component_shares

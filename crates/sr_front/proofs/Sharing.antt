@@ -33,6 +33,25 @@ pub all_first_only : (xs : List Span) → Shares xs (xs ++ []) []
 all_first_only [] = none
 all_first_only (x ∷ xs) = in_first x (all_first_only xs)
 
+-- without those of one of the lists, or with the lists turned
+pub first_only : {xs ys zs : List Span} → Shares xs ys zs → Shares xs ys []
+first_only none = none
+first_only (left_out x shares) = left_out x (first_only shares)
+first_only (in_first x shares) = in_first x (first_only shares)
+first_only (in_second x shares) = left_out x (first_only shares)
+
+pub second_only : {xs ys zs : List Span} → Shares xs ys zs → Shares xs [] zs
+second_only none = none
+second_only (left_out x shares) = left_out x (second_only shares)
+second_only (in_first x shares) = left_out x (second_only shares)
+second_only (in_second x shares) = in_second x (second_only shares)
+
+pub turned : {xs ys zs : List Span} → Shares xs ys zs → Shares xs zs ys
+turned none = none
+turned (left_out x shares) = left_out x (turned shares)
+turned (in_first x shares) = in_second x (turned shares)
+turned (in_second x shares) = in_first x (turned shares)
+
 -- what holds of all holds of those in the first list
 pub first_each : {xs ys zs : List Span} (P : Span → Type 0) → Shares xs ys zs → Each P xs → Each P ys
 first_each P none all = tt

@@ -2,8 +2,9 @@
 -- entering it once more changes nothing. It declares no record: the fields of one aren't among its parts.
 use Rattle.std.proofs.Common.{◌≡◌, ℕ, ◌+◌, Bool, true, false, not, ◌||◌, List, [], ◌∷◌, ◌++◌, map, Option, Some, None, refl, sym, ap, subst, ◌∙◌, if◌then◌else◌}
 use Rattle.std.specs.List.{list_any, position_from}
-use Rattle.std.proofs.lemmas.Bool.{true≢false}
+use Rattle.std.proofs.lemmas.Bool.{or_parts, true≢false}
 use Rattle.std.proofs.lemmas.Iterator.Adapters.{position_from-zero}
+use Rattle.std.proofs.lemmas.Option.{none-some}
 use Rattle.sr_value.specs.declared.place.Span.{Span}
 use Rattle.sr_tree.specs.declared.token.Token.{Token}
 use Rattle.sr_tree.specs.declared.types.Decl.{Decl as DeclTree}
@@ -14,7 +15,7 @@ use Rattle.sr_tree.specs.declared.types.Returned.{Returned, roll-Returned}
 use Rattle.sr_tree.specs.declared.types.Signature.{Signature as SignatureTree, roll-Signature}
 use Rattle.sr_tree.specs.declared.types.TypePlace.TheVariants.{Elsewhere}
 use Rattle.sr_tree.specs.declared.types.TypeTree.{TypeTree, roll-TypeTree}
-use Rattle.sr_tree.specs.declared.types.TypeTree.TheFolds.{map-TypeTree, map-Formal, map-Returned, map-Signature, fold-roll-TypeTree, fold-roll-Formal, fold-roll-Returned, fold-roll-Signature}
+use Rattle.sr_tree.specs.declared.types.TypeTree.TheFolds.{fold-roll-TypeTree, fold-roll-Formal, fold-roll-Returned, fold-roll-Signature}
 use Rattle.sr_tree.specs.declared.types.TypeTree.TheOpen.{TypeTree-F, Formal-F, Returned-F, Signature-F}
 use Rattle.sr_tree.specs.declared.types.TypeTree.TheVariants as tree
 use Rattle.sr_tree.specs.Types as g
@@ -35,7 +36,7 @@ use Rattle.sr_check_decl.specs.declared.kind.Signed.{Signed}
 use Rattle.sr_check_decl.specs.Bounds.{item_type_rule}
 use Rattle.sr_check_decl.specs.Entering.{Entered, EntersFormals, EntersReturned, EntersSignature, EntersType, after_formals, after_params, after_returned, array_after, entered, formal_read_in, in_turn, operation_after, param_after, params_after, read_in, returned_read_in, signature_read_in, signed_entered, some_after, type_read_in, type_step as enter_type, formal_step as enter_formal, returned_step as enter_returned, signature_step as enter_signature}
 use Rattle.sr_check_decl.specs.TypeTrees.{Kinds, ReadsFormals, ReadsReturned, ReadsSignature, all_params, are_refused, array_by, array_type, decl_type, fixed_bounds, formal_bounds, formal_read, formal_step, formals_at, formals_of, forms_of, is_refused, kinding, mode_of, numbered_type, operation_type, returned_read, returned_step, signature_read, signature_step, signature_type, type_kinding, type_step, whole_signature}
-use Rattle.sr_front.proofs.TypedTypes.{Later, agrees_later, signed_is}
+use Rattle.sr_front.proofs.TypedTypes.{Later, agrees_later, enters_formal, enters_returned, enters_signature, enters_type, reads_formal, reads_returned, reads_signature, reads_type, signed_is}
 
 -- ---- what is no type, and what is refused
 
@@ -53,33 +54,22 @@ decl_kept : (dims : Option DimsTree) (type : Ty) → is_no_type (decl_type dims 
 decl_kept None type kept = kept
 decl_kept (Some dims) type kept = array_kept dims type kept
 
-or_first : (a b : Bool) → (a || b) ≡ false → a ≡ false
-or_first false b h = refl
-or_first true b h = absurd (true≢false h)
-
-or_second : (a b : Bool) → (a || b) ≡ false → b ≡ false
-or_second false b h = h
-or_second true b h = absurd (true≢false h)
-
 first_kept : (xs ys : List NamedParam) → are_refused (xs ++ ys) ≡ false → are_refused xs ≡ false
 first_kept [] ys kept = refl
-first_kept (x ∷ xs) ys kept = λ i. or_first (is_no_type x.ty) (are_refused (xs ++ ys)) kept i || first_kept xs ys (or_second (is_no_type x.ty) (are_refused (xs ++ ys)) kept) i
+first_kept (x ∷ xs) ys kept = λ i. (or_parts (is_no_type x.ty) (are_refused (xs ++ ys)) kept).0 i || first_kept xs ys (or_parts (is_no_type x.ty) (are_refused (xs ++ ys)) kept).1 i
 
 second_kept : (xs ys : List NamedParam) → are_refused (xs ++ ys) ≡ false → are_refused ys ≡ false
 second_kept [] ys kept = kept
-second_kept (x ∷ xs) ys kept = second_kept xs ys (or_second (is_no_type x.ty) (are_refused (xs ++ ys)) kept)
+second_kept (x ∷ xs) ys kept = second_kept xs ys (or_parts (is_no_type x.ty) (are_refused (xs ++ ys)) kept).1
 
 -- formals that name something
 formals_kept : {decls : List DeclTree} {u : List Token} (mode : Mode) (type : Ty) → SpellsDecls decls u → are_refused (formals_of mode type decls) ≡ false → is_no_type type ≡ false
-formals_kept mode type (g.decls {d = d} {ds = ds} here more) kept = decl_kept d.dims type (or_first (is_no_type (decl_type d.dims type)) (are_refused (formals_of mode type ds)) kept)
+formals_kept mode type (g.decls {d = d} {ds = ds} here more) kept = decl_kept d.dims type (or_parts (is_no_type (decl_type d.dims type)) (are_refused (formals_of mode type ds)) kept).0
 
 -- ---- what has a number is there
 
-none_some : (n : ℕ) → None ≡ Some n → ⊥
-none_some n e = cc
-
 any_from : {X : Type 0} (test : X → Bool) (xs : List X) (i n : ℕ) → position_from test i xs ≡ Some n → list_any test xs ≡ true
-any_from test [] i n e = absurd (none_some n e)
+any_from test [] i n e = absurd (none-some n e)
 any_from test (x ∷ xs) i n e = by (test x) e (any_from test xs (i + 1) n)
   where
     by : (passes : Bool) → (if passes then Some i else position_from test (i + 1) xs) ≡ Some n → (position_from test (i + 1) xs ≡ Some n → list_any test xs ≡ true) → (passes || list_any test xs) ≡ true
@@ -134,30 +124,6 @@ module _ (known now : Facts) (later : Later known now) where
 
   abbrev SignatureAgain : ReadsSignature → EntersSignature → Type 0
   SignatureAgain reads enters = Numbered known (reads known).signed → enters now ≡ read_in now (reads known).signed
-
-  abbrev reads_type : TypeTree-F TypeTree Formal Returned SignatureTree → TypeTree-F Kinds ReadsFormals ReadsReturned ReadsSignature
-  reads_type = map-TypeTree TypeTree Formal Returned SignatureTree Kinds ReadsFormals ReadsReturned ReadsSignature type_kinding formal_read returned_read signature_read
-
-  abbrev enters_type : TypeTree-F TypeTree Formal Returned SignatureTree → TypeTree-F EntersType EntersFormals EntersReturned EntersSignature
-  enters_type = map-TypeTree TypeTree Formal Returned SignatureTree EntersType EntersFormals EntersReturned EntersSignature type_read_in formal_read_in returned_read_in signature_read_in
-
-  abbrev reads_formal : Formal-F TypeTree Formal Returned SignatureTree → Formal-F Kinds ReadsFormals ReadsReturned ReadsSignature
-  reads_formal = map-Formal TypeTree Formal Returned SignatureTree Kinds ReadsFormals ReadsReturned ReadsSignature type_kinding formal_read returned_read signature_read
-
-  abbrev enters_formal : Formal-F TypeTree Formal Returned SignatureTree → Formal-F EntersType EntersFormals EntersReturned EntersSignature
-  enters_formal = map-Formal TypeTree Formal Returned SignatureTree EntersType EntersFormals EntersReturned EntersSignature type_read_in formal_read_in returned_read_in signature_read_in
-
-  abbrev reads_returned : Returned-F TypeTree Formal Returned SignatureTree → Returned-F Kinds ReadsFormals ReadsReturned ReadsSignature
-  reads_returned = map-Returned TypeTree Formal Returned SignatureTree Kinds ReadsFormals ReadsReturned ReadsSignature type_kinding formal_read returned_read signature_read
-
-  abbrev enters_returned : Returned-F TypeTree Formal Returned SignatureTree → Returned-F EntersType EntersFormals EntersReturned EntersSignature
-  enters_returned = map-Returned TypeTree Formal Returned SignatureTree EntersType EntersFormals EntersReturned EntersSignature type_read_in formal_read_in returned_read_in signature_read_in
-
-  abbrev reads_signature : Signature-F TypeTree Formal Returned SignatureTree → Signature-F Kinds ReadsFormals ReadsReturned ReadsSignature
-  reads_signature = map-Signature TypeTree Formal Returned SignatureTree Kinds ReadsFormals ReadsReturned ReadsSignature type_kinding formal_read returned_read signature_read
-
-  abbrev enters_signature : Signature-F TypeTree Formal Returned SignatureTree → Signature-F EntersType EntersFormals EntersReturned EntersSignature
-  enters_signature = map-Signature TypeTree Formal Returned SignatureTree EntersType EntersFormals EntersReturned EntersSignature type_read_in formal_read_in returned_read_in signature_read_in
 
   -- ---- each tree is made of its parts
 
@@ -221,15 +187,15 @@ module _ (known now : Facts) (later : Later known now) where
       → SignatureAgain (signature_step (reads_signature (record { span = span; formals = formals; returned = None; kinds = kinds }))) (enter_signature (enters_signature (record { span = span; formals = formals; returned = None; kinds = kinds })))
   signature_without span formals kinds row is =
       let params = all_params (formals_at (map formal_read formals) known false) in
-      ap (after_formals (forms_of kinds) None) (row (or_first (are_refused params) false is.kept)) ∙ whole_again (forms_of kinds) params None is
+      ap (after_formals (forms_of kinds) None) (row (or_parts (are_refused params) false is.kept).0) ∙ whole_again (forms_of kinds) params None is
 
   signature_with : (span : Span) (formals : List Formal) (returned : Returned) (kinds : List InvocationKind) → RowAgain formals → ReturnedAgain (returned_read returned) (returned_read_in returned)
       → SignatureAgain (signature_step (reads_signature (record { span = span; formals = formals; returned = Some returned; kinds = kinds }))) (enter_signature (enters_signature (record { span = span; formals = formals; returned = Some returned; kinds = kinds })))
   signature_with span formals returned kinds row back is =
       let params = all_params (formals_at (map formal_read formals) known false) in
       let param = (returned_read returned known).param in
-      ap (after_formals (forms_of kinds) (Some (returned_read_in returned))) (row (or_first (are_refused params) (is_no_type param.ty) is.kept))
-      ∙ ap (λ (one : Entered NamedParam). after_returned (forms_of kinds) params (some_after one)) (back (or_second (are_refused params) (is_no_type param.ty) is.kept))
+      ap (after_formals (forms_of kinds) (Some (returned_read_in returned))) (row (or_parts (are_refused params) (is_no_type param.ty) is.kept).0)
+      ∙ ap (λ (one : Entered NamedParam). after_returned (forms_of kinds) params (some_after one)) (back (or_parts (are_refused params) (is_no_type param.ty) is.kept).1)
       ∙ whole_again (forms_of kinds) params (Some param) is
 
   -- ---- all that is spelled where nothing may be declared

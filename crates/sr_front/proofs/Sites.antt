@@ -5,6 +5,7 @@ use Rattle.std.specs.List.{AllByRecursion, AllZip, IsDistinct, enumerate_from, l
 use Rattle.std.proofs.lemmas.Bool.{and_from, eq-eqb}
 use Rattle.std.proofs.lemmas.List.Elements.{All-from_recursion, recursion_from_All}
 use Rattle.std.proofs.lemmas.List.Quantifiers.{position-Some}
+use Rattle.std.proofs.lemmas.Option.{same_Some}
 use Rattle.sr_check.specs.Owners.{Declared, component_at}
 use Rattle.sr_check.specs.Procs.{proc_of}
 use Rattle.sr_check.specs.Servicing.{AllServiceOwn, AreWaited, Served, ServesShared, ServicesOwn, Together, Waited, component_procedures, component_served as component_meant, component_waits, item_procedures, item_served as item_meant, meant_at}
@@ -167,14 +168,11 @@ module _ (files : List File) (known facts : Facts) (services : AllServiceOwn fac
       let entry = put files facts apart spot (component_at component) is_local declared in
       let elsewhere = serves_own uses files known facts refl services other tree spot place among in
       let second = put files facts apart spot (component_at tree) elsewhere.0 elsewhere.1 in
-      let operations : entry.operation ≡ second.operation = some_is entry.operation second.operation (sym entry.found ∙ second.found) in
+      let operations : entry.operation ≡ second.operation = same_Some entry.operation second.operation (sym entry.found ∙ second.found) in
       let numbers : other ≡ number =
       sym (number_of spot elsewhere.0 other tree place second) ∙ ap (λ (operation : Operation). operation.component) (sym operations) ∙ number_of spot is_local number component there entry in
       let same : tree ≡ component = at-same all number tree component (subst (λ at. At all at tree) numbers place) there in
       subst (λ one. Among (component_served facts one) spot) same among
-    where
-      some_is : (a b : Operation) → Some a ≡ Some b → a ≡ b
-      some_is a b e = cc
 
   -- an operation of a component that has no proc there has none
   no_proc : (number : ℕ) (component : Component) (spot : Spot) (is_local : Bool) → At all number component → (own : ServicesOwn uses files known component)

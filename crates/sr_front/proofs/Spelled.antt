@@ -5,7 +5,7 @@ use Rattle.sr_tables.specs.Parts.{components_in, kind_of}
 use Rattle.sr_tree.specs.declared.component.Component.{Component}
 use Rattle.sr_tree.specs.declared.component.File.{File}
 use Rattle.sr_tree.specs.declared.token.Token.{Token}
-use Rattle.sr_tree.specs.Components.{SpellsList, stop_here, separator, one, SpellsComponent, resource, split_resource, global, no_body, body, Spells, file, final_count}
+use Rattle.sr_tree.specs.Components.{SpellsList, stop_here, separator, one, SpellsComponent, global, no_body, body, Spells, file, final_count}
 use Rattle.sr_tree.specs.Parts.{body_of}
 use Rattle.sr_scope.specs.Uses.{IsIn}
 use Rattle.sr_front.specs.Phases.{AllPass, none_left, one_more}
@@ -35,10 +35,9 @@ spelled (one_more {made = tree} {mades = trees} here more) component h = by (in_
     by (inr k) others = others k
 
 no_final : {component : Component} {tokens : List Token} → SpellsComponent component tokens → kind_of component ≡ kind.Global → final_count (body_of component) ≡ 0
-no_final (resource t n is_resource is_name written by_value items count end) e = absurd cc
-no_final (split_resource t n b m is_resource is_name some of_resource is_body is_m same written by_value items count end) e = absurd cc
 no_final (global t n is_global is_name some no_body end) e = refl
 no_final (global t n is_global is_name some (body b m is_body is_m same items none) end) e = none
+no_final _ e = absurd cc
 
 pub no_final_in_globals : {number : ℕ} {tokens : List (List Token)} {trees : List File} → AllPass HasTree number tokens trees → NoFinalInGlobals trees
 no_final_in_globals all component h e = no_final (spelled all component h).1 e

@@ -3,41 +3,34 @@ use Rattle.std.proofs.Common.{◌≡◌, Bool, true, false, not, List, [], ◌�
 use Rattle.std.specs.Prelude.{ℕ, pos, nat_le}
 use Rattle.std.proofs.lemmas.Bool.{false≢true}
 use Rattle.sr_check.proofs.Each.{Each, each-left, each-right}
-use Rattle.sr_check_expr.specs.Arguments.{invoked_outcome, returned_outcome}
-use Rattle.sr_check_expr.specs.Calls.{Called, call_typing, called_by, layer_record, made_outcome, record_if}
-use Rattle.sr_check_expr.specs.Creating.{instance_type, made_of, resource_named, resource_type}
+use Rattle.sr_check_expr.specs.Arguments.{invoked_outcome}
+use Rattle.sr_check_expr.specs.Calls.{Called, call_typing, called_by, made_outcome}
+use Rattle.sr_check_expr.specs.Creating.{instance_type, resource_named, resource_type}
 use Rattle.sr_check_expr.specs.declared.facts.Facts.{Facts}
 use Rattle.sr_check_expr.specs.declared.typed_expr.Named.{Named}
 use Rattle.sr_check_expr.specs.declared.typed_expr.Named.TheVariants as named
 use Rattle.sr_check_expr.specs.declared.typed_expr.TypedExpr.{TypedExpr}
-use Rattle.sr_check_expr.specs.Exprs.{CalledInferrer, Inferrer, PartInferrer, conversion_outcome, create_step, expr_step, field_typing, grouped, index_outcome, infer_all, infer_create, infer_expr, infer_invocation, infer_part, infer_parts, invocation_step, operation_component, operator_of, part_step, pending_outcome, prefix_of, repeated}
+use Rattle.sr_check_expr.specs.Exprs.{CalledInferrer, Inferrer, conversion_outcome, field_typing, grouped, index_outcome, infer_all, infer_create, infer_expr, infer_invocation, infer_part, infer_parts, operation_component, operator_of, pending_outcome, prefix_of, repeated}
 use Rattle.sr_check_expr.specs.LiteralTypes.{basic_type, char_static, literal_named, literal_typed, number_named, number_static}
-use Rattle.sr_check_expr.specs.Naming.{capability_part, decl_info, decl_of, field_outcome, field_part, layer_field, name_typing}
-use Rattle.sr_check_expr.specs.PredefinedCalls.{bound_outcome, by_one, dimension_of, dimension_outcome, ends_shape, function_outcome, function_typing, layer_shape, low_outcome, high_outcome, one_outcome, only, two_numbers_outcome, unless_untyped}
+use Rattle.sr_check_expr.specs.Naming.{decl_info, decl_of, field_outcome, name_typing}
+use Rattle.sr_check_expr.specs.PredefinedCalls.{by_one, ends_shape, function_outcome, function_typing, layer_shape, low_outcome, high_outcome, one_outcome, only, unless_untyped}
 use Rattle.sr_check_expr.specs.Typings.{Typing, is_value_name, name_at, settled_typed, typed_exprs_of, value_at}
 use Rattle.sr_literal.specs.Literals.{number_of, string_of}
 use Rattle.sr_names.specs.declared.predefined.Predefined.{Predefined}
 use Rattle.sr_names.specs.declared.predefined.Predefined.TheVariants as predefined
-use Rattle.sr_names.specs.declared.spot.Spot.{Spot}
 use Rattle.sr_names.specs.Spots.{spot_of}
 use Rattle.sr_names.specs.Uses.{meaning_at}
-use Rattle.sr_order.specs.Names.{create_names, create_names_step, expr_names, expr_names_step, invocation_names, invocation_names_step, part_names, part_names_step}
+use Rattle.sr_order.specs.Names.{expr_names, invocation_names}
 use Rattle.sr_order.specs.Spans.{joined}
 use Rattle.sr_tree.specs.declared.expr.BasicType.{BasicType}
 use Rattle.sr_tree.specs.declared.expr.BasicType.TheVariants as basic
-use Rattle.sr_tree.specs.declared.expr.Conversion.{Conversion}
-use Rattle.sr_tree.specs.declared.expr.Conversion.TheVariants as conversion
-use Rattle.sr_tree.specs.declared.expr.Create.{Create, roll-Create}
-use Rattle.sr_tree.specs.declared.expr.Create.TheFolds.{fold-roll-Create, fold-roll-Expr, fold-roll-Invocation, ind-Expr, map-Create, map-Expr, map-Invocation, map-Part}
-use Rattle.sr_tree.specs.declared.expr.Create.TheOpen.{Create-F, Expr-F, Invocation-F, Part-F}
-use Rattle.sr_tree.specs.declared.expr.Expr.{Expr as Tree, roll-Expr}
-use Rattle.sr_tree.specs.declared.expr.Invocation.{Invocation, roll-Invocation}
+use Rattle.sr_tree.specs.declared.expr.Create.TheOpen.{Create-F, Expr-F}
+use Rattle.sr_tree.specs.declared.expr.Expr.{Expr as Tree}
 use Rattle.sr_tree.specs.declared.expr.Literal.{Literal}
 use Rattle.sr_tree.specs.declared.expr.Literal.TheVariants as literal
-use Rattle.sr_tree.specs.declared.expr.Part.{Part as PartTree, roll-Part}
+use Rattle.sr_tree.specs.declared.expr.Part.{Part as PartTree}
 use Rattle.sr_tree.specs.declared.name.Name.{Name}
-use Rattle.sr_types.specs.Aggregates.{are_counted, array_with, bracketed_rule, common_of_all, layer_array}
-use Rattle.sr_types.specs.declared.aggregates.Repeated.{Repeated}
+use Rattle.sr_types.specs.Aggregates.{bracketed_rule}
 use Rattle.sr_types.specs.declared.operators.Operand.{Operand}
 use Rattle.sr_types.specs.declared.operators.Operand.TheVariants as operand
 use Rattle.sr_types.specs.declared.operators.Operands.{Operands}
@@ -52,19 +45,20 @@ use Rattle.sr_types.specs.declared.typed.Static.TheVariants.{Unknown, Known, Fau
 use Rattle.sr_types.specs.declared.typed.Typed.{Typed}
 use Rattle.sr_types.specs.Kinds.{may_have_ends}
 use Rattle.sr_types.specs.Operators.{are_taken, binary_rule, binary_with, is_taken, operand_type, operand_wanted, operands_wanted, unary_rule, unary_with, whole_type}
-use Rattle.sr_types.specs.Outcomes.{computed, found, met_if, refused_typed, unknown_if}
-use Rattle.sr_types.specs.Parts.{indexed as part_indexed}
+use Rattle.sr_types.specs.Outcomes.{computed, found, met_if, refused_typed}
 use Rattle.sr_types.specs.Predefined.{high_rule, low_rule}
 use Rattle.sr_types.specs.Statics.{static_of_one, static_of_two}
 use Rattle.sr_types.specs.Types.{is_no_type, layer_is_untyped}
 use Rattle.sr_value.specs.declared.operator.Operator.{Operator}
 use Rattle.sr_value.specs.declared.place.Span.{Span}
-use Rattle.sr_value.specs.declared.predefined.Dimension.{Dimension}
 use Rattle.sr_value.specs.declared.shape.Shape.{Shape}
 use Rattle.sr_value.specs.declared.value.Value.TheVariants as value
 use Rattle.sr_value.specs.Predefined.{highest_value, lowest_value}
 use Rattle.sr_check_decl.specs.Constants.{is_fault}
-use Rattle.sr_front.proofs.ExprParts.{inferred_create, inferred_expr, inferred_invocation}
+use Rattle.sr_tree.proofs.ExprFolds.{ByParts, Claim, CreateNode, ExprNode, InvocationNode, Known as KnownTree, bare_create, bare_expr, bare_invocation, create_folds, each_expr, expr_folds, from_create, from_expr, from_invocation, invocation_folds}
+use Rattle.sr_front.proofs.TypingFolds.{inferring}
+use Rattle.sr_order.proofs.NameFolds.{expr_naming}
+use Rattle.sr_front.proofs.UnknownValues.{bracketed, converted, fielded, function_unknown, made_unknown, pending, picked, recorded, returned_unknown}
 
 -- ---- what tells
 
@@ -89,79 +83,6 @@ name_tells : (value : Static) (name : Named) → is_value_name name ≡ false �
 name_tells Unknown name h = ap not h
 name_tells (Known value) name h = refl
 name_tells (Faults fault) name h = refl
-
--- ---- rules
-
-pub unknown_met : (met : Bool) (ty : Ty) → (settled_typed (unknown_if met ty)).value ≡ Unknown
-unknown_met true ty = refl
-unknown_met false ty = refl
-
-pub converted : (conversion : Conversion) (value : Typed) → (settled_typed (conversion_outcome conversion value)).value ≡ Unknown
-converted conversion.Int value = unknown_met _ _
-converted conversion.Char value = unknown_met _ _
-converted conversion.Str value = unknown_met _ _
-
-arrayed : (ty : Ty) (met : Bool) (layer : Ty-F Ty) → (settled_typed (layer_array ty met layer)).value ≡ Unknown
-arrayed ty met (Ty-F.Vector item) = unknown_met met _
-arrayed ty met (Ty-F.Matrix item) = refl
-arrayed ty met Ty-F.Untyped = unknown_met met _
-arrayed ty met _ = unknown_met met _
-
-array_by : (ty : Option Ty) (met : Bool) → (settled_typed (array_with ty met)).value ≡ Unknown
-array_by None met = refl
-array_by (Some ty) met = arrayed ty met (out-Ty ty)
-
-pub bracketed : (parts : List Repeated) → (settled_typed (bracketed_rule parts)).value ≡ Unknown
-bracketed [] = refl
-bracketed (part ∷ parts) = array_by (common_of_all part.value.ty parts) (are_counted (part ∷ parts))
-
-part_of_unknown : (whole : Typed) (met : Bool) (item : Option Ty) → (settled_typed (part_indexed whole met item)).value ≡ Unknown
-part_of_unknown whole met None = refl
-part_of_unknown whole true (Some item) = refl
-part_of_unknown whole false (Some item) = refl
-
-pub picked : (whole first : Typed) (second : Option TypedExpr) → (settled_typed (index_outcome whole first second)).value ≡ Unknown
-picked whole first None = part_of_unknown whole _ _
-picked whole first (Some second) = part_of_unknown whole _ _
-
-field_of : (owner : Typed) (ty : Option Ty) → (settled_typed (field_part owner ty)).value ≡ Unknown
-field_of owner None = refl
-field_of owner (Some ty) = refl
-
-member_of : (ty : Option Ty) → (settled_typed (capability_part ty)).value ≡ Unknown
-member_of None = refl
-member_of (Some ty) = refl
-
-pub fielded : {A : Type 0} (facts : Facts) (owner : Typed) (name : List ℕ) (layer : Ty-F A) → (settled_typed (layer_field facts owner name layer)).value ≡ Unknown
-fielded facts owner name (Ty-F.Rec spot) = field_of owner _
-fielded facts owner name (Ty-F.Resource spot) = member_of _
-fielded facts owner name Ty-F.Untyped = refl
-fielded facts owner name _ = refl
-
-pub pending : (component : Option Spot) → (settled_typed (pending_outcome component)).value ≡ Unknown
-pending None = refl
-pending (Some component) = refl
-
-pub met_unknown : (met : Bool) (ty : Ty) → (settled_typed (met_if met (computed ty Unknown))).value ≡ Unknown
-met_unknown true ty = refl
-met_unknown false ty = refl
-
-pub made_unknown : (facts : Facts) (arguments : List TypedExpr) (instance : Ty) (formals : Option Ty) → (settled_typed (made_of facts arguments instance formals)).value ≡ Unknown
-made_unknown facts arguments instance None = refl
-made_unknown facts arguments instance (Some formals) = met_unknown _ instance
-
-record_unknown : (met : Bool) (ty : Ty) → (settled_typed (record_if met ty)).value ≡ Unknown
-record_unknown true ty = refl
-record_unknown false ty = refl
-
-pub recorded : {A : Type 0} (facts : Facts) (arguments : List TypedExpr) (layer : Ty-F A) → (settled_typed (layer_record facts arguments layer)).value ≡ Unknown
-recorded facts arguments (Ty-F.Rec spot) = record_unknown _ _
-recorded facts arguments Ty-F.Untyped = refl
-recorded facts arguments _ = refl
-
-pub returned_unknown : (met : Bool) (ty : Option Ty) → (settled_typed (returned_outcome met ty)).value ≡ Unknown
-returned_unknown met None = refl
-returned_unknown met (Some ty) = met_unknown met ty
 
 -- ---- operators
 
@@ -250,11 +171,7 @@ char_no_fault (byte ∷ bytes) = refl
 literal_no_fault : (one : Literal) → is_fault (literal_typed one).value ≡ false
 literal_no_fault (literal.Number text) = number_no_fault (number_of text)
 literal_no_fault (literal.Char text) = char_no_fault (string_of text)
-literal_no_fault (literal.Str text) = refl
-literal_no_fault literal.True = refl
-literal_no_fault literal.False = refl
-literal_no_fault literal.Null = refl
-literal_no_fault literal.Noop = refl
+literal_no_fault _ = refl
 
 -- ---- the same is told
 
@@ -350,19 +267,14 @@ module _ (now end : Facts) where
       → Tells (field_typing now span here field here.named).typed_expr (field_typing end span there field there.named).typed_expr
   field_told span here there field told used = by there.named refl
     where
-      other : (is : Named) → Tells (field_typing now span here field here.named).typed_expr (value_at span (settled_typed (field_outcome end there.typed field.text)))
-      other is = silent now end _ span (field_outcome end there.typed field.text) (fielded end there.typed field.text (out-Ty there.typed.ty))
+      other : Tells (field_typing now span here field here.named).typed_expr (value_at span (settled_typed (field_outcome end there.typed field.text)))
+      other = silent now end _ span (field_outcome end there.typed field.text) (fielded end there.typed field.text (out-Ty there.typed.ty))
 
       by : (is : Named) → there.named ≡ is → Tells (field_typing now span here field here.named).typed_expr (field_typing end span there field is).typed_expr
       by (named.Component decl) is =
           let same : here.named ≡ named.Component decl = ap (λ (one : TypedExpr). one.named) (told.same (name_tells there.typed.value there.named (ap is_value_name is))) ∙ is in
           subst (λ name. Tells (field_typing now span here field name).typed_expr (name_typing end span field.span).typed_expr) (sym same) (used span)
-      by named.Nothing is = other named.Nothing
-      by (named.Number number) is = other named.Nothing
-      by (named.Operation spot) is = other named.Nothing
-      by (named.«Type» ty) is = other named.Nothing
-      by named.OpType is = other named.Nothing
-      by (named.Predefined name) is = other named.Nothing
+      by _ is = other
 
   -- ---- predefined functions
 
@@ -402,12 +314,7 @@ module _ (now end : Facts) where
             typed = end_typed rule ends ty (ends_shape end.infos ty);
             shape = tt;
           }
-      by named.Nothing is shape = other
-      by (named.Number number) is shape = other
-      by (named.Operation spot) is shape = other
-      by named.OpType is shape = other
-      by (named.Component decl) is shape = other
-      by (named.Predefined name) is shape = other
+      by _ is shape = other
 
   low_end : IsEnd low_rule
   low_end = record { typed = λ ty shape typed fault. ended (may_have_ends ty) ty (found (lowest_value shape)) typed fault }
@@ -423,66 +330,19 @@ module _ (now end : Facts) where
   high_of facts (named.«Type» ty) = refl
   high_of facts _ = refl
 
-  -- a function of one argument
-  one_silent : (here : TypedExpr) (span : Span) (name : Predefined) (argument : Option TypedExpr)
-      → ((one : TypedExpr) → (settled_typed (one_outcome end.infos name one)).value ≡ Unknown) → Tells here (value_at span (settled_typed (by_one end.infos name argument)))
-  one_silent here span name None unknown = silent now end here span Broken refl
-  one_silent here span name (Some argument) unknown = silent now end here span (one_outcome end.infos name argument) (unknown argument)
-
-  low_told : (span : Span) {heres theres : List TypedExpr} → AllTell heres theres
-      → Tells (value_at span (settled_typed (by_one now.infos predefined.Low (only heres)))) (value_at span (settled_typed (by_one end.infos predefined.Low (only theres))))
-  low_told span none_told = silent now end _ span Broken refl
-  low_told span (one_told {here = here} {there = there} told none_told) =
-      subst (λ outcome. Tells (value_at span (settled_typed (low_outcome now.infos here.named))) (value_at span (settled_typed outcome))) (sym (low_of end there.named))
-      (subst (λ outcome. Tells (value_at span (settled_typed outcome)) (value_at span (settled_typed (end_of low_rule end there.named)))) (sym (low_of now here.named)) (end_told low_rule low_end span here there told))
-  low_told span (one_told told (one_told more rest)) = silent now end _ span Broken refl
-
-  high_told : (span : Span) {heres theres : List TypedExpr} → AllTell heres theres
-      → Tells (value_at span (settled_typed (by_one now.infos predefined.High (only heres)))) (value_at span (settled_typed (by_one end.infos predefined.High (only theres))))
-  high_told span none_told = silent now end _ span Broken refl
-  high_told span (one_told {here = here} {there = there} told none_told) =
-      subst (λ outcome. Tells (value_at span (settled_typed (high_outcome now.infos here.named))) (value_at span (settled_typed outcome))) (sym (high_of end there.named))
-      (subst (λ outcome. Tells (value_at span (settled_typed outcome)) (value_at span (settled_typed (end_of high_rule end there.named)))) (sym (high_of now here.named)) (end_told high_rule high_end span here there told))
-  high_told span (one_told told (one_told more rest)) = silent now end _ span Broken refl
-
-  pub numbers_silent : (arguments : List TypedExpr) → (settled_typed (two_numbers_outcome arguments)).value ≡ Unknown
-  numbers_silent [] = refl
-  numbers_silent (a ∷ []) = refl
-  numbers_silent (a ∷ b ∷ []) = unknown_met _ _
-  numbers_silent (a ∷ b ∷ c ∷ arguments) = refl
-
-  dimension_silent : (array : TypedExpr) (dimension : Option Dimension) → (settled_typed (dimension_outcome array dimension)).value ≡ Unknown
-  dimension_silent array None = refl
-  dimension_silent array (Some dimension) = unknown_met _ _
-
-  pub bound_silent : (arguments : List TypedExpr) → (settled_typed (bound_outcome arguments)).value ≡ Unknown
-  bound_silent [] = refl
-  bound_silent (array ∷ []) = unknown_met _ _
-  bound_silent (array ∷ number ∷ []) = dimension_silent array (dimension_of number.named)
-  bound_silent (array ∷ number ∷ third ∷ arguments) = refl
+  end_by : (name : Predefined) (rule : Ty → Shape → Outcome) → IsEnd rule → ((facts : Facts) (one : TypedExpr) → one_outcome facts.infos name one ≡ end_of rule facts one.named)
+      → (span : Span) {heres theres : List TypedExpr} → AllTell heres theres
+      → Tells (value_at span (settled_typed (by_one now.infos name (only heres)))) (value_at span (settled_typed (by_one end.infos name (only theres))))
+  end_by name rule ends is span none_told = silent now end _ span Broken refl
+  end_by name rule ends is span (one_told {here = here} {there = there} told none_told) =
+      subst (λ t. t) (λ i. Tells (value_at span (settled_typed (sym (is now here) i))) (value_at span (settled_typed (sym (is end there) i)))) (end_told rule ends span here there told)
+  end_by name rule ends is span (one_told told (one_told more rest)) = silent now end _ span Broken refl
 
   function_told : (span : Span) (name : Predefined) (heres theres : List TypedExpr) → AllTell heres theres
       → Tells (function_typing now span name heres).typed_expr (function_typing end span name theres).typed_expr
-  function_told span predefined.Read heres theres told = silent now end _ span (function_outcome end predefined.Read theres) refl
-  function_told span predefined.Min heres theres told = silent now end _ span (two_numbers_outcome theres) (numbers_silent theres)
-  function_told span predefined.Max heres theres told = silent now end _ span (two_numbers_outcome theres) (numbers_silent theres)
-  function_told span predefined.Lb heres theres told = silent now end _ span (bound_outcome theres) (bound_silent theres)
-  function_told span predefined.Ub heres theres told = silent now end _ span (bound_outcome theres) (bound_silent theres)
-  function_told span predefined.MyResource heres [] told = silent now end _ span (function_outcome end predefined.MyResource []) refl
-  function_told span predefined.MyResource heres (there ∷ theres) told = silent now end _ span Broken refl
-  function_told span predefined.MyVm heres [] told = silent now end _ span (function_outcome end predefined.MyVm []) refl
-  function_told span predefined.MyVm heres (there ∷ theres) told = silent now end _ span Broken refl
-  function_told span predefined.Low heres theres told = low_told span told
-  function_told span predefined.High heres theres told = high_told span told
-  function_told span predefined.Abs heres theres told = one_silent _ span predefined.Abs (only theres) (λ one. unknown_met _ _)
-  function_told span predefined.Length heres theres told = one_silent _ span predefined.Length (only theres) (λ one. unknown_met _ _)
-  function_told span predefined.Pred heres theres told = one_silent _ span predefined.Pred (only theres) (λ one. met_unknown _ _)
-  function_told span predefined.Succ heres theres told = one_silent _ span predefined.Succ (only theres) (λ one. met_unknown _ _)
-  function_told span predefined.Eof heres theres told = one_silent _ span predefined.Eof (only theres) (λ one. refl)
-  function_told span predefined.Write heres theres told = one_silent _ span predefined.Write (only theres) (λ one. refl)
-  function_told span predefined.Writes heres theres told = one_silent _ span predefined.Writes (only theres) (λ one. refl)
-  function_told span predefined.P heres theres told = one_silent _ span predefined.P (only theres) (λ one. refl)
-  function_told span predefined.V heres theres told = one_silent _ span predefined.V (only theres) (λ one. refl)
+  function_told span predefined.Low heres theres told = end_by predefined.Low low_rule low_end (λ facts one. low_of facts one.named) span told
+  function_told span predefined.High heres theres told = end_by predefined.High high_rule high_end (λ facts one. high_of facts one.named) span told
+  function_told span name heres theres told = silent now end _ span (function_outcome end name theres) (function_unknown end name theres tt)
 
   -- ---- calls
 
@@ -501,19 +361,12 @@ module _ (now end : Facts) where
           let same : here.named ≡ named.Predefined name = ap (λ (one : TypedExpr). one.named) (told.same (name_tells there.typed.value there.named (ap is_value_name is))) ∙ is in
           subst (λ one. Tells (called_by now span here heres one).typed_expr (function_typing end span name theres).typed_expr) (sym same) (function_told span name heres theres all)
       by (named.«Type» ty) is = silent now end _ span (made_outcome end ty theres) (recorded end theres (out-Ty ty))
-      by named.Nothing is = invoked
-      by (named.Number number) is = invoked
-      by (named.Operation spot) is = invoked
-      by named.OpType is = invoked
-      by (named.Component decl) is = invoked
+      by _ is = invoked
 
   -- ---- each tree, when its parts are so
 
   abbrev IsSilent : Typing → Type 0
   IsSilent there = (there.typed_expr.typed.value ≡ Unknown) × (there.typed_expr.named ≡ named.Nothing)
-
-  abbrev CreateGood : Create → Type 0
-  CreateGood tree = IsSilent (infer_create tree end)
 
   abbrev NodeGood : List Span → Inferrer → Type 0
   NodeGood names infer = (SameUses now end) names → Tells (infer now).typed_expr (infer end).typed_expr
@@ -529,54 +382,21 @@ module _ (now end : Facts) where
   abbrev CalledGood : List Span → CalledInferrer → Type 0
   CalledGood names infer = (SameUses now end) names → CalledTold (infer now) (infer end)
 
-  abbrev InvocationGood : Invocation → Type 0
-  InvocationGood tree = CalledGood (invocation_names tree) (infer_invocation tree)
+  abbrev good : Claim
+  good = record { create = λ tree. IsSilent (infer_create tree end); expr = TreeGood; invocation = λ tree. CalledGood (invocation_names tree) (infer_invocation tree); part = λ tree. Unit {0} }
 
-  abbrev PartGood : PartTree → Type 0
-  PartGood tree = Unit {0}
-
-  abbrev C : Type 0
-  C = (tree : Create) × CreateGood tree
-
-  abbrev T : Type 0
-  T = (tree : Tree) × TreeGood tree
-
-  abbrev I : Type 0
-  I = (tree : Invocation) × InvocationGood tree
-
-  abbrev P : Type 0
-  P = (tree : PartTree) × PartGood tree
-
-  abbrev first_create : Create-F C T I P → Create-F Create Tree Invocation PartTree
-  first_create = map-Create C T I P Create Tree Invocation PartTree (λ c. c.0) (λ e. e.0) (λ s. s.0) (λ p. p.0)
-
-  abbrev first_expr : Expr-F C T I P → Expr-F Create Tree Invocation PartTree
-  first_expr = map-Expr C T I P Create Tree Invocation PartTree (λ c. c.0) (λ e. e.0) (λ s. s.0) (λ p. p.0)
-
-  abbrev first_invocation : Invocation-F C T I P → Invocation-F Create Tree Invocation PartTree
-  first_invocation = map-Invocation C T I P Create Tree Invocation PartTree (λ c. c.0) (λ e. e.0) (λ s. s.0) (λ p. p.0)
-
-  abbrev first_part : Part-F C T I P → Part-F Create Tree Invocation PartTree
-  first_part = map-Part C T I P Create Tree Invocation PartTree (λ c. c.0) (λ e. e.0) (λ s. s.0) (λ p. p.0)
-
-  abbrev named_expr : Expr-F Create Tree Invocation PartTree → Expr-F (List Span) (List Span) (List Span) (List Span)
-  named_expr = map-Expr Create Tree Invocation PartTree (List Span) (List Span) (List Span) (List Span) create_names expr_names invocation_names part_names
-
-  abbrev named_invocation : Invocation-F Create Tree Invocation PartTree → Invocation-F (List Span) (List Span) (List Span) (List Span)
-  named_invocation = map-Invocation Create Tree Invocation PartTree (List Span) (List Span) (List Span) (List Span) create_names expr_names invocation_names part_names
-
-  create_good : (y : Create-F C T I P) → IsSilent (create_step (inferred_create (first_create y)) end)
+  create_good : (y : CreateNode good) → IsSilent (from_create inferring (bare_create good y) end)
   create_good (Create-F.Resource span resource arguments machine) =
       let decl = resource_named end resource in
-      (made_unknown end (typed_exprs_of (infer_all (map infer_expr (map (λ (x : T). x.0) arguments)) end)) (instance_type decl) (resource_type end.infos decl), refl)
+      (made_unknown end (typed_exprs_of (infer_all (map infer_expr (map (λ (x : KnownTree TreeGood). x.0) arguments)) end)) (instance_type decl) (resource_type end.infos decl), refl)
   create_good (Create-F.Machine span) = (refl, refl)
 
-  all_told : (xs : List T) → (SameUses now end) (joined (map expr_names (map (λ (x : T). x.0) xs)))
-      → AllTell (typed_exprs_of (infer_all (map infer_expr (map (λ (x : T). x.0) xs)) now)) (typed_exprs_of (infer_all (map infer_expr (map (λ (x : T). x.0) xs)) end))
+  all_told : (xs : List (KnownTree TreeGood)) → (SameUses now end) (joined (map expr_names (map (λ (x : KnownTree TreeGood). x.0) xs)))
+      → AllTell (typed_exprs_of (infer_all (map infer_expr (map (λ (x : KnownTree TreeGood). x.0) xs)) now)) (typed_exprs_of (infer_all (map infer_expr (map (λ (x : KnownTree TreeGood). x.0) xs)) end))
   all_told [] same = none_told
   all_told (x ∷ xs) same = one_told (x.1 (each-left (SameUse now end) (expr_names x.0) _ same)) (all_told xs (each-right (SameUse now end) (expr_names x.0) _ same))
 
-  invocation_good : (y : Invocation-F C T I P) → CalledGood (invocation_names_step (named_invocation (first_invocation y))) (invocation_step (inferred_invocation (first_invocation y)))
+  invocation_good : (y : InvocationNode good) → CalledGood (from_invocation expr_naming (bare_invocation good y)) (from_invocation inferring (bare_invocation good y))
   invocation_good y same = record {
     span = refl;
     callee = y.callee.1 (each-left (SameUse now end) (expr_names y.callee.0) _ same);
@@ -596,7 +416,7 @@ module _ (now end : Facts) where
     shape = subst (SameShape now end) (sym is.1) tt;
   }
 
-  expr_good : (y : Expr-F C T I P) → NodeGood (expr_names_step (named_expr (first_expr y))) (expr_step (inferred_expr (first_expr y)))
+  expr_good : (y : ExprNode good) → NodeGood (from_expr expr_naming (bare_expr good y)) (from_expr inferring (bare_expr good y))
   expr_good (Expr-F.Literal span one) same = literal_told span one
   expr_good (Expr-F.Name name) same = same.0 name.span
   expr_good (Expr-F.BasicType span one) same = basic_told span one
@@ -604,7 +424,7 @@ module _ (now end : Facts) where
       silent now end _ span (conversion_outcome one (infer_expr inner.0 end).typed_expr.typed) (converted one (infer_expr inner.0 end).typed_expr.typed)
   expr_good (Expr-F.Group span inner) same = grouped_told span (infer_expr inner.0 now).typed_expr (infer_expr inner.0 end).typed_expr (inner.1 same)
   expr_good (Expr-F.Parts span parts) same =
-      let all = map repeated (infer_parts (map infer_part (map (λ (x : P). x.0) parts)) end) in
+      let all = map repeated (infer_parts (map infer_part (map (λ (x : KnownTree (λ (part : PartTree). Unit {0})). x.0) parts)) end) in
       silent now end _ span (bracketed_rule all) (bracketed all)
   expr_good (Expr-F.Field span owner field) same =
       field_told span (infer_expr owner.0 now).typed_expr (infer_expr owner.0 end).typed_expr field (owner.1 (each-left (SameUse now end) (expr_names owner.0) _ same))
@@ -627,27 +447,14 @@ module _ (now end : Facts) where
 
   -- ---- all trees
 
-  step_create : (x : Create-F Create Tree Invocation PartTree) (y : Create-F C T I P) → first_create y ≡ x → CreateGood (roll-Create x)
-  step_create x y is = subst (λ z. CreateGood (roll-Create z)) is
-      (subst (λ (infer : Inferrer). IsSilent (infer end)) (sym (fold-roll-Create Inferrer Inferrer CalledInferrer PartInferrer create_step expr_step invocation_step part_step (first_create y))) (create_good y))
-
-  step_expr : (x : Expr-F Create Tree Invocation PartTree) (y : Expr-F C T I P) → first_expr y ≡ x → TreeGood (roll-Expr x)
-  step_expr x y is = subst (λ z. TreeGood (roll-Expr z)) is
-      (subst (λ names. NodeGood names (infer_expr (roll-Expr (first_expr y))))
-      (sym (fold-roll-Expr (List Span) (List Span) (List Span) (List Span) create_names_step expr_names_step invocation_names_step part_names_step (first_expr y)))
-      (subst (λ (infer : Inferrer). NodeGood (expr_names_step (named_expr (first_expr y))) infer)
-      (sym (fold-roll-Expr Inferrer Inferrer CalledInferrer PartInferrer create_step expr_step invocation_step part_step (first_expr y))) (expr_good y)))
-
-  step_invocation : (x : Invocation-F Create Tree Invocation PartTree) (y : Invocation-F C T I P) → first_invocation y ≡ x → InvocationGood (roll-Invocation x)
-  step_invocation x y is = subst (λ z. InvocationGood (roll-Invocation z)) is
-      (subst (λ names. CalledGood names (infer_invocation (roll-Invocation (first_invocation y))))
-      (sym (fold-roll-Invocation (List Span) (List Span) (List Span) (List Span) create_names_step expr_names_step invocation_names_step part_names_step (first_invocation y)))
-      (subst (λ (infer : CalledInferrer). CalledGood (invocation_names_step (named_invocation (first_invocation y))) infer)
-      (sym (fold-roll-Invocation Inferrer Inferrer CalledInferrer PartInferrer create_step expr_step invocation_step part_step (first_invocation y))) (invocation_good y)))
-
-  step_part : (x : Part-F Create Tree Invocation PartTree) (y : Part-F C T I P) → first_part y ≡ x → PartGood (roll-Part x)
-  step_part x y is = tt
+  by_parts : ByParts good
+  by_parts = record {
+    create = λ y. subst (λ t. t) (λ i. IsSilent (create_folds inferring (bare_create good y) i end)) (create_good y);
+    expr = λ y. subst (λ t. t) (λ i. NodeGood (expr_folds expr_naming (bare_expr good y) i) (expr_folds inferring (bare_expr good y) i)) (expr_good y);
+    invocation = λ y. subst (λ t. t) (λ i. CalledGood (invocation_folds expr_naming (bare_invocation good y) i) (invocation_folds inferring (bare_invocation good y) i)) (invocation_good y);
+    part = λ y. tt;
+  }
 
   -- what an expression tells in the end it tells now, where its names do
   pub expr_told : (tree : Tree) → (SameUses now end) (expr_names tree) → Tells (infer_expr tree now).typed_expr (infer_expr tree end).typed_expr
-  expr_told tree = ind-Expr CreateGood TreeGood InvocationGood PartGood step_create step_expr step_invocation step_part tree
+  expr_told = each_expr good by_parts

@@ -65,24 +65,17 @@ module _ (now end : Facts) where
   itself_told one sound shape = record { same = λ tell. refl; typed = λ fault. absurd (false≢true (sym sound ∙ fault)); shape = shape }
 
   info_told : (span : Span) (decl : Decl) (one : Option Info) → IsSound one → SameTypes now end decl one → Told now end (declared_typing span decl one).typed_expr (declared_typing span decl one).typed_expr
-  info_told span decl None sound types = itself_told _ refl tt
   info_told span decl (Some (info.Value typed)) sound types = itself_told _ sound tt
   info_told span decl (Some (info.«Type» ty)) sound types = itself_told _ refl types
   info_told span decl (Some (info.Enumeration number literals)) sound types = itself_told _ refl types
   info_told span decl (Some (info.Record fields)) sound types = itself_told _ refl types
-  info_told span decl (Some (info.OpType ty)) sound types = itself_told _ refl tt
-  info_told span decl (Some (info.Operation ty component is_local)) sound types = itself_told _ refl tt
-  info_told span decl (Some (info.Component ty)) sound types = itself_told _ refl tt
+  info_told span decl _ sound types = itself_told _ refl tt
 
   idle_told : (here : TypedExpr) (span : Span) (decl : Decl) (one : Option Info) → IsIdle one → Told now end here (declared_typing span decl one).typed_expr
   idle_told here span decl None idle = quiet_told here _ refl refl tt
   idle_told here span decl (Some (info.Value typed)) idle = quiet_told here _ (ap (λ value. tells_by value named.Nothing) idle) (ap is_fault idle) tt
   idle_told here span decl (Some (info.Operation ty component is_local)) idle = quiet_told here _ refl refl tt
-  idle_told here span decl (Some (info.«Type» ty)) idle = absurd idle
-  idle_told here span decl (Some (info.Enumeration number literals)) idle = absurd idle
-  idle_told here span decl (Some (info.Record fields)) idle = absurd idle
-  idle_told here span decl (Some (info.OpType ty)) idle = absurd idle
-  idle_told here span decl (Some (info.Component ty)) idle = absurd idle
+  idle_told here span decl (Some _) idle = absurd idle
 
   decl_told : (span : Span) (decl : Decl) → SameDecl now end decl
       → Told now end (declared_typing span decl (info_at now.infos decl.spot)).typed_expr (declared_typing span decl (info_at end.infos decl.spot)).typed_expr

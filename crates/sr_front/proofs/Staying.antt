@@ -1,9 +1,8 @@
 -- What names are that are types or components stays where statements are looked at.
-use Rattle.std.proofs.Common.{◌≡◌, ◌⊎◌, inl, inr, true, false, List, [], ◌∷◌, Option, Some, None, refl, sym, subst, ◌∙◌}
+use Rattle.std.proofs.Common.{true, false, List, [], ◌∷◌, Option, Some, None, refl, subst, ◌∙◌}
 use Rattle.std.specs.List.{flat_map}
 use Rattle.sr_names.specs.declared.spot.Spot.{Spot}
-use Rattle.sr_names.specs.Spots.{same_spot, spot_of}
-use Rattle.sr_names.proofs.Marking.{entry-same, entry-other, same_spot-cases}
+use Rattle.sr_names.specs.Spots.{spot_of}
 use Rattle.sr_order.specs.Names.{const_names, decl_names, name_names, names_spans, op_item_names, quantifier_names, semaphore_names, var_names, where_some}
 use Rattle.sr_tree.specs.declared.declaration.ConstDecl.{ConstDecl}
 use Rattle.sr_tree.specs.declared.declaration.OpItem.{OpItem}
@@ -36,37 +35,29 @@ use Rattle.sr_check.specs.Statements.{const_read, var_read}
 use Rattle.sr_check.proofs.Each.{Each, each-left, each-parts}
 use Rattle.sr_check.proofs.Entered.{keeps_ops, keeps_written}
 use Rattle.sr_front.proofs.EffectFreeExprs.{Stay, StaysInfo}
+use Rattle.sr_front.proofs.Put.{put_holds}
 
 -- no type and no component
 abbrev pub Loose : Option Info → Type 0
-Loose None = Unit {0}
-Loose (Some (info.Value typed)) = Unit {0}
 Loose (Some (info.«Type» ty)) = ⊥
 Loose (Some (info.Enumeration number literals)) = ⊥
 Loose (Some (info.Record fields)) = ⊥
-Loose (Some (info.OpType ty)) = Unit {0}
-Loose (Some (info.Operation ty component is_local)) = Unit {0}
 Loose (Some (info.Component ty)) = ⊥
+Loose _ = Unit {0}
 
 pub loose_stays : (before after : Option Info) → Loose before → StaysInfo before after
-loose_stays None after loose = tt
-loose_stays (Some (info.Value typed)) after loose = tt
 loose_stays (Some (info.«Type» ty)) after loose = absurd loose
 loose_stays (Some (info.Enumeration number literals)) after loose = absurd loose
 loose_stays (Some (info.Record fields)) after loose = absurd loose
-loose_stays (Some (info.OpType ty)) after loose = tt
-loose_stays (Some (info.Operation ty component is_local)) after loose = tt
 loose_stays (Some (info.Component ty)) after loose = absurd loose
+loose_stays _ after loose = tt
 
 pub stays_through : (first second third : Option Info) → StaysInfo first second → StaysInfo second third → StaysInfo first third
-stays_through None second third a b = tt
-stays_through (Some (info.Value typed)) second third a b = tt
 stays_through (Some (info.«Type» ty)) second third a b = subst (λ one. StaysInfo one third) a b
 stays_through (Some (info.Enumeration number literals)) second third a b = subst (λ one. StaysInfo one third) a b
 stays_through (Some (info.Record fields)) second third a b = subst (λ one. StaysInfo one third) a b
-stays_through (Some (info.OpType ty)) second third a b = tt
-stays_through (Some (info.Operation ty component is_local)) second third a b = tt
 stays_through (Some (info.Component ty)) second third a b = subst (λ one. StaysInfo one third) a b
+stays_through _ second third a b = tt
 
 pub stay_through : (first second third : Facts) → Stay first second → Stay second third → Stay first third
 stay_through first second third a b = record {
@@ -80,14 +71,11 @@ pub record Same (known facts : Facts) : Type 0 where
   pub back : Stay facts known
 
 pub stays_self : (one : Option Info) → StaysInfo one one
-stays_self None = tt
-stays_self (Some (info.Value typed)) = tt
 stays_self (Some (info.«Type» ty)) = refl
 stays_self (Some (info.Enumeration number literals)) = refl
 stays_self (Some (info.Record fields)) = refl
-stays_self (Some (info.OpType ty)) = tt
-stays_self (Some (info.Operation ty component is_local)) = tt
 stays_self (Some (info.Component ty)) = refl
+stays_self _ = tt
 
 pub same_self : (known : Facts) → Same known known
 same_self known =
@@ -111,25 +99,15 @@ module _ (known : Facts) where
   -- what is declared where no type and no component is declared
   pub same_with : (facts : Facts) (spot : Spot) (one : Info) → Loose (info_at known.infos spot) → Loose (Some one) → Same known facts → Same known (declare facts spot one)
   same_with facts spot one free loose same = record {
-    forth = record { uses = same.forth.uses; infos = forth };
-    back = record { uses = same.back.uses; infos = back };
+    forth = record {
+      uses = same.forth.uses;
+      infos = λ other. put_holds facts spot one (λ at. StaysInfo (info_at known.infos at)) (loose_stays (info_at known.infos spot) (Some one) free) other (λ apart. same.forth.infos other);
+    };
+    back = record {
+      uses = same.back.uses;
+      infos = λ other. put_holds facts spot one (λ at found. StaysInfo found (info_at known.infos at)) (loose_stays (Some one) (info_at known.infos spot) loose) other (λ apart. same.back.infos other);
+    };
   }
-    where
-      forth_by : (other : Spot) → (other ≡ spot) ⊎ (same_spot other spot ≡ false) → StaysInfo (info_at known.infos other) (info_at (declare facts spot one).infos other)
-      forth_by other (inl is) = loose_stays (info_at known.infos other) (info_at (declare facts spot one).infos other) (subst (λ s. Loose (info_at known.infos s)) (sym is) free)
-      forth_by other (inr apart) = subst (λ found. StaysInfo (info_at known.infos other) found) (sym (entry-other facts.infos spot one other apart)) (same.forth.infos other)
-
-      forth : (other : Spot) → StaysInfo (info_at known.infos other) (info_at (declare facts spot one).infos other)
-      forth other = forth_by other (same_spot-cases other spot)
-
-      back_by : (other : Spot) → (other ≡ spot) ⊎ (same_spot other spot ≡ false) → StaysInfo (info_at (declare facts spot one).infos other) (info_at known.infos other)
-      back_by other (inl is) =
-          subst (λ s. StaysInfo (info_at (declare facts spot one).infos s) (info_at known.infos s)) (sym is)
-          (subst (λ found. StaysInfo found (info_at known.infos spot)) (sym (entry-same facts.infos spot one)) (loose_stays (Some one) (info_at known.infos spot) loose))
-      back_by other (inr apart) = subst (λ found. StaysInfo found (info_at known.infos other)) (sym (entry-other facts.infos spot one other apart)) (same.back.infos other)
-
-      back : (other : Spot) → StaysInfo (info_at (declare facts spot one).infos other) (info_at known.infos other)
-      back other = back_by other (same_spot-cases other spot)
 
   pub same_value : (facts : Facts) (name : Name) (type : Ty) → Free name.span → Same known facts → Same known (declare_name facts name (variable type))
   same_value facts name type free same = same_with facts (spot_of name.span) (variable type) free tt same

@@ -43,11 +43,12 @@ use Rattle.sr_types.specs.declared.ty.Ty.TheVariants as ty
 use Rattle.sr_types.specs.Signatures.{number_of}
 use Rattle.sr_value.specs.declared.place.Span.{Span}
 use Rattle.sr_front.proofs.ConstantNames.{IsComponentInfo}
-use Rattle.sr_front.proofs.ConstantsMet.{Anywhere, anywhere, uses_steady}
+use Rattle.sr_front.proofs.ConstantsMet.{uses_steady}
 use Rattle.sr_front.proofs.DeclaredIn.{Stands, stands_left, stands_right}
 use Rattle.sr_front.proofs.FirmNames.{component_firm, component_loose, component_own, firm_outer, item_firm, loose_outer, own_outer, spec_firm}
 use Rattle.sr_front.proofs.HalfProgram.{Ending}
 use Rattle.sr_front.proofs.InfosStay.{Steady, same_elsewhere}
+use Rattle.sr_front.proofs.KeptNames.{Anywhere, anywhere}
 use Rattle.sr_front.proofs.Lasting.{Away}
 use Rattle.sr_front.proofs.OwnApart.{each_stands}
 use Rattle.sr_front.proofs.OwnOrShared.{stands_among}
@@ -71,34 +72,19 @@ idle_part : (found : Option Info) → IsIdle found → type_part found ≡ None
 idle_part None h = refl
 idle_part (Some (info.Value typed)) h = refl
 idle_part (Some (info.Operation type component is_local)) h = refl
-idle_part (Some (info.«Type» type)) h = absurd h
-idle_part (Some (info.Enumeration number literals)) h = absurd h
-idle_part (Some (info.Record fields)) h = absurd h
-idle_part (Some (info.OpType type)) h = absurd h
-idle_part (Some (info.Component type)) h = absurd h
+idle_part (Some _) h = absurd h
 
-waiting_part : (found : Option Info) → IsWaiting found → type_part found ≡ None
+pub waiting_part : (found : Option Info) → IsWaiting found → type_part found ≡ None
 waiting_part None h = refl
 waiting_part (Some (info.Value typed)) h = refl
-waiting_part (Some (info.Operation type component is_local)) h = absurd h
-waiting_part (Some (info.«Type» type)) h = absurd h
-waiting_part (Some (info.Enumeration number literals)) h = absurd h
-waiting_part (Some (info.Record fields)) h = absurd h
-waiting_part (Some (info.OpType type)) h = absurd h
-waiting_part (Some (info.Component type)) h = absurd h
+waiting_part (Some _) h = absurd h
 
 abbrev pub a_component : Option Info
 a_component = Some (info.Component ty.Untyped)
 
 component_part : (found : Option Info) → IsComponentInfo found → type_part found ≡ a_component
 component_part (Some (info.Component type)) h = refl
-component_part (Some (info.Value typed)) h = absurd h
-component_part (Some (info.«Type» type)) h = absurd h
-component_part (Some (info.Enumeration number literals)) h = absurd h
-component_part (Some (info.Record fields)) h = absurd h
-component_part (Some (info.OpType type)) h = absurd h
-component_part (Some (info.Operation type component is_local)) h = absurd h
-component_part None h = absurd h
+component_part _ h = absurd h
 
 -- ---- the names of constants, types and literals are firm
 
@@ -114,18 +100,11 @@ spec_is_firm spot (spec.Const constant) k = k
 spec_is_firm spot (spec.«Type» named) (inl e) = inl e
 spec_is_firm spot (spec.«Type» named) (inr k) = inr (second_stands spot (type_shares named.ty) k)
 spec_is_firm spot (spec.OpType named) k = k
-spec_is_firm spot (spec.Import declared) k = absurd k
-spec_is_firm spot (spec.Op operations) k = absurd k
-spec_is_firm spot (spec.Var variables) k = absurd k
-spec_is_firm spot (spec.Sem declared) k = absurd k
+spec_is_firm spot _ k = absurd k
 
 item_is_firm : (spot : Spot) (one : Item) → Stands spot (item_named one) → Stands spot (item_firm one)
 item_is_firm spot (item.Spec declared) k = spec_is_firm spot declared k
-item_is_firm spot (item.Proc proc) k = absurd k
-item_is_firm spot (item.Procedure procedure) k = absurd k
-item_is_firm spot (item.Process process) k = absurd k
-item_is_firm spot (item.Final final) k = absurd k
-item_is_firm spot (item.Statement statement) k = absurd k
+item_is_firm spot _ k = absurd k
 
 stands_either : (spot : Spot) (xs ys : List Span) → Stands spot (xs ++ ys) → Stands spot xs ⊎ Stands spot ys
 stands_either spot [] ys k = inr k
@@ -254,7 +233,7 @@ module _ (files : List File) (names : Names) (named : resolved files ≡ Ok name
   abbrev pub SameMeant : Facts → Facts → Span → Type 0
   SameMeant now end used = (decl : Decl) → meaning_at names.uses (spot_of used) ≡ Some (Declared decl) → part_at end decl.spot ≡ part_at now decl.spot
 
-  told_same : (told : Option Decl → Option Info → Option Ty) → ((decl : Option Decl) (found : Option Info) → told decl found ≡ told decl (type_part found)) → (now end : Facts) → now.uses ≡ names.uses → end.uses ≡ names.uses
+  pub told_same : (told : Option Decl → Option Info → Option Ty) → ((decl : Option Decl) (found : Option Info) → told decl found ≡ told decl (type_part found)) → (now end : Facts) → now.uses ≡ names.uses → end.uses ≡ names.uses
       → (name : QualifiedName) → SameMeant now end (deciding name).span
       → told (named_decl end name) (decl_info end.infos (named_decl end name)) ≡ told (named_decl now name) (decl_info now.infos (named_decl now name))
   told_same told part now end here there name same =

@@ -1,10 +1,10 @@
 -- Types and components are declared at the names of their declarations, before any statement is looked at.
-use Rattle.std.proofs.Common.{◌≡◌, ◌⊎◌, inl, inr, false, List, Some, sym, subst, flat_map}
+use Rattle.std.proofs.Common.{◌≡◌, false, List, Some, sym, subst, flat_map}
 use Rattle.sr_names.specs.declared.spot.Spot.{Spot}
 use Rattle.sr_names.specs.Noted.{Meanings}
 use Rattle.sr_names.specs.Specs.{Specs}
 use Rattle.sr_names.specs.Spots.{same_spot, spot_of}
-use Rattle.sr_names.proofs.Marking.{entry-same, entry-other, same_spot-cases}
+use Rattle.sr_names.proofs.Marking.{entry-other}
 use Rattle.sr_tables.specs.Parts.{components_in}
 use Rattle.sr_tree.specs.declared.component.File.{File}
 use Rattle.sr_value.specs.declared.place.Span.{Span}
@@ -16,6 +16,7 @@ use Rattle.sr_check_decl.specs.Variables.{declare}
 use Rattle.sr_check.proofs.Each.{Each}
 use Rattle.sr_front.proofs.KeptDeclared.{Declares, keeps_known}
 use Rattle.sr_front.proofs.PlainNames.{component_plain}
+use Rattle.sr_front.proofs.Put.{put_holds}
 use Rattle.sr_front.proofs.Staying.{Loose}
 
 module _ (spot : Spot) where
@@ -31,12 +32,7 @@ module _ (spot : Spot) where
   Apart at = same_spot spot at ≡ false
 
   free_with : (facts : Facts) (at : Spot) (one : Info) → Loose (Some one) → Free facts → Free (declare facts at one)
-  free_with facts at one loose free = by (same_spot-cases spot at)
-    where
-      by : (spot ≡ at) ⊎ (same_spot spot at ≡ false) → Free (declare facts at one)
-      by (inl same) =
-          subst (λ s. Loose (info_at (declare facts at one).infos s)) (sym same) (subst Loose (sym (entry-same facts.infos at one)) loose)
-      by (inr apart) = subst Loose (sym (entry-other facts.infos at one spot apart)) free
+  free_with facts at one loose free = put_holds facts at one (λ other. Loose) loose spot (λ apart. free)
 
   declares : Declares Free Apart
   declares = record {

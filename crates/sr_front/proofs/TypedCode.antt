@@ -1,21 +1,16 @@
 -- Where statements are read without a broken rule, all that is known has a type if it had before.
-use Rattle.std.proofs.Common.{◌≡◌, ◌⊎◌, inl, inr, Bool, false, List, [], ◌∷◌, Option, Some, None, is_some, map, flat_map, refl, sym, subst, ◌∙◌}
+use Rattle.std.proofs.Common.{◌≡◌, Bool, List, [], ◌∷◌, Option, Some, None, is_some, map, flat_map, refl, subst}
 use Rattle.sr_value.specs.declared.place.Span.{Span}
 use Rattle.sr_names.specs.declared.finding.Rule.TheVariants.{BadType}
 use Rattle.sr_names.specs.declared.meaning.Decl.{Decl}
 use Rattle.sr_names.specs.declared.spot.Spot.{Spot}
-use Rattle.sr_names.specs.Spots.{same_spot, spot_of}
-use Rattle.sr_names.proofs.Marking.{entry-same, entry-other, same_spot-cases}
+use Rattle.sr_names.specs.Spots.{spot_of}
 use Rattle.sr_order.specs.Names.{const_names, name_names, names_spans, quantifier_names, var_names, where_some}
 use Rattle.sr_tree.specs.declared.name.Name.{Name}
-use Rattle.sr_tree.specs.declared.statement.Arm.{Arm, roll-Arm}
-use Rattle.sr_tree.specs.declared.statement.BlockItem.{BlockItem, roll-BlockItem}
-use Rattle.sr_tree.specs.declared.statement.BlockItem.TheFolds.{map-BlockItem, map-Statement, map-Arm, map-Branch, map-CoArm, fold-roll-BlockItem, fold-roll-Statement, fold-roll-Arm, fold-roll-Branch, fold-roll-CoArm, ind-BlockItem, ind-Statement}
-use Rattle.sr_tree.specs.declared.statement.BlockItem.TheOpen.{BlockItem-F, Statement-F, Arm-F, Branch-F, CoArm-F}
-use Rattle.sr_tree.specs.declared.statement.Branch.{Branch, roll-Branch}
+use Rattle.sr_tree.specs.declared.statement.BlockItem.{BlockItem}
+use Rattle.sr_tree.specs.declared.statement.BlockItem.TheOpen.{BlockItem-F, Statement-F}
 use Rattle.sr_tree.specs.declared.statement.Quantifier.{Quantifier}
-use Rattle.sr_tree.specs.declared.statement.CoArm.{CoArm, roll-CoArm}
-use Rattle.sr_tree.specs.declared.statement.Statement.{Statement, roll-Statement}
+use Rattle.sr_tree.specs.declared.statement.Statement.{Statement}
 use Rattle.sr_types.specs.declared.signature.Signature.{Signature}
 use Rattle.sr_types.specs.declared.ty.Ty.{Ty, out-Ty}
 use Rattle.sr_types.specs.declared.typed.Typed.{Typed}
@@ -37,15 +32,16 @@ use Rattle.sr_check.specs.ErrorFree.{ErrorFree}
 use Rattle.sr_check.specs.Invoking.{started_found}
 use Rattle.sr_check.specs.Quantifying.{expr_with, quantifiers_found, quantifiers_known}
 use Rattle.sr_check.specs.Services.{decl_named, head_found, head_rule, operation_at, operation_by, operation_named, service_bound, type_of}
-use Rattle.sr_check.specs.Statements.{ArmSteps, CoArmSteps, arm_context, arm_read, arm_step, arms_at, block_item_read, branch_read, branch_step, co_arm_read, co_arm_step, co_arms_at, guards_found, item_step, mixture_found, statement_read, statement_step}
+use Rattle.sr_check.specs.Statements.{arm_context, arm_read, arms_at, block_item_read, branch_read, co_arm_read, co_arms_at, guards_found, mixture_found, statement_read}
 use Rattle.sr_check.specs.Uses.{condition_rule}
-use Rattle.sr_check.proofs.Each.{Each}
 use Rattle.sr_check.proofs.ErrorFree.{error_free_first, error_free_second, rule_met}
-use Rattle.sr_check.proofs.Reading.{read_arm, read_branch, read_co_arm, read_item, read_statement}
-use Rattle.sr_front.proofs.KeptNames.{Anywhere, Closed, all_fit, keeps_const, keeps_quantifiers, keeps_service, keeps_var}
+use Rattle.sr_front.proofs.KeptNames.{Anywhere, Closed, anywhere, keeps_const, keeps_quantifiers, keeps_service, keeps_var}
 use Rattle.sr_front.proofs.Optypes.{layer_stays}
+use Rattle.sr_front.proofs.Put.{put_holds}
 use Rattle.sr_front.proofs.Typed.{AllTyped}
 use Rattle.sr_front.proofs.TypedDecls.{const_typed, quantifiers_typed, service_typed, var_typed}
+use Rattle.sr_check.proofs.ReadFolds.{reading}
+use Rattle.sr_tree.proofs.StatementFolds.{ArmNode, BranchNode, ByParts, Claim, CoArmNode, ItemNode, Known, StatementNode, arm_folds, bare_arm, bare_branch, bare_co_arm, bare_item, bare_statement, branch_folds, co_arm_folds, each_item, each_statement, from_arm, from_branch, from_co_arm, from_item, from_statement, item_folds, statement_folds}
 
 -- ---- operations have signatures
 
@@ -60,11 +56,8 @@ abbrev pub Never : Spot → Type 0
 Never spot = ⊥
 
 pub signed_put : (facts : Facts) (spot : Spot) (one : Info) → ((type : Ty) (component : Spot) (is_local : Bool) → Some one ≡ Some (info.Operation type component is_local) → HasSignature facts type) → AllSigned facts → AllSigned (declare facts spot one)
-signed_put facts spot one new signed other type component is_local is = by (same_spot-cases other spot)
-  where
-    by : (other ≡ spot) ⊎ (same_spot other spot ≡ false) → HasSignature facts type
-    by (inl same) = new type component is_local (sym (entry-same facts.infos spot one) ∙ subst (λ s. info_at (declare facts spot one).infos s ≡ Some (info.Operation type component is_local)) same is)
-    by (inr apart) = signed other type component is_local (sym (entry-other facts.infos spot one other apart) ∙ is)
+signed_put facts spot one new signed other type component is_local is =
+    put_holds facts spot one (λ at found. found ≡ Some (info.Operation type component is_local) → HasSignature facts type) (new type component is_local) other (λ apart. signed other type component is_local) is
 
 no_value : (typed : Typed) (type : Ty) (component : Spot) (is_local : Bool) → Some (info.Value typed) ≡ Some (info.Operation type component is_local) → ⊥
 no_value typed type component is_local e = cc
@@ -85,9 +78,6 @@ pub record Good (facts : Facts) : Type 0 where
   pub typed : AllTyped facts
   pub signed : AllSigned facts
 
-pub anywhere : (spans : List Span) → Each (λ span. Anywhere (spot_of span)) spans
-anywhere spans = all_fit (λ span. spot_of span) spans
-
 -- ---- services
 
 abbrev pub SignedBy : Facts → Option Operation → Type 0
@@ -99,14 +89,8 @@ operation_signed facts signed None = tt
 operation_signed facts signed (Some decl) = by (info_at facts.infos decl.spot) refl
   where
     by : (found : Option Info) → info_at facts.infos decl.spot ≡ found → SignedBy facts (operation_by decl.spot found)
-    by None is = tt
     by (Some (info.Operation type component is_local)) is = signed decl.spot type component is_local is
-    by (Some (info.Value typed)) is = tt
-    by (Some (info.«Type» type)) is = tt
-    by (Some (info.Enumeration number literals)) is = tt
-    by (Some (info.Record fields)) is = tt
-    by (Some (info.OpType type)) is = tt
-    by (Some (info.Component type)) is = tt
+    by _ is = tt
 
 pub service_good : (facts : Facts) (span : Span) (formals : List Name) (returned : Option Name) (operation : Operation) → HasSignature facts operation.ty
     → ErrorFree (broken_unless (head_rule facts.signatures formals (is_some returned) operation.ty) BadType span) → Good facts → Good (service_bound formals returned operation.ty facts)
@@ -126,52 +110,31 @@ head_good facts procs span formals returned (Some operation) signature whole goo
 abbrev pub Keeps : Steps → Type 0
 Keeps steps = (context : Context) → Good context.facts → ErrorFree (steps context).found → Good (steps context).facts
 
-abbrev I : Type 0
-I = (tree : BlockItem) × Keeps (block_item_read tree)
-
-abbrev S : Type 0
-S = (tree : Statement) × Keeps (statement_read tree)
-
-abbrev A : Type 0
-A = (tree : Arm) × ((span : Span) → Keeps ((arm_read tree).steps span))
-
-abbrev B : Type 0
-B = (tree : Branch) × Keeps (branch_read tree)
-
-abbrev C : Type 0
-C = (tree : CoArm) × ((span : Span) → Keeps (co_arm_read tree span))
+abbrev pub kept : Claim
+kept = record {
+  item = λ tree. Keeps (block_item_read tree);
+  statement = λ tree. Keeps (statement_read tree);
+  arm = λ tree. (span : Span) → Keeps ((arm_read tree).steps span);
+  branch = λ tree. Keeps (branch_read tree);
+  co_arm = λ tree. (span : Span) → Keeps (co_arm_read tree span);
+}
 
 keeps_row : {X : Type 0} (read : X → Steps) (xs : List ((tree : X) × Keeps (read tree))) → Keeps (in_order (map read (map (λ x. x.0) xs)))
 keeps_row read [] context good whole = good
 keeps_row read (x ∷ xs) context good whole =
     keeps_row read xs (with_facts context (read x.0 context).facts) (x.1 context good (error_free_first (read x.0 context).found _ whole)) (error_free_second (read x.0 context).found _ whole)
 
-keeps_arms : (span : Span) (xs : List A) → Keeps (in_order (arms_at span (map arm_read (map (λ x. x.0) xs))))
+keeps_arms : (span : Span) (xs : List (Known kept.arm)) → Keeps (in_order (arms_at span (map arm_read (map (λ x. x.0) xs))))
 keeps_arms span [] context good whole = good
 keeps_arms span (x ∷ xs) context good whole =
     let step = (arm_read x.0).steps span context in
     keeps_arms span xs (with_facts context step.facts) (x.1 span context good (error_free_first step.found _ whole)) (error_free_second step.found _ whole)
 
-keeps_co_arms : (span : Span) (xs : List C) → Keeps (in_order (co_arms_at span (map co_arm_read (map (λ x. x.0) xs))))
+keeps_co_arms : (span : Span) (xs : List (Known kept.co_arm)) → Keeps (in_order (co_arms_at span (map co_arm_read (map (λ x. x.0) xs))))
 keeps_co_arms span [] context good whole = good
 keeps_co_arms span (x ∷ xs) context good whole =
     let step = co_arm_read x.0 span context in
     keeps_co_arms span xs (with_facts context step.facts) (x.1 span context good (error_free_first step.found _ whole)) (error_free_second step.found _ whole)
-
-abbrev first_item : BlockItem-F I S A B C → BlockItem-F BlockItem Statement Arm Branch CoArm
-first_item = map-BlockItem I S A B C BlockItem Statement Arm Branch CoArm (λ x. x.0) (λ x. x.0) (λ x. x.0) (λ x. x.0) (λ x. x.0)
-
-abbrev first_statement : Statement-F I S A B C → Statement-F BlockItem Statement Arm Branch CoArm
-first_statement = map-Statement I S A B C BlockItem Statement Arm Branch CoArm (λ x. x.0) (λ x. x.0) (λ x. x.0) (λ x. x.0) (λ x. x.0)
-
-abbrev first_arm : Arm-F I S A B C → Arm-F BlockItem Statement Arm Branch CoArm
-first_arm = map-Arm I S A B C BlockItem Statement Arm Branch CoArm (λ x. x.0) (λ x. x.0) (λ x. x.0) (λ x. x.0) (λ x. x.0)
-
-abbrev first_branch : Branch-F I S A B C → Branch-F BlockItem Statement Arm Branch CoArm
-first_branch = map-Branch I S A B C BlockItem Statement Arm Branch CoArm (λ x. x.0) (λ x. x.0) (λ x. x.0) (λ x. x.0) (λ x. x.0)
-
-abbrev first_co_arm : CoArm-F I S A B C → CoArm-F BlockItem Statement Arm Branch CoArm
-first_co_arm = map-CoArm I S A B C BlockItem Statement Arm Branch CoArm (λ x. x.0) (λ x. x.0) (λ x. x.0) (λ x. x.0) (λ x. x.0)
 
 pub quantifiers_good : (quantifiers : List Quantifier) (facts : Facts) → Good facts → Good (quantifiers_known facts quantifiers)
 quantifiers_good quantifiers facts good = record {
@@ -179,7 +142,7 @@ quantifiers_good quantifiers facts good = record {
   signed = keeps_quantifiers AllSigned Anywhere Never signed_closed quantifiers facts (anywhere (flat_map quantifier_names quantifiers)) good.signed;
 }
 
-item_node : (y : BlockItem-F I S A B C) → Keeps (item_step (read_item (first_item y)))
+item_node : (y : ItemNode kept) → Keeps (from_item reading (bare_item kept y))
 item_node (BlockItem-F.Const constant) context good whole = record {
   typed = const_typed constant context.facts good.typed whole;
   signed = keeps_const AllSigned Anywhere Never signed_closed constant context.facts (anywhere (const_names constant)) good.signed;
@@ -190,13 +153,13 @@ item_node (BlockItem-F.Var variables) context good whole = record {
 }
 item_node (BlockItem-F.Statement statement) context good whole = statement.1 context good whole
 
-abbrev branches_of : List B → Steps
-branches_of branches = in_order (map branch_read (map (λ (x : B). x.0) branches))
+abbrev branches_of : List (Known kept.branch) → Steps
+branches_of branches = in_order (map branch_read (map (λ (x : Known kept.branch). x.0) branches))
 
-abbrev arms_of : Span → List A → Steps
-arms_of span arms = in_order (arms_at span (map arm_read (map (λ (x : A). x.0) arms)))
+abbrev arms_of : Span → List (Known kept.arm) → Steps
+arms_of span arms = in_order (arms_at span (map arm_read (map (λ (x : Known kept.arm). x.0) arms)))
 
-statement_node : (y : Statement-F I S A B C) → Keeps (statement_step (read_statement (first_statement y)))
+statement_node : (y : StatementNode kept) → Keeps (from_statement reading (bare_statement kept y))
 statement_node (Statement-F.If span branches None) context good whole = keeps_row branch_read branches context good (error_free_first (branches_of branches context).found _ whole)
 statement_node (Statement-F.If span branches (Some items)) context good whole =
     keeps_row block_item_read items (with_facts context (branches_of branches context).facts)
@@ -208,15 +171,15 @@ statement_node (Statement-F.Do span branches (Some items)) context good whole =
 statement_node (Statement-F.ForAll span quantifiers block) context good whole =
     keeps_row block_item_read block (looping (with_facts context (quantifiers_known context.facts quantifiers))) (quantifiers_good quantifiers context.facts good) (error_free_second (quantifiers_found context.facts quantifiers) _ whole)
 statement_node (Statement-F.In span arms None) context good whole =
-    keeps_arms span arms context good (error_free_first (arms_of span arms context).found _ (error_free_second (mixture_found context.facts span (map arm_read (map (λ (x : A). x.0) arms))) _ whole))
+    keeps_arms span arms context good (error_free_first (arms_of span arms context).found _ (error_free_second (mixture_found context.facts span (map arm_read (map (λ (x : Known kept.arm). x.0) arms))) _ whole))
 statement_node (Statement-F.In span arms (Some items)) context good whole =
-    let after = error_free_second (mixture_found context.facts span (map arm_read (map (λ (x : A). x.0) arms))) _ whole in
+    let after = error_free_second (mixture_found context.facts span (map arm_read (map (λ (x : Known kept.arm). x.0) arms))) _ whole in
     keeps_row block_item_read items (with_facts context (arms_of span arms context).facts)
     (keeps_arms span arms context good (error_free_first (arms_of span arms context).found _ after)) (error_free_second (arms_of span arms context).found _ after)
 statement_node (Statement-F.Co span arms) context good whole = keeps_co_arms span arms context good whole
 statement_node _ context good whole = good
 
-arm_node : (y : Arm-F I S A B C) (span : Span) → Keeps ((arm_step (read_arm (first_arm y))).steps span)
+arm_node : (y : ArmNode kept) (span : Span) → Keeps ((from_arm reading (bare_arm kept y)).steps span)
 arm_node y span context good whole =
     let found = operation_named context.facts y.operation in
     let head = head_found context.facts context.procs span y.formals (is_some y.returned) found in
@@ -225,10 +188,10 @@ arm_node y span context good whole =
     (head_good context.facts context.procs span y.formals y.returned found (operation_signed context.facts good.signed (decl_named context.facts y.operation)) (error_free_first head _ whole) good)
     (error_free_second (guards_found inner.facts y.condition y.order) _ (error_free_second head _ whole))
 
-branch_node : (y : Branch-F I S A B C) → Keeps (branch_step (read_branch (first_branch y)))
+branch_node : (y : BranchNode kept) → Keeps (from_branch reading (bare_branch kept y))
 branch_node y context good whole = keeps_row block_item_read y.block context good (error_free_second (expr_with condition_rule context.facts y.guard) _ whole)
 
-co_arm_by : (y : CoArm-F I S A B C) (block : Option (List I)) (span : Span) → Keeps (co_arm_step (read_co_arm (first_co_arm (record y { block = block }))) span)
+co_arm_by : (y : CoArmNode kept) (block : Option (List (Known kept.item))) (span : Span) → Keeps (from_co_arm reading (bare_co_arm kept (record y { block = block })) span)
 co_arm_by y None span context good whole = quantifiers_good y.quantifiers context.facts good
 co_arm_by y (Some items) span context good whole =
     let known = quantifiers_known context.facts y.quantifiers in
@@ -236,36 +199,23 @@ co_arm_by y (Some items) span context good whole =
     keeps_row block_item_read items (looping (with_facts context known)) (quantifiers_good y.quantifiers context.facts good)
     (error_free_second (started_found known span y.target (infer_invocation y.invocation known)) _ after)
 
-co_arm_node : (y : CoArm-F I S A B C) (span : Span) → Keeps (co_arm_step (read_co_arm (first_co_arm y)) span)
+co_arm_node : (y : CoArmNode kept) (span : Span) → Keeps (from_co_arm reading (bare_co_arm kept y) span)
 co_arm_node y = co_arm_by y y.block
 
 -- ---- all trees
 
-pub step_item : (x : BlockItem-F BlockItem Statement Arm Branch CoArm) (y : BlockItem-F I S A B C) → first_item y ≡ x → Keeps (block_item_read (roll-BlockItem x))
-step_item x y is = subst (λ z. Keeps (block_item_read (roll-BlockItem z))) is
-    (subst (λ (steps : Steps). Keeps steps) (sym (fold-roll-BlockItem Steps Steps ArmSteps Steps CoArmSteps item_step statement_step arm_step branch_step co_arm_step (first_item y))) (item_node y))
-
-pub step_statement : (x : Statement-F BlockItem Statement Arm Branch CoArm) (y : Statement-F I S A B C) → first_statement y ≡ x → Keeps (statement_read (roll-Statement x))
-step_statement x y is = subst (λ z. Keeps (statement_read (roll-Statement z))) is
-    (subst (λ (steps : Steps). Keeps steps) (sym (fold-roll-Statement Steps Steps ArmSteps Steps CoArmSteps item_step statement_step arm_step branch_step co_arm_step (first_statement y))) (statement_node y))
-
-pub step_arm : (x : Arm-F BlockItem Statement Arm Branch CoArm) (y : Arm-F I S A B C) → first_arm y ≡ x → (span : Span) → Keeps ((arm_read (roll-Arm x)).steps span)
-step_arm x y is = subst (λ z. (span : Span) → Keeps ((arm_read (roll-Arm z)).steps span)) is
-    (subst (λ (arm : ArmSteps). (span : Span) → Keeps (arm.steps span)) (sym (fold-roll-Arm Steps Steps ArmSteps Steps CoArmSteps item_step statement_step arm_step branch_step co_arm_step (first_arm y))) (arm_node y))
-
-pub step_branch : (x : Branch-F BlockItem Statement Arm Branch CoArm) (y : Branch-F I S A B C) → first_branch y ≡ x → Keeps (branch_read (roll-Branch x))
-step_branch x y is = subst (λ z. Keeps (branch_read (roll-Branch z))) is
-    (subst (λ (steps : Steps). Keeps steps) (sym (fold-roll-Branch Steps Steps ArmSteps Steps CoArmSteps item_step statement_step arm_step branch_step co_arm_step (first_branch y))) (branch_node y))
-
-pub step_co_arm : (x : CoArm-F BlockItem Statement Arm Branch CoArm) (y : CoArm-F I S A B C) → first_co_arm y ≡ x → (span : Span) → Keeps (co_arm_read (roll-CoArm x) span)
-step_co_arm x y is = subst (λ z. (span : Span) → Keeps (co_arm_read (roll-CoArm z) span)) is
-    (subst (λ (steps : CoArmSteps). (span : Span) → Keeps (steps span)) (sym (fold-roll-CoArm Steps Steps ArmSteps Steps CoArmSteps item_step statement_step arm_step branch_step co_arm_step (first_co_arm y))) (co_arm_node y))
+pub by_parts : ByParts kept
+by_parts = record {
+  item = λ y. subst (λ t. t) (λ i. Keeps (item_folds reading (bare_item kept y) i)) (item_node y);
+  statement = λ y. subst (λ t. t) (λ i. Keeps (statement_folds reading (bare_statement kept y) i)) (statement_node y);
+  arm = λ y. subst (λ t. t) (λ i. (span : Span) → Keeps ((arm_folds reading (bare_arm kept y) i).steps span)) (arm_node y);
+  branch = λ y. subst (λ t. t) (λ i. Keeps (branch_folds reading (bare_branch kept y) i)) (branch_node y);
+  co_arm = λ y. subst (λ t. t) (λ i. (span : Span) → Keeps (co_arm_folds reading (bare_co_arm kept y) i span)) (co_arm_node y);
+}
 
 -- where a statement is read without a broken rule, all that is known after it has a type
 pub statement_good : (tree : Statement) → Keeps (statement_read tree)
-statement_good = ind-Statement (λ tree. Keeps (block_item_read tree)) (λ tree. Keeps (statement_read tree)) (λ tree. (span : Span) → Keeps ((arm_read tree).steps span)) (λ tree. Keeps (branch_read tree))
-    (λ tree. (span : Span) → Keeps (co_arm_read tree span)) step_item step_statement step_arm step_branch step_co_arm
+statement_good = each_statement kept by_parts
 
 pub block_item_good : (tree : BlockItem) → Keeps (block_item_read tree)
-block_item_good = ind-BlockItem (λ tree. Keeps (block_item_read tree)) (λ tree. Keeps (statement_read tree)) (λ tree. (span : Span) → Keeps ((arm_read tree).steps span)) (λ tree. Keeps (branch_read tree))
-    (λ tree. (span : Span) → Keeps (co_arm_read tree span)) step_item step_statement step_arm step_branch step_co_arm
+block_item_good = each_item kept by_parts

@@ -1,11 +1,10 @@
 -- What is declared in blocks, services and procs has a type, where no rule is broken.
-use Rattle.std.proofs.Common.{◌≡◌, ◌⊎◌, inl, inr, Bool, true, false, not, ◌&&◌, ◌||◌, List, [], ◌∷◌, ◌++◌, Option, Some, None, is_some, IsTrue, refl, sym, subst, ◌∙◌, if◌then◌else◌}
-use Rattle.std.proofs.lemmas.Bool.{false≢true}
+use Rattle.std.proofs.Common.{◌≡◌, Bool, true, false, not, ◌&&◌, ◌||◌, List, [], ◌∷◌, ◌++◌, Option, Some, None, is_some, IsTrue, refl, sym, subst, ◌∙◌, if◌then◌else◌}
+use Rattle.std.proofs.lemmas.Bool.{and_parts, false≢true}
 use Rattle.sr_value.specs.declared.place.Span.{Span}
 use Rattle.sr_names.specs.declared.finding.Rule.TheVariants.{BadType}
 use Rattle.sr_names.specs.declared.spot.Spot.{Spot}
-use Rattle.sr_names.specs.Spots.{same_spot, spot_of}
-use Rattle.sr_names.proofs.Marking.{entry-same, entry-other, same_spot-cases}
+use Rattle.sr_names.specs.Spots.{spot_of}
 use Rattle.sr_tree.specs.declared.declaration.ConstDecl.{ConstDecl}
 use Rattle.sr_tree.specs.declared.statement.Quantifier.{Quantifier}
 use Rattle.sr_tree.specs.declared.declaration.VarDecl.{VarDecl}
@@ -44,21 +43,19 @@ use Rattle.sr_check.specs.Statements.{const_read, var_read}
 use Rattle.sr_check.proofs.Each.{Each}
 use Rattle.sr_check.proofs.Entered.{keeps_type}
 use Rattle.sr_check.proofs.ErrorFree.{error_free_first, error_free_second, rule_met}
-use Rattle.sr_front.proofs.Typed.{AllTyped, FoundSigned, FoundTyped, InfoTyped, IsTyped, MaybeTyped, SignatureTyped, int_typed, not_untyped, signed_typed}
-use Rattle.sr_front.proofs.TypedExprs.{expr_typed, value_typed, valued_typed}
+use Rattle.sr_front.proofs.Typed.{AllTyped, FoundSigned, FoundTyped, InfoTyped, IsTyped, MaybeTyped, SignatureTyped, not_untyped, typed_test}
+use Rattle.sr_front.proofs.PassingExprs.{expr_passes, value_passes, valued_passes}
 use Rattle.sr_front.proofs.TypedTypes.{MaybeParam, ParamsTyped, SignedTyped, decl_typed, later_itself, type_typed, types_typed}
+use Rattle.sr_front.proofs.PassingTypes.{int_passes, signed_passes}
+use Rattle.sr_front.proofs.Put.{put_holds}
 
 -- ---- one more name
 
 pub typed_put : (facts : Facts) (spot : Spot) (one : Info) → InfoTyped one → AllTyped facts → AllTyped (declare facts spot one)
 typed_put facts spot one typed all = record {
-  infos = λ other. by other (same_spot-cases other spot);
+  infos = λ other. put_holds facts spot one (λ at. FoundTyped) typed other (λ apart. all.infos other);
   signatures = all.signatures;
 }
-  where
-    by : (other : Spot) → (other ≡ spot) ⊎ (same_spot other spot ≡ false) → FoundTyped (info_at (declare facts spot one).infos other)
-    by other (inl same) = subst (λ s. FoundTyped (info_at (declare facts spot one).infos s)) (sym same) (subst FoundTyped (sym (entry-same facts.infos spot one)) typed)
-    by other (inr apart) = subst FoundTyped (sym (entry-other facts.infos spot one other apart)) (all.infos other)
 
 pub variable_put : (facts : Facts) (spot : Spot) (type : Ty) → IsTyped type → AllTyped facts → AllTyped (declare facts spot (variable type))
 variable_put facts spot type typed = typed_put facts spot (variable type) (typed, λ place. refl)
@@ -91,7 +88,7 @@ own_typed own rest typed met = own_by own (is_no_type own) (is_of_nulls own) res
 const_by : (constant : ConstDecl) (written : Option TypeTree) (facts : Facts) → AllTyped facts → ErrorFree (const_read (record constant { ty = written }) facts).found → AllTyped (const_read (record constant { ty = written }) facts).facts
 const_by constant None facts all whole =
     let value = infer_expr constant.value facts in
-    let typed = value_typed facts all constant.value (error_free_first (valued value) _ whole) in
+    let typed = value_passes typed_test facts all constant.value (error_free_first (valued value) _ whole) in
     let met = rule_met (const_rule false None value.typed_expr.typed) BadType value.typed_expr.span (error_free_second (valued value) _ whole) in
     typed_put facts (spot_of constant.name.span) (info.Value (const_of false facts (record constant { ty = None }))) (own_typed value.typed_expr.typed.ty _ typed met, λ place. absurd (false≢true place)) all
 const_by constant (Some tree) facts all whole =
@@ -139,7 +136,7 @@ untyped_by span (decl ∷ []) (value ∷ []) facts all whole =
     let nulls = error_free_second (broken_unless (has_no_dims decl.dims) BadType span) _ rules in
     let own = here.typed_expr.typed.ty in
     let met = rule_met (not (is_of_nulls own)) BadType here.typed_expr.span (error_free_first (broken_unless (not (is_of_nulls own)) BadType here.typed_expr.span) _ nulls) in
-    let typed = valued_typed here.typed_expr (expr_typed facts all value (error_free_first here.found [] (error_free_first (here.found ++ []) _ whole))) (error_free_first (value_found here.typed_expr) [] valid) in
+    let typed = valued_passes typed_test here.typed_expr (expr_passes typed_test facts all value (error_free_first here.found [] (error_free_first (here.found ++ []) _ whole))) (error_free_first (value_found here.typed_expr) [] valid) in
     variable_put facts (spot_of decl.name.span) (decl_type decl.dims (type_of_value own)) (plain_typed decl.dims (type_of_value own) none (nulls_by own (is_of_nulls own) met typed)) all
 untyped_by span [] values facts all whole = all
 untyped_by span (decl ∷ []) [] facts all whole = absurd (rules_of span facts (decl ∷ []) [] refl whole)
@@ -162,7 +159,7 @@ var_typed variables = var_by variables variables.ty
 -- ---- quantifiers
 
 pub quantified_typed : (facts : Facts) (name : Name) → AllTyped facts → AllTyped (quantified facts name)
-quantified_typed facts name all = typed_put facts (spot_of name.span) _ (int_typed, λ place. absurd (false≢true place)) all
+quantified_typed facts name all = typed_put facts (spot_of name.span) _ (int_passes typed_test, λ place. absurd (false≢true place)) all
 
 pub quantifiers_typed : (quantifiers : List Quantifier) (facts : Facts) → AllTyped facts → AllTyped (quantifiers_known facts quantifiers)
 quantifiers_typed [] facts all = all
@@ -171,7 +168,7 @@ quantifiers_typed (quantifier ∷ more) facts all = quantifiers_typed more (quan
 pub formal_quantifiers_typed : (quantifiers : List Quantifier) (facts : Facts) → AllTyped facts → AllTyped (quantifiers_formal quantifiers facts)
 formal_quantifiers_typed [] facts all = all
 formal_quantifiers_typed (quantifier ∷ more) facts all =
-    formal_quantifiers_typed more (declare_name facts quantifier.name (variable ty.Int)) (variable_put facts (spot_of quantifier.name.span) ty.Int int_typed all)
+    formal_quantifiers_typed more (declare_name facts quantifier.name (variable ty.Int)) (variable_put facts (spot_of quantifier.name.span) ty.Int (int_passes typed_test) all)
 
 -- ---- services
 
@@ -186,23 +183,15 @@ returned_typed None returns facts both typed all = all
 returned_typed (Some name) None facts both typed all = absurd (false≢true both)
 returned_typed (Some name) (Some type) facts both typed all = variable_put facts (spot_of name.span) type typed all
 
-and_first : (a b : Bool) → IsTrue (a && b) → IsTrue a
-and_first true b h = refl
-and_first false b h = absurd (false≢true h)
-
-and_second : (a b : Bool) → IsTrue (a && b) → IsTrue b
-and_second true b h = h
-and_second false b h = absurd (false≢true h)
-
 -- within a service of an operation whose type has a signature
 pub service_typed : (formals : List Name) (returned : Option Name) (type : Ty) (facts : Facts) (signature : Signature) → signature_of facts.signatures type ≡ Some signature
     → IsTrue (heads_by (signature_of facts.signatures type) formals (is_some returned)) → AllTyped facts → AllTyped (service_bound formals returned type facts)
 service_typed formals returned type facts signature is head all =
-    let typed : SignatureTyped signature = subst FoundSigned is (signed_typed facts all type) in
+    let typed : SignatureTyped signature = subst FoundSigned is (signed_passes typed_test facts all type) in
     let fits : IsTrue (as_many formals signature.params && both_or_none (is_some returned) (is_some signature.returns)) = subst (λ found. IsTrue (heads_by found formals (is_some returned))) is head in
     subst (λ found. AllTyped (returned_bound returned (type_or_none (returns_in found)) (names_bound formals (params_in found) facts))) (sym is)
-    (returned_typed returned signature.returns (names_bound formals signature.params facts) (and_second (as_many formals signature.params) _ fits) typed.returns
-    (names_typed formals signature.params facts (and_first (as_many formals signature.params) _ fits) typed.params all))
+    (returned_typed returned signature.returns (names_bound formals signature.params facts) (and_parts (as_many formals signature.params) _ fits).1 typed.returns
+    (names_typed formals signature.params facts (and_parts (as_many formals signature.params) _ fits).0 typed.params all))
 
 -- ---- formals of signatures
 

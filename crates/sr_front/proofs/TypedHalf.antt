@@ -1,11 +1,10 @@
 -- What is declared outside of procs and blocks has the type that is read in the end, where its names mean the same: what is
 -- known of operations comes of their heads.
-use Rattle.std.proofs.Common.{◌≡◌, ◌⊎◌, inl, inr, ℕ, ◌+◌, length, Bool, true, false, List, [], ◌∷◌, Option, Some, None, refl, sym, ap, map, subst, ◌∙◌, if◌then◌else◌}
+use Rattle.std.proofs.Common.{◌≡◌, ℕ, ◌+◌, length, Bool, true, false, List, [], ◌∷◌, Option, Some, refl, sym, ap, map, subst, ◌∙◌, if◌then◌else◌}
 use Rattle.std.proofs.lemmas.Bool.{false≢true}
 use Rattle.sr_value.specs.declared.place.Span.{Span}
 use Rattle.sr_names.specs.declared.spot.Spot.{Spot}
-use Rattle.sr_names.specs.Spots.{same_spot, spot_of}
-use Rattle.sr_names.proofs.Marking.{entry-same, entry-other, same_spot-cases}
+use Rattle.sr_names.specs.Spots.{spot_of}
 use Rattle.sr_tree.specs.declared.declaration.ConstDecl.{ConstDecl}
 use Rattle.sr_tree.specs.declared.declaration.VarDecl.{VarDecl}
 use Rattle.sr_tree.specs.declared.declaration.OpTypeDecl.{OpTypeDecl}
@@ -39,46 +38,38 @@ use Rattle.sr_check.specs.ErrorFree.{ErrorFree}
 use Rattle.sr_check.proofs.Each.{Each}
 use Rattle.sr_check.proofs.Entered.{keeps_formals, keeps_signature, keeps_type}
 use Rattle.sr_check.proofs.ErrorFree.{error_free_first, error_free_second}
-use Rattle.sr_front.proofs.Typed.{FieldsTyped, FoundTyped, IsTyped, ValueTyped, enum_typed, op_typed}
-use Rattle.sr_front.proofs.TypedTypes.{Agrees, Counts, InfosTyped, ParamsTyped, SignaturesTyped, SignedTyped, all_uses, decl_typed, entered_typed, formal_uses, formals_agree, formals_typed, later_itself, signature_agrees, signature_typed, signature_uses, signed_is, signed_kept, whole_typed, type_agrees, type_part, type_typed, type_uses}
+use Rattle.sr_front.proofs.Typed.{FieldsTyped, FoundTyped, IsTyped, ValueTyped, typed_test}
+use Rattle.sr_front.proofs.TypedTypes.{Agrees, Counts, InfosTyped, ParamsTyped, SignaturesTyped, SignedTyped, all_uses, decl_typed, entered_typed, formal_uses, formals_agree, formals_typed, later_itself, signature_agrees, signature_typed, signature_uses, signed_is, signed_kept, type_agrees, type_part, type_typed, type_uses}
+use Rattle.sr_front.proofs.PassingParts.{whole_passes}
+use Rattle.sr_front.proofs.PassingTypes.{enum_passes, op_passes}
+use Rattle.sr_front.proofs.Put.{put_holds}
 
 -- what is known has a type, but for operations and components
 abbrev pub HalfTyped : Option Info → Type 0
-HalfTyped None = Unit {0}
 HalfTyped (Some (info.Value typed)) = ValueTyped typed
 HalfTyped (Some (info.«Type» type)) = IsTyped type
-HalfTyped (Some (info.Enumeration number literals)) = Unit {0}
 HalfTyped (Some (info.Record fields)) = FieldsTyped fields
 HalfTyped (Some (info.OpType type)) = IsTyped type
-HalfTyped (Some (info.Operation type component is_local)) = Unit {0}
-HalfTyped (Some (info.Component type)) = Unit {0}
+HalfTyped _ = Unit {0}
 
 pub record Half (facts : Facts) : Type 0 where
   pub infos : (spot : Spot) → HalfTyped (info_at facts.infos spot)
   pub signatures : SignaturesTyped facts
 
 half_part : (found : Option Info) → HalfTyped found → FoundTyped (type_part found)
-half_part None h = tt
-half_part (Some (info.Value typed)) h = tt
 half_part (Some (info.«Type» type)) h = h
-half_part (Some (info.Enumeration number literals)) h = tt
 half_part (Some (info.Record fields)) h = h
 half_part (Some (info.OpType type)) h = h
-half_part (Some (info.Operation type component is_local)) h = tt
-half_part (Some (info.Component type)) h = tt
+half_part _ h = tt
 
 pub half_types : (facts : Facts) → Half facts → InfosTyped facts
 half_types facts half spot = half_part (info_at facts.infos spot) (half.infos spot)
 
 pub half_put : (facts : Facts) (spot : Spot) (one : Info) → HalfTyped (Some one) → Half facts → Half (declare facts spot one)
 half_put facts spot one typed half = record {
-  infos = λ other. by other (same_spot-cases other spot);
+  infos = λ other. put_holds facts spot one (λ at. HalfTyped) typed other (λ apart. half.infos other);
   signatures = half.signatures;
 }
-  where
-    by : (other : Spot) → (other ≡ spot) ⊎ (same_spot other spot ≡ false) → HalfTyped (info_at (declare facts spot one).infos other)
-    by other (inl same) = subst (λ s. HalfTyped (info_at (declare facts spot one).infos s)) (sym same) (subst HalfTyped (sym (entry-same facts.infos spot one)) typed)
-    by other (inr apart) = subst HalfTyped (sym (entry-other facts.infos spot one other apart)) (half.infos other)
 
 -- a type that is written: `end` is what is known where no rule is broken
 pub half_type : (tree : TypeTree) (facts end : Facts) (policy : BoundPolicy) → Half facts → Each (Agrees facts end) (type_uses tree) → Counts (type_entered tree facts) end → ErrorFree (type_kinding tree end policy).found
@@ -138,7 +129,7 @@ half_signature tree facts end half agree counts whole =
     let number = read.numbered kept in
     let is : signature_type after (signature_read tree after).signed ≡ ty.Op number.0 = ap (signature_type after) here.same ∙ signed_is after signed number.0 kept number.1 in (
       record { infos = keeps_signature half_infos (λ now signature h. h) tree facts half.infos; signatures = read.signatures whole half.signatures },
-      subst IsTyped (sym is) (op_typed number.0),
+      subst IsTyped (sym is) (op_passes typed_test number.0 refl),
     )
 
 -- the name of a type of operations
@@ -182,7 +173,7 @@ half_head component facts end half agree counts whole =
     let typed : SignedTyped signed = record { params = read.1; returned = tt } in
     let all = entered (whole_signature signed) after in
     let same : signed_entered signed after ≡ all = ap (λ (met : Bool). if met then after else all) (signed_kept signed typed) in
-    let made : Half all = record { infos = read.0.infos; signatures = entered_typed after (whole_signature signed) (whole_typed signed typed) read.0.signatures } in
+    let made : Half all = record { infos = read.0.infos; signatures = entered_typed after (whole_signature signed) (whole_passes typed_test signed typed) read.0.signatures } in
     let known : Half (signed_entered signed after) = subst Half (sym same) made in
     half_params params (component_typed (name_of component) signed (signed_entered signed after)) read.1 (half_put (signed_entered signed after) (spot_of (name_of component).span) (info.Component (signature_type (signed_entered signed after) signed)) tt known)
 
@@ -223,7 +214,7 @@ half_literals : (spot : Spot) (number index : ℕ) (names : List Name) (facts : 
 half_literals spot number index [] facts half = half
 half_literals spot number index (name ∷ names) facts half =
     half_literals spot number (index + 1) names (declare facts (spot_of name.span) (literal_info spot number index))
-    (half_put facts (spot_of name.span) (literal_info spot number index) (enum_typed (type_spot spot), λ place. absurd (false≢true place)) half)
+    (half_put facts (spot_of name.span) (literal_info spot number index) (enum_passes typed_test (type_spot spot), λ place. absurd (false≢true place)) half)
 
 -- an enumeration
 pub half_enumeration : (span : Span) (literals : List Name) (tally : Tally) → Half tally.facts → Half (enumeration_declared span literals tally).facts

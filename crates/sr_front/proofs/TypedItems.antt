@@ -12,7 +12,6 @@ use Rattle.sr_tree.specs.Parts.{body_of}
 use Rattle.sr_check_expr.specs.declared.facts.Facts.{Facts}
 use Rattle.sr_check_expr.specs.Typings.{broken_unless}
 use Rattle.sr_check_decl.specs.Declaring.{standing}
-use Rattle.sr_check_decl.specs.Entering.{signature_entered}
 use Rattle.sr_check_decl.specs.Parts.{component_decl}
 use Rattle.sr_check_decl.specs.TypeTrees.{signature_read}
 use Rattle.sr_check.specs.declared.operation.Operation.{Operation}
@@ -23,23 +22,12 @@ use Rattle.sr_check.specs.Procs.{Procs}
 use Rattle.sr_check.specs.Quantifying.{quantifiers_found, quantifiers_known}
 use Rattle.sr_check.specs.Services.{decl_named, head_rule, operation_named, service_bound, spot_or, type_of}
 use Rattle.sr_check.proofs.ErrorFree.{error_free_first, error_free_second}
-use Rattle.sr_front.proofs.KeptNames.{Anywhere, keeps_formal_quantifiers, keeps_signed}
-use Rattle.sr_front.proofs.TypedCode.{AllSigned, Good, Never, SignedBy, anywhere, operation_signed, quantifiers_good, service_good, signed_closed, statement_good}
+use Rattle.sr_front.proofs.FreeBlocks.{FreeBlock, FreeCode, FreeComponent, FreeItems}
+use Rattle.sr_front.proofs.KeptNames.{Anywhere, anywhere, keeps_formal_quantifiers, keeps_signed}
+use Rattle.sr_front.proofs.TypedCode.{AllSigned, Good, Never, SignedBy, operation_signed, quantifiers_good, service_good, signed_closed, statement_good}
 use Rattle.sr_front.proofs.TypedDecls.{declared_typed, formal_quantifiers_typed}
-use Rattle.sr_front.proofs.TypedProcs.{FreeBlock, block_good}
-use Rattle.sr_front.proofs.TypedTypes.{Later, SignedTyped, signature_typed, types_typed}
-
--- what the code of an item asks: no type is known where it declares operations, and its signature has its numbers
-abbrev pub FreeCode : Procs → Item → Facts → Type 0
-FreeCode procs (item.Spec declared) facts = Unit {0}
-FreeCode procs (item.Proc proc) facts =
-    FreeBlock proc.block (beginning procs (Serves (spot_or (spot_of proc.name.span) (operation_named facts proc.name))) (service_bound proc.formals proc.returned (type_of (operation_named facts proc.name)) facts))
-FreeCode procs (item.Procedure procedure) facts =
-    Later (signature_entered procedure.signature facts) facts × FreeBlock procedure.block (beginning procs (Serves (spot_of procedure.name.span)) (signed_declared (signature_read procedure.signature facts).signed facts))
-FreeCode procs (item.Process process) facts =
-    FreeBlock process.block (beginning procs (Serves (spot_of process.name.span)) (quantifiers_formal process.quantifiers (quantifiers_known facts process.quantifiers)))
-FreeCode procs (item.Final final) facts = FreeBlock final.block (beginning procs Ends facts)
-FreeCode procs (item.Statement statement) facts = Unit {0}
+use Rattle.sr_front.proofs.TypedProcs.{block_good}
+use Rattle.sr_front.proofs.TypedTypes.{SignedTyped, signature_typed, types_typed}
 
 serving_good : (procs : Procs) (proc : Proc) (served : Option Operation) (facts : Facts) → SignedBy facts served
     → FreeBlock proc.block (beginning procs (Serves (spot_or (spot_of proc.name.span) served)) (service_bound proc.formals proc.returned (type_of served) facts))
@@ -74,10 +62,6 @@ item_good procs (item.Process process) facts free good whole =
 item_good procs (item.Final final) facts free good whole = block_good final.block (beginning procs Ends facts) free good whole
 item_good procs (item.Statement statement) facts free good whole = statement_good statement (beginning procs SetsUp facts) good whole
 
-abbrev pub FreeItems : Procs → List Item → Facts → Type 0
-FreeItems procs [] facts = Unit {0}
-FreeItems procs (one ∷ items) facts = FreeCode procs one facts × FreeItems procs items (item_read procs one facts).facts
-
 pub items_good : (procs : Procs) (items : List Item) (facts : Facts) → FreeItems procs items facts → Good facts → ErrorFree (items_read procs items facts).found → Good (items_read procs items facts).facts
 items_good procs [] facts free good whole = good
 items_good procs (one ∷ items) facts free good whole =
@@ -89,15 +73,7 @@ items_good procs (one ∷ items) facts free good whole =
 pub standing_good : (facts : Facts) (component : Decl) → Good facts → Good (standing facts component)
 standing_good facts component good = record { typed = record { infos = good.typed.infos; signatures = good.typed.signatures }; signed = good.signed }
 
-abbrev pub FreeComponent : Component → Facts → Type 0
-FreeComponent component facts =
-    FreeItems (items_procs (standing facts (component_decl component)) (body_of component) []) (body_of component) (standing facts (component_decl component))
-
 pub component_good : (component : Component) (facts : Facts) → FreeComponent component facts → Good facts → ErrorFree (component_read component facts).found → Good (component_read component facts).facts
 component_good component facts free good whole =
     let here = standing facts (component_decl component) in
     items_good (items_procs here (body_of component) []) (body_of component) here free (standing_good facts (component_decl component) good) (error_free_second (head_found component here) _ whole)
-
-abbrev pub FreeComponents : List Component → Facts → Type 0
-FreeComponents [] facts = Unit {0}
-FreeComponents (component ∷ more) facts = FreeComponent component facts × FreeComponents more (component_read component facts).facts

@@ -1,6 +1,7 @@
 -- Operations that a block declares have types with signatures, where no rule is broken.
-use Rattle.std.proofs.Common.{◌≡◌, ◌⊎◌, inl, inr, ℕ, Bool, true, false, ◌&&◌, List, [], ◌∷◌, Option, Some, None, is_some, IsTrue, refl, sym, ap, subst, ◌∙◌}
-use Rattle.std.proofs.lemmas.Bool.{false≢true}
+use Rattle.std.proofs.Common.{◌≡◌, ◌⊎◌, inl, inr, ℕ, Bool, true, false, List, [], ◌∷◌, Some, is_some, IsTrue, refl, sym, ap, subst, ◌∙◌}
+use Rattle.std.proofs.lemmas.Bool.{and_parts}
+use Rattle.std.proofs.lemmas.Option.{none-some}
 use Rattle.sr_names.specs.declared.finding.Rule.TheVariants.{BadType}
 use Rattle.sr_names.specs.declared.spot.Spot.{Spot}
 use Rattle.sr_names.specs.Spots.{same_spot, spot_of}
@@ -9,7 +10,7 @@ use Rattle.sr_tree.specs.declared.declaration.OpItem.{OpItem}
 use Rattle.sr_tree.specs.declared.declaration.Semaphore.{Semaphore}
 use Rattle.sr_tree.specs.declared.name.Name.{Name}
 use Rattle.sr_types.specs.declared.signature.Signature.{Signature}
-use Rattle.sr_types.specs.declared.ty.Ty.{Ty, out-Ty, out-roll-Ty}
+use Rattle.sr_types.specs.declared.ty.Ty.{Ty, out-Ty}
 use Rattle.sr_types.specs.declared.ty.Ty.TheOpen.{Ty-F}
 use Rattle.sr_types.specs.declared.ty.Ty.TheVariants as ty
 use Rattle.sr_types.specs.Decided.{type_decides}
@@ -21,12 +22,14 @@ use Rattle.sr_check_expr.specs.declared.info.Info.TheVariants as info
 use Rattle.sr_check_expr.specs.Infos.{info_at}
 use Rattle.sr_check_decl.specs.Declaring.{op_item_name, op_type, operation, ops_declared, semaphore_declared, semaphore_signature, sems_declared}
 use Rattle.sr_check_decl.specs.Entering.{entered}
-use Rattle.sr_check_decl.specs.Heads.{declared_type, is_known_as, is_of, local_op_found, local_ops_found}
+use Rattle.sr_front.proofs.Heads.{declared_type, head_found, is_known_as, is_of, ops_headed}
 use Rattle.sr_check_decl.specs.TypeTrees.{numbered_type, operation_type}
 use Rattle.sr_check_decl.specs.Variables.{declare}
 use Rattle.sr_check.specs.ErrorFree.{ErrorFree}
 use Rattle.sr_check.proofs.ErrorFree.{error_free_first, error_free_second, rule_met}
-use Rattle.sr_front.proofs.Holding.{op_headed}
+use Rattle.sr_front.proofs.FreeBlocks.{OpAt}
+use Rattle.sr_front.proofs.HeadCounts.{out-op}
+use Rattle.sr_front.proofs.Options.{some_of}
 use Rattle.sr_front.proofs.Typed.{AllTyped, FoundSigned, FoundTyped, IsTyped, layer_typed}
 use Rattle.sr_front.proofs.TypedCode.{Good, HasSignature, signed_entered, signed_put}
 use Rattle.sr_front.proofs.TypedDecls.{typed_put}
@@ -34,43 +37,23 @@ use Rattle.sr_front.proofs.TypedTypes.{entered_number, entered_typed}
 
 -- ---- types with signatures
 
-none_some : {A : Type 0} (one : A) → None ≡ Some one → ⊥
-none_some one e = cc
-
 signed_layer : (signatures : List Signature) (signature : Signature) (layer : Ty-F Ty) → layer_signature signatures layer ≡ Some signature → IsTrue (layer_typed layer)
 signed_layer signatures signature (Ty-F.Op number) at = refl
-signed_layer signatures signature _ at = absurd (none_some signature at)
+signed_layer signatures signature _ at = absurd (none-some signature at)
 
 -- a type with a signature is a type
 pub signed_is_typed : (facts : Facts) (type : Ty) → HasSignature facts type → IsTyped type
 signed_is_typed facts type h = signed_layer facts.signatures h.0 (out-Ty type) h.1
 
-pub some_is : {A : Type 0} (found : Option A) → is_some found ≡ true → (one : A) × (found ≡ Some one)
-some_is None is = absurd (false≢true is)
-some_is (Some one) is = (one, refl)
-
-and_first : (a b : Bool) → IsTrue (a && b) → IsTrue a
-and_first true b h = refl
-and_first false b h = absurd (false≢true h)
-
-and_second : (a b : Bool) → IsTrue (a && b) → IsTrue b
-and_second true b h = h
-and_second false b h = absurd (false≢true h)
-
 -- an operation that is known by the type that its head makes has a signature
 known_signed : (now : Facts) (name : Name) (type made : Ty) (component : Spot) (is_local : Bool) → IsTrue (is_known_as now name made) → info_at now.infos (spot_of name.span) ≡ Some (info.Operation type component is_local) → HasSignature now type
 known_signed now name type made component is_local known is =
     let has = is_some (signature_of now.signatures made) in
-    let same : IsTrue (same_type made type) = subst (λ found. IsTrue (is_of made (declared_type found))) is (and_second has _ known) in
+    let same : IsTrue (same_type made type) = subst (λ found. IsTrue (is_of made (declared_type found))) is (and_parts has _ known).1 in
     let equal : made ≡ type = (type_decides made type).0 same in
-    subst (HasSignature now) equal (some_is (signature_of now.signatures made) (and_first has _ known))
+    subst (HasSignature now) equal (some_of (signature_of now.signatures made) (and_parts has _ known).0)
 
 -- ---- operations of a block
-
--- one of these stands at the spot
-abbrev pub OpAt : List OpItem → Spot → Type 0
-OpAt [] spot = ⊥
-OpAt (op ∷ ops) spot = (spot ≡ spot_of (op_item_name op).span) ⊎ OpAt ops spot
 
 pub record IsOp (now : Facts) (spot : Spot) : Type 0 where
   pub type : Ty
@@ -106,18 +89,18 @@ ops_signatures [] facts = refl
 ops_signatures (op ∷ ops) facts = ops_signatures ops (declare facts (spot_of (op_item_name op).span) (operation facts true (op_type facts op)))
 
 -- each has a signature
-heads_signed : (ops : List OpItem) (now : Facts) (spot : Spot) (type : Ty) (component : Spot) (is_local : Bool) → ErrorFree (local_ops_found now ops) → OpAt ops spot → info_at now.infos spot ≡ Some (info.Operation type component is_local) → HasSignature now type
+heads_signed : (ops : List OpItem) (now : Facts) (spot : Spot) (type : Ty) (component : Spot) (is_local : Bool) → ErrorFree (ops_headed now ops) → OpAt ops spot → info_at now.infos spot ≡ Some (info.Operation type component is_local) → HasSignature now type
 heads_signed [] now spot type component is_local whole there is = absurd there
 heads_signed (op ∷ ops) now spot type component is_local whole (inl e) is =
     let made = op_type now op in
     let name = op_item_name op in
-    known_signed now name type made component is_local (rule_met (is_known_as now name made) BadType name.span (op_headed now op (error_free_first (local_op_found now op) _ whole)))
+    known_signed now name type made component is_local (rule_met (is_known_as now name made) BadType name.span (error_free_first (head_found now name made) _ whole))
     (ap (λ s. info_at now.infos s) (sym e) ∙ is)
 heads_signed (op ∷ ops) now spot type component is_local whole (inr there) is =
-    heads_signed ops now spot type component is_local (error_free_second (local_op_found now op) _ whole) there is
+    heads_signed ops now spot type component is_local (error_free_second (head_found now (op_item_name op) (op_type now op)) _ whole) there is
 
 -- where all that is known with the signatures of the heads is good, it is so with the operations
-pub ops_good : (ops : List OpItem) (facts : Facts) → Good facts → ErrorFree (local_ops_found (ops_declared true ops facts) ops) → Good (ops_declared true ops facts)
+pub ops_good : (ops : List OpItem) (facts : Facts) → Good facts → ErrorFree (ops_headed (ops_declared true ops facts) ops) → Good (ops_declared true ops facts)
 ops_good ops facts good whole = record {
   typed = record {
     infos = λ spot. typed spot (ops_cases ops facts spot);
@@ -139,9 +122,6 @@ ops_good ops facts good whole = record {
         subst (λ signatures. (signature : Signature) × (signature_of signatures type ≡ Some signature)) (sym (ops_signatures ops facts)) (good.signed spot type component is_local (sym same ∙ is))
 
 -- ---- semaphores
-
-out-op : (number : ℕ) → out-Ty (ty.Op number) ≡ Ty-F.Op number
-out-op number = ap out-Ty (sym (ty.rolls-Op number)) ∙ out-roll-Ty (Ty-F.Op number)
 
 same_op : (type : Ty) (component : Spot) (is_local : Bool) (other : Ty) (of : Spot) (other_local : Bool) → Some (info.Operation type component is_local) ≡ Some (info.Operation other of other_local) → type ≡ other
 same_op type component is_local other of other_local e = cc

@@ -1,9 +1,6 @@
 -- Where blocks of procs are read without a broken rule, all that is known has a type if it had before.
-use Rattle.std.proofs.Common.{◌≡◌, ◌⊎◌, inl, inr, true, List, [], ◌∷◌, Option, Some, None, refl, sym, ap, ◌∙◌}
-use Rattle.sr_names.specs.declared.finding.Diagnostic.{Diagnostic}
-use Rattle.sr_names.specs.declared.finding.Finding.{Finding}
+use Rattle.std.proofs.Common.{◌≡◌, ◌⊎◌, inl, inr, true, List, [], ◌∷◌, refl, sym, ap, ◌∙◌}
 use Rattle.sr_names.specs.declared.spot.Spot.{Spot}
-use Rattle.sr_names.specs.Diagnostics.{all_noted, nothing}
 use Rattle.sr_names.specs.Spots.{spot_of}
 use Rattle.sr_tree.specs.declared.component.ProcItem.{ProcItem}
 use Rattle.sr_tree.specs.declared.component.ProcItem.TheVariants as inner
@@ -12,10 +9,9 @@ use Rattle.sr_tree.specs.declared.declaration.OpItem.TheVariants.{Signed as OfSi
 use Rattle.sr_types.specs.Signatures.{number_of}
 use Rattle.sr_check_expr.specs.declared.facts.Facts.{Facts}
 use Rattle.sr_check_expr.specs.Infos.{info_at}
-use Rattle.sr_check_decl.specs.Declarations.{op_found}
+use Rattle.sr_check_decl.specs.Declarations.{op_found, ops_found}
 use Rattle.sr_check_decl.specs.Declaring.{op_item_name, op_type, operation, ops_declared}
 use Rattle.sr_check_decl.specs.Entering.{op_entered, ops_entered}
-use Rattle.sr_check_decl.specs.Heads.{head_found, local_op_found, local_ops_found, unless_broken}
 use Rattle.sr_check_decl.specs.Variables.{declare}
 use Rattle.sr_check.specs.Components.{block_read, proc_item_read}
 use Rattle.sr_check.specs.Contexts.{Context, with_facts}
@@ -23,22 +19,15 @@ use Rattle.sr_check.specs.ErrorFree.{ErrorFree}
 use Rattle.sr_check.proofs.Entered.{keeps_ops, keeps_signature}
 use Rattle.sr_check.proofs.ErrorFree.{error_free_first, error_free_second}
 use Rattle.sr_order.specs.Names.{const_names, var_names}
-use Rattle.sr_front.proofs.KeptNames.{Anywhere, keeps_const, keeps_var}
+use Rattle.sr_front.proofs.FreeBlocks.{FreeBlock, FreeItem, FreeOps, OpAt, OpsGood}
+use Rattle.sr_front.proofs.KeptNames.{Anywhere, anywhere, keeps_const, keeps_var}
 use Rattle.sr_front.proofs.Typed.{AllTyped, FoundTyped}
-use Rattle.sr_front.proofs.TypedCode.{AllSigned, Good, Never, anywhere, signed_closed, signed_entered, statement_good}
+use Rattle.sr_front.proofs.TypedCode.{AllSigned, Good, Never, signed_closed, signed_entered, statement_good}
 use Rattle.sr_front.proofs.TypedDecls.{const_typed, var_typed}
-use Rattle.sr_front.proofs.TypedOps.{IsOp, OpAt, ops_cases, ops_good, ops_signatures, sems_good}
+use Rattle.sr_front.proofs.TypedOps.{IsOp, ops_cases, ops_good, ops_signatures, sems_good}
 use Rattle.sr_front.proofs.TypedTypes.{Later, entered_later, later_itself, later_through, signature_typed, type_part, types_typed}
 
 -- ---- the signatures of the operations of a block
-
-first_unbroken : (first : Option Diagnostic) (found more : List Finding) → ErrorFree (unless_broken first found more) → ErrorFree found
-first_unbroken None found more whole = error_free_first found more whole
-first_unbroken (Some diagnostic) found more whole = whole
-
--- what is found in an operation is found in its signature
-op_unbroken : (now : Facts) (op : OpItem) → ErrorFree (local_op_found now op) → ErrorFree (op_found now op)
-op_unbroken now op whole = first_unbroken (all_noted nothing (op_found now op)).first (op_found now op) (head_found now (op_item_name op) (op_type now op)) whole
 
 one_entering : (op : OpItem) (facts now : Facts) → AllTyped facts → Later (op_entered op facts) now → ErrorFree (op_found now op) → AllTyped (op_entered op facts)
 one_entering (OfSignature span name signature) facts now all more whole = record {
@@ -47,23 +36,19 @@ one_entering (OfSignature span name signature) facts now all more whole = record
 }
 one_entering (OfType span name optype) facts now all more whole = all
 
-ops_entering : (ops : List OpItem) (facts now : Facts) → AllTyped facts → Later (ops_entered ops facts) now → ErrorFree (local_ops_found now ops) → AllTyped (ops_entered ops facts)
+ops_entering : (ops : List OpItem) (facts now : Facts) → AllTyped facts → Later (ops_entered ops facts) now → ErrorFree (ops_found now ops) → AllTyped (ops_entered ops facts)
 ops_entering [] facts now all more whole = all
 ops_entering (op ∷ ops) facts now all more whole =
     let after = op_entered op facts in
     let rest : Later after (ops_entered ops after) = keeps_ops (Later after) (entered_later after) ops after (later_itself after) in
-    ops_entering ops after now (one_entering op facts now all (later_through after (ops_entered ops after) now rest more) (op_unbroken now op (error_free_first (local_op_found now op) _ whole))) more
-    (error_free_second (local_op_found now op) _ whole)
-
--- no type is known where one of these stands
-abbrev pub FreeOps : List OpItem → Facts → Type 0
-FreeOps ops facts = (spot : Spot) → OpAt ops spot → type_part (info_at facts.infos spot) ≡ None
+    ops_entering ops after now (one_entering op facts now all (later_through after (ops_entered ops after) now rest more) (error_free_first (op_found now op) _ whole)) more
+    (error_free_second (op_found now op) _ whole)
 
 ops_uses : (ops : List OpItem) (facts : Facts) → (ops_declared true ops facts).uses ≡ facts.uses
 ops_uses [] facts = refl
 ops_uses (op ∷ ops) facts = ops_uses ops (declare facts (spot_of (op_item_name op).span) (operation facts true (op_type facts op)))
 
-ops_later : (ops : List OpItem) (facts : Facts) → FreeOps ops facts → Later facts (ops_declared true ops facts)
+pub ops_later : (ops : List OpItem) (facts : Facts) → FreeOps ops facts → Later facts (ops_declared true ops facts)
 ops_later ops facts free = record {
   uses = ops_uses ops facts;
   types = λ spot. by spot (ops_cases ops facts spot);
@@ -76,22 +61,15 @@ ops_later ops facts free = record {
     by spot (inr same) = ap type_part same
 
 -- the operations of a block, where no type is known at their names
-pub block_ops_good : (ops : List OpItem) (facts : Facts) → FreeOps ops (ops_entered ops facts) → Good facts → ErrorFree (local_ops_found (ops_declared true ops (ops_entered ops facts)) ops) → Good (ops_declared true ops (ops_entered ops facts))
+pub block_ops_good : (ops : List OpItem) (facts : Facts) → OpsGood ops facts → Good facts → ErrorFree (ops_found (ops_declared true ops (ops_entered ops facts)) ops) → Good (ops_declared true ops (ops_entered ops facts))
 block_ops_good ops facts free good whole =
     let after = ops_entered ops facts in
     ops_good ops after (record {
-      typed = ops_entering ops facts (ops_declared true ops after) good.typed (ops_later ops after free) whole;
+      typed = ops_entering ops facts (ops_declared true ops after) good.typed (ops_later ops after free.free) whole;
       signed = keeps_ops AllSigned signed_entered ops facts good.signed;
-    }) whole
+    }) (free.headed whole)
 
 -- ---- blocks of procs
-
-abbrev pub FreeItem : ProcItem → Facts → Type 0
-FreeItem (inner.Op operations) facts = FreeOps operations.items (ops_entered operations.items facts)
-FreeItem (inner.Const constant) facts = Unit {0}
-FreeItem (inner.Var variables) facts = Unit {0}
-FreeItem (inner.Sem semaphores) facts = Unit {0}
-FreeItem (inner.Statement statement) facts = Unit {0}
 
 pub inner_good : (one : ProcItem) (context : Context) → FreeItem one context.facts → Good context.facts → ErrorFree (proc_item_read one context).found → Good (proc_item_read one context).facts
 inner_good (inner.Const constant) context free good whole = record {
@@ -105,10 +83,6 @@ inner_good (inner.Var variables) context free good whole = record {
 inner_good (inner.Op operations) context free good whole = block_ops_good operations.items context.facts free good whole
 inner_good (inner.Sem semaphores) context free good whole = sems_good semaphores.semaphores context.facts good
 inner_good (inner.Statement statement) context free good whole = statement_good statement context good whole
-
-abbrev pub FreeBlock : List ProcItem → Context → Type 0
-FreeBlock [] context = Unit {0}
-FreeBlock (one ∷ items) context = FreeItem one context.facts × FreeBlock items (with_facts context (proc_item_read one context).facts)
 
 pub block_good : (items : List ProcItem) (context : Context) → FreeBlock items context → Good context.facts → ErrorFree (block_read items context).found → Good (block_read items context).facts
 block_good [] context free good whole = good

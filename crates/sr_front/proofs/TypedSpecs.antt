@@ -16,9 +16,9 @@ use Rattle.sr_check.specs.Components.{component_read, head_found}
 use Rattle.sr_check.specs.ErrorFree.{ErrorFree}
 use Rattle.sr_check.proofs.Each.{Each}
 use Rattle.sr_check.proofs.ErrorFree.{error_free_first, error_free_second}
-use Rattle.sr_front.proofs.Typed.{AllTyped, not_untyped}
+use Rattle.sr_front.proofs.Typed.{AllTyped, not_untyped, typed_test}
 use Rattle.sr_front.proofs.TypedCode.{Good}
-use Rattle.sr_front.proofs.TypedExprs.{value_typed}
+use Rattle.sr_front.proofs.PassingExprs.{value_passes}
 use Rattle.sr_front.proofs.TypedItems.{standing_good}
 
 -- the value of a constant has a type
@@ -29,7 +29,7 @@ ConstTyped here _ = Unit {0}
 item_typed : (here : Facts) → AllTyped here → (one : SpecItem) → ErrorFree (spec_item_found true here one) → ConstTyped here one
 item_typed here all (spec.Const constant) whole =
     let value = infer_expr constant.value here in
-    not_untyped value.typed_expr.typed.ty (value_typed here all constant.value (error_free_first (valued value) _ (error_free_second (written_found here constant.ty) _ whole)))
+    not_untyped value.typed_expr.typed.ty (value_passes typed_test here all constant.value (error_free_first (valued value) _ (error_free_second (written_found here constant.ty) _ whole)))
 item_typed here all _ whole = tt
 
 spec_typed : (here : Facts) → AllTyped here → (items : List SpecItem) → ErrorFree (spec_items_found here items) → Each (ConstTyped here) items

@@ -6,7 +6,6 @@ use Rattle.sr_tree.specs.declared.component.Process.{Process}
 use Rattle.sr_tree.specs.declared.declaration.ConstDecl.{ConstDecl}
 use Rattle.sr_tree.specs.declared.declaration.VarDecl.{VarDecl}
 use Rattle.sr_tree.specs.declared.statement.Arm.{Arm}
-use Rattle.sr_tree.specs.declared.statement.BlockItem.TheFolds.{ind-Arm, ind-Branch, ind-CoArm}
 use Rattle.sr_tree.specs.declared.statement.Branch.{Branch}
 use Rattle.sr_tree.specs.declared.statement.CoArm.{CoArm}
 use Rattle.sr_tree.specs.declared.types.TypeTree.{TypeTree}
@@ -17,12 +16,12 @@ use Rattle.sr_check_decl.specs.Entering.{type_entered, written_entered, signatur
 use Rattle.sr_check_decl.specs.TypeTrees.{fixed_bounds, free_bounds, type_kinding, signature_read}
 use Rattle.sr_check_decl.specs.Variables.{typings_of}
 use Rattle.sr_check.specs.ErrorFree.{ErrorFree}
-use Rattle.sr_check.specs.Statements.{arm_read, block_item_read, branch_read, co_arm_read, const_read, guarding, statement_read, var_read}
+use Rattle.sr_check.specs.Statements.{arm_read, branch_read, co_arm_read, const_read, guarding, var_read}
 use Rattle.sr_check.proofs.Entered.{keeps_written}
 use Rattle.sr_check.proofs.ErrorFree.{error_free_first, error_free_second}
 use Rattle.sr_lower_expr.specs.declared.scene.Scene.{Scene}
 use Rattle.sr_front.proofs.Typed.{AllTyped}
-use Rattle.sr_front.proofs.TypedCode.{AllSigned, Good, Keeps, signed_entered, step_arm, step_branch, step_co_arm, step_item, step_statement, Never, SignedBy, anywhere, quantifiers_good, service_good, signed_closed}
+use Rattle.sr_front.proofs.TypedCode.{AllSigned, Good, Keeps, by_parts, kept, signed_entered, Never, SignedBy, quantifiers_good, service_good, signed_closed}
 use Rattle.sr_front.proofs.TypedDecls.{entering_typed, declared_typed, formal_quantifiers_typed}
 use Rattle.sr_front.proofs.TypedPlaces.{AtPlace}
 use Rattle.sr_names.specs.declared.finding.Rule.TheVariants.{BadType}
@@ -32,22 +31,20 @@ use Rattle.sr_check.specs.declared.operation.Operation.{Operation}
 use Rattle.sr_check.specs.Components.{proc_rules, quantifiers_formal, signed_declared}
 use Rattle.sr_check.specs.Quantifying.{quantifiers_known}
 use Rattle.sr_check.specs.Services.{head_rule, service_bound, type_of}
-use Rattle.sr_front.proofs.KeptNames.{Anywhere, keeps_formal_quantifiers, keeps_signed}
+use Rattle.sr_front.proofs.KeptNames.{Anywhere, anywhere, keeps_formal_quantifiers, keeps_signed}
 use Rattle.sr_front.proofs.TypedTypes.{Later, SignedTyped, signature_typed, types_typed}
+use Rattle.sr_tree.proofs.StatementFolds.{each_arm, each_branch, each_co_arm}
 
 -- ---- parts of statements
 
 pub arm_good : (tree : Arm) → (span : Span) → Keeps ((arm_read tree).steps span)
-arm_good = ind-Arm (λ tree. Keeps (block_item_read tree)) (λ tree. Keeps (statement_read tree)) (λ tree. (span : Span) → Keeps ((arm_read tree).steps span)) (λ tree. Keeps (branch_read tree))
-    (λ tree. (span : Span) → Keeps (co_arm_read tree span)) step_item step_statement step_arm step_branch step_co_arm
+arm_good = each_arm kept by_parts
 
 pub branch_good : (tree : Branch) → Keeps (branch_read tree)
-branch_good = ind-Branch (λ tree. Keeps (block_item_read tree)) (λ tree. Keeps (statement_read tree)) (λ tree. (span : Span) → Keeps ((arm_read tree).steps span)) (λ tree. Keeps (branch_read tree))
-    (λ tree. (span : Span) → Keeps (co_arm_read tree span)) step_item step_statement step_arm step_branch step_co_arm
+branch_good = each_branch kept by_parts
 
 pub co_arm_good : (tree : CoArm) → (span : Span) → Keeps (co_arm_read tree span)
-co_arm_good = ind-CoArm (λ tree. Keeps (block_item_read tree)) (λ tree. Keeps (statement_read tree)) (λ tree. (span : Span) → Keeps ((arm_read tree).steps span)) (λ tree. Keeps (branch_read tree))
-    (λ tree. (span : Span) → Keeps (co_arm_read tree span)) step_item step_statement step_arm step_branch step_co_arm
+co_arm_good = each_co_arm kept by_parts
 
 -- ---- declarations, where their types are entered
 

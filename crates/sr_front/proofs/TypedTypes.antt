@@ -1,8 +1,7 @@
 -- A type that is written, and in which no rule is broken, is a type where all that is known has one, once its signatures
 -- have numbers.
-use Rattle.std.proofs.Common.{◌≡◌, ℕ, zero, suc, ◌+◌, Bool, true, false, not, ◌||◌, List, [], ◌∷◌, ◌++◌, map, Option, Some, None, is_some, IsTrue, refl, sym, ap, subst, ◌∙◌, if◌then◌else◌, slice_get}
+use Rattle.std.proofs.Common.{◌≡◌, ℕ, zero, suc, ◌+◌, Bool, true, false, ◌||◌, List, [], ◌∷◌, ◌++◌, map, Option, Some, None, is_some, refl, sym, ap, subst, ◌∙◌, if◌then◌else◌, slice_get}
 use Rattle.std.specs.List.{list_any, position_from}
-use Rattle.std.specs.Option.{option_map}
 use Rattle.std.proofs.lemmas.Bool.{false≢true}
 use Rattle.std.proofs.lemmas.Iterator.Adapters.{position_from-zero}
 use Rattle.sr_value.specs.declared.place.Span.{Span}
@@ -15,44 +14,42 @@ use Rattle.sr_names.specs.Uses.{meaning_at}
 use Rattle.sr_tree.specs.declared.name.QualifiedName.{QualifiedName}
 use Rattle.sr_tree.specs.declared.types.Decl.{Decl as DeclTree}
 use Rattle.sr_tree.specs.declared.types.DimsTree.{DimsTree}
-use Rattle.sr_tree.specs.declared.types.Formal.{Formal, roll-Formal}
-use Rattle.sr_tree.specs.declared.types.RangeTree.{RangeTree}
-use Rattle.sr_tree.specs.declared.types.Returned.{Returned, roll-Returned}
-use Rattle.sr_tree.specs.declared.types.Signature.{Signature as SignatureTree, roll-Signature}
-use Rattle.sr_tree.specs.declared.types.TypeTree.{TypeTree, roll-TypeTree}
-use Rattle.sr_tree.specs.declared.types.TypeTree.TheFolds.{fold-TypeTree, fold-Formal, fold-Returned, fold-Signature, map-TypeTree, map-Formal, map-Returned, map-Signature, fold-roll-TypeTree, fold-roll-Formal, fold-roll-Returned, fold-roll-Signature, ind-TypeTree, ind-Signature, ind-Formal}
+use Rattle.sr_tree.specs.declared.types.Formal.{Formal}
+use Rattle.sr_tree.specs.declared.types.Returned.{Returned}
+use Rattle.sr_tree.specs.declared.types.Signature.{Signature as SignatureTree}
+use Rattle.sr_tree.specs.declared.types.TypeTree.{TypeTree}
+use Rattle.sr_tree.specs.declared.types.TypeTree.TheFolds.{fold-TypeTree, fold-Formal, fold-Returned, fold-Signature, map-TypeTree, map-Formal, map-Returned, map-Signature}
 use Rattle.sr_tree.specs.declared.types.TypeTree.TheOpen.{TypeTree-F, Formal-F, Returned-F, Signature-F}
 use Rattle.sr_types.specs.declared.signature.Forms.{Forms}
 use Rattle.sr_types.specs.declared.signature.Mode.{Mode}
 use Rattle.sr_types.specs.declared.signature.Mode.TheVariants.{Res}
-use Rattle.sr_types.specs.declared.signature.Param.{Param}
 use Rattle.sr_types.specs.declared.signature.Signature.{Signature}
-use Rattle.sr_types.specs.declared.spot.Spot as types
-use Rattle.sr_types.specs.declared.ty.Ty.{Ty, out-Ty}
-use Rattle.sr_types.specs.declared.ty.Ty.TheOpen.{Ty-F}
+use Rattle.sr_types.specs.declared.ty.Ty.{Ty}
 use Rattle.sr_types.specs.declared.ty.Ty.TheVariants as ty
 use Rattle.sr_types.specs.Equality.{equal_signatures}
 use Rattle.sr_types.specs.Signatures.{number_of, signature_at, with_signature}
-use Rattle.sr_types.specs.Types.{is_no_type}
 use Rattle.sr_types.specs.Decided.{signature_itself}
 use Rattle.sr_check_expr.specs.declared.facts.Facts.{Facts}
 use Rattle.sr_check_expr.specs.declared.info.Info.{Info}
 use Rattle.sr_check_expr.specs.declared.info.Info.TheVariants as info
-use Rattle.sr_check_expr.specs.Infos.{info_at, type_spot}
+use Rattle.sr_check_expr.specs.Infos.{info_at}
 use Rattle.sr_check_expr.specs.Naming.{decl_info, decl_of, deciding}
-use Rattle.sr_check_expr.specs.PredefinedCalls.{is_resource}
 use Rattle.sr_check_decl.specs.declared.kind.BoundPolicy.{BoundPolicy}
 use Rattle.sr_check_decl.specs.declared.kind.Kind.{Kind}
 use Rattle.sr_check_decl.specs.declared.kind.NamedParam.{NamedParam}
 use Rattle.sr_check_decl.specs.declared.kind.Signed.{Signed}
-use Rattle.sr_check_decl.specs.Bounds.{item_type_rule, layer_item_type}
-use Rattle.sr_check_decl.specs.Entering.{Entered, EntersFormals, EntersReturned, EntersSignature, EntersType, entered, formal_read_in, formals_entered, in_turn, after_returned, read_in, returned_read_in, signature_entered, signature_read_in, signed_entered, type_entered, type_read_in, type_step as enter_type, formal_step as enter_formal, returned_step as enter_returned, signature_step as enter_signature}
-use Rattle.sr_check_decl.specs.TypeTrees.{Kinds, ReadsFormals, ReadsReturned, ReadsSignature, all_params, are_refused, array_by, array_found, array_type, capability_by, capability_kinding, capability_of, decl_found, decl_type, declared_type, decls_found, dims_found, fixed_bounds, formal_bounds, formal_read, formal_step, formals_at, formals_found, formals_of, forms_of, is_refused, is_refused_return, kinding, mode_of, named_decl, named_kinding, numbered_type, operation_type, param_of, params_of, returned_read, returned_step, signature_read, signature_step, signature_type, type_by, type_kinding, type_step, whole_signature}
+use Rattle.sr_check_decl.specs.Bounds.{item_type_rule}
+use Rattle.sr_check_decl.specs.Entering.{Entered, EntersFormals, EntersReturned, EntersSignature, EntersType, entered, formal_read_in, formals_entered, in_turn, after_returned, read_in, returned_read_in, signature_entered, signature_read_in, signed_entered, type_entered, type_read_in}
+use Rattle.sr_check_decl.specs.TypeTrees.{Kinds, ReadsFormals, ReadsReturned, ReadsSignature, all_params, are_refused, array_found, array_type, capability_by, capability_kinding, decl_found, decl_type, decls_found, dims_found, fixed_bounds, formal_bounds, formal_read, formal_step, formals_at, formals_found, formals_of, forms_of, is_refused, is_refused_return, kinding, mode_of, named_decl, named_kinding, numbered_type, operation_type, param_of, returned_read, returned_step, signature_read, signature_step, signature_type, type_by, type_kinding, type_step, whole_signature}
 use Rattle.sr_check.specs.ErrorFree.{ErrorFree}
 use Rattle.sr_check.proofs.Each.{Each, each-append, each-left, each-right}
-use Rattle.sr_check.proofs.Entered.{keeps_formals, keeps_signature, keeps_signed, keeps_type}
+use Rattle.sr_check.proofs.Entered.{entering, keeps_formals, keeps_signature, keeps_signed, keeps_type}
 use Rattle.sr_check.proofs.ErrorFree.{error_free_first, error_free_second, rule_met}
-use Rattle.sr_front.proofs.Typed.{FoundSigned, FoundTyped, InfoTyped, IsTyped, MaybeTyped, SignatureTyped, bool_typed, char_typed, enum_typed, int_typed, is_item_like, layer_item_like, layer_typed, matrix_typed, not_untyped, op_typed, record_typed, resource_typed, str_typed, vector_typed, vm_typed}
+use Rattle.sr_front.proofs.Options.{some_of}
+use Rattle.sr_front.proofs.Typed.{FoundSigned, FoundTyped, IsTyped, MaybeTyped, SignatureTyped, not_untyped, typed_test}
+use Rattle.sr_front.proofs.PassingParts.{AllParamsPass, ParamsPass, ReturnedPasses, array_passes, capable_passes, named_passes, whole_passes}
+use Rattle.sr_front.proofs.PassingTypes.{bool_passes, char_passes, enum_passes, int_passes, op_passes, record_passes, str_passes, vm_passes}
+use Rattle.sr_tree.proofs.TypeFolds.{FormalFits, FormalNode, KnownFormal, KnownReturned, Layers, Related, ReturnedFits, ReturnedNode, SignatureFits, SignatureNode, TypeFits, TypeFold, TypeNode, formal_related, signature_related, type_related}
 
 -- ---- numbers of signatures
 
@@ -91,13 +88,9 @@ number_longer signatures one other n at = by (list_any (equal_signatures one) si
         position_from-zero (equal_signatures other) (signatures ++ one ∷ [])
         ∙ from_longer (equal_signatures other) signatures (one ∷ []) 0 n (sym (position_from-zero (equal_signatures other) signatures) ∙ at)
 
-some_number : (found : Option ℕ) → is_some found ≡ true → (n : ℕ) × (found ≡ Some n)
-some_number None is = absurd (false≢true is)
-some_number (Some n) is = (n, refl)
-
 -- what is entered has a number
 pub entered_number : (signatures : List Signature) (one : Signature) → (n : ℕ) × (number_of (with_signature signatures one) one ≡ Some n)
-entered_number signatures one = some_number (number_of (with_signature signatures one) one) (by (list_any (equal_signatures one) signatures) refl)
+entered_number signatures one = some_of (number_of (with_signature signatures one) one) (by (list_any (equal_signatures one) signatures) refl)
   where
     by : (there : Bool) → list_any (equal_signatures one) signatures ≡ there → is_some (number_of (if there then signatures else signatures ++ one ∷ []) one) ≡ true
     by true is = ap is_some (position_from-zero (equal_signatures one) signatures) ∙ from_any (equal_signatures one) signatures 0 is
@@ -236,24 +229,9 @@ entered_typed facts one typed h number = by (list_any (equal_signatures one) fac
 
 -- ---- arrays
 
-like_layer : (layer : Ty-F Ty) → IsTrue (layer_typed layer) → IsTrue (layer_item_type layer) → IsTrue (layer_item_like layer)
-like_layer (Ty-F.Vector item) typed is = absurd (false≢true is)
-like_layer (Ty-F.Matrix item) typed is = absurd (false≢true is)
-like_layer Ty-F.Untyped typed is = absurd (false≢true typed)
-like_layer _ typed is = refl
-
-ranged_typed : (second : Option RangeTree) (item : Ty) → IsTrue (is_item_like item) → IsTyped (array_by second item)
-ranged_typed None item like = vector_typed item like
-ranged_typed (Some range) item like = matrix_typed item like
-
-pub array_typed : (dims : DimsTree) (item : Ty) → IsTyped item → IsTrue (item_type_rule item) → IsTyped (array_type dims item)
-array_typed dims item typed is =
-    let refused : (is_no_type item || not (item_type_rule item)) ≡ false = λ i. not_untyped item typed i || not (is i) in
-    subst (λ (met : Bool). IsTyped (if met then ty.Untyped else array_by dims.second item)) (sym refused) (ranged_typed dims.second item (like_layer (out-Ty item) typed is))
-
 arrays_typed : (policy : BoundPolicy) (facts : Facts) (dims : DimsTree) (item : Kind) → IsTyped item.ty → ErrorFree (array_found policy facts dims item) → IsTyped (array_type dims item.ty)
 arrays_typed policy facts dims item typed whole =
-    array_typed dims item.ty typed (rule_met (item_type_rule item.ty) BadType item.span (error_free_second (dims_found policy facts dims) _ whole))
+    array_passes typed_test dims item.ty typed (λ broken. sym broken ∙ rule_met (item_type_rule item.ty) BadType item.span (error_free_second (dims_found policy facts dims) _ whole))
 
 -- a name that is declared with a type has a type
 pub decl_typed : (policy : BoundPolicy) (facts : Facts) (dims : Option DimsTree) (item : Kind) → IsTyped item.ty → ErrorFree (decl_found policy facts item dims) → IsTyped (decl_type dims item.ty)
@@ -263,7 +241,7 @@ decl_typed policy facts (Some dims) item typed whole = arrays_typed policy facts
 -- ---- formals
 
 abbrev pub ParamsTyped : List NamedParam → Type 0
-ParamsTyped = Each (λ param. IsTyped param.ty)
+ParamsTyped = ParamsPass typed_test
 
 decls_typed : (policy : BoundPolicy) (facts : Facts) (mode : Mode) (item : Kind) (decls : List DeclTree) → IsTyped item.ty → ErrorFree (decls_found policy facts item decls) → ParamsTyped (formals_of mode item.ty decls)
 decls_typed policy facts mode item [] typed whole = tt
@@ -273,8 +251,7 @@ decls_typed policy facts mode item (decl ∷ decls) typed whole = (
 )
 
 abbrev pub MaybeParam : Option NamedParam → Type 0
-MaybeParam None = Unit {0}
-MaybeParam (Some param) = IsTyped param.ty
+MaybeParam = ReturnedPasses typed_test
 
 none_refused : (params : List NamedParam) → ParamsTyped params → are_refused params ≡ false
 none_refused [] each = refl
@@ -284,23 +261,11 @@ return_kept : (returned : Option NamedParam) → MaybeParam returned → is_refu
 return_kept None h = refl
 return_kept (Some param) h = not_untyped param.ty h
 
-params_typed : (params : List NamedParam) → ParamsTyped params → Each (λ (param : Param). IsTyped param.ty) (params_of params)
-params_typed [] each = tt
-params_typed (param ∷ params) each = (each.0, params_typed params each.1)
-
-returns_typed : (returned : Option NamedParam) → MaybeParam returned → MaybeTyped (option_map (λ (param : NamedParam). param.ty) returned)
-returns_typed None h = tt
-returns_typed (Some param) h = h
-
-pub record SignedTyped (signed : Signed) : Type 0 where
-  pub params : ParamsTyped signed.params
-  pub returned : MaybeParam signed.returned
+abbrev pub SignedTyped : Signed → Type 0
+SignedTyped = AllParamsPass typed_test
 
 pub signed_kept : (signed : Signed) → SignedTyped signed → is_refused signed ≡ false
 signed_kept signed typed = λ i. none_refused signed.params typed.params i || return_kept signed.returned typed.returned i
-
-pub whole_typed : (signed : Signed) → SignedTyped signed → SignatureTyped (whole_signature signed)
-whole_typed signed typed = record { params = params_typed signed.params typed.params; returns = returns_typed signed.returned typed.returned }
 
 pub signed_is : (facts : Facts) (signed : Signed) (n : ℕ) → is_refused signed ≡ false → number_of facts.signatures (whole_signature signed) ≡ Some n → signature_type facts signed ≡ ty.Op n
 signed_is facts signed n kept at = ap (λ (met : Bool). if met then ty.Untyped else operation_type facts (whole_signature signed)) kept ∙ ap numbered_type at
@@ -314,38 +279,6 @@ kinding_typed span (Some type) h whole = h
 pub decl_found_typed : (facts : Facts) → InfosTyped facts → (decl : Option Decl) → FoundTyped (type_part (decl_info facts.infos decl))
 decl_found_typed facts infos None = tt
 decl_found_typed facts infos (Some decl) = infos decl.spot
-
-declared_typed : (decl : Decl) (one : Info) → InfoTyped one → MaybeTyped (declared_type decl one)
-declared_typed decl (info.«Type» type) h = h
-declared_typed decl (info.Enumeration number literals) h = enum_typed _
-declared_typed decl (info.Record fields) h = record_typed _
-declared_typed decl (info.Value typed) h = tt
-declared_typed decl (info.OpType type) h = tt
-declared_typed decl (info.Operation type component is_local) h = tt
-declared_typed decl (info.Component type) h = tt
-
-pub by_typed : (decl : Option Decl) (found : Option Info) → FoundTyped found → MaybeTyped (type_by decl found)
-by_typed None found h = tt
-by_typed (Some decl) None h = tt
-by_typed (Some decl) (Some one) h = declared_typed decl one h
-
-resource_by : (is : Bool) (spot : types.Spot) → MaybeTyped (if is then Some (ty.Resource spot) else None)
-resource_by true spot = resource_typed spot
-resource_by false spot = tt
-
-capability_typed : (decl : Decl) (one : Info) → InfoTyped one → MaybeTyped (capability_of decl one)
-capability_typed decl (info.OpType type) h = h
-capability_typed decl (info.Component type) h = resource_by (is_resource decl.sort) (type_spot decl.spot)
-capability_typed decl (info.Value typed) h = tt
-capability_typed decl (info.«Type» type) h = tt
-capability_typed decl (info.Enumeration number literals) h = tt
-capability_typed decl (info.Record fields) h = tt
-capability_typed decl (info.Operation type component is_local) h = tt
-
-pub capable_typed : (decl : Option Decl) (found : Option Info) → FoundTyped found → MaybeTyped (capability_by decl found)
-capable_typed None found h = tt
-capable_typed (Some decl) None h = tt
-capable_typed (Some decl) (Some one) h = capability_typed decl one h
 
 -- ---- what is read is what was entered, and has a type
 
@@ -389,29 +322,32 @@ record ReturnedAt (names : List QualifiedName) (enters : EntersReturned) (reads 
 abbrev SignatureAt : List QualifiedName → EntersSignature → ReadsSignature → Type 0
 SignatureAt names enters reads = (facts later : Facts) → InfosTyped facts → Each (Agrees facts later) names → Counts (enters facts).facts later → SignatureRead facts (enters facts) (reads later).signed (reads later).found
 
-abbrev T : Type 0
-T = (tree : TypeTree) × TypeAt (type_uses tree) (type_read_in tree) (type_kinding tree)
+abbrev pub uses_fold : TypeFold
+uses_fold = record {
+  OfType = List QualifiedName;
+  OfFormal = List QualifiedName;
+  OfReturned = List QualifiedName;
+  OfSignature = List QualifiedName;
+  type_step = type_uses_step;
+  formal_step = formal_uses_step;
+  returned_step = returned_uses_step;
+  signature_step = signature_uses_step;
+}
 
-abbrev F : Type 0
-F = (tree : Formal) × FormalAt (formal_uses tree) (formal_read_in tree) (formal_read tree)
+abbrev pub kinds_fold : TypeFold
+kinds_fold = record {
+  OfType = Kinds;
+  OfFormal = ReadsFormals;
+  OfReturned = ReadsReturned;
+  OfSignature = ReadsSignature;
+  type_step = type_step;
+  formal_step = formal_step;
+  returned_step = returned_step;
+  signature_step = signature_step;
+}
 
-abbrev R : Type 0
-R = (tree : Returned) × ReturnedAt (returned_uses tree) (returned_read_in tree) (returned_read tree)
-
-abbrev S : Type 0
-S = (tree : SignatureTree) × SignatureAt (signature_uses tree) (signature_read_in tree) (signature_read tree)
-
-abbrev first_type : TypeTree-F T F R S → TypeTree-F TypeTree Formal Returned SignatureTree
-first_type = map-TypeTree T F R S TypeTree Formal Returned SignatureTree (λ t. t.0) (λ f. f.0) (λ r. r.0) (λ s. s.0)
-
-abbrev first_formal : Formal-F T F R S → Formal-F TypeTree Formal Returned SignatureTree
-first_formal = map-Formal T F R S TypeTree Formal Returned SignatureTree (λ t. t.0) (λ f. f.0) (λ r. r.0) (λ s. s.0)
-
-abbrev first_returned : Returned-F T F R S → Returned-F TypeTree Formal Returned SignatureTree
-first_returned = map-Returned T F R S TypeTree Formal Returned SignatureTree (λ t. t.0) (λ f. f.0) (λ r. r.0) (λ s. s.0)
-
-abbrev first_signature : Signature-F T F R S → Signature-F TypeTree Formal Returned SignatureTree
-first_signature = map-Signature T F R S TypeTree Formal Returned SignatureTree (λ t. t.0) (λ f. f.0) (λ r. r.0) (λ s. s.0)
+abbrev related : Related
+related = record { first = uses_fold; second = entering; third = kinds_fold; Types = TypeAt; Formals = FormalAt; Returns = ReturnedAt; Signatures = SignatureAt }
 
 abbrev pub enters_type : TypeTree-F TypeTree Formal Returned SignatureTree → TypeTree-F EntersType EntersFormals EntersReturned EntersSignature
 enters_type = map-TypeTree TypeTree Formal Returned SignatureTree EntersType EntersFormals EntersReturned EntersSignature type_read_in formal_read_in returned_read_in signature_read_in
@@ -425,29 +361,17 @@ enters_returned = map-Returned TypeTree Formal Returned SignatureTree EntersType
 abbrev pub enters_signature : Signature-F TypeTree Formal Returned SignatureTree → Signature-F EntersType EntersFormals EntersReturned EntersSignature
 enters_signature = map-Signature TypeTree Formal Returned SignatureTree EntersType EntersFormals EntersReturned EntersSignature type_read_in formal_read_in returned_read_in signature_read_in
 
-abbrev reads_type : TypeTree-F TypeTree Formal Returned SignatureTree → TypeTree-F Kinds ReadsFormals ReadsReturned ReadsSignature
+abbrev pub reads_type : TypeTree-F TypeTree Formal Returned SignatureTree → TypeTree-F Kinds ReadsFormals ReadsReturned ReadsSignature
 reads_type = map-TypeTree TypeTree Formal Returned SignatureTree Kinds ReadsFormals ReadsReturned ReadsSignature type_kinding formal_read returned_read signature_read
 
-abbrev reads_formal : Formal-F TypeTree Formal Returned SignatureTree → Formal-F Kinds ReadsFormals ReadsReturned ReadsSignature
+abbrev pub reads_formal : Formal-F TypeTree Formal Returned SignatureTree → Formal-F Kinds ReadsFormals ReadsReturned ReadsSignature
 reads_formal = map-Formal TypeTree Formal Returned SignatureTree Kinds ReadsFormals ReadsReturned ReadsSignature type_kinding formal_read returned_read signature_read
 
-abbrev reads_returned : Returned-F TypeTree Formal Returned SignatureTree → Returned-F Kinds ReadsFormals ReadsReturned ReadsSignature
+abbrev pub reads_returned : Returned-F TypeTree Formal Returned SignatureTree → Returned-F Kinds ReadsFormals ReadsReturned ReadsSignature
 reads_returned = map-Returned TypeTree Formal Returned SignatureTree Kinds ReadsFormals ReadsReturned ReadsSignature type_kinding formal_read returned_read signature_read
 
-abbrev reads_signature : Signature-F TypeTree Formal Returned SignatureTree → Signature-F Kinds ReadsFormals ReadsReturned ReadsSignature
+abbrev pub reads_signature : Signature-F TypeTree Formal Returned SignatureTree → Signature-F Kinds ReadsFormals ReadsReturned ReadsSignature
 reads_signature = map-Signature TypeTree Formal Returned SignatureTree Kinds ReadsFormals ReadsReturned ReadsSignature type_kinding formal_read returned_read signature_read
-
-abbrev pub uses_type : TypeTree-F TypeTree Formal Returned SignatureTree → TypeTree-F (List QualifiedName) (List QualifiedName) (List QualifiedName) (List QualifiedName)
-uses_type = map-TypeTree TypeTree Formal Returned SignatureTree (List QualifiedName) (List QualifiedName) (List QualifiedName) (List QualifiedName) type_uses formal_uses returned_uses signature_uses
-
-abbrev pub uses_formal : Formal-F TypeTree Formal Returned SignatureTree → Formal-F (List QualifiedName) (List QualifiedName) (List QualifiedName) (List QualifiedName)
-uses_formal = map-Formal TypeTree Formal Returned SignatureTree (List QualifiedName) (List QualifiedName) (List QualifiedName) (List QualifiedName) type_uses formal_uses returned_uses signature_uses
-
-abbrev pub uses_returned : Returned-F TypeTree Formal Returned SignatureTree → Returned-F (List QualifiedName) (List QualifiedName) (List QualifiedName) (List QualifiedName)
-uses_returned = map-Returned TypeTree Formal Returned SignatureTree (List QualifiedName) (List QualifiedName) (List QualifiedName) (List QualifiedName) type_uses formal_uses returned_uses signature_uses
-
-abbrev pub uses_signature : Signature-F TypeTree Formal Returned SignatureTree → Signature-F (List QualifiedName) (List QualifiedName) (List QualifiedName) (List QualifiedName)
-uses_signature = map-Signature TypeTree Formal Returned SignatureTree (List QualifiedName) (List QualifiedName) (List QualifiedName) (List QualifiedName) type_uses formal_uses returned_uses signature_uses
 
 -- ---- each tree, when its parts are so
 
@@ -492,7 +416,7 @@ named_read span name facts later infos agree =
     let decl = named_decl facts name in
     record {
       same = ap (λ named. (kinding span named).kind.ty) agree.0;
-      typed = λ whole. kinding_typed span (type_by decl (decl_info facts.infos decl)) (subst MaybeTyped (sym (type_of_part decl (decl_info facts.infos decl))) (by_typed decl (type_part (decl_info facts.infos decl)) (decl_found_typed facts infos decl))) (subst (λ named. ErrorFree (kinding span named).found) agree.0 whole);
+      typed = λ whole. kinding_typed span (type_by decl (decl_info facts.infos decl)) (subst MaybeTyped (sym (type_of_part decl (decl_info facts.infos decl))) (named_passes typed_test decl (type_part (decl_info facts.infos decl)) (decl_found_typed facts infos decl))) (subst (λ named. ErrorFree (kinding span named).found) agree.0 whole);
       signatures = λ whole h. h;
     }
 
@@ -501,11 +425,11 @@ capable_read span name facts later infos agree =
     let decl = named_decl facts name in
     record {
       same = ap (λ named. (kinding span named).kind.ty) agree.1;
-      typed = λ whole. kinding_typed span (capability_by decl (decl_info facts.infos decl)) (subst MaybeTyped (sym (capability_of_part decl (decl_info facts.infos decl))) (capable_typed decl (type_part (decl_info facts.infos decl)) (decl_found_typed facts infos decl))) (subst (λ named. ErrorFree (kinding span named).found) agree.1 whole);
+      typed = λ whole. kinding_typed span (capability_by decl (decl_info facts.infos decl)) (subst MaybeTyped (sym (capability_of_part decl (decl_info facts.infos decl))) (capable_passes typed_test decl (type_part (decl_info facts.infos decl)) (decl_found_typed facts infos decl))) (subst (λ named. ErrorFree (kinding span named).found) agree.1 whole);
       signatures = λ whole h. h;
     }
 
-formal_node : (y : Formal-F T F R S) → FormalAt (formal_uses_step (uses_formal (first_formal y))) (enter_formal (enters_formal (first_formal y))) (formal_step (reads_formal (first_formal y)))
+formal_node : (y : FormalNode related) → FormalFits related y
 formal_node y facts later is_field infos agree more =
     let bounds = formal_bounds is_field (mode_of y.mode) in
     let kinds = type_kinding y.ty.0 later bounds in
@@ -517,11 +441,11 @@ formal_node y facts later is_field infos agree more =
       signatures = λ whole. read.signatures (error_free_first kinds.found _ whole);
     }
 
-row_node : (formals : List F) (facts later : Facts) (is_field : Bool) → InfosTyped facts → Each (Agrees facts later) (all_uses (map formal_uses (map (λ (f : F). f.0) formals))) → Counts (in_turn (map formal_read_in (map (λ (f : F). f.0) formals)) facts).facts later
-    → FormalsRead facts (in_turn (map formal_read_in (map (λ (f : F). f.0) formals)) facts) (all_params (formals_at (map formal_read (map (λ (f : F). f.0) formals)) later is_field)) (formals_found (formals_at (map formal_read (map (λ (f : F). f.0) formals)) later is_field))
+row_node : (formals : List (KnownFormal related)) (facts later : Facts) (is_field : Bool) → InfosTyped facts → Each (Agrees facts later) (all_uses (map formal_uses (map (λ (f : KnownFormal related). f.0) formals))) → Counts (in_turn (map formal_read_in (map (λ (f : KnownFormal related). f.0) formals)) facts).facts later
+    → FormalsRead facts (in_turn (map formal_read_in (map (λ (f : KnownFormal related). f.0) formals)) facts) (all_params (formals_at (map formal_read (map (λ (f : KnownFormal related). f.0) formals)) later is_field)) (formals_found (formals_at (map formal_read (map (λ (f : KnownFormal related). f.0) formals)) later is_field))
 row_node [] facts later is_field infos agree more = record { same = refl; typed = λ whole. tt; signatures = λ whole h. h }
 row_node (formal ∷ formals) facts later is_field infos agree more =
-    let trees = map (λ (f : F). f.0) formals in
+    let trees = map (λ (f : KnownFormal related). f.0) formals in
     let first = (formal_read_in formal.0 facts).facts in
     let names = all_uses (map formal_uses trees) in
     let rest : Counts first (formals_entered trees first) = keeps_formals (Counts first) (entered_counts first) trees first (counts_itself first) in
@@ -535,7 +459,7 @@ row_node (formal ∷ formals) facts later is_field infos agree more =
       signatures = λ whole h. others.signatures (error_free_second found _ whole) (one.signatures (error_free_first found _ whole) h);
     }
 
-returned_node : (y : Returned-F T F R S) → ReturnedAt (returned_uses_step (uses_returned (first_returned y))) (enter_returned (enters_returned (first_returned y))) (returned_step (reads_returned (first_returned y)))
+returned_node : (y : ReturnedNode related) → ReturnedFits related y
 returned_node y = record {
   later = λ facts. keeps_type (Counts facts) (entered_counts facts) y.ty.0 facts (counts_itself facts);
   read = λ facts later infos agree more.
@@ -564,12 +488,12 @@ signature_with forms facts later params read_params returned read_returned first
       typed = typed;
       numbered = λ kept. (numbered.0, ap (λ (one : Facts). number_of one.signatures (whole_signature signed)) (same kept) ∙ numbered.1);
       signatures = λ whole h. subst SignaturesTyped (sym (same (signed_kept signed (typed whole))))
-          (entered_typed returned.facts (whole_signature signed) (whole_typed signed (typed whole)) (second.signatures (error_free_second first_found second_found whole) (first.signatures (error_free_first first_found second_found whole) h)));
+          (entered_typed returned.facts (whole_signature signed) (whole_passes typed_test signed (typed whole)) (second.signatures (error_free_second first_found second_found whole) (first.signatures (error_free_first first_found second_found whole) h)));
     }
 
-signature_by : (y : Signature-F T F R S) (returned : Option R) → SignatureAt (signature_uses_step (uses_signature (first_signature (record y { returned = returned })))) (enter_signature (enters_signature (first_signature (record y { returned = returned })))) (signature_step (reads_signature (first_signature (record y { returned = returned }))))
+signature_by : (y : SignatureNode related) (returned : Option (KnownReturned related)) → SignatureFits related (record y { returned = returned })
 signature_by y None facts later infos agree more =
-    let trees = map (λ (f : F). f.0) y.formals in
+    let trees = map (λ (f : KnownFormal related). f.0) y.formals in
     let params = in_turn (map formal_read_in trees) facts in
     let signed : Signed = record { params = params.read; returned = None; forms = forms_of y.kinds } in
     let after : Counts params.facts later =
@@ -578,7 +502,7 @@ signature_by y None facts later infos agree more =
     (row_node y.formals facts later false infos (each-left (Agrees facts later) (all_uses (map formal_uses trees)) [] agree) after)
     (record { same = refl; typed = λ whole. tt; signatures = λ whole h. h })
 signature_by y (Some returned) facts later infos agree more =
-    let trees = map (λ (f : F). f.0) y.formals in
+    let trees = map (λ (f : KnownFormal related). f.0) y.formals in
     let names = all_uses (map formal_uses trees) in
     let back_names = returned_uses returned.0 in
     let params = in_turn (map formal_read_in trees) facts in
@@ -593,9 +517,6 @@ signature_by y (Some returned) facts later infos agree more =
     (row_node y.formals facts later false infos (each-left (Agrees facts later) names back_names agree) (counts_through params.facts back.facts later (returned.1.later params.facts) after))
     (record { same = ap Some read.same; typed = read.typed; signatures = read.signatures })
 
-signature_node : (y : Signature-F T F R S) → SignatureAt (signature_uses_step (uses_signature (first_signature y))) (enter_signature (enters_signature (first_signature y))) (signature_step (reads_signature (first_signature y)))
-signature_node y = signature_by y y.returned
-
 -- the type of a signature is the same later
 pub same_signed : (later here : Facts) (signed : Signed) → (is_refused signed ≡ false → (n : ℕ) × (number_of here.signatures (whole_signature signed) ≡ Some n)) → Counts here later → signature_type later signed ≡ signature_type here signed
 same_signed later here signed numbered more = by (is_refused signed) refl
@@ -608,16 +529,16 @@ same_signed later here signed numbered more = by (is_refused signed) refl
         let number = numbered is in
         signed_is later signed number.0 is (more (whole_signature signed) number.0 number.1) ∙ sym (signed_is here signed number.0 is number.1)
 
-type_node : (y : TypeTree-F T F R S) → TypeAt (type_uses_step (uses_type (first_type y))) (enter_type (enters_type (first_type y))) (type_step (reads_type (first_type y)))
-type_node (TypeTree-F.Int span) facts later policy infos agree more = record { same = refl; typed = λ whole. int_typed; signatures = λ whole h. h }
-type_node (TypeTree-F.Bool span) facts later policy infos agree more = record { same = refl; typed = λ whole. bool_typed; signatures = λ whole h. h }
-type_node (TypeTree-F.Char span) facts later policy infos agree more = record { same = refl; typed = λ whole. char_typed; signatures = λ whole h. h }
-type_node (TypeTree-F.Str span length) facts later policy infos agree more = record { same = refl; typed = λ whole. str_typed; signatures = λ whole h. h }
-type_node (TypeTree-F.Enum span literals) facts later policy infos agree more = record { same = refl; typed = λ whole. enum_typed _; signatures = λ whole h. h }
+type_node : (y : TypeNode related) → TypeFits related y
+type_node (TypeTree-F.Int span) facts later policy infos agree more = record { same = refl; typed = λ whole. int_passes typed_test; signatures = λ whole h. h }
+type_node (TypeTree-F.Bool span) facts later policy infos agree more = record { same = refl; typed = λ whole. bool_passes typed_test; signatures = λ whole h. h }
+type_node (TypeTree-F.Char span) facts later policy infos agree more = record { same = refl; typed = λ whole. char_passes typed_test; signatures = λ whole h. h }
+type_node (TypeTree-F.Str span length) facts later policy infos agree more = record { same = refl; typed = λ whole. str_passes typed_test; signatures = λ whole h. h }
+type_node (TypeTree-F.Enum span literals) facts later policy infos agree more = record { same = refl; typed = λ whole. enum_passes typed_test _; signatures = λ whole h. h }
 type_node (TypeTree-F.Rec span fields) facts later policy infos agree more =
-    record { same = refl; typed = λ whole. record_typed _; signatures = (row_node fields facts later true infos agree more).signatures }
+    record { same = refl; typed = λ whole. record_passes typed_test _; signatures = (row_node fields facts later true infos agree more).signatures }
 type_node (TypeTree-F.CapOf span name) facts later policy infos agree more = capable_read span name facts later infos agree.0
-type_node (TypeTree-F.CapMachine span) facts later policy infos agree more = record { same = refl; typed = λ whole. vm_typed; signatures = λ whole h. h }
+type_node (TypeTree-F.CapMachine span) facts later policy infos agree more = record { same = refl; typed = λ whole. vm_passes typed_test; signatures = λ whole h. h }
 type_node (TypeTree-F.CapOperation span signature) facts later policy infos agree more =
     let read = signature.1 facts later infos agree more in
     let after = signature_read_in signature.0 facts in
@@ -626,7 +547,7 @@ type_node (TypeTree-F.CapOperation span signature) facts later policy infos agre
       typed = λ whole.
           let kept = signed_kept after.read (read.typed whole) in
           let number = read.numbered kept in
-          subst IsTyped (sym (signed_is after.facts after.read number.0 kept number.1)) (op_typed number.0);
+          subst IsTyped (sym (signed_is after.facts after.read number.0 kept number.1)) (op_passes typed_test number.0 refl);
       signatures = read.signatures;
     }
 type_node (TypeTree-F.Array span dims item) facts later policy infos agree more =
@@ -642,59 +563,23 @@ type_node (TypeTree-F.Named span name) facts later policy infos agree more = nam
 
 -- ---- all trees
 
-step_type : (x : TypeTree-F TypeTree Formal Returned SignatureTree) (y : TypeTree-F T F R S) → first_type y ≡ x → TypeAt (type_uses (roll-TypeTree x)) (type_read_in (roll-TypeTree x)) (type_kinding (roll-TypeTree x))
-step_type x y is = subst (λ z. TypeAt (type_uses (roll-TypeTree z)) (type_read_in (roll-TypeTree z)) (type_kinding (roll-TypeTree z))) is
-    (subst (λ (names : List QualifiedName). TypeAt names (type_read_in (roll-TypeTree (first_type y))) (type_kinding (roll-TypeTree (first_type y))))
-    (sym (fold-roll-TypeTree (List QualifiedName) (List QualifiedName) (List QualifiedName) (List QualifiedName) type_uses_step formal_uses_step returned_uses_step signature_uses_step (first_type y)))
-    (subst (λ (enters : EntersType). TypeAt (type_uses_step (uses_type (first_type y))) enters (type_kinding (roll-TypeTree (first_type y))))
-    (sym (fold-roll-TypeTree EntersType EntersFormals EntersReturned EntersSignature enter_type enter_formal enter_returned enter_signature (first_type y)))
-    (subst (λ (reads : Kinds). TypeAt (type_uses_step (uses_type (first_type y))) (enter_type (enters_type (first_type y))) reads)
-    (sym (fold-roll-TypeTree Kinds ReadsFormals ReadsReturned ReadsSignature type_step formal_step returned_step signature_step (first_type y))) (type_node y))))
-
-step_formal : (x : Formal-F TypeTree Formal Returned SignatureTree) (y : Formal-F T F R S) → first_formal y ≡ x → FormalAt (formal_uses (roll-Formal x)) (formal_read_in (roll-Formal x)) (formal_read (roll-Formal x))
-step_formal x y is = subst (λ z. FormalAt (formal_uses (roll-Formal z)) (formal_read_in (roll-Formal z)) (formal_read (roll-Formal z))) is
-    (subst (λ (names : List QualifiedName). FormalAt names (formal_read_in (roll-Formal (first_formal y))) (formal_read (roll-Formal (first_formal y))))
-    (sym (fold-roll-Formal (List QualifiedName) (List QualifiedName) (List QualifiedName) (List QualifiedName) type_uses_step formal_uses_step returned_uses_step signature_uses_step (first_formal y)))
-    (subst (λ (enters : EntersFormals). FormalAt (formal_uses_step (uses_formal (first_formal y))) enters (formal_read (roll-Formal (first_formal y))))
-    (sym (fold-roll-Formal EntersType EntersFormals EntersReturned EntersSignature enter_type enter_formal enter_returned enter_signature (first_formal y)))
-    (subst (λ (reads : ReadsFormals). FormalAt (formal_uses_step (uses_formal (first_formal y))) (enter_formal (enters_formal (first_formal y))) reads)
-    (sym (fold-roll-Formal Kinds ReadsFormals ReadsReturned ReadsSignature type_step formal_step returned_step signature_step (first_formal y))) (formal_node y))))
-
-step_returned : (x : Returned-F TypeTree Formal Returned SignatureTree) (y : Returned-F T F R S) → first_returned y ≡ x → ReturnedAt (returned_uses (roll-Returned x)) (returned_read_in (roll-Returned x)) (returned_read (roll-Returned x))
-step_returned x y is = subst (λ z. ReturnedAt (returned_uses (roll-Returned z)) (returned_read_in (roll-Returned z)) (returned_read (roll-Returned z))) is
-    (subst (λ (names : List QualifiedName). ReturnedAt names (returned_read_in (roll-Returned (first_returned y))) (returned_read (roll-Returned (first_returned y))))
-    (sym (fold-roll-Returned (List QualifiedName) (List QualifiedName) (List QualifiedName) (List QualifiedName) type_uses_step formal_uses_step returned_uses_step signature_uses_step (first_returned y)))
-    (subst (λ (enters : EntersReturned). ReturnedAt (returned_uses_step (uses_returned (first_returned y))) enters (returned_read (roll-Returned (first_returned y))))
-    (sym (fold-roll-Returned EntersType EntersFormals EntersReturned EntersSignature enter_type enter_formal enter_returned enter_signature (first_returned y)))
-    (subst (λ (reads : ReadsReturned). ReturnedAt (returned_uses_step (uses_returned (first_returned y))) (enter_returned (enters_returned (first_returned y))) reads)
-    (sym (fold-roll-Returned Kinds ReadsFormals ReadsReturned ReadsSignature type_step formal_step returned_step signature_step (first_returned y))) (returned_node y))))
-
-step_signature : (x : Signature-F TypeTree Formal Returned SignatureTree) (y : Signature-F T F R S) → first_signature y ≡ x → SignatureAt (signature_uses (roll-Signature x)) (signature_read_in (roll-Signature x)) (signature_read (roll-Signature x))
-step_signature x y is = subst (λ z. SignatureAt (signature_uses (roll-Signature z)) (signature_read_in (roll-Signature z)) (signature_read (roll-Signature z))) is
-    (subst (λ (names : List QualifiedName). SignatureAt names (signature_read_in (roll-Signature (first_signature y))) (signature_read (roll-Signature (first_signature y))))
-    (sym (fold-roll-Signature (List QualifiedName) (List QualifiedName) (List QualifiedName) (List QualifiedName) type_uses_step formal_uses_step returned_uses_step signature_uses_step (first_signature y)))
-    (subst (λ (enters : EntersSignature). SignatureAt (signature_uses_step (uses_signature (first_signature y))) enters (signature_read (roll-Signature (first_signature y))))
-    (sym (fold-roll-Signature EntersType EntersFormals EntersReturned EntersSignature enter_type enter_formal enter_returned enter_signature (first_signature y)))
-    (subst (λ (reads : ReadsSignature). SignatureAt (signature_uses_step (uses_signature (first_signature y))) (enter_signature (enters_signature (first_signature y))) reads)
-    (sym (fold-roll-Signature Kinds ReadsFormals ReadsReturned ReadsSignature type_step formal_step returned_step signature_step (first_signature y))) (signature_node y))))
+layers : Layers related
+layers = record { types = type_node; formals = formal_node; returns = returned_node; signatures = λ y. signature_by y y.returned }
 
 -- a type in which no rule is broken is the type that was entered, and has one, where the names in it mean the same
 pub type_agrees : (tree : TypeTree) (facts later : Facts) (policy : BoundPolicy) → InfosTyped facts → Each (Agrees facts later) (type_uses tree) → Counts (type_entered tree facts) later
     → TypeRead facts (type_read_in tree facts) (type_kinding tree later policy).kind.ty (type_kinding tree later policy).found
-type_agrees = ind-TypeTree (λ tree. TypeAt (type_uses tree) (type_read_in tree) (type_kinding tree)) (λ tree. FormalAt (formal_uses tree) (formal_read_in tree) (formal_read tree))
-    (λ tree. ReturnedAt (returned_uses tree) (returned_read_in tree) (returned_read tree)) (λ tree. SignatureAt (signature_uses tree) (signature_read_in tree) (signature_read tree)) step_type step_formal step_returned step_signature
+type_agrees = type_related related layers
 
 -- so is a signature
 pub signature_agrees : (tree : SignatureTree) (facts later : Facts) → InfosTyped facts → Each (Agrees facts later) (signature_uses tree) → Counts (signature_entered tree facts) later
     → SignatureRead facts (signature_read_in tree facts) (signature_read tree later).signed (signature_read tree later).found
-signature_agrees = ind-Signature (λ tree. TypeAt (type_uses tree) (type_read_in tree) (type_kinding tree)) (λ tree. FormalAt (formal_uses tree) (formal_read_in tree) (formal_read tree))
-    (λ tree. ReturnedAt (returned_uses tree) (returned_read_in tree) (returned_read tree)) (λ tree. SignatureAt (signature_uses tree) (signature_read_in tree) (signature_read tree)) step_type step_formal step_returned step_signature
+signature_agrees = signature_related related layers
 
 -- and formals
 pub formal_agrees : (tree : Formal) (facts later : Facts) (is_field : Bool) → InfosTyped facts → Each (Agrees facts later) (formal_uses tree) → Counts (formal_read_in tree facts).facts later
     → FormalsRead facts (formal_read_in tree facts) (formal_read tree later is_field).params (formal_read tree later is_field).found
-formal_agrees = ind-Formal (λ tree. TypeAt (type_uses tree) (type_read_in tree) (type_kinding tree)) (λ tree. FormalAt (formal_uses tree) (formal_read_in tree) (formal_read tree))
-    (λ tree. ReturnedAt (returned_uses tree) (returned_read_in tree) (returned_read tree)) (λ tree. SignatureAt (signature_uses tree) (signature_read_in tree) (signature_read tree)) step_type step_formal step_returned step_signature
+formal_agrees = formal_related related layers
 
 -- where all types are known later that are known here, and no others
 pub type_typed : (tree : TypeTree) (facts later : Facts) (policy : BoundPolicy) → InfosTyped facts → Later (type_entered tree facts) later → TypeRead facts (type_read_in tree facts) (type_kinding tree later policy).kind.ty (type_kinding tree later policy).found

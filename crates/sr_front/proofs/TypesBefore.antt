@@ -1,5 +1,6 @@
 -- The word of an enumeration that is known as a type where a declaration is read stands before the declaration.
 use Rattle.std.proofs.Common.{◌≡◌, ℕ, Bool, true, false, not, ◌||◌, List, [], ◌∷◌, ◌++◌, flat_map, Option, Some, None, if◌then◌else◌, refl, sym, ap, subst, ◌∙◌}
+use Rattle.std.proofs.lemmas.Option.{none-some, same_Some}
 use Rattle.sr_check.proofs.Each.{Each, each-right}
 use Rattle.sr_check_decl.specs.Bounds.{item_type_rule}
 use Rattle.sr_check_decl.specs.declared.kind.Signed.{Signed}
@@ -73,10 +74,7 @@ module _ (Word : Spot → Type 0) where
   info_fewer more after fewer spot (info.«Type» ty) h = layer_fewer more after fewer (out-Ty ty) h
   info_fewer more after fewer spot (info.OpType ty) h = layer_fewer more after fewer (out-Ty ty) h
   info_fewer more after fewer spot (info.Enumeration number literals) h = (fewer spot h.0, h.1)
-  info_fewer more after fewer spot (info.Value typed) h = tt
-  info_fewer more after fewer spot (info.Record fields) h = tt
-  info_fewer more after fewer spot (info.Operation ty component is_local) h = tt
-  info_fewer more after fewer spot (info.Component ty) h = tt
+  info_fewer more after fewer spot _ h = tt
 
   -- ---- the types that are written
 
@@ -129,52 +127,46 @@ module _ (Word : Spot → Type 0) where
     kinding_before span None before = untyped_before
     kinding_before span (Some one) before = before one refl
 
-    some_type : (a b : Ty) → Some a ≡ Some b → a ≡ b
-    some_type a b e = cc
-
-    none_type : (a : Ty) → None ≡ Some a → ⊥
-    none_type a e = cc
-
     -- what is known stands before
     abbrev AllBefore : Facts → Type 0
     AllBefore facts = (spot : Spot) (one : Info) → info_at facts.infos spot ≡ Some one → InfoBefore after spot one
 
     declared_before : (decl : Decl) (one : Info) → InfoBefore after decl.spot one → (type : Ty) → declared_type decl one ≡ Some type → TypeBefore after type
-    declared_before decl (info.«Type» ty) h type e = subst (TypeBefore after) (some_type ty type e) h
-    declared_before decl (info.Enumeration number literals) h type e = subst (TypeBefore after) (some_type (ty.Enum (type_spot decl.spot)) type e) (enum_at decl.spot h)
-    declared_before decl (info.Record fields) h type e = subst (TypeBefore after) (some_type (ty.Rec (type_spot decl.spot)) type e) (record_before decl.spot)
-    declared_before decl (info.Value typed) h type e = absurd (none_type type e)
-    declared_before decl (info.OpType ty) h type e = absurd (none_type type e)
-    declared_before decl (info.Operation ty component is_local) h type e = absurd (none_type type e)
-    declared_before decl (info.Component ty) h type e = absurd (none_type type e)
+    declared_before decl (info.«Type» ty) h type e = subst (TypeBefore after) (same_Some ty type e) h
+    declared_before decl (info.Enumeration number literals) h type e = subst (TypeBefore after) (same_Some (ty.Enum (type_spot decl.spot)) type e) (enum_at decl.spot h)
+    declared_before decl (info.Record fields) h type e = subst (TypeBefore after) (same_Some (ty.Rec (type_spot decl.spot)) type e) (record_before decl.spot)
+    declared_before decl (info.Value typed) h type e = absurd (none-some type e)
+    declared_before decl (info.OpType ty) h type e = absurd (none-some type e)
+    declared_before decl (info.Operation ty component is_local) h type e = absurd (none-some type e)
+    declared_before decl (info.Component ty) h type e = absurd (none-some type e)
 
     resource_before : (is : Bool) (spot : Spot) (type : Ty) → (if is then Some (ty.Resource (type_spot spot)) else None) ≡ Some type → TypeBefore after type
-    resource_before true spot type e = subst (TypeBefore after) (some_type (ty.Resource (type_spot spot)) type e) (resource_type_before spot)
-    resource_before false spot type e = absurd (none_type type e)
+    resource_before true spot type e = subst (TypeBefore after) (same_Some (ty.Resource (type_spot spot)) type e) (resource_type_before spot)
+    resource_before false spot type e = absurd (none-some type e)
 
     capability_before : (decl : Decl) (one : Info) → InfoBefore after decl.spot one → (type : Ty) → capability_of decl one ≡ Some type → TypeBefore after type
-    capability_before decl (info.OpType ty) h type e = subst (TypeBefore after) (some_type ty type e) h
+    capability_before decl (info.OpType ty) h type e = subst (TypeBefore after) (same_Some ty type e) h
     capability_before decl (info.Component ty) h type e = resource_before (is_resource decl.sort) decl.spot type e
-    capability_before decl (info.«Type» ty) h type e = absurd (none_type type e)
-    capability_before decl (info.Enumeration number literals) h type e = absurd (none_type type e)
-    capability_before decl (info.Record fields) h type e = absurd (none_type type e)
-    capability_before decl (info.Value typed) h type e = absurd (none_type type e)
-    capability_before decl (info.Operation ty component is_local) h type e = absurd (none_type type e)
+    capability_before decl (info.«Type» ty) h type e = absurd (none-some type e)
+    capability_before decl (info.Enumeration number literals) h type e = absurd (none-some type e)
+    capability_before decl (info.Record fields) h type e = absurd (none-some type e)
+    capability_before decl (info.Value typed) h type e = absurd (none-some type e)
+    capability_before decl (info.Operation ty component is_local) h type e = absurd (none-some type e)
 
     named_before : (facts : Facts) → AllBefore facts → (decl : Option Decl) (type : Ty) → type_by decl (decl_info facts.infos decl) ≡ Some type → TypeBefore after type
-    named_before facts before None type e = absurd (none_type type e)
+    named_before facts before None type e = absurd (none-some type e)
     named_before facts before (Some decl) type e = by (info_at facts.infos decl.spot) refl e
       where
         by : (found : Option Info) → info_at facts.infos decl.spot ≡ found → type_by (Some decl) found ≡ Some type → TypeBefore after type
-        by None is e = absurd (none_type type e)
+        by None is e = absurd (none-some type e)
         by (Some one) is e = declared_before decl one (before decl.spot one is) type e
 
     cap_before : (facts : Facts) → AllBefore facts → (decl : Option Decl) (type : Ty) → capability_by decl (decl_info facts.infos decl) ≡ Some type → TypeBefore after type
-    cap_before facts before None type e = absurd (none_type type e)
+    cap_before facts before None type e = absurd (none-some type e)
     cap_before facts before (Some decl) type e = by (info_at facts.infos decl.spot) refl e
       where
         by : (found : Option Info) → info_at facts.infos decl.spot ≡ found → capability_by (Some decl) found ≡ Some type → TypeBefore after type
-        by None is e = absurd (none_type type e)
+        by None is e = absurd (none-some type e)
         by (Some one) is e = capability_before decl one (before decl.spot one is) type e
 
     abbrev kinds_of : TypeTree-F TypeTree Formal Returned SignatureTree → Kinds
@@ -291,9 +283,7 @@ module _ (Word : Spot → Type 0) where
     item_fits after (item.Spec declared) good rises = spec_fits after declared good rises
     item_fits after (item.Procedure procedure) good rises = λ type component is_local. (good.0 type component is_local, tt)
     item_fits after (item.Process process) good rises = λ type component is_local. (good.0 type component is_local, tt)
-    item_fits after (item.Proc proc) good rises = tt
-    item_fits after (item.Final final) good rises = tt
-    item_fits after (item.Statement statement) good rises = tt
+    item_fits after _ good rises = tt
 
     head_fits : (after : List Span) (component : Component) → HeadFits Fits component → HeadFits (FitsBefore after) component
     head_fits after component fits = (λ type. (fits.0 type, tt), each_names after (flat_map formal_names (formals_of component)) fits.1)

@@ -16,7 +16,7 @@ use Rattle.sr_check_expr.specs.Naming.{deciding}
 use Rattle.sr_names.specs.declared.spot.Spot.{Spot}
 use Rattle.sr_names.specs.Specs.{Specs}
 use Rattle.sr_names.specs.Spots.{same_spot, spot_of}
-use Rattle.sr_names.proofs.Marking.{entry-other, entry-same, same_spot-cases}
+use Rattle.sr_names.proofs.Marking.{entry-other, same_spot-cases}
 use Rattle.sr_order.specs.Names.{file_names, names_spans, type_decl_names, type_names}
 use Rattle.sr_scope.specs.declared.program.Names.{Names}
 use Rattle.sr_scope.specs.Resolved.{resolved}
@@ -36,15 +36,16 @@ use Rattle.sr_tree.specs.declared.types.TypeTree.TheOpen.{TypeTree-F}
 use Rattle.sr_tree.specs.Nested.{layer_place, maybe_place, types_within, word_places}
 use Rattle.sr_types.specs.declared.typed.Typed.{Typed}
 use Rattle.sr_value.specs.declared.place.Span.{Span}
-use Rattle.sr_front.proofs.ConstantsMet.{Anywhere, anywhere}
 use Rattle.sr_front.proofs.DeclaredAgrees.{FormalsAgree, LayerAgrees, NamedAgrees, TypesAgree, entering, naming}
 use Rattle.sr_front.proofs.DeclaredIn.{Stands, stands_left}
 use Rattle.sr_front.proofs.DeclaredThen.{names_of_components}
 use Rattle.sr_front.proofs.EnteredAgain.{type_entered_again}
 use Rattle.sr_front.proofs.ItemsInOrder.{At, Ends, Fine, LastsBy, Leads, Same, SitedBy, SitedMeant, Sites, sited_all, types_away}
 use Rattle.sr_front.proofs.KeptDeclared.{Declares, keeps_layer, keeps_types}
+use Rattle.sr_front.proofs.KeptNames.{Anywhere, anywhere}
 use Rattle.sr_front.proofs.Lasting.{Away}
 use Rattle.sr_front.proofs.OrderKept.{counts_declares, counts_last, part_lasts}
+use Rattle.sr_front.proofs.Put.{put_holds}
 use Rattle.sr_front.proofs.RecordsAgain.{RecordAgain, RecordsAgain, records_again}
 use Rattle.sr_front.proofs.Rising.{Rises}
 use Rattle.sr_front.proofs.Shares.{other_way}
@@ -57,7 +58,7 @@ use Rattle.sr_front.proofs.WordsApart.{component_named}
 
 -- ---- what enumerations and records declare
 
-away_or_stands : (spot : Spot) (spans : List Span) → Away spot spans ⊎ Stands spot spans
+pub away_or_stands : (spot : Spot) (spans : List Span) → Away spot spans ⊎ Stands spot spans
 away_or_stands spot [] = inl tt
 away_or_stands spot (span ∷ spans) = by (same_spot-cases spot (spot_of span)) (away_or_stands spot spans)
   where
@@ -74,13 +75,7 @@ module _ (spot : Spot) (part : Option Info) where
   other_put facts at one apart h = ap type_part (entry-other facts.infos at one spot apart) ∙ h
 
   value_put : (facts : Facts) (at : Spot) (typed : Typed) → part ≡ None → IsPart facts → IsPart (declare facts at (info.Value typed))
-  value_put facts at typed none h = by (same_spot-cases spot at)
-    where
-      by : (spot ≡ at) ⊎ (same_spot spot at ≡ false) → IsPart (declare facts at (info.Value typed))
-      by (inl same) =
-          let after = declare facts at (info.Value typed) in
-          ap (λ s. part_at after s) same ∙ ap type_part (entry-same facts.infos at (info.Value typed)) ∙ sym none
-      by (inr apart) = other_put facts at (info.Value typed) apart h
+  value_put facts at typed none h = put_holds facts at (info.Value typed) (λ other found. type_part found ≡ part) (sym none) spot (λ apart. h)
 
   -- no value stands there, or nothing is known of a type there
   abbrev Literals : List Name → Type 0
@@ -103,15 +98,7 @@ module _ (spot : Spot) (part : Option Info) where
       literals_part (spot_of span) tally.enumerations 0 literals _ (inr fine.1) (other_put tally.facts (spot_of span) (info.Enumeration tally.enumerations (length literals)) fine.0.0 h)
   layer_part (TypeTree-F.Rec span fields) tally (inl away) h = other_put tally.facts (spot_of span) _ away.0 h
   layer_part (TypeTree-F.Rec span fields) tally (inr fine) h = other_put tally.facts (spot_of span) _ fine.0.0 h
-  layer_part (TypeTree-F.Int span) tally fine h = h
-  layer_part (TypeTree-F.Bool span) tally fine h = h
-  layer_part (TypeTree-F.Char span) tally fine h = h
-  layer_part (TypeTree-F.Str span length) tally fine h = h
-  layer_part (TypeTree-F.CapOf span name) tally fine h = h
-  layer_part (TypeTree-F.CapMachine span) tally fine h = h
-  layer_part (TypeTree-F.CapOperation span signature) tally fine h = h
-  layer_part (TypeTree-F.Array span dims item) tally fine h = h
-  layer_part (TypeTree-F.Named span name) tally fine h = h
+  layer_part _ tally fine h = h
 
   abbrev pub TypesClear : List TypeTree → Type 0
   TypesClear trees = Away spot (flat_map words_of trees) ⊎ (Away spot (word_places trees) × (part ≡ None))
@@ -287,16 +274,7 @@ module _ (files : List File) (names : Names) (named : resolved files ≡ Ok name
 
     layer_agrees : (layer : TypeTree-F TypeTree Formal Returned SignatureTree) (facts : Facts) → Near now tree facts → Counts facts final → RecordAgain Meant facts layer → LayerAgrees Ending layer facts
     layer_agrees (TypeTree-F.Rec span fields) facts near counts again = record_agrees span fields facts near counts again
-    layer_agrees (TypeTree-F.Int span) facts near counts again = tt
-    layer_agrees (TypeTree-F.Bool span) facts near counts again = tt
-    layer_agrees (TypeTree-F.Char span) facts near counts again = tt
-    layer_agrees (TypeTree-F.Str span length) facts near counts again = tt
-    layer_agrees (TypeTree-F.Enum span literals) facts near counts again = tt
-    layer_agrees (TypeTree-F.CapOf span name) facts near counts again = tt
-    layer_agrees (TypeTree-F.CapMachine span) facts near counts again = tt
-    layer_agrees (TypeTree-F.CapOperation span signature) facts near counts again = tt
-    layer_agrees (TypeTree-F.Array span dims item) facts near counts again = tt
-    layer_agrees (TypeTree-F.Named span name) facts near counts again = tt
+    layer_agrees _ facts near counts again = tt
 
     types_agree : (trees : List TypeTree) (at : Tally) → Suffix now tree trees → Near now tree at.facts → ((facts : Facts) → Near now tree facts → RecordsAgain Meant facts trees) → Counts (types_declared trees at).facts final
         → TypesAgree Ending trees at

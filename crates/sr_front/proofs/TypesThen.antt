@@ -13,7 +13,7 @@ use Rattle.sr_check_expr.specs.Infos.{info_at}
 use Rattle.sr_check_expr.specs.Naming.{decl_info, decl_of, deciding}
 use Rattle.sr_names.specs.declared.meaning.Decl.{Decl}
 use Rattle.sr_names.specs.declared.meaning.Meaning.{Meaning}
-use Rattle.sr_names.specs.declared.meaning.Meaning.TheVariants.{Declared, Predefined as MeansPredefined}
+use Rattle.sr_names.specs.declared.meaning.Meaning.TheVariants.{Declared}
 use Rattle.sr_names.specs.Spots.{spot_of}
 use Rattle.sr_names.specs.Uses.{meaning_at}
 use Rattle.sr_tree.specs.declared.name.QualifiedName.{QualifiedName}
@@ -53,21 +53,13 @@ module _ (now end : Facts) (uses : now.uses ≡ end.uses) where
   idle_type decl None idle = refl
   idle_type decl (Some (info.Value typed)) idle = refl
   idle_type decl (Some (info.Operation ty component is_local)) idle = refl
-  idle_type decl (Some (info.«Type» ty)) idle = absurd idle
-  idle_type decl (Some (info.Enumeration number literals)) idle = absurd idle
-  idle_type decl (Some (info.Record fields)) idle = absurd idle
-  idle_type decl (Some (info.OpType ty)) idle = absurd idle
-  idle_type decl (Some (info.Component ty)) idle = absurd idle
+  idle_type decl (Some _) idle = absurd idle
 
   idle_cap : (decl : Decl) (found : Option Info) → IsIdle found → capability_by (Some decl) found ≡ None
   idle_cap decl None idle = refl
   idle_cap decl (Some (info.Value typed)) idle = refl
   idle_cap decl (Some (info.Operation ty component is_local)) idle = refl
-  idle_cap decl (Some (info.«Type» ty)) idle = absurd idle
-  idle_cap decl (Some (info.Enumeration number literals)) idle = absurd idle
-  idle_cap decl (Some (info.Record fields)) idle = absurd idle
-  idle_cap decl (Some (info.OpType ty)) idle = absurd idle
-  idle_cap decl (Some (info.Component ty)) idle = absurd idle
+  idle_cap decl (Some _) idle = absurd idle
 
   -- a name that means no type is refused
   refused : {A : Type 0} (span : Span) (found : Option Ty) → found ≡ None → ErrorFree (kinding span found).found → A
@@ -90,15 +82,13 @@ module _ (now end : Facts) (uses : now.uses ≡ end.uses) where
 
   meant_type : (span : Span) (meaning : Option Meaning) → SameMeaning now end meaning → ErrorFree (kinding span (type_by (decl_of meaning) (decl_info end.infos (decl_of meaning)))).found
       → SameOrNone (kinding span (type_by (decl_of meaning) (decl_info now.infos (decl_of meaning)))).kind.ty (kinding span (type_by (decl_of meaning) (decl_info end.infos (decl_of meaning)))).kind.ty
-  meant_type span None same whole = inl refl
-  meant_type span (Some (MeansPredefined name)) same whole = inl refl
   meant_type span (Some (Declared decl)) same whole = type_same span decl same whole
+  meant_type span _ same whole = inl refl
 
   meant_cap : (span : Span) (meaning : Option Meaning) → SameMeaning now end meaning → ErrorFree (kinding span (capability_by (decl_of meaning) (decl_info end.infos (decl_of meaning)))).found
       → SameOrNone (kinding span (capability_by (decl_of meaning) (decl_info now.infos (decl_of meaning)))).kind.ty (kinding span (capability_by (decl_of meaning) (decl_info end.infos (decl_of meaning)))).kind.ty
-  meant_cap span None same whole = inl refl
-  meant_cap span (Some (MeansPredefined name)) same whole = inl refl
   meant_cap span (Some (Declared decl)) same whole = cap_same span decl same whole
+  meant_cap span _ same whole = inl refl
 
   pub named_same : (span : Span) (name : QualifiedName) → NameGood name → ErrorFree (named_kinding end span name).found → SameOrNone (named_kinding now span name).kind.ty (named_kinding end span name).kind.ty
   named_same span name same whole =

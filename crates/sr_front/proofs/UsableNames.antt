@@ -1,8 +1,8 @@
--- Each name in the value of a constant means a component, or what a component declares, and that is usable there.
-use Rattle.std.proofs.Common.{◌≡◌, ◌⊎◌, inl, inr, ℕ, ◌+◌, ◌≤◌, Bool, true, false, not, ◌||◌, List, [], ◌∷◌, ◌++◌, flat_map, map, Option, Some, None, Ok, if◌then◌else◌, refl, sym, ap, subst, ◌∙◌, arith}
-use Rattle.std.specs.List.{IsDistinct}
+-- What the names of a component may mean: a component, or what one declares outside of code, that is usable there.
+use Rattle.std.proofs.Common.{◌≡◌, ◌⊎◌, inl, inr, ℕ, ◌+◌, ◌≤◌, Bool, true, false, not, ◌||◌, List, [], ◌∷◌, ◌++◌, flat_map, map, Option, Some, None, if◌then◌else◌, refl, sym, ap, subst, ◌∙◌, arith}
 use Rattle.std.specs.Option.{option_and_then, option_map}
 use Rattle.std.proofs.lemmas.Bool.{false≢true}
+use Rattle.std.proofs.lemmas.Option.{none-some}
 use Rattle.sr_names.specs.declared.finding.Finding.{Finding}
 use Rattle.sr_names.specs.declared.finding.Finding.TheVariants.{Use}
 use Rattle.sr_names.specs.declared.meaning.Decl.{Decl}
@@ -19,42 +19,37 @@ use Rattle.sr_names.specs.Shown.{counted}
 use Rattle.sr_names.specs.Sorts.{needs_order}
 use Rattle.sr_names.specs.Spots.{same_spot, spot_of}
 use Rattle.sr_names.specs.Tables.{declared_as}
-use Rattle.sr_names.specs.Uses.{meaning_at}
 use Rattle.sr_names.specs.Visible.{component_at}
-use Rattle.sr_order.specs.Names.{component_names, const_names, file_names, formal_names, item_names, names_spans, spec_item_names}
+use Rattle.sr_order.specs.Names.{component_names, file_names, formal_names, item_names, spec_item_names}
 use Rattle.sr_names.proofs.LinkLemmas.{same_spot-refl}
-use Rattle.sr_scope.proofs.Among.{at_most_one, names_at, names_both, one_if}
+use Rattle.sr_scope.proofs.Among.{names_at, names_both, one_if}
 use Rattle.sr_scope.proofs.Findings.{in_either, in_left}
 use Rattle.sr_scope.proofs.FoundTypes.{formals_among}
 use Rattle.sr_scope.proofs.OwnNames.{own_names, spec_own}
-use Rattle.sr_scope.specs.Components.{component_found, decl_of, imported_names, imports_found, imports_of, item_imports, items_imports, own_twice, place_of, sort_of, specs_imports}
-use Rattle.sr_scope.specs.declared.program.Names.{Names}
-use Rattle.sr_scope.specs.Declarations.{const_found}
+use Rattle.sr_scope.specs.Components.{component_found, decl_of, imports_found, imports_of, own_twice, place_of, sort_of}
 use Rattle.sr_scope.specs.Items.{inside, item_found, item_within, items_found, served_twice, spec_found, spec_within, specs_found}
 use Rattle.sr_scope.specs.Names.{is_component}
-use Rattle.sr_scope.specs.Resolved.{program, resolved}
-use Rattle.sr_scope.specs.Types.{formal_read, formals_found, maybe_type_found}
+use Rattle.sr_scope.specs.Resolved.{program}
+use Rattle.sr_scope.specs.Types.{formal_read, formals_found}
 use Rattle.sr_scope.specs.Uses.{IsIn}
 use Rattle.sr_tables.specs.Parts.{component_spot, components_in}
 use Rattle.sr_tree.specs.declared.component.Component.{Component}
 use Rattle.sr_tree.specs.declared.component.Component.TheVariants.{Global, Resource, SplitResource}
 use Rattle.sr_tree.specs.declared.component.File.{File}
 use Rattle.sr_tree.specs.declared.component.Item.{Item}
-use Rattle.sr_tree.specs.declared.component.Item.TheVariants as item
 use Rattle.sr_tree.specs.declared.component.SpecItem.{SpecItem}
-use Rattle.sr_tree.specs.declared.component.SpecItem.TheVariants as spec
-use Rattle.sr_tree.specs.declared.declaration.ConstDecl.{ConstDecl}
 use Rattle.sr_tree.specs.declared.name.Name.{Name}
 use Rattle.sr_tree.specs.Parts.{body_of, formals_of, name_of, spec_of}
 use Rattle.sr_value.specs.declared.place.Span.{Span}
+use Rattle.sr_front.proofs.FoundInParts as part
+use Rattle.sr_front.proofs.FoundInParts.{part_fewer, part_stands}
 use Rattle.sr_front.proofs.Globals.{declared_component}
-use Rattle.sr_front.proofs.OwnOrShared.{each_at}
 use Rattle.sr_front.proofs.UsesInExprs as exprs
 use Rattle.sr_front.proofs.UsesInFiles.{own_not}
 use Rattle.sr_front.proofs.UsesTwice as twice
 use Rattle.sr_front.proofs.UsesVisible as visible
 use Rattle.sr_front.proofs.UsesVisible.{IsSeen, all_seen, found_visible, own_meaning, visible_meaning}
-use Rattle.sr_front.proofs.UsesWithin.{IsFound, Stands, by_among, imports_among, item_imports_fewer, item_stands, items_imports_fewer, items_stand, meant_within, never, spans_both, spec_imports_fewer, spec_stands, specs_imports_fewer, specs_stand, stands_left, stands_right}
+use Rattle.sr_front.proofs.UsesWithin.{IsFound, Stands, by_among, item_stands, never, spec_stands, stands_left, stands_right}
 
 -- a component, or what one declares outside of code
 pub record IsOutside (files : List File) (d : Decl) : Type 0 where
@@ -66,9 +61,6 @@ unordered : (component : Component) → needs_order (sort_of component) ≡ fals
 unordered (Resource span name formals items) = refl
 unordered (SplitResource span name spec formals items) = refl
 unordered (Global span name spec body) = refl
-
-none_some : {A : Type 0} {a : A} → None ≡ Some a → ⊥
-none_some e = cc
 
 -- ---- a meaning of which two things hold
 
@@ -121,7 +113,7 @@ module _ (files : List File) (here : Component) (there : IsIn here (components_i
   names_usable text at = by_own (declared_as outer.own text)
     where
       among : (found : Option Decl) (component : Decl) → option_and_then (λ one. component_at outer.visible one.spot) found ≡ Some component → IsIn component outer.visible
-      among None component h = absurd (none_some h)
+      among None component h = absurd (none-some _ h)
       among (Some one) component h = found_visible outer.visible one.spot component h
 
       by_visible : (found : Option Decl) → visible_named outer text ≡ found → exprs.Fits Usable at (visible_meaning around text at found)
@@ -173,16 +165,7 @@ module _ (files : List File) (here : Component) (there : IsIn here (components_i
     members = λ component named text at. both_hold Outside Usable at (member around component text at) (outside_fits.members component (right_named component named) text at) (members_usable component text at);
   }
 
-  pub nothing : exprs.BlocksFit IsRight no_blocks
-  nothing = record { innermost = exprs.none_fit IsRight; outer = tt }
-
-  -- each name in a constant
-  pub const_right : (constant : ConstDecl) → exprs.AllFit IsRight (const_found constant around no_blocks)
-  const_right constant =
-      exprs.both IsRight (maybe_type_found constant.ty around no_blocks) _ (exprs.maybe_type_fits IsRight around right_fits constant.ty no_blocks nothing)
-      (exprs.expr_fits IsRight around right_fits constant.value no_blocks nothing)
-
--- ---- what is found of a component at a name of a constant is found of the constant
+-- ---- what is found of a component is found of its spec, its formals or its body
 
 module _ (spot : Spot) (decl : Decl) where
   abbrev Found : List Finding → Type 0
@@ -192,65 +175,24 @@ module _ (spot : Spot) (decl : Decl) where
   Here = Stands spot decl
 
   pub spec_among : (items : List SpecItem) (one : SpecItem) → IsIn one items → Here (spec_item_names one) → Here (flat_map spec_item_names items)
-  spec_among [] one k h = absurd k
-  spec_among (first ∷ items) one (inl e) h = stands_left spot decl (spec_item_names first) _ (subst (λ it. Here (spec_item_names it)) (sym e) h)
-  spec_among (first ∷ items) one (inr k) h = stands_right spot decl (spec_item_names first) _ (spec_among items one k h)
+  spec_among = part_stands spot spec_item_names
 
   pub item_among : (items : List Item) (one : Item) → IsIn one items → Here (item_names one) → Here (flat_map item_names items)
-  item_among [] one k h = absurd k
-  item_among (first ∷ items) one (inl e) h = stands_left spot decl (item_names first) _ (subst (λ it. Here (item_names it)) (sym e) h)
-  item_among (first ∷ items) one (inr k) h = stands_right spot decl (item_names first) _ (item_among items one k h)
+  item_among = part_stands spot item_names
 
   pub in_spec : (items : List SpecItem) (one : SpecItem) (place : Place) → IsIn one items → Here (spec_item_names one) → names_at spot (flat_map spec_item_names items) ≤ 1
       → Found (specs_found items place no_blocks) → Found (spec_found one (inside place (spec_within one)) no_blocks)
-  in_spec [] one place k h once found = absurd k
-  in_spec (first ∷ items) one place k h once found =
-      by k (in_either (Use spot (Declared decl)) (spec_found first (inside place (spec_within first)) no_blocks) _ found)
-      (λ more. in_spec items one place more h (omega (arith, once, names_both spot (spec_item_names first) (flat_map spec_item_names items))))
-    where
-      by : (first ≡ one) ⊎ IsIn one items → Found (spec_found first (inside place (spec_within first)) no_blocks) ⊎ Found (specs_found items place no_blocks)
-          → (IsIn one items → Found (specs_found items place no_blocks) → Found (spec_found one (inside place (spec_within one)) no_blocks)) → Found (spec_found one (inside place (spec_within one)) no_blocks)
-      by (inl e) (inl f) more = subst (λ it. Found (spec_found it (inside place (spec_within it)) no_blocks)) e f
-      by (inl e) (inr f) more =
-          absurd (omega (arith, once, names_both spot (spec_item_names first) (flat_map spec_item_names items), subst (λ it. Here (spec_item_names it)) (sym e) h, specs_stand spot decl items place no_blocks f))
-      by (inr more_in) (inl f) more =
-          absurd (omega (arith, once, names_both spot (spec_item_names first) (flat_map spec_item_names items), spec_stands spot decl first (inside place (spec_within first)) no_blocks f, spec_among items one more_in h))
-      by (inr more_in) (inr f) more = more more_in f
+  in_spec items one place =
+      part.in_part spot spec_item_names (Use spot (Declared decl)) (λ it. spec_found it (inside place (spec_within it)) no_blocks) (λ all. specs_found all place no_blocks) (λ k. k)
+      (λ first all. in_either (Use spot (Declared decl)) (spec_found first (inside place (spec_within first)) no_blocks) (specs_found all place no_blocks))
+      (λ it. spec_stands spot decl it (inside place (spec_within it)) no_blocks) items one
 
   pub in_body : (items : List Item) (one : Item) (place : Place) → IsIn one items → Here (item_names one) → names_at spot (flat_map item_names items) ≤ 1
       → Found (items_found items place no_blocks) → Found (item_found one (inside place (item_within one)) no_blocks)
-  in_body [] one place k h once found = absurd k
-  in_body (first ∷ items) one place k h once found =
-      by k (in_either (Use spot (Declared decl)) (item_found first (inside place (item_within first)) no_blocks) _ found)
-      (λ more. in_body items one place more h (omega (arith, once, names_both spot (item_names first) (flat_map item_names items))))
-    where
-      by : (first ≡ one) ⊎ IsIn one items → Found (item_found first (inside place (item_within first)) no_blocks) ⊎ Found (items_found items place no_blocks)
-          → (IsIn one items → Found (items_found items place no_blocks) → Found (item_found one (inside place (item_within one)) no_blocks)) → Found (item_found one (inside place (item_within one)) no_blocks)
-      by (inl e) (inl f) more = subst (λ it. Found (item_found it (inside place (item_within it)) no_blocks)) e f
-      by (inl e) (inr f) more =
-          absurd (omega (arith, once, names_both spot (item_names first) (flat_map item_names items), subst (λ it. Here (item_names it)) (sym e) h, items_stand spot decl items place no_blocks f))
-      by (inr more_in) (inl f) more =
-          absurd (omega (arith, once, names_both spot (item_names first) (flat_map item_names items), item_stands spot decl first (inside place (item_within first)) no_blocks f, item_among items one more_in h))
-      by (inr more_in) (inr f) more = more more_in f
-
-  -- the names of imports are those of other items
-  spec_imports_but : (items : List SpecItem) (constant : ConstDecl) → IsIn (spec.Const constant) items
-      → names_at spot (const_names constant) + names_at spot (names_spans (specs_imports items)) ≤ names_at spot (flat_map spec_item_names items)
-  spec_imports_but [] constant k = absurd k
-  spec_imports_but (first ∷ items) constant (inl e) =
-      subst (λ (it : SpecItem). names_at spot (const_names constant) + names_at spot (names_spans (specs_imports (it ∷ items))) ≤ names_at spot (flat_map spec_item_names (it ∷ items))) (sym e)
-      (omega (arith, names_both spot (const_names constant) (flat_map spec_item_names items), specs_imports_fewer spot decl items))
-  spec_imports_but (first ∷ items) constant (inr k) =
-      omega (arith, spans_both spot decl (imported_names first) (specs_imports items), names_both spot (spec_item_names first) (flat_map spec_item_names items), spec_imports_fewer spot decl first, spec_imports_but items constant k)
-
-  item_imports_but : (items : List Item) (constant : ConstDecl) → IsIn (item.Spec (spec.Const constant)) items
-      → names_at spot (const_names constant) + names_at spot (names_spans (items_imports items)) ≤ names_at spot (flat_map item_names items)
-  item_imports_but [] constant k = absurd k
-  item_imports_but (first ∷ items) constant (inl e) =
-      subst (λ (it : Item). names_at spot (const_names constant) + names_at spot (names_spans (items_imports (it ∷ items))) ≤ names_at spot (flat_map item_names (it ∷ items))) (sym e)
-      (omega (arith, names_both spot (const_names constant) (flat_map item_names items), items_imports_fewer spot decl items))
-  item_imports_but (first ∷ items) constant (inr k) =
-      omega (arith, spans_both spot decl (item_imports first) (items_imports items), names_both spot (item_names first) (flat_map item_names items), item_imports_fewer spot decl first, item_imports_but items constant k)
+  in_body items one place =
+      part.in_part spot item_names (Use spot (Declared decl)) (λ it. item_found it (inside place (item_within it)) no_blocks) (λ all. items_found all place no_blocks) (λ k. k)
+      (λ first all. in_either (Use spot (Declared decl)) (item_found first (inside place (item_within first)) no_blocks) (items_found all place no_blocks))
+      (λ it. item_stands spot decl it (inside place (item_within it)) no_blocks) items one
 
   module _ (files : List File) (here : Component) (once : names_at spot (component_names here) ≤ 1) where
     abbrev pub place : Place
@@ -307,45 +249,7 @@ module _ (spot : Spot) (decl : Decl) where
     pub formal_stands : Found formals → Here of_formals
     formal_stands h = by_among spot decl _ _ (formals_among (formals_of here) (inside place None) no_blocks) h
 
-    spec_found_in : (constant : ConstDecl) → IsIn (spec.Const constant) (spec_of here) → Here (const_names constant) → Whole
-        → Found (const_found constant (inside place (Some (spot_of constant.name.span))) no_blocks)
-    spec_found_in constant among stands =
-        let total = all_names in
-        let here_in = spec_among (spec_of here) (spec.Const constant) among stands in
-        in_part
-        (λ h. absurd (omega (
-          arith,
-          total,
-          stands,
-          imports_among spot decl (program files).components (imports_of here) h,
-          spans_both spot decl (specs_imports (spec_of here)) (items_imports (body_of here)),
-          spec_imports_but (spec_of here) constant among,
-          items_imports_fewer spot decl (body_of here),
-        )))
-        (λ h. in_spec (spec_of here) (spec.Const constant) place among stands (omega (arith, total)) h)
-        (λ h. absurd (omega (arith, total, here_in, formal_stands h)))
-        (λ h. absurd (omega (arith, total, here_in, items_stand spot decl (body_of here) (inside place None) no_blocks h)))
-
-    body_found_in : (constant : ConstDecl) → IsIn (item.Spec (spec.Const constant)) (body_of here) → Here (const_names constant) → Whole
-        → Found (const_found constant (inside (inside place None) (Some (spot_of constant.name.span))) no_blocks)
-    body_found_in constant among stands =
-        let total = all_names in
-        let here_in = item_among (body_of here) (item.Spec (spec.Const constant)) among stands in
-        in_part
-        (λ h. absurd (omega (
-          arith,
-          total,
-          stands,
-          imports_among spot decl (program files).components (imports_of here) h,
-          spans_both spot decl (specs_imports (spec_of here)) (items_imports (body_of here)),
-          item_imports_but (body_of here) constant among,
-          specs_imports_fewer spot decl (spec_of here),
-        )))
-        (λ h. absurd (omega (arith, total, here_in, specs_stand spot decl (spec_of here) place no_blocks h)))
-        (λ h. absurd (omega (arith, total, here_in, formal_stands h)))
-        (λ h. in_body (body_of here) (item.Spec (spec.Const constant)) (inside place None) among stands (omega (arith, total)) h)
-
--- ---- so what a name of a constant means is right there
+-- ---- where the names of a component stand
 
 pub stands_in : (spot : Spot) (decl : Decl) (names : List Span) (span : Span) → spot ≡ spot_of span → IsIn span names → Stands spot decl names
 stands_in spot decl [] span same k = absurd k
@@ -354,47 +258,11 @@ stands_in spot decl (first ∷ names) span same (inl e) =
     (subst (λ b. 1 ≤ one_if b + 0) (sym (ap (λ at. same_spot at (spot_of first)) (same ∙ ap spot_of (sym e)) ∙ same_spot-refl (spot_of first))) (omega arith))
 stands_in spot decl (first ∷ names) span same (inr k) = stands_right spot decl (first ∷ []) names (stands_in spot decl names span same k)
 
-pub component_fewer : (spot : Spot) (all : List Component) (one : Component) → IsIn one all → names_at spot (component_names one) ≤ names_at spot (flat_map component_names all)
-component_fewer spot [] one k = absurd k
-component_fewer spot (first ∷ all) one (inl e) =
-    subst (λ it. names_at spot (component_names it) ≤ names_at spot (flat_map component_names (first ∷ all))) e (omega (arith, names_both spot (component_names first) (flat_map component_names all)))
-component_fewer spot (first ∷ all) one (inr k) = omega (arith, names_both spot (component_names first) (flat_map component_names all), component_fewer spot all one k)
-
 pub file_fewer : (spot : Spot) (files : List File) (one : Component) → IsIn one (components_in files) → names_at spot (component_names one) ≤ names_at spot (flat_map file_names files)
 file_fewer spot [] one k = absurd k
 file_fewer spot (file ∷ files) one k = by (in_either one file.components (components_in files) k) (file_fewer spot files one)
   where
     by : IsIn one file.components ⊎ IsIn one (components_in files) → (IsIn one (components_in files) → names_at spot (component_names one) ≤ names_at spot (flat_map file_names files))
         → names_at spot (component_names one) ≤ names_at spot (flat_map file_names (file ∷ files))
-    by (inl h) more = omega (arith, names_both spot (file_names file) (flat_map file_names files), component_fewer spot file.components one h)
+    by (inl h) more = omega (arith, names_both spot (file_names file) (flat_map file_names files), part_fewer spot component_names file.components one h)
     by (inr h) more = omega (arith, names_both spot (file_names file) (flat_map file_names files), more h)
-
-module _ (files : List File) (names : Names) (named : resolved files ≡ Ok names) (distinct : IsDistinct same_spot (map spot_of (flat_map file_names files)))
-    (here : Component) (there : IsIn here (components_in files)) (constant : ConstDecl) where
-  abbrev pub RightName : Span → Type 0
-  RightName used = (decl : Decl) → meaning_at names.uses (spot_of used) ≡ Some (Declared decl) → IsRight files here there (Some (spot_of constant.name.span)) (spot_of used) decl
-
-  once_at : (spot : Spot) → names_at spot (component_names here) ≤ 1
-  once_at spot = omega (arith, file_fewer spot files here there, at_most_one spot (flat_map file_names files) distinct)
-
-  found_right : (spot : Spot) (decl : Decl) → IsFound spot decl (const_found constant (around files here there (Some (spot_of constant.name.span))) no_blocks)
-      → IsRight files here there (Some (spot_of constant.name.span)) spot decl
-  found_right spot decl found =
-      let within = Some (spot_of constant.name.span) in
-      each_at (exprs.FindingFits (IsRight files here there within)) (const_found constant (around files here there within) no_blocks) (const_right files here there within constant) (Use spot (Declared decl)) found
-
-  pub spec_name_right : IsIn (spec.Const constant) (spec_of here) → (used : Span) → IsIn used (const_names constant) → RightName used
-  spec_name_right among used k decl means =
-      let spot = spot_of used in
-      let stands = stands_in spot decl (const_names constant) used refl k in
-      let whole = stands_right spot decl ((name_of here).span ∷ []) _ (stands_left spot decl (flat_map spec_item_names (spec_of here)) _ (spec_among spot decl (spec_of here) (spec.Const constant) among stands)) in
-      found_right spot decl (spec_found_in spot decl files here (once_at spot) constant among stands (meant_within files names named distinct here there spot decl whole means))
-
-  pub body_name_right : IsIn (item.Spec (spec.Const constant)) (body_of here) → (used : Span) → IsIn used (const_names constant) → RightName used
-  body_name_right among used k decl means =
-      let spot = spot_of used in
-      let stands = stands_in spot decl (const_names constant) used refl k in
-      let specs = flat_map spec_item_names (spec_of here) in
-      let formals = flat_map formal_names (formals_of here) in
-      let whole = stands_right spot decl ((name_of here).span ∷ []) _ (stands_right spot decl specs _ (stands_right spot decl formals _ (item_among spot decl (body_of here) (item.Spec (spec.Const constant)) among stands))) in
-      found_right spot decl (body_found_in spot decl files here (once_at spot) constant among stands (meant_within files names named distinct here there spot decl whole means))

@@ -2,6 +2,7 @@
 -- operation of the table, or nothing that may stand for a value.
 use Rattle.std.proofs.Common.{◌≡◌, ◌⊎◌, inl, inr, Bool, true, false, cond, List, [], ◌∷◌, ◌++◌, flat_map, map, Option, Some, None, Ok, refl, sym, ap, subst, ◌∙◌}
 use Rattle.std.proofs.lemmas.Bool.{false≢true}
+use Rattle.std.proofs.lemmas.Option.{none-some}
 use Rattle.std.specs.List.{IsDistinct}
 use Rattle.std.specs.Option.{option_map}
 use Rattle.sr_check.proofs.Each.{Each}
@@ -29,6 +30,7 @@ use Rattle.sr_order.specs.Spans.{block_operations, component_operations, inner_o
 use Rattle.sr_outline.specs.Heads.{heads_of}
 use Rattle.sr_outline.specs.Numbers.{served_spots}
 use Rattle.sr_scope.proofs.Findings.{in_either, in_left}
+use Rattle.sr_scope.proofs.Operations.{from_flat}
 use Rattle.sr_scope.proofs.OwnNames.{formal_own, item_own, own_names, spec_own}
 use Rattle.sr_scope.specs.Components.{component_found, decl_of, imports_found, imports_of, own_twice, place_of}
 use Rattle.sr_scope.specs.Declares.{op_name}
@@ -61,10 +63,12 @@ use Rattle.sr_front.proofs.DeclaredIn.{Stands, item_operations as inner_spots, i
 use Rattle.sr_front.proofs.DeclaredIn as declared_in
 use Rattle.sr_front.proofs.FixedNames.{NoVariable, component_fixed, component_no, item_fixed, own_no, spec_fixed}
 use Rattle.sr_front.proofs.Globals.{declared_component}
+use Rattle.sr_front.proofs.KeptNames.{Anywhere, all_fit}
+use Rattle.sr_front.proofs.Lists.{each_at, first_same, none_listed, rest_same}
 use Rattle.sr_front.proofs.Members.{parts_of_parts}
 use Rattle.sr_front.proofs.Operations.{tables}
 use Rattle.sr_front.proofs.OwnApart.{ops_placed, sems_placed, sorted_is}
-use Rattle.sr_front.proofs.OwnOrShared.{each_at, inner_not, is_variable, of_part, stands_among}
+use Rattle.sr_front.proofs.OwnOrShared.{inner_not, is_variable, stands_among}
 use Rattle.sr_front.proofs.Rising.{Rises}
 use Rattle.sr_front.proofs.RootedParts.{means_value}
 use Rattle.sr_front.proofs.UsesInExprs as exprs
@@ -100,14 +104,12 @@ item_placed (item.Procedure procedure) one (inl e) not = inr (inl (ap (λ (pair 
 item_placed (item.Procedure procedure) one (inr k) not = absurd k
 item_placed (item.Process process) one (inl e) not = inr (inl (ap (λ (pair : Sort × Name). spot_named pair.1) e))
 item_placed (item.Process process) one (inr k) not = absurd k
-item_placed (item.Proc proc) one k not = absurd k
-item_placed (item.Final final) one k not = absurd k
-item_placed (item.Statement statement) one k not = absurd k
+item_placed _ one k not = absurd k
 
 parts_placed : {A : Type 0} (own : A → List (Sort × Name)) (fixed operations : A → List Span) → ((part : A) (one : Sort × Name) → IsIn one (own part) → Placed (fixed part) (operations part) one) → (all : List A) (one : Sort × Name)
     → IsIn one (flat_map own all) → Placed (flat_map fixed all) (flat_map operations all) one
 parts_placed {A = A} own fixed operations each all one k not =
-    let part = of_part own all one k in
+    let part = from_flat own one all k in
     by part.0 part.1 (each part.0 one part.2 not)
   where
     by : (part : A) → IsIn part all → Stands (spot_named one.1) (fixed part) ⊎ Stands (spot_named one.1) (operations part) → Stands (spot_named one.1) (flat_map fixed all) ⊎ Stands (spot_named one.1) (flat_map operations all)
@@ -132,7 +134,7 @@ own_placed component one k not = by (in_either one (flat_map spec_own (spec_of c
     in_body (inr h) = inr (stands_right spot (flat_map spec_operations (spec_of component)) _ h)
 
     last : IsIn one (flat_map formal_own (formals_of component)) ⊎ IsIn one (flat_map item_own (body_of component)) → Stands spot (component_fixed component) ⊎ Stands spot (component_operations component)
-    last (inl h) = let part = of_part formal_own (formals_of component) one h in absurd (false≢true (sym not ∙ sym (ap is_variable (sorted_is Variable _ one part.2))))
+    last (inl h) = let part = from_flat formal_own one (formals_of component) h in absurd (false≢true (sym not ∙ sym (ap is_variable (sorted_is Variable _ one part.2))))
     last (inr h) = in_body (parts_placed item_own item_fixed item_operations item_placed (body_of component) one h not)
 
     by : IsIn one (flat_map spec_own (spec_of component)) ⊎ IsIn one (flat_map formal_own (formals_of component) ++ flat_map item_own (body_of component)) → Stands spot (component_fixed component) ⊎ Stands spot (component_operations component)
@@ -155,12 +157,10 @@ sems_stand (one ∷ some) spot (inr k) = inr (sems_stand some spot k)
 inner_stand : (one : ProcItem) (spot : Spot) → IsIn spot (declared_in.inner_operations one) → Stands spot (inner_operations one)
 inner_stand (inner.Op operations) spot k = ops_stand operations.items spot k
 inner_stand (inner.Sem declared) spot k = sems_stand declared.semaphores spot k
-inner_stand (inner.Const constant) spot k = absurd k
-inner_stand (inner.Var variables) spot k = absurd k
-inner_stand (inner.Statement statement) spot k = absurd k
+inner_stand _ spot k = absurd k
 
 block_stand : (block : List ProcItem) (spot : Spot) → IsIn spot (flat_map declared_in.inner_operations block) → Stands spot (block_operations block)
-block_stand block spot k = let part = of_part declared_in.inner_operations block spot k in stands_among inner_operations block part.0 spot part.1 (inner_stand part.0 spot part.2)
+block_stand block spot k = let part = from_flat declared_in.inner_operations spot block k in stands_among inner_operations block part.0 spot part.1 (inner_stand part.0 spot part.2)
 
 item_stand : (one : Item) (spot : Spot) → IsIn spot (inner_spots one) → Stands spot (item_operations one)
 item_stand (item.Spec declared) spot k = absurd k
@@ -172,25 +172,13 @@ item_stand (item.Final final) spot k = block_stand final.block spot k
 
 -- ---- operations are in the table
 
-first_same : (a b : Spot) (xs ys : List Spot) → a ∷ xs ≡ b ∷ ys → a ≡ b
-first_same a b xs ys e = cc
-
-rest_same : (a b : Spot) (xs ys : List Spot) → a ∷ xs ≡ b ∷ ys → xs ≡ ys
-rest_same a b xs ys e = cc
-
-none_listed : (a : Spot) (xs : List Spot) → [] ≡ a ∷ xs → ⊥
-none_listed a xs e = cc
-
-some_none : (one : Operation) → Some one ≡ None → ⊥
-some_none one e = cc
-
 not_found : (entries : List (Spot × Operation)) (spans : List Span) (spot : Spot) → keys_of entries ≡ map spot_of spans → Stands spot spans → found_at entries spot ≡ None → ⊥
 not_found entries [] spot keys stands none = stands
-not_found [] (span ∷ spans) spot keys stands none = none_listed (spot_of span) (map spot_of spans) keys
+not_found [] (span ∷ spans) spot keys stands none = none_listed (spot_of span) (map spot_of spans) (sym keys)
 not_found (entry ∷ entries) (span ∷ spans) spot keys stands none = by (same_spot spot entry.0) refl (not_found entries spans spot (rest_same entry.0 (spot_of span) (keys_of entries) (map spot_of spans) keys)) stands none
   where
     by : (b : Bool) → same_spot spot entry.0 ≡ b → (Stands spot spans → found_at entries spot ≡ None → ⊥) → Stands spot (span ∷ spans) → cond b (Some entry.1) (found_at entries spot) ≡ None → ⊥
-    by true is rest stands none = some_none entry.1 none
+    by true is rest stands none = none-some entry.1 (sym none)
     by false is rest (inl e) none =
         false≢true (sym is ∙ subst (λ at. same_spot spot at ≡ true) (sym (first_same entry.0 (spot_of span) (keys_of entries) (map spot_of spans) keys ∙ e)) (same_spot-refl spot))
     by false is rest (inr k) none = rest k none
@@ -262,13 +250,6 @@ module _ (files : List File) (names : Names) (named : resolved files ≡ Ok name
         let own = in_left one (flat_map spec_own (spec_of component)) _ k in
         (own_shared component among one own, λ is. absurd (false≢true (sym (own_not component one own) ∙ is)))
 
-    abbrev Anywhere : Spot → Type 0
-    Anywhere spot = Unit {0}
-
-    anywhere : (spots : List Spot) → Each Anywhere spots
-    anywhere [] = tt
-    anywhere (spot ∷ spots) = (tt, anywhere spots)
-
     inner_variable : (sort : Sort) → is_inner sort ≡ true → is_variable sort ≡ true
     inner_variable Constant h = refl
     inner_variable Variable h = refl
@@ -306,7 +287,7 @@ module _ (files : List File) (names : Names) (named : resolved files ≡ Ok name
     items_fit (one ∷ some) among =
         exprs.both P (item_found one (inside outer (item_within one)) no_blocks) _
         (items.item_fits P facts Anywhere Operated owned_may static_may operation_may (inside outer (item_within one)) (place_fits (item_within one)) one
-        (anywhere (item_variables facts one)) (each_in (inner_spots one) (item_spot one (among one (inl refl)))))
+        (all_fit (λ spot. spot) (item_variables facts one)) (each_in (inner_spots one) (item_spot one (among one (inl refl)))))
         (items_fit some (λ other k. among other (inr k)))
 
     imports_fit : (some : List Name) → ((name : Name) → IsIn name some → IsIn name (imports_of here)) → All (imports_found (program files).components some)

@@ -17,31 +17,32 @@ use Rattle.sr_names.specs.Readings.{declaration, reading, twice_unless}
 use Rattle.sr_names.specs.Scopes.{denotes, in_blocks, member, no_blocks, opened, or_else, outside}
 use Rattle.sr_names.specs.Spots.{spot_of}
 use Rattle.sr_names.specs.Tables.{declared_as}
-use Rattle.sr_tree.specs.declared.expr.Create.{Create, roll-Create}
-use Rattle.sr_tree.specs.declared.expr.Create.TheFolds.{fold_out-Expr, fold-roll-Create, fold-roll-Expr, fold-roll-Invocation, fold-roll-Part, ind-Create, ind-Expr, ind-Invocation, map-Create, map-Expr, map-Invocation, map-Part}
-use Rattle.sr_tree.specs.declared.expr.Create.TheOpen.{Create-F, Expr-F, Invocation-F, Part-F}
-use Rattle.sr_tree.specs.declared.expr.Expr.{Expr, out-Expr, roll-Expr}
-use Rattle.sr_tree.specs.declared.expr.Invocation.{Invocation, roll-Invocation}
-use Rattle.sr_tree.specs.declared.expr.Part.{Part, roll-Part}
+use Rattle.sr_tree.specs.declared.expr.Create.{Create}
+use Rattle.sr_tree.specs.declared.expr.Create.TheFolds.{fold_out-Expr, map-Expr}
+use Rattle.sr_tree.specs.declared.expr.Create.TheOpen.{Create-F, Expr-F}
+use Rattle.sr_tree.specs.declared.expr.Expr.{Expr, out-Expr}
+use Rattle.sr_tree.specs.declared.expr.Invocation.{Invocation}
+use Rattle.sr_tree.specs.declared.expr.Part.{Part}
 use Rattle.sr_tree.specs.declared.name.Name.{Name}
 use Rattle.sr_tree.specs.declared.name.QualifiedName.{QualifiedName}
 use Rattle.sr_tree.specs.declared.types.Decl.{Decl as DeclTree}
 use Rattle.sr_tree.specs.declared.types.DimsTree.{DimsTree}
-use Rattle.sr_tree.specs.declared.types.Formal.{Formal, roll-Formal}
+use Rattle.sr_tree.specs.declared.types.Formal.{Formal}
 use Rattle.sr_tree.specs.declared.types.RangeTree.{RangeTree}
 use Rattle.sr_tree.specs.declared.types.RangeTree.TheVariants as range
-use Rattle.sr_tree.specs.declared.types.Returned.{Returned, roll-Returned}
-use Rattle.sr_tree.specs.declared.types.Signature.{Signature, roll-Signature}
-use Rattle.sr_tree.specs.declared.types.TypeTree.{TypeTree, roll-TypeTree}
-use Rattle.sr_tree.specs.declared.types.TypeTree.TheFolds.{fold-roll-TypeTree, fold-roll-Formal, fold-roll-Returned, fold-roll-Signature, ind-TypeTree, ind-Formal, ind-Signature, map-TypeTree, map-Formal, map-Returned, map-Signature}
-use Rattle.sr_tree.specs.declared.types.TypeTree.TheOpen.{TypeTree-F, Formal-F, Returned-F, Signature-F}
+use Rattle.sr_tree.specs.declared.types.Signature.{Signature}
+use Rattle.sr_tree.specs.declared.types.TypeTree.{TypeTree}
+use Rattle.sr_tree.specs.declared.types.TypeTree.TheOpen.{TypeTree-F}
 use Rattle.sr_scope.specs.Declarations.{exprs_found, with_inner}
 use Rattle.sr_scope.specs.Declares.{name_twice, names_twice, name_declared, names_declared, returned_declared, returned_twice}
 use Rattle.sr_scope.specs.Exprs.{Finds, Reads, all_found, create_found, create_step, expr_reads, expr_step, invocation_found, invocation_step, part_found, part_step, reads_found}
 use Rattle.sr_scope.specs.Names.{component, component_named, field_found, is_component, name_found, qualified_found, second_found, spec_name_found}
-use Rattle.sr_scope.specs.Types.{Formals, Signed, decls_found, dims_found, expr_found, formal_read, formal_step, formals_declared, formals_found, formals_twice, maybe_declared, maybe_dims_found, maybe_expr_found, maybe_found, maybe_range_found, maybe_twice, maybe_type_found, range_found, returned_read, returned_step, signature_read, signature_step, signed_declared, signed_found, signed_twice, type_found, type_step}
+use Rattle.sr_scope.specs.Types.{Formals, Signed, decls_found, dims_found, expr_found, formal_read, formals_declared, formals_found, formals_twice, maybe_declared, maybe_dims_found, maybe_expr_found, maybe_found, maybe_range_found, maybe_twice, maybe_type_found, range_found, signature_read, signed_declared, signed_found, signed_twice, type_found}
 use Rattle.sr_scope.proofs.Tables.{declared_before}
 use Rattle.sr_check.proofs.Each.{Each, each-append}
+use Rattle.sr_tree.proofs.ExprFolds.{ByParts, Claim, CreateNode, ExprNode, InvocationNode, Known, PartNode, bare_create, bare_expr, bare_invocation, bare_part, create_folds, each_create, each_expr, each_invocation, expr_folds, from_create, from_expr, from_invocation, from_part, invocation_folds, part_folds}
+use Rattle.sr_scope.proofs.FoundFolds.{expr_finding, type_finding}
+use Rattle.sr_tree.proofs.TypeFolds.{FormalFits, FormalNode, KnownFormal, KnownReturned, Layers, Related, ReturnedFits, ReturnedNode, SignatureFits, SignatureNode, TypeFits, TypeNode, bare_signature, formal_related, signature_layer, signature_related, type_related}
 
 -- what a name means, by what the blocks around it declare it as
 abbrev blocks_meaning : Place → List ℕ → Spot → Option Decl → Option Meaning
@@ -251,29 +252,25 @@ module _ (P : Spot → Decl → Type 0) where
 
     -- ---- expressions with what is known of them
 
-    abbrev CreateGood : Create → Type 0
-    CreateGood tree = (blocks : Blocks) → BlocksFit blocks → AllFit (create_found tree place blocks)
+    abbrev Good : Finds → Type 0
+    Good finds = (blocks : Blocks) → BlocksFit blocks → AllFit (finds place blocks)
 
-    abbrev Good : Expr → Type 0
-    Good tree = (blocks : Blocks) → BlocksFit blocks → AllFit (expr_found tree place blocks)
+    abbrev ExprGood : Reads → Type 0
+    ExprGood reads = (blocks : Blocks) → BlocksFit blocks → AllFit (reads place blocks).found
 
-    abbrev InvocationGood : Invocation → Type 0
-    InvocationGood tree = (blocks : Blocks) → BlocksFit blocks → AllFit (invocation_found tree place blocks)
-
-    abbrev PartGood : Part → Type 0
-    PartGood tree = (blocks : Blocks) → BlocksFit blocks → AllFit (part_found tree place blocks)
-
-    abbrev C : Type 0
-    C = (tree : Create) × CreateGood tree
+    abbrev fits_all : Claim
+    fits_all = record {
+      create = λ tree. Good (create_found tree);
+      expr = λ tree. ExprGood (expr_reads tree);
+      invocation = λ tree. Good (invocation_found tree);
+      part = λ tree. Good (part_found tree);
+    }
 
     abbrev T : Type 0
-    T = (tree : Expr) × Good tree
-
-    abbrev I : Type 0
-    I = (tree : Invocation) × InvocationGood tree
+    T = Known fits_all.expr
 
     abbrev U : Type 0
-    U = (tree : Part) × PartGood tree
+    U = Known fits_all.part
 
     all_good : (blocks : Blocks) → BlocksFit blocks → (trees : List T) → AllFit (reads_found (map expr_reads (map (λ tree. tree.0) trees)) place blocks)
     all_good blocks fit [] = tt
@@ -283,33 +280,9 @@ module _ (P : Spot → Decl → Type 0) where
     parts_good blocks fit [] = tt
     parts_good blocks fit (tree ∷ trees) = both (part_found tree.0 place blocks) _ (tree.1 blocks fit) (parts_good blocks fit trees)
 
-    abbrev bare_create : Create-F C T I U → Create-F Create Expr Invocation Part
-    bare_create = map-Create C T I U Create Expr Invocation Part (λ e. e.0) (λ e. e.0) (λ e. e.0) (λ e. e.0)
-
-    abbrev bare_expr : Expr-F C T I U → Expr-F Create Expr Invocation Part
-    bare_expr = map-Expr C T I U Create Expr Invocation Part (λ e. e.0) (λ e. e.0) (λ e. e.0) (λ e. e.0)
-
-    abbrev bare_invocation : Invocation-F C T I U → Invocation-F Create Expr Invocation Part
-    bare_invocation = map-Invocation C T I U Create Expr Invocation Part (λ e. e.0) (λ e. e.0) (λ e. e.0) (λ e. e.0)
-
-    abbrev bare_part : Part-F C T I U → Part-F Create Expr Invocation Part
-    bare_part = map-Part C T I U Create Expr Invocation Part (λ e. e.0) (λ e. e.0) (λ e. e.0) (λ e. e.0)
-
-    abbrev create_of : Create-F Create Expr Invocation Part → Finds
-    create_of x = create_step (map-Create Create Expr Invocation Part Finds Reads Finds Finds create_found expr_reads invocation_found part_found x)
-
-    abbrev expr_of : Expr-F Create Expr Invocation Part → Reads
-    expr_of x = expr_step (map-Expr Create Expr Invocation Part Finds Reads Finds Finds create_found expr_reads invocation_found part_found x)
-
-    abbrev invocation_of : Invocation-F Create Expr Invocation Part → Finds
-    invocation_of x = invocation_step (map-Invocation Create Expr Invocation Part Finds Reads Finds Finds create_found expr_reads invocation_found part_found x)
-
-    abbrev part_of : Part-F Create Expr Invocation Part → Finds
-    part_of x = part_step (map-Part Create Expr Invocation Part Finds Reads Finds Finds create_found expr_reads invocation_found part_found x)
-
     -- ---- each kind of expression from its parts
 
-    create_good : (y : Create-F C T I U) (blocks : Blocks) → BlocksFit blocks → AllFit (create_of (bare_create y) place blocks)
+    create_good : (y : CreateNode fits_all) → Good (from_create expr_finding (bare_create fits_all y))
     create_good (Create-F.Resource span resource arguments None) blocks fit =
         both (qualified_found place blocks resource) _ (qualified_fits blocks fit resource) (both (reads_found (map expr_reads (map (λ (tree : T). tree.0) arguments)) place blocks) [] (all_good blocks fit arguments) tt)
     create_good (Create-F.Resource span resource arguments (Some machine)) blocks fit =
@@ -317,7 +290,7 @@ module _ (P : Spot → Decl → Type 0) where
         (both (reads_found (map expr_reads (map (λ (tree : T). tree.0) arguments)) place blocks) _ (all_good blocks fit arguments) (machine.1 blocks fit))
     create_good (Create-F.Machine span) blocks fit = tt
 
-    expr_good : (y : Expr-F C T I U) (blocks : Blocks) → BlocksFit blocks → AllFit (expr_of (bare_expr y) place blocks).found
+    expr_good : (y : ExprNode fits_all) → ExprGood (from_expr expr_finding (bare_expr fits_all y))
     expr_good (Expr-F.Literal span literal) blocks fit = tt
     expr_good (Expr-F.Name name) blocks fit = name_fits blocks fit name
     expr_good (Expr-F.BasicType span basic) blocks fit = tt
@@ -336,42 +309,34 @@ module _ (P : Spot → Decl → Type 0) where
     expr_good (Expr-F.Pending span operation) blocks fit = name_fits blocks fit operation
     expr_good (Expr-F.Binary span left operator right) blocks fit = both (expr_found left.0 place blocks) _ (left.1 blocks fit) (right.1 blocks fit)
 
-    invocation_good : (y : Invocation-F C T I U) (blocks : Blocks) → BlocksFit blocks → AllFit (invocation_of (bare_invocation y) place blocks)
+    invocation_good : (y : InvocationNode fits_all) → Good (from_invocation expr_finding (bare_invocation fits_all y))
     invocation_good y blocks fit = both (expr_found y.callee.0 place blocks) _ (y.callee.1 blocks fit) (all_good blocks fit y.arguments)
 
-    part_by : (span : Span) (count : Option T) (value : T) (blocks : Blocks) → BlocksFit blocks → AllFit (part_of (bare_part (record { span = span; count = count; value = value })) place blocks)
-    part_by span None value blocks fit = value.1 blocks fit
-    part_by span (Some count) value blocks fit = both (expr_found count.0 place blocks) _ (count.1 blocks fit) (value.1 blocks fit)
+    part_by : (y : PartNode fits_all) (count : Option T) → Good (from_part expr_finding (bare_part fits_all (record y { count = count })))
+    part_by y None blocks fit = y.value.1 blocks fit
+    part_by y (Some count) blocks fit = both (expr_found count.0 place blocks) _ (count.1 blocks fit) (y.value.1 blocks fit)
 
-    part_good : (y : Part-F C T I U) (blocks : Blocks) → BlocksFit blocks → AllFit (part_of (bare_part y) place blocks)
-    part_good y = part_by y.span y.count y.value
+    part_good : (y : PartNode fits_all) → Good (from_part expr_finding (bare_part fits_all y))
+    part_good y = part_by y y.count
 
     -- ---- all expressions
 
-    step_create : (x : Create-F Create Expr Invocation Part) (y : Create-F C T I U) → bare_create y ≡ x → CreateGood (roll-Create x)
-    step_create x y is = subst (λ z. CreateGood (roll-Create z)) is (λ blocks fit.
-        subst (λ (finds : Finds). AllFit (finds place blocks)) (sym (fold-roll-Create Finds Reads Finds Finds create_step expr_step invocation_step part_step (bare_create y))) (create_good y blocks fit))
+    by_parts : ByParts fits_all
+    by_parts = record {
+      create = λ y. subst Good (create_folds expr_finding (bare_create fits_all y)) (create_good y);
+      expr = λ y. subst ExprGood (expr_folds expr_finding (bare_expr fits_all y)) (expr_good y);
+      invocation = λ y. subst Good (invocation_folds expr_finding (bare_invocation fits_all y)) (invocation_good y);
+      part = λ y. subst Good (part_folds expr_finding (bare_part fits_all y)) (part_good y);
+    }
 
-    step_expr : (x : Expr-F Create Expr Invocation Part) (y : Expr-F C T I U) → bare_expr y ≡ x → Good (roll-Expr x)
-    step_expr x y is = subst (λ z. Good (roll-Expr z)) is (λ blocks fit.
-        subst (λ (reads : Reads). AllFit (reads place blocks).found) (sym (fold-roll-Expr Finds Reads Finds Finds create_step expr_step invocation_step part_step (bare_expr y))) (expr_good y blocks fit))
+    pub expr_fits : (tree : Expr) (blocks : Blocks) → BlocksFit blocks → AllFit (expr_found tree place blocks)
+    expr_fits = each_expr fits_all by_parts
 
-    step_invocation : (x : Invocation-F Create Expr Invocation Part) (y : Invocation-F C T I U) → bare_invocation y ≡ x → InvocationGood (roll-Invocation x)
-    step_invocation x y is = subst (λ z. InvocationGood (roll-Invocation z)) is (λ blocks fit.
-        subst (λ (finds : Finds). AllFit (finds place blocks)) (sym (fold-roll-Invocation Finds Reads Finds Finds create_step expr_step invocation_step part_step (bare_invocation y))) (invocation_good y blocks fit))
+    pub create_fits : (tree : Create) (blocks : Blocks) → BlocksFit blocks → AllFit (create_found tree place blocks)
+    create_fits = each_create fits_all by_parts
 
-    step_part : (x : Part-F Create Expr Invocation Part) (y : Part-F C T I U) → bare_part y ≡ x → PartGood (roll-Part x)
-    step_part x y is = subst (λ z. PartGood (roll-Part z)) is (λ blocks fit.
-        subst (λ (finds : Finds). AllFit (finds place blocks)) (sym (fold-roll-Part Finds Reads Finds Finds create_step expr_step invocation_step part_step (bare_part y))) (part_good y blocks fit))
-
-    pub expr_fits : (tree : Expr) → Good tree
-    expr_fits = ind-Expr CreateGood Good InvocationGood PartGood step_create step_expr step_invocation step_part
-
-    pub create_fits : (tree : Create) → CreateGood tree
-    create_fits = ind-Create CreateGood Good InvocationGood PartGood step_create step_expr step_invocation step_part
-
-    pub invocation_fits : (tree : Invocation) → InvocationGood tree
-    invocation_fits = ind-Invocation CreateGood Good InvocationGood PartGood step_create step_expr step_invocation step_part
+    pub invocation_fits : (tree : Invocation) (blocks : Blocks) → BlocksFit blocks → AllFit (invocation_found tree place blocks)
+    invocation_fits = each_invocation fits_all by_parts
 
     pub maybe_expr_fits : (tree : Option Expr) (blocks : Blocks) → BlocksFit blocks → AllFit (maybe_expr_found tree place blocks)
     maybe_expr_fits None blocks fit = tt
@@ -406,61 +371,34 @@ module _ (P : Spot → Decl → Type 0) where
 
     -- ---- types with what is known of them
 
-    abbrev TypeGood : TypeTree → Type 0
-    TypeGood tree = (blocks : Blocks) → BlocksFit blocks → AllFit (type_found tree place blocks)
+    abbrev TypesFit : Finds → Finds → Finds → Type 0
+    TypesFit finds second third = (blocks : Blocks) → BlocksFit blocks → AllFit (finds place blocks)
 
-    abbrev FormalGood : Formal → Type 0
-    FormalGood tree = (blocks : Blocks) → BlocksFit blocks → AllFit ((formal_read tree).found place blocks)
+    abbrev FormalsFit : Formals → Formals → Formals → Type 0
+    FormalsFit read second third = (blocks : Blocks) → BlocksFit blocks → AllFit (read.found place blocks)
 
-    abbrev ReturnedGood : Returned → Type 0
-    ReturnedGood tree = (blocks : Blocks) → BlocksFit blocks → AllFit ((returned_read tree).found place blocks)
+    abbrev SignaturesFit : Signed → Signed → Signed → Type 0
+    SignaturesFit signed second third = (blocks : Blocks) → BlocksFit blocks → AllFit (signed_found signed place blocks)
 
-    abbrev SignatureGood : Signature → Type 0
-    SignatureGood tree = (blocks : Blocks) → BlocksFit blocks → AllFit (signed_found (signature_read tree) place blocks)
-
-    abbrev Y : Type 0
-    Y = (tree : TypeTree) × TypeGood tree
+    abbrev fitting : Related
+    fitting = record { first = type_finding; second = type_finding; third = type_finding; Types = TypesFit; Formals = FormalsFit; Returns = FormalsFit; Signatures = SignaturesFit }
 
     abbrev F : Type 0
-    F = (tree : Formal) × FormalGood tree
+    F = KnownFormal fitting
 
     abbrev R : Type 0
-    R = (tree : Returned) × ReturnedGood tree
+    R = KnownReturned fitting
 
-    abbrev G : Type 0
-    G = (tree : Signature) × SignatureGood tree
+    abbrev read : SignatureNode fitting → Signed
+    read y = signature_layer type_finding (bare_signature fitting y)
 
     formals_good : (blocks : Blocks) → BlocksFit blocks → (trees : List F) → AllFit (formals_found (map formal_read (map (λ tree. tree.0) trees)) place blocks)
     formals_good blocks fit [] = tt
     formals_good blocks fit (tree ∷ trees) = both ((formal_read tree.0).found place blocks) _ (tree.1 blocks fit) (formals_good blocks fit trees)
 
-    abbrev bare_type : TypeTree-F Y F R G → TypeTree-F TypeTree Formal Returned Signature
-    bare_type = map-TypeTree Y F R G TypeTree Formal Returned Signature (λ e. e.0) (λ e. e.0) (λ e. e.0) (λ e. e.0)
-
-    abbrev bare_formal : Formal-F Y F R G → Formal-F TypeTree Formal Returned Signature
-    bare_formal = map-Formal Y F R G TypeTree Formal Returned Signature (λ e. e.0) (λ e. e.0) (λ e. e.0) (λ e. e.0)
-
-    abbrev bare_returned : Returned-F Y F R G → Returned-F TypeTree Formal Returned Signature
-    bare_returned = map-Returned Y F R G TypeTree Formal Returned Signature (λ e. e.0) (λ e. e.0) (λ e. e.0) (λ e. e.0)
-
-    abbrev bare_signature : Signature-F Y F R G → Signature-F TypeTree Formal Returned Signature
-    bare_signature = map-Signature Y F R G TypeTree Formal Returned Signature (λ e. e.0) (λ e. e.0) (λ e. e.0) (λ e. e.0)
-
-    abbrev type_of : TypeTree-F TypeTree Formal Returned Signature → Finds
-    type_of x = type_step (map-TypeTree TypeTree Formal Returned Signature Finds Formals Formals Signed type_found formal_read returned_read signature_read x)
-
-    abbrev formal_of : Formal-F TypeTree Formal Returned Signature → Formals
-    formal_of x = formal_step (map-Formal TypeTree Formal Returned Signature Finds Formals Formals Signed type_found formal_read returned_read signature_read x)
-
-    abbrev returned_of : Returned-F TypeTree Formal Returned Signature → Formals
-    returned_of x = returned_step (map-Returned TypeTree Formal Returned Signature Finds Formals Formals Signed type_found formal_read returned_read signature_read x)
-
-    abbrev signature_of : Signature-F TypeTree Formal Returned Signature → Signed
-    signature_of x = signature_step (map-Signature TypeTree Formal Returned Signature Finds Formals Formals Signed type_found formal_read returned_read signature_read x)
-
     -- ---- each kind of type from its parts
 
-    type_good : (y : TypeTree-F Y F R G) (blocks : Blocks) → BlocksFit blocks → AllFit (type_of (bare_type y) place blocks)
+    type_good : (y : TypeNode fitting) → TypeFits fitting y
     type_good (TypeTree-F.Int span) blocks fit = tt
     type_good (TypeTree-F.Bool span) blocks fit = tt
     type_good (TypeTree-F.Char span) blocks fit = tt
@@ -474,48 +412,35 @@ module _ (P : Spot → Decl → Type 0) where
     type_good (TypeTree-F.Array span dims item) blocks fit = both (dims_found dims place blocks) _ (dims_fit dims blocks fit) (item.1 blocks fit)
     type_good (TypeTree-F.Named span name) blocks fit = qualified_fits blocks fit name
 
-    formal_good : (y : Formal-F Y F R G) (blocks : Blocks) → BlocksFit blocks → AllFit ((formal_of (bare_formal y)).found place blocks)
+    formal_good : (y : FormalNode fitting) → FormalFits fitting y
     formal_good y blocks fit = both (decls_found y.decls place blocks) _ (decls_fit y.decls blocks fit) (y.ty.1 blocks fit)
 
-    returned_good : (y : Returned-F Y F R G) (blocks : Blocks) → BlocksFit blocks → AllFit ((returned_of (bare_returned y)).found place blocks)
+    returned_good : (y : ReturnedNode fitting) → ReturnedFits fitting y
     returned_good y blocks fit = both (maybe_dims_found y.decl.dims place blocks) _ (maybe_dims_fit y.decl.dims blocks fit) (y.ty.1 blocks fit)
 
-    signature_good : (y : Signature-F Y F R G) (blocks : Blocks) → BlocksFit blocks → AllFit (signed_found (signature_of (bare_signature y)) place blocks)
+    signature_good : (y : SignatureNode fitting) → SignatureFits fitting y
     signature_good y blocks fit =
-        both (signed_twice (signature_of (bare_signature y)) []) _ (signed_twice_fit (signature_of (bare_signature y)) []) (by y.returned)
+        both (signed_twice (read y) []) _ (signed_twice_fit (read y) []) (by y.returned)
       where
         by : (returned : Option R)
-            → AllFit (formals_found (signature_of (bare_signature (record y { returned = returned }))).formals place blocks
-            ++ maybe_found (signature_of (bare_signature (record y { returned = returned }))).returned place blocks)
+            → AllFit (formals_found (read (record y { returned = returned })).formals place blocks
+            ++ maybe_found (read (record y { returned = returned })).returned place blocks)
         by None = both (formals_found (map formal_read (map (λ (tree : F). tree.0) y.formals)) place blocks) [] (formals_good blocks fit y.formals) tt
         by (Some returned) = both (formals_found (map formal_read (map (λ (tree : F). tree.0) y.formals)) place blocks) _ (formals_good blocks fit y.formals) (returned.1 blocks fit)
 
     -- ---- all types
 
-    step_type : (x : TypeTree-F TypeTree Formal Returned Signature) (y : TypeTree-F Y F R G) → bare_type y ≡ x → TypeGood (roll-TypeTree x)
-    step_type x y is = subst (λ z. TypeGood (roll-TypeTree z)) is (λ blocks fit.
-        subst (λ (finds : Finds). AllFit (finds place blocks)) (sym (fold-roll-TypeTree Finds Formals Formals Signed type_step formal_step returned_step signature_step (bare_type y))) (type_good y blocks fit))
+    layers : Layers fitting
+    layers = record { types = type_good; formals = formal_good; returns = returned_good; signatures = signature_good }
 
-    step_formal : (x : Formal-F TypeTree Formal Returned Signature) (y : Formal-F Y F R G) → bare_formal y ≡ x → FormalGood (roll-Formal x)
-    step_formal x y is = subst (λ z. FormalGood (roll-Formal z)) is (λ blocks fit.
-        subst (λ (read : Formals). AllFit (read.found place blocks)) (sym (fold-roll-Formal Finds Formals Formals Signed type_step formal_step returned_step signature_step (bare_formal y))) (formal_good y blocks fit))
+    pub type_fits : (tree : TypeTree) (blocks : Blocks) → BlocksFit blocks → AllFit (type_found tree place blocks)
+    type_fits = type_related fitting layers
 
-    step_returned : (x : Returned-F TypeTree Formal Returned Signature) (y : Returned-F Y F R G) → bare_returned y ≡ x → ReturnedGood (roll-Returned x)
-    step_returned x y is = subst (λ z. ReturnedGood (roll-Returned z)) is (λ blocks fit.
-        subst (λ (read : Formals). AllFit (read.found place blocks)) (sym (fold-roll-Returned Finds Formals Formals Signed type_step formal_step returned_step signature_step (bare_returned y))) (returned_good y blocks fit))
+    formal_fits : (tree : Formal) (blocks : Blocks) → BlocksFit blocks → AllFit ((formal_read tree).found place blocks)
+    formal_fits = formal_related fitting layers
 
-    step_signature : (x : Signature-F TypeTree Formal Returned Signature) (y : Signature-F Y F R G) → bare_signature y ≡ x → SignatureGood (roll-Signature x)
-    step_signature x y is = subst (λ z. SignatureGood (roll-Signature z)) is (λ blocks fit.
-        subst (λ (signed : Signed). AllFit (signed_found signed place blocks)) (sym (fold-roll-Signature Finds Formals Formals Signed type_step formal_step returned_step signature_step (bare_signature y))) (signature_good y blocks fit))
-
-    pub type_fits : (tree : TypeTree) → TypeGood tree
-    type_fits = ind-TypeTree TypeGood FormalGood ReturnedGood SignatureGood step_type step_formal step_returned step_signature
-
-    formal_fits : (tree : Formal) → FormalGood tree
-    formal_fits = ind-Formal TypeGood FormalGood ReturnedGood SignatureGood step_type step_formal step_returned step_signature
-
-    pub signature_fits : (tree : Signature) → SignatureGood tree
-    signature_fits = ind-Signature TypeGood FormalGood ReturnedGood SignatureGood step_type step_formal step_returned step_signature
+    pub signature_fits : (tree : Signature) (blocks : Blocks) → BlocksFit blocks → AllFit (signed_found (signature_read tree) place blocks)
+    signature_fits = signature_related fitting layers
 
     pub formals_fit : (formals : List Formal) (blocks : Blocks) → BlocksFit blocks → AllFit (formals_found (map formal_read formals) place blocks)
     formals_fit [] blocks fit = tt

@@ -47,13 +47,13 @@ use Rattle.sr_scope.proofs.OwnNames.{formal_own, item_own, own_names, spec_own}
 use Rattle.sr_scope.proofs.Tables.{sorted}
 use Rattle.sr_check_expr.specs.PredefinedCalls.{is_resource}
 use Rattle.sr_front.proofs.DeclaredIn.{item_operations, item_variables}
+use Rattle.sr_front.proofs.KeptNames.{Anywhere, all_fit}
 use Rattle.sr_front.proofs.UsesInExprs as exprs
 use Rattle.sr_front.proofs.UsesInItems as items
 use Rattle.sr_front.proofs.UsesInStatements.{is_inner}
 use Rattle.sr_front.proofs.UsesOutside as outside
 use Rattle.sr_front.proofs.UsesTwice as twice
 use Rattle.sr_tables.specs.Parts.{components_in}
-use Rattle.sr_check.proofs.Each.{Each}
 use Rattle.sr_check_expr.specs.declared.facts.Facts.{Facts}
 
 -- a declaration of a resource is that of a component
@@ -108,9 +108,7 @@ item_not : (one : Item) → AreNot (item_own one)
 item_not (item.Spec declared) = spec_not declared
 item_not (item.Procedure procedure) = one_not Operation procedure.name refl
 item_not (item.Process process) = one_not Operation process.name refl
-item_not (item.Proc proc) = none_not
-item_not (item.Final final) = none_not
-item_not (item.Statement statement) = none_not
+item_not _ = none_not
 
 pub own_not : (component : Component) → AreNot (own_names component)
 own_not component =
@@ -149,13 +147,6 @@ module _ (files : List File) (facts : Facts) where
   abbrev in_all : Spot → Decl → Type 0
   in_all = MeansResource components
 
-  abbrev Anywhere : Spot → Type 0
-  Anywhere spot = Unit {0}
-
-  anywhere : (spots : List Spot) → Each Anywhere spots
-  anywhere [] = tt
-  anywhere (spot ∷ spots) = (tt, anywhere spots)
-
   one_may : (component : Component) → IsIn component components → (at : Spot) → in_all at (decl_of component)
   one_may component there at is = record { component = component; there = there; is = refl }
 
@@ -184,7 +175,7 @@ module _ (files : List File) (facts : Facts) where
     item_fits : (one : Item) (within : Option Spot) → All components (item_found one (inside place within) no_blocks)
     item_fits one within =
         items.item_fits in_all facts Anywhere Anywhere (λ at sort span is own. local components at sort span is) (λ at span is. local components at Constant span refl)
-        (λ at span operated. plain components at Operation span refl) (inside place within) (place_fits within) one (anywhere (item_variables facts one)) (anywhere (item_operations one))
+        (λ at span operated. plain components at Operation span refl) (inside place within) (place_fits within) one (all_fit (λ spot. spot) (item_variables facts one)) (all_fit (λ spot. spot) (item_operations one))
 
     items_fit : (items : List Item) → All components (items_found items (inside place None) no_blocks)
     items_fit [] = tt

@@ -24,29 +24,24 @@ use Rattle.sr_tree.specs.declared.declaration.VarDecl.{VarDecl}
 use Rattle.sr_tree.specs.declared.expr.Expr.{Expr}
 use Rattle.sr_tree.specs.declared.expr.Invocation.{Invocation}
 use Rattle.sr_tree.specs.declared.name.Name.{Name}
-use Rattle.sr_tree.specs.declared.statement.Arm.{Arm, roll-Arm}
 use Rattle.sr_tree.specs.declared.statement.ArmCondition.{ArmCondition}
-use Rattle.sr_tree.specs.declared.statement.BlockItem.{BlockItem, roll-BlockItem}
-use Rattle.sr_tree.specs.declared.statement.BlockItem.TheFolds.{fold-roll-Arm, fold-roll-BlockItem, fold-roll-Branch, fold-roll-CoArm, fold-roll-Statement, ind-Statement, map-Arm, map-BlockItem, map-Branch, map-CoArm, map-Statement}
-use Rattle.sr_tree.specs.declared.statement.BlockItem.TheOpen.{Arm-F, BlockItem-F, Branch-F, CoArm-F, Statement-F}
-use Rattle.sr_tree.specs.declared.statement.Branch.{Branch, roll-Branch}
-use Rattle.sr_tree.specs.declared.statement.CoArm.{CoArm, roll-CoArm}
+use Rattle.sr_tree.specs.declared.statement.BlockItem.TheOpen.{BlockItem-F, Statement-F}
 use Rattle.sr_tree.specs.declared.statement.Quantifier.{Quantifier}
-use Rattle.sr_tree.specs.declared.statement.Statement.{Statement, roll-Statement}
+use Rattle.sr_tree.specs.declared.statement.Statement.{Statement}
 use Rattle.sr_scope.specs.Declarations.{bounds_found, const_found, op_item_found, op_items_found, quantifier_found, quantifiers_found, semaphores_found, var_found, var_names, with_inner, with_quantifier, with_quantifiers}
 use Rattle.sr_scope.specs.Declares as declares
 use Rattle.sr_scope.specs.Declares.{name_twice, names_declared, op_name}
 use Rattle.sr_scope.specs.Exprs.{Finds, all_found, invocation_found}
 use Rattle.sr_scope.specs.Names.{name_found}
 use Rattle.sr_scope.specs.Procs.{final_found, proc_found, proc_item_read, proc_items_found, procedure_found, process_found, quantifier_names, semaphore_names}
-use Rattle.sr_scope.specs.Statements.{Step, Steps, arm_found, arm_scope, arm_step, arm_twice, block_found, branch_found, branch_step, co_arm_found, co_arm_step, condition_found, item_read, item_step, statement_found, statement_step, steps_found}
+use Rattle.sr_scope.specs.Statements.{Step, Steps, arm_found, arm_scope, arm_twice, block_found, branch_found, co_arm_found, condition_found, item_read, statement_found, steps_found}
 use Rattle.sr_scope.specs.Types.{Formals, Signed, decls_found, expr_found, formal_read, formal_step, maybe_expr_found, maybe_type_found, returned_read, returned_step, signature_read, signature_step, signed_declared, signed_found, signed_twice, type_found, type_step}
 use Rattle.sr_names.specs.declared.finding.Finding.{Finding}
 use Rattle.sr_check.proofs.Each.{Each, each-left, each-right}
 use Rattle.sr_check_expr.specs.declared.facts.Facts.{Facts}
 use Rattle.sr_check_expr.specs.Meanings.{is_constant}
 use Rattle.sr_names.specs.Spots.{spot_of}
-use Rattle.sr_outline.specs.Numbers.{arm_names, block_item_names, co_arm_names, const_names, formal_names, formal_spots, quantifier_names as quantifier_spots, returned_names, signature_returned, var_names as var_spots}
+use Rattle.sr_outline.specs.Numbers.{const_names, formal_names, formal_spots, quantifier_names as quantifier_spots, returned_names, signature_returned, var_names as var_spots}
 use Rattle.sr_tables.specs.Lists.{lists, maybe}
 use Rattle.sr_tables.specs.Parts.{spot_named}
 use Rattle.sr_tree.specs.declared.types.Decl.{Decl as DeclTree}
@@ -56,7 +51,9 @@ use Rattle.sr_tree.specs.declared.types.Signature.{Signature, out-Signature}
 use Rattle.sr_tree.specs.declared.types.TypeTree.TheFolds.{fold_out-Formal, fold_out-Returned, fold_out-Signature, map-Signature}
 use Rattle.sr_tree.specs.declared.types.TypeTree.{TypeTree}
 use Rattle.sr_tree.specs.declared.types.TypeTree.TheOpen.{Signature-F}
-use Rattle.sr_front.proofs.DeclaredIn.{arm_declared, branch_declared, co_arm_declared, declared_in, inner_declared, inner_operations, item_declared, statement_declared}
+use Rattle.sr_front.proofs.DeclaredIn.{arm_declared, branch_declared, co_arm_declared, declared, declared_in, inner_declared, inner_operations, item_declared}
+use Rattle.sr_scope.proofs.FoundFolds.{finding}
+use Rattle.sr_tree.proofs.StatementFolds.{ArmNode, BranchNode, ByParts, Claim, CoArmNode, ItemNode, Known, StatementNode, arm_folds, bare_arm, bare_branch, bare_co_arm, bare_item, bare_statement, branch_folds, co_arm_folds, each_statement, from_arm, from_branch, from_co_arm, from_item, from_statement, item_folds, statement_folds}
 use Rattle.sr_front.proofs.UsesInExprs as exprs
 use Rattle.sr_front.proofs.UsesInExprs.{AllFit, BlocksFit, MayMean, MayReturn, PlaceFits, TableFits}
 
@@ -239,35 +236,29 @@ module _ (P : Spot → Decl → Type 0) (facts : Facts) (Owned Operated : Spot �
       pub found : All step.found
       pub inner : Table step.inner
 
-    abbrev ItemGood : BlockItem → Type 0
-    ItemGood tree = Own (item_declared facts tree) → (blocks : Blocks) → Fit blocks → StepFits (item_read tree place blocks)
+    abbrev ItemFits : List Spot → Steps → Type 0
+    ItemFits names steps = Own names → (blocks : Blocks) → Fit blocks → StepFits (steps place blocks)
 
-    abbrev Good : Statement → Type 0
-    Good tree = Own (declared_in facts tree) → (blocks : Blocks) → Fit blocks → All (statement_found tree place blocks)
+    abbrev Fits : List Spot → Finds → Type 0
+    Fits names finds = Own names → (blocks : Blocks) → Fit blocks → All (finds place blocks)
 
-    abbrev ArmGood : Arm → Type 0
-    ArmGood tree = Own (arm_declared facts tree) → (blocks : Blocks) → Fit blocks → All (arm_found tree place blocks)
-
-    abbrev BranchGood : Branch → Type 0
-    BranchGood tree = Own (branch_declared facts tree) → (blocks : Blocks) → Fit blocks → All (branch_found tree place blocks)
-
-    abbrev CoArmGood : CoArm → Type 0
-    CoArmGood tree = Own (co_arm_declared facts tree) → (blocks : Blocks) → Fit blocks → All (co_arm_found tree place blocks)
+    abbrev fitting : Claim
+    fitting = record {
+      item = λ tree. ItemFits (item_declared facts tree) (item_read tree);
+      statement = λ tree. Fits (declared_in facts tree) (statement_found tree);
+      arm = λ tree. Fits (arm_declared facts tree) (arm_found tree);
+      branch = λ tree. Fits (branch_declared facts tree) (branch_found tree);
+      co_arm = λ tree. Fits (co_arm_declared facts tree) (co_arm_found tree);
+    }
 
     abbrev I : Type 0
-    I = (tree : BlockItem) × ItemGood tree
-
-    abbrev T : Type 0
-    T = (tree : Statement) × Good tree
+    I = Known fitting.item
 
     abbrev A : Type 0
-    A = (tree : Arm) × ArmGood tree
+    A = Known fitting.arm
 
     abbrev B : Type 0
-    B = (tree : Branch) × BranchGood tree
-
-    abbrev C : Type 0
-    C = (tree : CoArm) × CoArmGood tree
+    B = Known fitting.branch
 
     items_good : (items : List I) → Own (lists (map (item_declared facts) (map (λ (e : I). e.0) items))) → (blocks : Blocks) → Fit blocks
         → All (steps_found (map item_read (map (λ (e : I). e.0) items)) place blocks)
@@ -288,54 +279,9 @@ module _ (P : Spot → Decl → Type 0) (facts : Facts) (Owned Operated : Spot �
     all_good finds names (tree ∷ trees) own blocks fit =
         both (finds tree.0 place blocks) _ (tree.1 (each-left Owned (names tree.0) _ own) blocks fit) (all_good finds names trees (each-right Owned (names tree.0) _ own) blocks fit)
 
-    abbrev bare_item : BlockItem-F I T A B C → BlockItem-F BlockItem Statement Arm Branch CoArm
-    bare_item = map-BlockItem I T A B C BlockItem Statement Arm Branch CoArm (λ e. e.0) (λ e. e.0) (λ e. e.0) (λ e. e.0) (λ e. e.0)
-
-    abbrev bare : Statement-F I T A B C → Statement-F BlockItem Statement Arm Branch CoArm
-    bare = map-Statement I T A B C BlockItem Statement Arm Branch CoArm (λ e. e.0) (λ e. e.0) (λ e. e.0) (λ e. e.0) (λ e. e.0)
-
-    abbrev bare_arm : Arm-F I T A B C → Arm-F BlockItem Statement Arm Branch CoArm
-    bare_arm = map-Arm I T A B C BlockItem Statement Arm Branch CoArm (λ e. e.0) (λ e. e.0) (λ e. e.0) (λ e. e.0) (λ e. e.0)
-
-    abbrev bare_branch : Branch-F I T A B C → Branch-F BlockItem Statement Arm Branch CoArm
-    bare_branch = map-Branch I T A B C BlockItem Statement Arm Branch CoArm (λ e. e.0) (λ e. e.0) (λ e. e.0) (λ e. e.0) (λ e. e.0)
-
-    abbrev bare_co_arm : CoArm-F I T A B C → CoArm-F BlockItem Statement Arm Branch CoArm
-    bare_co_arm = map-CoArm I T A B C BlockItem Statement Arm Branch CoArm (λ e. e.0) (λ e. e.0) (λ e. e.0) (λ e. e.0) (λ e. e.0)
-
-    abbrev item_of : BlockItem-F BlockItem Statement Arm Branch CoArm → Steps
-    item_of x = item_step (map-BlockItem BlockItem Statement Arm Branch CoArm Steps Finds Finds Finds Finds item_read statement_found arm_found branch_found co_arm_found x)
-
-    abbrev statement_of : Statement-F BlockItem Statement Arm Branch CoArm → Finds
-    statement_of x = statement_step (map-Statement BlockItem Statement Arm Branch CoArm Steps Finds Finds Finds Finds item_read statement_found arm_found branch_found co_arm_found x)
-
-    abbrev arm_of : Arm-F BlockItem Statement Arm Branch CoArm → Finds
-    arm_of x = arm_step (map-Arm BlockItem Statement Arm Branch CoArm Steps Finds Finds Finds Finds item_read statement_found arm_found branch_found co_arm_found x)
-
-    abbrev branch_of : Branch-F BlockItem Statement Arm Branch CoArm → Finds
-    branch_of x = branch_step (map-Branch BlockItem Statement Arm Branch CoArm Steps Finds Finds Finds Finds item_read statement_found arm_found branch_found co_arm_found x)
-
-    abbrev co_arm_of : CoArm-F BlockItem Statement Arm Branch CoArm → Finds
-    co_arm_of x = co_arm_step (map-CoArm BlockItem Statement Arm Branch CoArm Steps Finds Finds Finds Finds item_read statement_found arm_found branch_found co_arm_found x)
-
-    abbrev names_of_item : BlockItem-F BlockItem Statement Arm Branch CoArm → List Spot
-    names_of_item x = block_item_names facts (map-BlockItem BlockItem Statement Arm Branch CoArm (List Spot) (List Spot) (List Spot) (List Spot) (List Spot) (item_declared facts) (declared_in facts) (arm_declared facts) (branch_declared facts) (co_arm_declared facts) x)
-
-    abbrev names_of_statement : Statement-F BlockItem Statement Arm Branch CoArm → List Spot
-    names_of_statement x = statement_declared (map-Statement BlockItem Statement Arm Branch CoArm (List Spot) (List Spot) (List Spot) (List Spot) (List Spot) (item_declared facts) (declared_in facts) (arm_declared facts) (branch_declared facts) (co_arm_declared facts) x)
-
-    abbrev names_of_arm : Arm-F BlockItem Statement Arm Branch CoArm → List Spot
-    names_of_arm x = arm_names (map-Arm BlockItem Statement Arm Branch CoArm (List Spot) (List Spot) (List Spot) (List Spot) (List Spot) (item_declared facts) (declared_in facts) (arm_declared facts) (branch_declared facts) (co_arm_declared facts) x)
-
-    abbrev names_of_branch : Branch-F BlockItem Statement Arm Branch CoArm → List Spot
-    names_of_branch x = lists (map-Branch BlockItem Statement Arm Branch CoArm (List Spot) (List Spot) (List Spot) (List Spot) (List Spot) (item_declared facts) (declared_in facts) (arm_declared facts) (branch_declared facts) (co_arm_declared facts) x).block
-
-    abbrev names_of_co_arm : CoArm-F BlockItem Statement Arm Branch CoArm → List Spot
-    names_of_co_arm x = co_arm_names (map-CoArm BlockItem Statement Arm Branch CoArm (List Spot) (List Spot) (List Spot) (List Spot) (List Spot) (item_declared facts) (declared_in facts) (arm_declared facts) (branch_declared facts) (co_arm_declared facts) x)
-
     -- ---- each kind of statement from its parts
 
-    item_good : (y : BlockItem-F I T A B C) → Own (names_of_item (bare_item y)) → (blocks : Blocks) → Fit blocks → StepFits (item_of (bare_item y) place blocks)
+    item_good : (y : ItemNode fitting) → ItemFits (from_item (declared facts) (bare_item fitting y)) (from_item finding (bare_item fitting y))
     item_good (BlockItem-F.Const constant) own blocks fit = record {
       found = both (const_found constant place blocks) _ (const_fits constant blocks fit) (twice Constant constant.name blocks.inner);
       inner = exprs.name_table P Constant constant.name (const_may constant own) blocks.inner fit.innermost;
@@ -354,12 +300,7 @@ module _ (P : Spot → Decl → Type 0) (facts : Facts) (Owned Operated : Spot �
         (all_good branch_found (branch_declared facts) branches (each-left Owned (lists (map (branch_declared facts) (map (λ (e : B). e.0) branches))) _ own) blocks fit)
         (block_good items (each-right Owned (lists (map (branch_declared facts) (map (λ (e : B). e.0) branches))) _ own) blocks fit)
 
-    statement_good : (y : Statement-F I T A B C) → Own (names_of_statement (bare y)) → (blocks : Blocks) → Fit blocks → All (statement_of (bare y) place blocks)
-    statement_good (Statement-F.Skip span) own blocks fit = tt
-    statement_good (Statement-F.Exit span) own blocks fit = tt
-    statement_good (Statement-F.Next span) own blocks fit = tt
-    statement_good (Statement-F.Return span) own blocks fit = tt
-    statement_good (Statement-F.Reply span) own blocks fit = tt
+    statement_good : (y : StatementNode fitting) → Fits (from_statement (declared facts) (bare_statement fitting y)) (from_statement finding (bare_statement fitting y))
     statement_good (Statement-F.Stop span status) own blocks fit = maybe_expr status blocks fit
     statement_good (Statement-F.Call span with_call called) own blocks fit = invocation called blocks fit
     statement_good (Statement-F.Send span called) own blocks fit = invocation called blocks fit
@@ -385,12 +326,13 @@ module _ (P : Spot → Decl → Type 0) (facts : Facts) (Owned Operated : Spot �
     statement_good (Statement-F.Co span arms) own blocks fit = all_good co_arm_found (co_arm_declared facts) arms own blocks fit
     statement_good (Statement-F.Destroy span target) own blocks fit = expr target blocks fit
     statement_good (Statement-F.Create span create) own blocks fit = exprs.create_fits P place outer create blocks fit
+    statement_good _ own blocks fit = tt
 
     condition_fits : (condition : Option ArmCondition) (blocks : Blocks) → Fit blocks → All (condition_found condition place blocks)
     condition_fits None blocks fit = tt
     condition_fits (Some written) blocks fit = expr written.condition blocks fit
 
-    arm_good : (y : Arm-F I T A B C) → Own (names_of_arm (bare_arm y)) → (blocks : Blocks) → Fit blocks → All (arm_of (bare_arm y) place blocks)
+    arm_good : (y : ArmNode fitting) → Fits (from_arm (declared facts) (bare_arm fitting y)) (from_arm finding (bare_arm fitting y))
     arm_good y own blocks fit =
         let scope = arm_scope y.formals y.returned blocks in
         let after = each-right Owned (map spot_named y.formals) _ own in
@@ -401,11 +343,10 @@ module _ (P : Spot → Decl → Type 0) (facts : Facts) (Owned Operated : Spot �
         (both (maybe_expr_found y.order place scope) _ (maybe_expr y.order scope within)
         (block_good y.block (each-right Owned (returned_names y.returned) _ after) scope within))))
 
-    branch_good : (y : Branch-F I T A B C) → Own (names_of_branch (bare_branch y)) → (blocks : Blocks) → Fit blocks → All (branch_of (bare_branch y) place blocks)
+    branch_good : (y : BranchNode fitting) → Fits (from_branch (declared facts) (bare_branch fitting y)) (from_branch finding (bare_branch fitting y))
     branch_good y own blocks fit = both (expr_found y.guard place blocks) _ (expr y.guard blocks fit) (block_good y.block own blocks fit)
 
-    co_arm_by : (y : CoArm-F I T A B C) (block : Option (List I)) → Own (names_of_co_arm (bare_co_arm (record y { block = block }))) → (blocks : Blocks) → Fit blocks
-        → All (co_arm_of (bare_co_arm (record y { block = block })) place blocks)
+    co_arm_by : (y : CoArmNode fitting) (block : Option (List I)) → Fits (from_co_arm (declared facts) (bare_co_arm fitting (record y { block = block }))) (from_co_arm finding (bare_co_arm fitting (record y { block = block })))
     co_arm_by y None own blocks fit =
         let scope = with_quantifiers y.quantifiers (opened blocks) in
         let around = exprs.blocks_opened P blocks fit in
@@ -423,38 +364,20 @@ module _ (P : Spot → Decl → Type 0) (facts : Facts) (Owned Operated : Spot �
         (both (invocation_found y.invocation place scope) _ (invocation y.invocation scope within)
         (block_good items (each-right Owned (quantifier_spots y.quantifiers) _ own) scope within)))
 
-    co_arm_good : (y : CoArm-F I T A B C) → Own (names_of_co_arm (bare_co_arm y)) → (blocks : Blocks) → Fit blocks → All (co_arm_of (bare_co_arm y) place blocks)
+    co_arm_good : (y : CoArmNode fitting) → Fits (from_co_arm (declared facts) (bare_co_arm fitting y)) (from_co_arm finding (bare_co_arm fitting y))
     co_arm_good y = co_arm_by y y.block
 
-    -- ---- all statements
+    by_parts : ByParts fitting
+    by_parts = record {
+      item = λ y. subst (λ t. t) (λ i. ItemFits (item_folds (declared facts) (bare_item fitting y) i) (item_folds finding (bare_item fitting y) i)) (item_good y);
+      statement = λ y. subst (λ t. t) (λ i. Fits (statement_folds (declared facts) (bare_statement fitting y) i) (statement_folds finding (bare_statement fitting y) i)) (statement_good y);
+      arm = λ y. subst (λ t. t) (λ i. Fits (arm_folds (declared facts) (bare_arm fitting y) i) (arm_folds finding (bare_arm fitting y) i)) (arm_good y);
+      branch = λ y. subst (λ t. t) (λ i. Fits (branch_folds (declared facts) (bare_branch fitting y) i) (branch_folds finding (bare_branch fitting y) i)) (branch_good y);
+      co_arm = λ y. subst (λ t. t) (λ i. Fits (co_arm_folds (declared facts) (bare_co_arm fitting y) i) (co_arm_folds finding (bare_co_arm fitting y) i)) (co_arm_good y);
+    }
 
-    step_item : (x : BlockItem-F BlockItem Statement Arm Branch CoArm) (y : BlockItem-F I T A B C) → bare_item y ≡ x → ItemGood (roll-BlockItem x)
-    step_item x y is = subst (λ z. ItemGood (roll-BlockItem z)) is (λ own blocks fit.
-        subst (λ (steps : Steps). StepFits (steps place blocks)) (sym (fold-roll-BlockItem Steps Finds Finds Finds Finds item_step statement_step arm_step branch_step co_arm_step (bare_item y)))
-        (item_good y (subst Own (fold-roll-BlockItem (List Spot) (List Spot) (List Spot) (List Spot) (List Spot) (block_item_names facts) statement_declared arm_names (λ branch. lists branch.block) co_arm_names (bare_item y)) own) blocks fit))
-
-    step_statement : (x : Statement-F BlockItem Statement Arm Branch CoArm) (y : Statement-F I T A B C) → bare y ≡ x → Good (roll-Statement x)
-    step_statement x y is = subst (λ z. Good (roll-Statement z)) is (λ own blocks fit.
-        subst (λ (finds : Finds). All (finds place blocks)) (sym (fold-roll-Statement Steps Finds Finds Finds Finds item_step statement_step arm_step branch_step co_arm_step (bare y)))
-        (statement_good y (subst Own (fold-roll-Statement (List Spot) (List Spot) (List Spot) (List Spot) (List Spot) (block_item_names facts) statement_declared arm_names (λ branch. lists branch.block) co_arm_names (bare y)) own) blocks fit))
-
-    step_arm : (x : Arm-F BlockItem Statement Arm Branch CoArm) (y : Arm-F I T A B C) → bare_arm y ≡ x → ArmGood (roll-Arm x)
-    step_arm x y is = subst (λ z. ArmGood (roll-Arm z)) is (λ own blocks fit.
-        subst (λ (finds : Finds). All (finds place blocks)) (sym (fold-roll-Arm Steps Finds Finds Finds Finds item_step statement_step arm_step branch_step co_arm_step (bare_arm y)))
-        (arm_good y (subst Own (fold-roll-Arm (List Spot) (List Spot) (List Spot) (List Spot) (List Spot) (block_item_names facts) statement_declared arm_names (λ branch. lists branch.block) co_arm_names (bare_arm y)) own) blocks fit))
-
-    step_branch : (x : Branch-F BlockItem Statement Arm Branch CoArm) (y : Branch-F I T A B C) → bare_branch y ≡ x → BranchGood (roll-Branch x)
-    step_branch x y is = subst (λ z. BranchGood (roll-Branch z)) is (λ own blocks fit.
-        subst (λ (finds : Finds). All (finds place blocks)) (sym (fold-roll-Branch Steps Finds Finds Finds Finds item_step statement_step arm_step branch_step co_arm_step (bare_branch y)))
-        (branch_good y (subst Own (fold-roll-Branch (List Spot) (List Spot) (List Spot) (List Spot) (List Spot) (block_item_names facts) statement_declared arm_names (λ branch. lists branch.block) co_arm_names (bare_branch y)) own) blocks fit))
-
-    step_co_arm : (x : CoArm-F BlockItem Statement Arm Branch CoArm) (y : CoArm-F I T A B C) → bare_co_arm y ≡ x → CoArmGood (roll-CoArm x)
-    step_co_arm x y is = subst (λ z. CoArmGood (roll-CoArm z)) is (λ own blocks fit.
-        subst (λ (finds : Finds). All (finds place blocks)) (sym (fold-roll-CoArm Steps Finds Finds Finds Finds item_step statement_step arm_step branch_step co_arm_step (bare_co_arm y)))
-        (co_arm_good y (subst Own (fold-roll-CoArm (List Spot) (List Spot) (List Spot) (List Spot) (List Spot) (block_item_names facts) statement_declared arm_names (λ branch. lists branch.block) co_arm_names (bare_co_arm y)) own) blocks fit))
-
-    pub statement_fits : (tree : Statement) → Good tree
-    statement_fits = ind-Statement ItemGood Good ArmGood BranchGood CoArmGood step_item step_statement step_arm step_branch step_co_arm
+    pub statement_fits : (tree : Statement) → Own (declared_in facts tree) → (blocks : Blocks) → Fit blocks → All (statement_found tree place blocks)
+    statement_fits = each_statement fitting by_parts
 
     -- ---- procs, procedures, processes and final code
 

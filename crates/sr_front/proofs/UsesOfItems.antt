@@ -1,5 +1,5 @@
--- What a name means that stands in an item of a component is found in the item.
-use Rattle.std.proofs.Common.{◌≡◌, ◌⊎◌, inl, inr, ◌+◌, ◌≤◌, List, [], ◌∷◌, ◌++◌, flat_map, map, None, sym, ap, subst, arith}
+-- What a name means that stands in an item of a component, or in its formals, is found there.
+use Rattle.std.proofs.Common.{◌≡◌, ◌⊎◌, inl, inr, ◌+◌, ◌≤◌, List, [], ◌∷◌, ◌++◌, flat_map, map, None, ap, arith}
 use Rattle.sr_names.specs.declared.finding.Finding.{Finding}
 use Rattle.sr_names.specs.declared.finding.Finding.TheVariants.{Use}
 use Rattle.sr_names.specs.declared.meaning.Decl.{Decl}
@@ -7,20 +7,22 @@ use Rattle.sr_names.specs.declared.meaning.Meaning.TheVariants.{Declared}
 use Rattle.sr_names.specs.declared.spot.Spot.{Spot}
 use Rattle.sr_names.specs.Scopes.{no_blocks, opened}
 use Rattle.sr_names.specs.declared.place.Place.{Place}
-use Rattle.sr_order.specs.Names.{component_names, item_names, names_spans, block_names, proc_item_names, quantifier_names}
+use Rattle.sr_order.specs.Names.{component_names, formal_names, item_names, names_spans, block_names, proc_item_names, quantifier_names, spec_item_names}
 use Rattle.sr_scope.proofs.Among.{names_at, names_both, Among, and_twice, both, nothing as none_among}
-use Rattle.sr_scope.specs.Components.{component_found, imports_of, item_imports, items_imports, specs_imports}
-use Rattle.sr_scope.specs.Items.{inside, item_found, item_within}
+use Rattle.sr_scope.specs.Components.{component_found, imported_names, imports_found, imports_of, item_imports, items_imports, specs_imports}
+use Rattle.sr_scope.specs.Items.{inside, item_found, item_within, spec_found, spec_within}
 use Rattle.sr_scope.specs.Resolved.{program}
+use Rattle.sr_scope.specs.Types.{formal_read, formals_found}
 use Rattle.sr_scope.specs.Uses.{IsIn}
 use Rattle.sr_tree.specs.declared.component.Component.{Component}
 use Rattle.sr_tree.specs.declared.component.File.{File}
 use Rattle.sr_tree.specs.declared.component.Item.{Item}
-use Rattle.sr_tree.specs.declared.name.Name.{Name}
-use Rattle.sr_tree.specs.Parts.{body_of, spec_of}
+use Rattle.sr_tree.specs.declared.component.SpecItem.{SpecItem}
+use Rattle.sr_tree.specs.Parts.{body_of, formals_of, name_of, spec_of}
 use Rattle.sr_value.specs.declared.place.Span.{Span}
-use Rattle.sr_front.proofs.UsableNames.{all_names, formal_stands, in_body, in_part, item_among, of_body, of_formals, of_spec, place}
-use Rattle.sr_front.proofs.UsesWithin.{IsFound, Stands, imports_among, items_imports_fewer, spans_both, specs_imports_fewer, specs_stand, by_among, never}
+use Rattle.sr_front.proofs.FoundInParts.{imports_but, part_fewer}
+use Rattle.sr_front.proofs.UsableNames.{all_names, formal_stands, in_body, in_part, in_spec, item_among, of_body, of_formals, of_spec, place, spec_among}
+use Rattle.sr_front.proofs.UsesWithin.{IsFound, Stands, by_among, imports_among, item_imports_fewer, items_imports_fewer, items_stand, never, spans_both, spec_imports_fewer, specs_imports_fewer, specs_stand, stands_left, stands_right}
 use Rattle.sr_names.specs.declared.place.Blocks.{Blocks}
 use Rattle.sr_names.specs.declared.meaning.Sort.TheVariants.{Constant, Variable, Operation}
 use Rattle.sr_scope.specs.Declares.{names_declared, op_name, names_twice}
@@ -44,7 +46,7 @@ proc_item_among (inner.Op operations) place blocks = and_twice (op_items_among o
 proc_item_among (inner.Sem declared) place blocks = and_twice (semaphores_among declared.semaphores place blocks) (names_twice_among Operation (semaphore_names declared.semaphores) blocks.inner)
 proc_item_among (inner.Statement statement) place blocks = statement_among statement place blocks
 
-block_among : (block : List ProcItem) (place : Place) (blocks : Blocks) → Among (proc_items_found block place blocks) (block_names block)
+pub block_among : (block : List ProcItem) (place : Place) (blocks : Blocks) → Among (proc_items_found block place blocks) (block_names block)
 block_among [] where_is blocks = none_among
 block_among (one ∷ block) where_is blocks = both (proc_item_among one where_is blocks) (block_among block where_is (with_inner blocks (proc_item_read one where_is blocks).inner))
 
@@ -58,58 +60,53 @@ module _ (spot : Spot) (decl : Decl) where
   abbrev NoUse : Spot → Decl → Type 0
   NoUse at one = ⊥
 
-  -- what stands in the quantifiers of a process is found there
-  pub in_quantifiers : (process : Process) (place : Place) → names_at spot (flat_map quantifier_names process.quantifiers ++ block_names process.block) ≤ 1 → Here (flat_map quantifier_names process.quantifiers)
-      → Found (process_found process place no_blocks) → Found (quantifiers_found process.quantifiers place (opened no_blocks))
-  in_quantifiers process place once stands found = first (in_either one (quantifiers_found process.quantifiers place (opened no_blocks)) _ found)
+  -- what stands in the head of an item is found there, as its names aren't those of the block
+  pub in_head : (head again block : List Finding) (names rest : List Span) → exprs.AllFit NoUse again → Among block rest → names_at spot (names ++ rest) ≤ 1 → Here names → Found (head ++ (again ++ block)) → Found head
+  in_head head again block names rest none among once stands found = first (in_either one head _ found)
     where
       one : Finding
       one = Use spot (Declared decl)
 
-      Whole : Type 0
-      Whole = Found (quantifiers_found process.quantifiers place (opened no_blocks))
+      second : Found again ⊎ Found block → Found head
+      second (inl h) = never spot decl again none h
+      second (inr h) = absurd (omega (arith, once, stands, by_among spot decl block rest among h, names_both spot names rest))
 
-      block : List Finding
-      block = proc_items_found process.block place (with_inner (opened no_blocks) (names_declared Variable (quantified process.quantifiers) []))
-
-      second : Found (names_twice Variable (quantified process.quantifiers) []) ⊎ Found block → Whole
-      second (inl h) = never spot decl _ (exprs.names_twice_fit NoUse Variable (quantified process.quantifiers) []) h
-      second (inr h) =
-          let in_block = by_among spot decl block (block_names process.block) (block_among process.block place (with_inner (opened no_blocks) (names_declared Variable (quantified process.quantifiers) []))) h in
-          absurd (omega (arith, once, stands, in_block, names_both spot (flat_map quantifier_names process.quantifiers) (block_names process.block)))
-
-      first : Found (quantifiers_found process.quantifiers place (opened no_blocks)) ⊎ Found (names_twice Variable (quantified process.quantifiers) [] ++ block) → Whole
+      first : Found head ⊎ Found (again ++ block) → Found head
       first (inl h) = h
-      first (inr h) = second (in_either one (names_twice Variable (quantified process.quantifiers) []) block h)
+      first (inr h) = second (in_either one again block h)
 
-  -- ---- items
+  pub in_quantifiers : (process : Process) (place : Place) → names_at spot (flat_map quantifier_names process.quantifiers ++ block_names process.block) ≤ 1 → Here (flat_map quantifier_names process.quantifiers)
+      → Found (process_found process place no_blocks) → Found (quantifiers_found process.quantifiers place (opened no_blocks))
+  in_quantifiers process place =
+      let within = with_inner (opened no_blocks) (names_declared Variable (quantified process.quantifiers) []) in
+      in_head (quantifiers_found process.quantifiers place (opened no_blocks)) (names_twice Variable (quantified process.quantifiers) []) (proc_items_found process.block place within)
+      (flat_map quantifier_names process.quantifiers) (block_names process.block) (exprs.names_twice_fit NoUse Variable (quantified process.quantifiers) []) (block_among process.block place within)
 
-  no_imports : (names rest : List Name) → names ≡ [] → names_at spot (names_spans (names ++ rest)) ≡ names_at spot (names_spans rest)
-  no_imports names rest none = ap (λ some. names_at spot (names_spans (some ++ rest))) none
+  -- ---- where the parts of a component stand
 
-  imports_but : (all : List Item) (one : Item) → item_imports one ≡ [] → IsIn one all → names_at spot (item_names one) + names_at spot (names_spans (items_imports all)) ≤ names_at spot (flat_map item_names all)
-  imports_but [] one none k = absurd k
-  imports_but (first ∷ all) one none (inl e) =
-      subst (λ (it : Item). names_at spot (item_names one) + names_at spot (names_spans (items_imports (it ∷ all))) ≤ names_at spot (flat_map item_names (it ∷ all))) (sym e)
-      (omega (arith, no_imports (item_imports one) (items_imports all) none, names_both spot (item_names one) (flat_map item_names all), items_imports_fewer spot decl all))
-  imports_but (first ∷ all) one none (inr k) =
-      let more = imports_but all one none k in
-      let fewer = items_imports_fewer spot decl (first ∷ []) in
-      omega (
-        arith,
-        more,
-        fewer,
-        names_both spot (item_names first) [],
-        spans_both spot decl (item_imports first) [],
-        spans_both spot decl (item_imports first) (items_imports all),
-        names_both spot (item_names first) (flat_map item_names all),
-      )
+  pub spec_in_component : (here : Component) (one : SpecItem) → IsIn one (spec_of here) → Here (spec_item_names one) → Here (component_names here)
+  spec_in_component here one among stands = stands_right spot decl ((name_of here).span ∷ []) _ (stands_left spot decl (flat_map spec_item_names (spec_of here)) _ (spec_among spot decl (spec_of here) one among stands))
 
-  pub item_fewer : (all : List Item) (one : Item) → IsIn one all → names_at spot (item_names one) ≤ names_at spot (flat_map item_names all)
-  item_fewer [] one k = absurd k
-  item_fewer (first ∷ all) one (inl e) =
-      subst (λ (it : Item). names_at spot (item_names one) ≤ names_at spot (flat_map item_names (it ∷ all))) (sym e) (omega (arith, names_both spot (item_names one) (flat_map item_names all)))
-  item_fewer (first ∷ all) one (inr k) = omega (arith, item_fewer all one k, names_both spot (item_names first) (flat_map item_names all))
+  pub formals_in_component : (here : Component) → Here (flat_map formal_names (formals_of here)) → Here (component_names here)
+  formals_in_component here stands =
+      stands_right spot decl ((name_of here).span ∷ []) _ (stands_right spot decl (flat_map spec_item_names (spec_of here)) _ (stands_left spot decl (flat_map formal_names (formals_of here)) _ stands))
+
+  pub item_in_component : (here : Component) (one : Item) → IsIn one (body_of here) → Here (item_names one) → Here (component_names here)
+  item_in_component here one among stands =
+      stands_right spot decl ((name_of here).span ∷ []) _
+      (stands_right spot decl (flat_map spec_item_names (spec_of here)) _ (stands_right spot decl (flat_map formal_names (formals_of here)) _ (item_among spot decl (body_of here) one among stands)))
+
+  -- ---- what is found in them
+
+  spec_imports_but : (all : List SpecItem) (one : SpecItem) → imported_names one ≡ [] → IsIn one all → names_at spot (spec_item_names one) + names_at spot (names_spans (specs_imports all)) ≤ names_at spot (flat_map spec_item_names all)
+  spec_imports_but all one none =
+      imports_but spot spec_item_names (λ it. names_at spot (names_spans (imported_names it))) (λ them. names_at spot (names_spans (specs_imports them)))
+      (λ first them. spans_both spot decl (imported_names first) (specs_imports them)) (spec_imports_fewer spot decl) (specs_imports_fewer spot decl) all one (ap (λ some. names_at spot (names_spans some)) none)
+
+  item_imports_but : (all : List Item) (one : Item) → item_imports one ≡ [] → IsIn one all → names_at spot (item_names one) + names_at spot (names_spans (items_imports all)) ≤ names_at spot (flat_map item_names all)
+  item_imports_but all one none =
+      imports_but spot item_names (λ it. names_at spot (names_spans (item_imports it))) (λ them. names_at spot (names_spans (items_imports them)))
+      (λ first them. spans_both spot decl (item_imports first) (items_imports them)) (item_imports_fewer spot decl) (items_imports_fewer spot decl) all one (ap (λ some. names_at spot (names_spans some)) none)
 
   module _ (files : List File) (here : Component) (once : names_at spot (component_names here) ≤ 1) where
     abbrev Whole : Type 0
@@ -122,21 +119,33 @@ module _ (spot : Spot) (decl : Decl) where
     total = all_names spot decl files here once
 
     pub item_once : (one : Item) → IsIn one (body_of here) → names_at spot (item_names one) ≤ 1
-    item_once one among = omega (arith, total, item_fewer (body_of here) one among)
+    item_once one among = omega (arith, total, part_fewer spot item_names (body_of here) one among)
+
+    in_imports : Found (imports_found (program files).components (imports_of here)) → 1 ≤ names_at spot (names_spans (specs_imports (spec_of here))) + names_at spot (names_spans (items_imports (body_of here)))
+    in_imports h = omega (arith, imports_among spot decl (program files).components (imports_of here) h, spans_both spot decl (specs_imports (spec_of here)) (items_imports (body_of here)))
+
+    pub spec_found_in : (one : SpecItem) → imported_names one ≡ [] → IsIn one (spec_of here) → Here (spec_item_names one) → Whole → Found (spec_found one (inside at (spec_within one)) no_blocks)
+    spec_found_in one none among stands =
+        let here_in = spec_among spot decl (spec_of here) one among stands in
+        in_part spot decl files here once
+        (λ h. absurd (omega (arith, total, stands, in_imports h, spec_imports_but (spec_of here) one none among, items_imports_fewer spot decl (body_of here))))
+        (λ h. in_spec spot decl (spec_of here) one at among stands (omega (arith, total)) h)
+        (λ h. absurd (omega (arith, total, here_in, formal_stands spot decl files here once h)))
+        (λ h. absurd (omega (arith, total, here_in, items_stand spot decl (body_of here) (inside at None) no_blocks h)))
+
+    pub formals_found_in : Here (flat_map formal_names (formals_of here)) → Whole → Found (formals_found (map formal_read (formals_of here)) (inside at None) no_blocks)
+    formals_found_in stands =
+        in_part spot decl files here once
+        (λ h. absurd (omega (arith, total, stands, in_imports h, specs_imports_fewer spot decl (spec_of here), items_imports_fewer spot decl (body_of here))))
+        (λ h. absurd (omega (arith, total, stands, specs_stand spot decl (spec_of here) at no_blocks h)))
+        (λ h. h)
+        (λ h. absurd (omega (arith, total, stands, items_stand spot decl (body_of here) (inside at None) no_blocks h)))
 
     pub item_found_in : (one : Item) → item_imports one ≡ [] → IsIn one (body_of here) → Here (item_names one) → Whole → Found (item_found one (inside at (item_within one)) no_blocks)
     item_found_in one none among stands =
         let here_in = item_among spot decl (body_of here) one among stands in
         in_part spot decl files here once
-        (λ h. absurd (omega (
-          arith,
-          total,
-          stands,
-          imports_among spot decl (program files).components (imports_of here) h,
-          spans_both spot decl (specs_imports (spec_of here)) (items_imports (body_of here)),
-          imports_but (body_of here) one none among,
-          specs_imports_fewer spot decl (spec_of here),
-        )))
+        (λ h. absurd (omega (arith, total, stands, in_imports h, item_imports_but (body_of here) one none among, specs_imports_fewer spot decl (spec_of here))))
         (λ h. absurd (omega (arith, total, here_in, specs_stand spot decl (spec_of here) at no_blocks h)))
         (λ h. absurd (omega (arith, total, here_in, formal_stands spot decl files here once h)))
         (λ h. in_body spot decl (body_of here) one (inside at None) among stands (omega (arith, total)) h)

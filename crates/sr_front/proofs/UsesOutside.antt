@@ -3,35 +3,36 @@ use Rattle.std.proofs.Common.{◌≡◌, ◌⊎◌, ℕ, Bool, true, false, List
 use Rattle.std.specs.Map.{lookup}
 use Rattle.std.specs.Option.{option_and_then}
 use Rattle.std.proofs.lemmas.Bool.{false≢true}
-use Rattle.sr_names.proofs.Marking.{entry-same, entry-other, same_spot-cases}
 use Rattle.sr_names.specs.declared.meaning.Decl.{Decl}
 use Rattle.sr_names.specs.declared.meaning.Meaning.{Meaning}
 use Rattle.sr_names.specs.declared.meaning.Meaning.TheVariants.{Predefined as MeansPredefined, Declared}
 use Rattle.sr_names.specs.declared.meaning.Sort.{Sort}
 use Rattle.sr_names.specs.declared.place.Place.{Place}
 use Rattle.sr_names.specs.declared.spot.Spot.{Spot}
-use Rattle.sr_names.specs.Components.{member_named, with_members}
+use Rattle.sr_names.specs.Components.{member_named}
 use Rattle.sr_names.specs.Entries.{Entries}
 use Rattle.sr_names.specs.Readings.{declaration}
 use Rattle.sr_names.specs.Scopes.{candidates, denotes, from_imports, is_usable, member, no_blocks, ready, shown, visible_named}
 use Rattle.sr_names.specs.Shown.{counted}
 use Rattle.sr_names.specs.Sorts.{is_hidden, needs_order}
-use Rattle.sr_names.specs.Spots.{same_spot, spot_of}
+use Rattle.sr_names.specs.Spots.{same_spot}
 use Rattle.sr_names.specs.Tables.{declared_as}
 use Rattle.sr_tables.specs.Parts.{components_in}
 use Rattle.sr_tree.specs.declared.component.Component.{Component}
 use Rattle.sr_tree.specs.declared.component.File.{File}
 use Rattle.sr_tree.specs.declared.name.Name.{Name}
-use Rattle.sr_tree.specs.Parts.{name_of, spec_of}
-use Rattle.sr_scope.specs.Components.{all_collected, collected, decl_of, files_collected, place_of, sort_of}
+use Rattle.sr_tree.specs.Parts.{spec_of}
+use Rattle.sr_scope.specs.Components.{decl_of, place_of}
 use Rattle.sr_scope.specs.Items.{inside, specs_declared}
-use Rattle.sr_scope.specs.Resolved.{no_place, program}
+use Rattle.sr_scope.specs.Resolved.{program}
 use Rattle.sr_scope.specs.Uses.{IsIn}
-use Rattle.sr_scope.proofs.Findings.{in_left, in_right}
+use Rattle.sr_scope.proofs.Findings.{in_left}
 use Rattle.sr_scope.proofs.Meant.{IsComponent, IsDeclared, means}
 use Rattle.sr_scope.proofs.OwnNames.{own_names, spec_own, specs_declares}
 use Rattle.sr_scope.proofs.Tables.{declared_among}
+use Rattle.sr_front.proofs.Globals.{declared_component}
 use Rattle.sr_front.proofs.UsesInExprs as exprs
+use Rattle.sr_front.proofs.UsesVisible.{IsSpec, own_meaning, specs_known, visible_meaning}
 
 -- what isn't usable within its own declaration is usable elsewhere
 ready_less : (within : Option Spot) (at : Spot) (decl d : Decl) → ready within at decl ≡ Some (Declared d) → ready None at decl ≡ Some (Declared d)
@@ -48,15 +49,6 @@ shown_less : (within : Option Spot) (text : List ℕ) (at : Spot) (d : Decl) (de
 shown_less within text at d [] e = e
 shown_less within text at d (decl ∷ []) e = ready_less within at decl d e
 shown_less within text at d (decl ∷ other ∷ decls) e = e
-
--- what a name means outside of blocks, by the component that it names and by what the component declares it as
-abbrev visible_meaning : Place → List ℕ → Spot → Option Decl → Option Meaning
-visible_meaning place text at (Some component) = Some (Declared component)
-visible_meaning place text at None = from_imports place.within text at (counted (candidates place.specs place.visible text))
-
-abbrev own_meaning : Place → List ℕ → Spot → Option Decl → Option Meaning
-own_meaning place text at (Some decl) = ready place.within at decl
-own_meaning place text at None = visible_meaning place text at (visible_named place text)
 
 outside_less : (place : Place) (within : Option Spot) (text : List ℕ) (at : Spot) (d : Decl)
     → denotes (inside place within) no_blocks text at ≡ Some (Declared d) → denotes (inside place None) no_blocks text at ≡ Some (Declared d)
@@ -110,35 +102,18 @@ module _ (files : List File) (P : Spot → Decl → Type 0)
     pub components : Table place.components
     pub specs : (spot : Spot) → SpecFits (lookup (same_spot spot) place.specs)
 
-  collected_one : (component : Component) (place : Place) → IsIn component all → Collected place → Collected (collected component place)
-  collected_one component place there before = record {
-    components = exprs.name_table P (sort_of component) (name_of component) (component_may component there) place.components before.components;
-    specs = λ spot. by spot (same_spot-cases spot (spot_of (name_of component).span));
-  }
-    where
-      table : Entries
-      table = specs_declared (spec_of component) []
-
-      by : (spot : Spot) → (spot ≡ spot_of (name_of component).span) ⊎ (same_spot spot (spot_of (name_of component).span) ≡ false)
-          → SpecFits (lookup (same_spot spot) (with_members place.specs (spot_of (name_of component).span) table))
-      by spot (inl same) =
-          subst (λ at. SpecFits (lookup (same_spot at) (with_members place.specs (spot_of (name_of component).span) table))) (sym same)
-          (subst SpecFits (sym (entry-same place.specs (spot_of (name_of component).span) table)) (spec_table component there))
-      by spot (inr other) = subst SpecFits (sym (entry-other place.specs (spot_of (name_of component).span) table spot other)) (before.specs spot)
-
-  collected_all : (components : List Component) (place : Place) → ((one : Component) → IsIn one components → IsIn one all) → Collected place → Collected (all_collected components place)
-  collected_all [] place there before = before
-  collected_all (component ∷ components) place there before =
-      collected_all components (collected component place) (λ one k. there one (inr k)) (collected_one component place (there component (inl refl)) before)
-
-  collected_files : (some : List File) (place : Place) → ((one : Component) → IsIn one (components_in some) → IsIn one all) → Collected place → Collected (files_collected some place)
-  collected_files [] place there before = before
-  collected_files (file ∷ some) place there before =
-      collected_files some (all_collected file.components place) (λ one k. there one (in_right one file.components _ k))
-      (collected_all file.components place (λ one k. there one (in_left one file.components _ k)) before)
-
   pub known : Collected (program files)
-  known = collected_files files no_place (λ one k. k) (record { components = exprs.none_fit P; specs = λ spot. tt })
+  known = record { components = λ text. named text (declared_as (program files).components text) refl; specs = λ spot. held spot (lookup (same_spot spot) (program files).specs) refl }
+    where
+      named : (text : List ℕ) (found : Option Decl) → declared_as (program files).components text ≡ found → Found found
+      named text None is = tt
+      named text (Some d) is = let one = declared_component files text d is in λ at. subst (P at) one.2 (component_may one.0 one.1 at)
+
+      held : (spot : Spot) (found : Option Entries) → lookup (same_spot spot) (program files).specs ≡ found → SpecFits found
+      held spot None is = tt
+      held spot (Some spec) is =
+          let one : IsSpec all spot spec = specs_known files spot spec is in
+          subst Table (sym one.is) (spec_table one.component one.there)
 
   -- ---- members
 

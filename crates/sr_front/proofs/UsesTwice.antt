@@ -60,9 +60,7 @@ module _ (P : Spot → Decl → Type 0) where
   item_twice_fits (item.Spec declared) table = spec_twice_fits declared table
   item_twice_fits (item.Procedure procedure) table = twice Operation procedure.name table
   item_twice_fits (item.Process process) table = twice Operation process.name table
-  item_twice_fits (item.Proc proc) table = tt
-  item_twice_fits (item.Final final) table = tt
-  item_twice_fits (item.Statement statement) table = tt
+  item_twice_fits _ table = tt
 
   items_twice_fit : (items : List Item) (table : Entries) → All (items_twice items table)
   items_twice_fit [] table = tt

@@ -3,7 +3,7 @@ use Rattle.std.proofs.Common.{◌≡◌, ◌⊎◌, ℕ, Bool, true, false, List
 use Rattle.std.specs.List.{cons_option}
 use Rattle.std.specs.Map.{lookup}
 use Rattle.std.specs.Option.{option_and_then, option_map}
-use Rattle.std.proofs.lemmas.Bool.{false≢true}
+use Rattle.std.proofs.lemmas.Option.{none-some, same_Some}
 use Rattle.sr_names.proofs.Marking.{entry-same, entry-other, same_spot-cases}
 use Rattle.sr_names.specs.declared.meaning.Decl.{Decl}
 use Rattle.sr_names.specs.declared.meaning.Meaning.{Meaning}
@@ -50,12 +50,6 @@ pub record IsImported (files : List File) (here : Component) (d : Decl) : Type 0
 abbrev pub IsSeen : List File → Component → Decl → Type 0
 IsSeen files here d = (d ≡ decl_of here) ⊎ IsImported files here d
 
-no_none : {A : Type 0} {a : A} → None ≡ Some a → ⊥
-no_none e = false≢true (ap is_some e)
-
-some_is : {A : Type 0} {a b : A} → Some a ≡ Some b → a ≡ b
-some_is e = cc
-
 module _ (files : List File) (here : Component) where
   abbrev AllSeen : List Decl → Type 0
   AllSeen visible = (d : Decl) → IsIn d visible → IsSeen files here d
@@ -97,11 +91,11 @@ module _ (files : List File) (here : Component) where
 -- ---- what components show
 
 -- the names of the spec of one of these components, which stands at a spot
-record IsSpec (all : List Component) (spot : Spot) (spec : Entries) : Type 0 where
-  component : Component
-  there : IsIn component all
-  at : component_spot component ≡ spot
-  is : spec ≡ specs_declared (spec_of component) []
+pub record IsSpec (all : List Component) (spot : Spot) (spec : Entries) : Type 0 where
+  pub component : Component
+  pub there : IsIn component all
+  pub at : component_spot component ≡ spot
+  pub is : spec ≡ specs_declared (spec_of component) []
 
 module _ (all : List Component) where
   abbrev AreSpecs : Place → Type 0
@@ -119,7 +113,7 @@ module _ (all : List Component) where
         component = component;
         there = there;
         at = sym same;
-        is = sym (some_is (sym (entry-same place.specs (component_spot component) table)
+        is = sym (same_Some _ _ (sym (entry-same place.specs (component_spot component) table)
             ∙ ap (λ at. lookup (same_spot at) (with_members place.specs (component_spot component) table)) (sym same) ∙ e));
       }
       by (inr other) e = before spot spec (sym (entry-other place.specs (component_spot component) table spot other) ∙ e)
@@ -137,8 +131,8 @@ module _ (all : List Component) where
       collected_files files (all_collected file.components place) (λ one k. there one (in_right one file.components _ k))
       (collected_all file.components place (λ one k. there one (in_left one file.components _ k)) before)
 
-specs_known : (files : List File) → AreSpecs (components_in files) (program files)
-specs_known files = collected_files (components_in files) files no_place (λ one k. k) (λ spot spec e. absurd (no_none e))
+pub specs_known : (files : List File) (spot : Spot) (spec : Entries) → lookup (same_spot spot) (program files).specs ≡ Some spec → IsSpec (components_in files) spot spec
+specs_known files = collected_files (components_in files) files no_place (λ one k. k) (λ spot spec e. absurd (none-some _ e))
 
 -- ---- what names mean
 
@@ -153,11 +147,11 @@ own_meaning place text at None = visible_meaning place text at (visible_named pl
 
 -- what is found at a spot is among them
 pub found_visible : (visible : List Decl) (spot : Spot) (d : Decl) → component_at visible spot ≡ Some d → IsIn d visible
-found_visible [] spot d e = absurd (no_none e)
+found_visible [] spot d e = absurd (none-some _ e)
 found_visible (one ∷ visible) spot d e = by (same_spot spot one.spot) (found_visible visible spot d) e
   where
     by : (b : Bool) → (component_at visible spot ≡ Some d → IsIn d visible) → (if b then Some one else component_at visible spot) ≡ Some d → IsIn d (one ∷ visible)
-    by true rest h = inl (some_is h)
+    by true rest h = inl (same_Some _ _ h)
     by false rest h = inr (rest h)
 
 -- `P at decl`: a name at this spot may mean this declaration
@@ -190,14 +184,14 @@ module _ (files : List File) (here : Component) (there : IsIn here (components_i
   declared_may : (shower : Decl) → IsSeen files here shower → (component : Component) → IsIn component all → component_spot component ≡ shower.spot → (text : List ℕ) (d : Decl)
       → (declared_as [] text ≡ Some d) ⊎ ((sort : Sort) × (name : Name) × (IsIn (sort, name) (flat_map spec_own (spec_of component))) × (text ≡ name.text) × (d ≡ declaration sort name.span))
       → May d
-  declared_may shower is component among at text d (inl none) = absurd (no_none none)
+  declared_may shower is component among at text d (inl none) = absurd (none-some _ none)
   declared_may shower is component among at text d (inr k) = λ spot. subst (P spot) (sym k.4) (shown_may shower is component among at (k.0, k.1) k.2 spot)
 
   member_may : (shower : Decl) → IsSeen files here shower → (text : List ℕ) (d : Decl) → member_named outer.specs shower.spot text ≡ Some d → May d
   member_may shower is text d e = by (lookup (same_spot shower.spot) outer.specs) refl e
     where
       by : (found : Option Entries) → lookup (same_spot shower.spot) outer.specs ≡ found → option_and_then (λ spec. declared_as spec text) found ≡ Some d → May d
-      by None at h = absurd (no_none h)
+      by None at h = absurd (none-some _ h)
       by (Some spec) at h =
           let one : IsSpec all shower.spot spec = specs_known files shower.spot spec at in
           declared_may shower is one.component one.there one.at text d
@@ -251,14 +245,14 @@ module _ (files : List File) (here : Component) (there : IsIn here (components_i
   own_fits text d e = by (declared_among (own_names here) [] text d (ap (λ table. declared_as table text) (sym (own_is here)) ∙ e))
     where
       by : (declared_as [] text ≡ Some d) ⊎ ((sort : Sort) × (name : Name) × (IsIn (sort, name) (own_names here)) × (text ≡ name.text) × (d ≡ declaration sort name.span)) → May d
-      by (inl none) = absurd (no_none none)
+      by (inl none) = absurd (none-some _ none)
       by (inr k) = λ at. subst (P at) (sym k.4) (own_may (k.0, k.1) k.2 at)
 
   names_fit : (within : Option Spot) (text : List ℕ) (at : Spot) → Fits at (denotes (inside outer within) no_blocks text at)
   names_fit within text at = by_own (declared_as outer.own text) refl
     where
       among : (found : Option Decl) (component : Decl) → option_and_then (λ one. component_at outer.visible one.spot) found ≡ Some component → IsIn component outer.visible
-      among None component h = absurd (no_none h)
+      among None component h = absurd (none-some _ h)
       among (Some one) component h = found_visible outer.visible one.spot component h
 
       by_visible : (found : Option Decl) → visible_named outer text ≡ found → Fits at (visible_meaning (inside outer within) text at found)

@@ -1,5 +1,6 @@
 -- What the name means that stands at a spot of a component is found in the component.
 use Rattle.std.proofs.Common.{◌≡◌, ◌⊎◌, inl, inr, ◌+◌, ◌≤◌, suc, false, List, [], ◌∷◌, ◌++◌, None, Some, Ok, map, flat_map, sym, ap, subst, ◌∙◌, arith}
+use Rattle.std.proofs.lemmas.Option.{none-some, same_Some}
 use Rattle.std.specs.List.{IsDistinct}
 use Rattle.sr_names.proofs.LinkLemmas.{same_spot-refl}
 use Rattle.sr_names.proofs.Marking.{entry-same, entry-other, same_spot-cases}
@@ -89,6 +90,17 @@ module _ (spot : Spot) (decl : Decl) where
   pub stands_after : (span : Span) (spans : List Span) → Stands spans → Stands (span ∷ spans)
   stands_after span spans h = omega (arith, h)
 
+  -- what follows from either part
+  in_part : {A : Type 0} (found more : List Finding) → IsFound (found ++ more) → (IsFound found → A) → (IsFound more → A) → A
+  in_part {A = A} found more k first second = by (in_either (Use spot (Declared decl)) found more k)
+    where
+      by : IsFound found ⊎ IsFound more → A
+      by (inl h) = first h
+      by (inr h) = second h
+
+  part_stands : (found more : List Finding) (names rest : List Span) → (IsFound found → Stands names) → (IsFound more → Stands rest) → IsFound (found ++ more) → Stands (names ++ rest)
+  part_stands found more names rest first second k = in_part found more k (λ h. stands_left names rest (first h)) (λ h. stands_right names rest (second h))
+
   -- ---- what is found in a component stands in it
 
   pub spec_stands : (one : SpecItem) (place : Place) (blocks : Blocks) → IsFound (spec_found one place blocks) → Stands (spec_item_names one)
@@ -110,21 +122,13 @@ module _ (spot : Spot) (decl : Decl) where
 
   pub specs_stand : (items : List SpecItem) (place : Place) (blocks : Blocks) → IsFound (specs_found items place blocks) → Stands (flat_map spec_item_names items)
   specs_stand [] place blocks k = absurd k
-  specs_stand (one ∷ items) place blocks k = by (in_either (Use spot (Declared decl)) (spec_found one (inside place (spec_within one)) blocks) _ k) (specs_stand items place blocks)
-    where
-      by : IsFound (spec_found one (inside place (spec_within one)) blocks) ⊎ IsFound (specs_found items place blocks) → (IsFound (specs_found items place blocks) → Stands (flat_map spec_item_names items))
-          → Stands (flat_map spec_item_names (one ∷ items))
-      by (inl h) more = stands_left (spec_item_names one) _ (spec_stands one (inside place (spec_within one)) blocks h)
-      by (inr h) more = stands_right (spec_item_names one) _ (more h)
+  specs_stand (one ∷ items) place blocks k =
+      part_stands (spec_found one (inside place (spec_within one)) blocks) (specs_found items place blocks) (spec_item_names one) (flat_map spec_item_names items) (spec_stands one (inside place (spec_within one)) blocks) (specs_stand items place blocks) k
 
   pub items_stand : (items : List Item) (place : Place) (blocks : Blocks) → IsFound (items_found items place blocks) → Stands (flat_map item_names items)
   items_stand [] place blocks k = absurd k
-  items_stand (one ∷ items) place blocks k = by (in_either (Use spot (Declared decl)) (item_found one (inside place (item_within one)) blocks) _ k) (items_stand items place blocks)
-    where
-      by : IsFound (item_found one (inside place (item_within one)) blocks) ⊎ IsFound (items_found items place blocks) → (IsFound (items_found items place blocks) → Stands (flat_map item_names items))
-          → Stands (flat_map item_names (one ∷ items))
-      by (inl h) more = stands_left (item_names one) _ (item_stands one (inside place (item_within one)) blocks h)
-      by (inr h) more = stands_right (item_names one) _ (more h)
+  items_stand (one ∷ items) place blocks k =
+      part_stands (item_found one (inside place (item_within one)) blocks) (items_found items place blocks) (item_names one) (flat_map item_names items) (item_stands one (inside place (item_within one)) blocks) (items_stand items place blocks) k
 
   -- ---- imports
 
@@ -149,11 +153,7 @@ module _ (spot : Spot) (decl : Decl) where
 
   pub item_imports_fewer : (one : Item) → names_at spot (names_spans (item_imports one)) ≤ names_at spot (item_names one)
   item_imports_fewer (item.Spec declared) = spec_imports_fewer declared
-  item_imports_fewer (item.Proc proc) = omega arith
-  item_imports_fewer (item.Procedure procedure) = omega arith
-  item_imports_fewer (item.Process process) = omega arith
-  item_imports_fewer (item.Final final) = omega arith
-  item_imports_fewer (item.Statement statement) = omega arith
+  item_imports_fewer _ = omega arith
 
   pub items_imports_fewer : (items : List Item) → names_at spot (names_spans (items_imports items)) ≤ names_at spot (flat_map item_names items)
   items_imports_fewer [] = omega arith
@@ -164,11 +164,14 @@ module _ (spot : Spot) (decl : Decl) where
 
   module _ (components : Entries) (specs : Specs) where
     component_stands : (component : Component) → IsFound (component_found components specs component) → Stands (component_names component)
-    component_stands component k = first (in_either one (own_twice component) _ k)
+    component_stands component k =
+        in_part (own_twice component) _ k (never _ (twice.own_twice_fit NoUse component)) (λ k.
+        in_part (imports_found components (imports_of component)) _ k (λ h. whole (imported (imports_among components (imports_of component) h))) (λ k.
+        in_part (served_twice (body_of component) place no_blocks []) _ k (never _ (twice.served_twice_fit NoUse (body_of component) place no_blocks [])) (λ k.
+        in_part (specs_found (spec_of component) place no_blocks) _ k (λ h. whole (stands_left of_spec _ (specs_stand (spec_of component) place no_blocks h))) (λ k.
+        in_part formals body k (λ h. whole (stands_right of_spec _ (stands_left of_formals _ (by_among _ _ (formals_among (formals_of component) (inside place None) no_blocks) h))))
+        (λ h. whole (stands_right of_spec _ (stands_right of_formals _ (items_stand (body_of component) (inside place None) no_blocks h))))))))
       where
-        one : Finding
-        one = Use spot (Declared decl)
-
         place : Place
         place = place_of components specs component
 
@@ -202,46 +205,15 @@ module _ (spot : Spot) (decl : Decl) where
               names_both spot of_formals of_body,
             )
 
-        fifth : IsFound formals ⊎ IsFound body → Stands (component_names component)
-        fifth (inl h) = whole (stands_right of_spec _ (stands_left of_formals _ (by_among _ _ (formals_among (formals_of component) (inside place None) no_blocks) h)))
-        fifth (inr h) = whole (stands_right of_spec _ (stands_right of_formals _ (items_stand (body_of component) (inside place None) no_blocks h)))
-
-        fourth : IsFound (specs_found (spec_of component) place no_blocks) ⊎ IsFound (formals ++ body) → Stands (component_names component)
-        fourth (inl h) = whole (stands_left of_spec _ (specs_stand (spec_of component) place no_blocks h))
-        fourth (inr h) = fifth (in_either one formals body h)
-
-        third : IsFound (served_twice (body_of component) place no_blocks []) ⊎ IsFound (specs_found (spec_of component) place no_blocks ++ (formals ++ body)) → Stands (component_names component)
-        third (inl h) = never _ (twice.served_twice_fit NoUse (body_of component) place no_blocks []) h
-        third (inr h) = fourth (in_either one (specs_found (spec_of component) place no_blocks) _ h)
-
-        second : IsFound (imports_found components (imports_of component)) ⊎ IsFound (served_twice (body_of component) place no_blocks [] ++ (specs_found (spec_of component) place no_blocks ++ (formals ++ body)))
-            → Stands (component_names component)
-        second (inl h) = whole (imported (imports_among components (imports_of component) h))
-        second (inr h) = third (in_either one (served_twice (body_of component) place no_blocks []) _ h)
-
-        first : IsFound (own_twice component)
-            ⊎ IsFound (imports_found components (imports_of component) ++ (served_twice (body_of component) place no_blocks [] ++ (specs_found (spec_of component) place no_blocks ++ (formals ++ body))))
-            → Stands (component_names component)
-        first (inl h) = never _ (twice.own_twice_fit NoUse component) h
-        first (inr h) = second (in_either one (imports_found components (imports_of component)) _ h)
-
     components_stand : (all : List Component) → IsFound (components_found components specs all) → Stands (flat_map component_names all)
     components_stand [] k = absurd k
-    components_stand (component ∷ all) k = by (in_either (Use spot (Declared decl)) (component_found components specs component) _ k) (components_stand all)
-      where
-        by : IsFound (component_found components specs component) ⊎ IsFound (components_found components specs all) → (IsFound (components_found components specs all) → Stands (flat_map component_names all))
-            → Stands (flat_map component_names (component ∷ all))
-        by (inl h) more = stands_left (component_names component) _ (component_stands component h)
-        by (inr h) more = stands_right (component_names component) _ (more h)
+    components_stand (component ∷ all) k =
+        part_stands (component_found components specs component) (components_found components specs all) (component_names component) (flat_map component_names all) (component_stands component) (components_stand all) k
 
     files_stand : (files : List File) → IsFound (files_found components specs files) → Stands (flat_map file_names files)
     files_stand [] k = absurd k
-    files_stand (file ∷ files) k = by (in_either (Use spot (Declared decl)) (components_found components specs file.components) _ k) (files_stand files)
-      where
-        by : IsFound (components_found components specs file.components) ⊎ IsFound (files_found components specs files) → (IsFound (files_found components specs files) → Stands (flat_map file_names files))
-            → Stands (flat_map file_names (file ∷ files))
-        by (inl h) more = stands_left (file_names file) _ (components_stand file.components h)
-        by (inr h) more = stands_right (file_names file) _ (more h)
+    files_stand (file ∷ files) k =
+        part_stands (components_found components specs file.components) (files_found components specs files) (file_names file) (flat_map file_names files) (components_stand file.components) (files_stand files) k
 
     -- ---- and where it stands once, it is found there
 
@@ -298,39 +270,19 @@ module _ (spot : Spot) (decl : Decl) where
   -- a use of the program at a name of a component is found in the component
   found_within : (files : List File) → IsDistinct same_spot (map spot_of (flat_map file_names files)) → (component : Component) → IsIn component (components_in files) → Stands (component_names component)
       → IsFound (findings files) → IsFound (component_found (program files).components (program files).specs component)
-  found_within files distinct component there stands k = first (in_either one (files_collected_twice files no_place) _ k)
+  found_within files distinct component there stands k =
+      in_part (files_collected_twice files no_place) _ k (never _ (twice.files_collected_twice_fit NoUse files no_place)) (λ k.
+      in_part (main_found files) _ k (never _ (twice.main_fits NoUse files)) (λ k.
+      in_part (all_cycles_found (links_of imports) imports) found k (never _ (twice.cycles_fit NoUse (links_of imports) imports))
+      (in_files (program files).components (program files).specs files component there stands (at_most_one spot (flat_map file_names files) distinct))))
     where
-      one : Finding
-      one = Use spot (Declared decl)
-
       imports : List GlobalImport
       imports = files_imports (program files).components files
-
-      Whole : Type 0
-      Whole = IsFound (component_found (program files).components (program files).specs component)
 
       found : List Finding
       found = files_found (program files).components (program files).specs files
 
-      third : IsFound (all_cycles_found (links_of imports) imports) ⊎ IsFound found → Whole
-      third (inl h) = never _ (twice.cycles_fit NoUse (links_of imports) imports) h
-      third (inr h) = in_files (program files).components (program files).specs files component there stands (at_most_one spot (flat_map file_names files) distinct) h
-
-      second : IsFound (main_found files) ⊎ IsFound (all_cycles_found (links_of imports) imports ++ found) → Whole
-      second (inl h) = never _ (twice.main_fits NoUse files) h
-      second (inr h) = third (in_either one (all_cycles_found (links_of imports) imports) _ h)
-
-      first : IsFound (files_collected_twice files no_place) ⊎ IsFound (main_found files ++ (all_cycles_found (links_of imports) imports ++ found)) → Whole
-      first (inl h) = never _ (twice.files_collected_twice_fit NoUse files no_place) h
-      first (inr h) = second (in_either one (main_found files) _ h)
-
 -- ---- what names mean is found
-
-some_is : (a b : Meaning) → Some a ≡ Some b → a ≡ b
-some_is a b e = cc
-
-none_some : (a : Meaning) → None ≡ Some a → ⊥
-none_some a e = cc
 
 -- what is noted of a name is found
 noted_found : (found : List Finding) (diagnostics : Diagnostics) (spot : Spot) (meaning : Meaning) → meaning_at (all_noted diagnostics found).uses spot ≡ Some meaning
@@ -346,7 +298,7 @@ noted_found (Use there other ∷ found) diagnostics spot meaning e = by (noted_f
     last : (spot ≡ there) ⊎ (same_spot spot there ≡ false) → meaning_at (with_use diagnostics.uses there other) spot ≡ Some meaning
         → IsIn (Use spot meaning) (Use there other ∷ found) ⊎ (meaning_at diagnostics.uses spot ≡ Some meaning)
     last (inl same) h =
-        let here : other ≡ meaning = some_is other meaning (sym (entry-same diagnostics.uses there other) ∙ ap (λ at. meaning_at (with_use diagnostics.uses there other) at) (sym same) ∙ h) in
+        let here : other ≡ meaning = same_Some other meaning (sym (entry-same diagnostics.uses there other) ∙ ap (λ at. meaning_at (with_use diagnostics.uses there other) at) (sym same) ∙ h) in
         inl (inl (λ i. Use (sym same i) (here i)))
     last (inr apart) h = inr (sym (entry-other diagnostics.uses there other spot apart) ∙ h)
 
@@ -364,4 +316,4 @@ meant_within files names named distinct component there spot decl stands e =
     by : IsIn (Use spot (Declared decl)) (findings files) ⊎ (meaning_at nothing_noted.uses spot ≡ Some (Declared decl))
         → IsIn (Use spot (Declared decl)) (component_found (program files).components (program files).specs component)
     by (inl k) = found_within spot decl files distinct component there stands k
-    by (inr h) = absurd (none_some (Declared decl) h)
+    by (inr h) = absurd (none-some (Declared decl) h)

@@ -2,6 +2,7 @@
 -- itself, or the global that it imports.
 use Rattle.std.proofs.Common.{◌≡◌, List, None, Ok, flat_map, map}
 use Rattle.std.specs.List.{IsDistinct}
+use Rattle.sr_check.specs.ErrorFree.{ErrorFree}
 use Rattle.sr_check.specs.Checked.{checked, first_refused}
 use Rattle.sr_check.specs.Servicing.{AllServiceOwn}
 use Rattle.sr_check_decl.specs.Inferring.{program_known}
@@ -17,23 +18,25 @@ use Rattle.sr_tables.specs.Parts.{components_in}
 use Rattle.sr_tree.specs.declared.component.Component.{Component}
 use Rattle.sr_tree.specs.declared.component.File.{File}
 use Rattle.sr_front.specs.Variables.{HasVariables, mention_stands}
+use Rattle.sr_front.proofs.Heads.{heads_found}
+use Rattle.sr_front.proofs.FreeBlocks.{FreeComponents}
 use Rattle.sr_front.proofs.Declared.{Apart}
-use Rattle.sr_front.proofs.Operations.{components, core}
+use Rattle.sr_front.proofs.Operations.{core}
 use Rattle.sr_front.proofs.RootedCore.{core_passes}
 use Rattle.sr_front.proofs.RootedNames.{SortsFit, all_rooted}
 use Rattle.sr_front.proofs.RootsHad.{SharedRules}
 use Rattle.sr_front.proofs.TypedCode.{Good}
-use Rattle.sr_front.proofs.TypedItems.{FreeComponents}
 
 module _ (specs : Specs) (files : List File) (facts : Facts) (names : Names) (named : resolved files ≡ Ok names) (kept : facts.uses ≡ names.uses)
     (services : AllServiceOwn names.uses files (program_known names.uses specs files)) (apart : Apart files)
-    (names_apart : IsDistinct same_spot (map spot_of (flat_map file_names files))) (none : first_refused names.uses specs files ≡ None) (checked_so : facts ≡ (checked names.uses specs files).facts) where
+    (names_apart : IsDistinct same_spot (map spot_of (flat_map file_names files))) (none : first_refused names.uses specs files ≡ None) (headed : ErrorFree (heads_found names.uses specs files))
+    (types : FreeComponents (components_in files) (program_known names.uses specs files)) (checked_so : facts ≡ (checked names.uses specs files).facts) where
   abbrev known : Facts
   known = program_known names.uses specs files
 
   -- where all that is known before code is read has a type, and the sort of each name fits what is known of it
-  pub variables_stand : WaitApart files facts → SharedRules files facts → ((component : Component) → IsIn component (components_in files) → SortsFit files facts component) → FreeComponents (components files facts) known → Good known
+  pub variables_stand : WaitApart files facts → SharedRules files facts → ((component : Component) → IsIn component (components_in files) → SortsFit files facts component) → Good known
       → HasVariables (core files facts)
-  variables_stand distinct rules sorts free good =
-      let passes = core_passes specs files facts names named kept services apart names_apart none checked_so (mention_stands (core files facts)) (all_rooted files names named facts kept names_apart apart rules sorts) free good distinct in
+  variables_stand distinct rules sorts good =
+      let passes = core_passes specs files facts names named kept services apart names_apart none headed types checked_so (mention_stands (core files facts)) (all_rooted files names named facts kept names_apart apart rules sorts) good distinct in
       record { code = passes.code; guards = passes.guards; reads = passes.reads }

@@ -13,22 +13,21 @@ use Rattle.sr_tree.specs.declared.component.Item.{Item}
 use Rattle.sr_tree.specs.declared.component.Item.TheVariants as item
 use Rattle.sr_tree.specs.declared.component.ProcItem.{ProcItem}
 use Rattle.sr_tree.specs.declared.component.ProcItem.TheVariants as inner
-use Rattle.sr_tree.specs.declared.expr.Expr.{Expr}
-use Rattle.sr_tree.specs.declared.expr.Invocation.{Invocation}
-use Rattle.sr_tree.specs.declared.statement.Arm.{Arm, roll-Arm}
-use Rattle.sr_tree.specs.declared.statement.BlockItem.{BlockItem, roll-BlockItem}
-use Rattle.sr_tree.specs.declared.statement.BlockItem.TheFolds.{fold-roll-Arm, fold-roll-BlockItem, fold-roll-Branch, fold-roll-CoArm, fold-roll-Statement, ind-Statement, map-Arm, map-BlockItem, map-Branch, map-CoArm, map-Statement}
-use Rattle.sr_tree.specs.declared.statement.BlockItem.TheOpen.{Arm-F, BlockItem-F, Branch-F, CoArm-F, Statement-F}
-use Rattle.sr_tree.specs.declared.statement.Branch.{Branch, roll-Branch}
-use Rattle.sr_tree.specs.declared.statement.CoArm.{CoArm, roll-CoArm}
-use Rattle.sr_tree.specs.declared.statement.Quantifier.{Quantifier}
-use Rattle.sr_tree.specs.declared.statement.Statement.{Statement, roll-Statement}
+use Rattle.sr_tree.specs.declared.statement.Arm.{Arm}
+use Rattle.sr_tree.specs.declared.statement.BlockItem.{BlockItem}
+use Rattle.sr_tree.specs.declared.statement.BlockItem.TheOpen.{BlockItem-F, Statement-F}
+use Rattle.sr_tree.specs.declared.statement.Branch.{Branch}
+use Rattle.sr_tree.specs.declared.statement.CoArm.{CoArm}
+use Rattle.sr_tree.specs.declared.statement.Statement.{Statement}
 use Rattle.sr_tree.specs.Parts.{body_of}
 use Rattle.sr_value.specs.declared.place.Span.{Span}
-use Rattle.sr_tables.specs.Lists.{lists, maybe_lists}
+use Rattle.sr_tables.specs.Lists.{lists}
 use Rattle.sr_tables.specs.Parts.{components_in}
-use Rattle.sr_outline.specs.Numbers.{arm_sites, block_item_in_sites, block_item_sites, branch_sites, co_arm_sites, component_sites, inner_sites, is_wait, item_sites, sites_in, statement_sites}
-use Rattle.sr_order.specs.Spans.{arm_spans, arm_step, block_item_spans, block_item_step, block_statements, branch_spans, branch_step, co_arm_spans, co_arm_step, component_statements, inner_statements, item_statements, joined, spans_in, statement_spans, statement_step}
+use Rattle.sr_outline.specs.Numbers.{arm_sites, block_item_in_sites, branch_sites, co_arm_sites, component_sites, inner_sites, is_wait, item_sites, sites_in}
+use Rattle.sr_order.specs.Spans.{arm_spans, block_item_spans, block_statements, branch_spans, co_arm_spans, component_statements, inner_statements, item_statements, joined, spans_in, statement_spans}
+use Rattle.sr_order.proofs.NameFolds.{spanning}
+use Rattle.sr_outline.proofs.NumberFolds.{waiting}
+use Rattle.sr_tree.proofs.StatementFolds.{ArmNode, BranchNode, ByParts, Claim, CoArmNode, ItemNode, Known, StatementNode, arm_folds, bare_arm, bare_branch, bare_co_arm, bare_item, bare_statement, branch_folds, co_arm_folds, each_statement, from_arm, from_branch, from_co_arm, from_item, from_statement, item_folds, statement_folds}
 
 -- ---- some of a list, in its order
 
@@ -87,20 +86,8 @@ module _ (facts : Facts) where
   abbrev CoArmGood : CoArm → Type 0
   CoArmGood tree = Among (co_arm_sites facts tree) (co_arm_spans tree)
 
-  abbrev I : Type 0
-  I = (tree : BlockItem) × ItemGood tree
-
-  abbrev S : Type 0
-  S = (tree : Statement) × StatementGood tree
-
-  abbrev A : Type 0
-  A = (tree : Arm) × ArmGood tree
-
-  abbrev B : Type 0
-  B = (tree : Branch) × BranchGood tree
-
-  abbrev C : Type 0
-  C = (tree : CoArm) × CoArmGood tree
+  abbrev good : Claim
+  good = record { item = ItemGood; statement = StatementGood; arm = ArmGood; branch = BranchGood; co_arm = CoArmGood }
 
   -- a row of trees
   row : {X : Type 0} (spots : X → List Spot) (spans : X → List Span) (xs : List ((x : X) × Among (spots x) (spans x)))
@@ -113,44 +100,21 @@ module _ (facts : Facts) where
   called span true = kept (spot_of span) none_left
   called span false = none_of (spot_of span ∷ [])
 
-  abbrev sites_statement : Statement-F BlockItem Statement Arm Branch CoArm → Statement-F (List Spot) (List Spot) (List Spot) (List Spot) (List Spot)
-  sites_statement = map-Statement BlockItem Statement Arm Branch CoArm (List Spot) (List Spot) (List Spot) (List Spot) (List Spot)
-      (block_item_in_sites facts) (sites_in facts) (arm_sites facts) (branch_sites facts) (co_arm_sites facts)
-
-  abbrev spans_statement : Statement-F BlockItem Statement Arm Branch CoArm → Statement-F (List Span) (List Span) (List Span) (List Span) (List Span)
-  spans_statement = map-Statement BlockItem Statement Arm Branch CoArm (List Span) (List Span) (List Span) (List Span) (List Span)
-      block_item_spans spans_in arm_spans branch_spans co_arm_spans
-
-  abbrev bare : Statement-F I S A B C → Statement-F BlockItem Statement Arm Branch CoArm
-  bare = map-Statement I S A B C BlockItem Statement Arm Branch CoArm (λ e. e.0) (λ e. e.0) (λ e. e.0) (λ e. e.0) (λ e. e.0)
-
-  branches_row : (xs : List B) → Among (lists (map (branch_sites facts) (map (λ e. e.0) xs))) (joined (map branch_spans (map (λ e. e.0) xs)))
+  branches_row : (xs : List (Known BranchGood)) → Among (lists (map (branch_sites facts) (map (λ e. e.0) xs))) (joined (map branch_spans (map (λ e. e.0) xs)))
   branches_row = row (branch_sites facts) branch_spans
 
-  items_row : (xs : List I) → Among (lists (map (block_item_in_sites facts) (map (λ e. e.0) xs))) (joined (map block_item_spans (map (λ e. e.0) xs)))
+  items_row : (xs : List (Known ItemGood)) → Among (lists (map (block_item_in_sites facts) (map (λ e. e.0) xs))) (joined (map block_item_spans (map (λ e. e.0) xs)))
   items_row = row (block_item_in_sites facts) block_item_spans
 
-  arms_row : (xs : List A) → Among (lists (map (arm_sites facts) (map (λ e. e.0) xs))) (joined (map arm_spans (map (λ e. e.0) xs)))
+  arms_row : (xs : List (Known ArmGood)) → Among (lists (map (arm_sites facts) (map (λ e. e.0) xs))) (joined (map arm_spans (map (λ e. e.0) xs)))
   arms_row = row (arm_sites facts) arm_spans
 
-  co_arms_row : (xs : List C) → Among (lists (map (co_arm_sites facts) (map (λ e. e.0) xs))) (joined (map co_arm_spans (map (λ e. e.0) xs)))
+  co_arms_row : (xs : List (Known CoArmGood)) → Among (lists (map (co_arm_sites facts) (map (λ e. e.0) xs))) (joined (map co_arm_spans (map (λ e. e.0) xs)))
   co_arms_row = row (co_arm_sites facts) co_arm_spans
 
-  statement_good : (y : Statement-F I S A B C) → Among (statement_sites facts (sites_statement (bare y))) (statement_step (spans_statement (bare y)))
-  statement_good (Statement-F.Skip span) = none_of (spot_of span ∷ [])
-  statement_good (Statement-F.Exit span) = none_of (spot_of span ∷ [])
-  statement_good (Statement-F.Next span) = none_of (spot_of span ∷ [])
-  statement_good (Statement-F.Return span) = none_of (spot_of span ∷ [])
-  statement_good (Statement-F.Reply span) = none_of (spot_of span ∷ [])
-  statement_good (Statement-F.Stop span status) = none_of (spot_of span ∷ [])
+  statement_good : (y : StatementNode good) → Among (from_statement (waiting facts) (bare_statement good y)) (from_statement spanning (bare_statement good y))
   statement_good (Statement-F.Call span with_call invocation) = called span (is_wait facts invocation)
-  statement_good (Statement-F.Send span invocation) = none_of (spot_of span ∷ [])
-  statement_good (Statement-F.Forward span invocation) = none_of (spot_of span ∷ [])
   statement_good (Statement-F.Receive span operation places) = kept (spot_of span) none_left
-  statement_good (Statement-F.Assign span target value) = none_of (spot_of span ∷ [])
-  statement_good (Statement-F.Exchange span left right) = none_of (spot_of span ∷ [])
-  statement_good (Statement-F.Increment span target) = none_of (spot_of span ∷ [])
-  statement_good (Statement-F.Decrement span target) = none_of (spot_of span ∷ [])
   statement_good (Statement-F.If span branches None) = dropped (spot_of span) (among_both _ [] (joined (map branch_spans (map (λ e. e.0) branches))) [] (branches_row branches) none_left)
   statement_good (Statement-F.If span branches (Some otherwise)) =
       dropped (spot_of span) (among_both _ _ (joined (map branch_spans (map (λ e. e.0) branches))) (joined (map block_item_spans (map (λ e. e.0) otherwise))) (branches_row branches) (items_row otherwise))
@@ -162,124 +126,42 @@ module _ (facts : Facts) where
   statement_good (Statement-F.In span arms (Some otherwise)) =
       kept (spot_of span) (among_both _ _ (joined (map arm_spans (map (λ e. e.0) arms))) (joined (map block_item_spans (map (λ e. e.0) otherwise))) (arms_row arms) (items_row otherwise))
   statement_good (Statement-F.Co span arms) = dropped (spot_of span) (co_arms_row arms)
-  statement_good (Statement-F.Destroy span target) = none_of (spot_of span ∷ [])
-  statement_good (Statement-F.Create span create) = none_of (spot_of span ∷ [])
+  statement_good _ = none_of _
 
-  abbrev sites_item : BlockItem-F BlockItem Statement Arm Branch CoArm → BlockItem-F (List Spot) (List Spot) (List Spot) (List Spot) (List Spot)
-  sites_item = map-BlockItem BlockItem Statement Arm Branch CoArm (List Spot) (List Spot) (List Spot) (List Spot) (List Spot)
-      (block_item_in_sites facts) (sites_in facts) (arm_sites facts) (branch_sites facts) (co_arm_sites facts)
-
-  abbrev spans_item : BlockItem-F BlockItem Statement Arm Branch CoArm → BlockItem-F (List Span) (List Span) (List Span) (List Span) (List Span)
-  spans_item = map-BlockItem BlockItem Statement Arm Branch CoArm (List Span) (List Span) (List Span) (List Span) (List Span)
-      block_item_spans spans_in arm_spans branch_spans co_arm_spans
-
-  abbrev bare_item : BlockItem-F I S A B C → BlockItem-F BlockItem Statement Arm Branch CoArm
-  bare_item = map-BlockItem I S A B C BlockItem Statement Arm Branch CoArm (λ e. e.0) (λ e. e.0) (λ e. e.0) (λ e. e.0) (λ e. e.0)
-
-  abbrev sites_arm : Arm-F BlockItem Statement Arm Branch CoArm → Arm-F (List Spot) (List Spot) (List Spot) (List Spot) (List Spot)
-  sites_arm = map-Arm BlockItem Statement Arm Branch CoArm (List Spot) (List Spot) (List Spot) (List Spot) (List Spot)
-      (block_item_in_sites facts) (sites_in facts) (arm_sites facts) (branch_sites facts) (co_arm_sites facts)
-
-  abbrev spans_arm : Arm-F BlockItem Statement Arm Branch CoArm → Arm-F (List Span) (List Span) (List Span) (List Span) (List Span)
-  spans_arm = map-Arm BlockItem Statement Arm Branch CoArm (List Span) (List Span) (List Span) (List Span) (List Span)
-      block_item_spans spans_in arm_spans branch_spans co_arm_spans
-
-  abbrev bare_arm : Arm-F I S A B C → Arm-F BlockItem Statement Arm Branch CoArm
-  bare_arm = map-Arm I S A B C BlockItem Statement Arm Branch CoArm (λ e. e.0) (λ e. e.0) (λ e. e.0) (λ e. e.0) (λ e. e.0)
-
-  abbrev sites_branch : Branch-F BlockItem Statement Arm Branch CoArm → Branch-F (List Spot) (List Spot) (List Spot) (List Spot) (List Spot)
-  sites_branch = map-Branch BlockItem Statement Arm Branch CoArm (List Spot) (List Spot) (List Spot) (List Spot) (List Spot)
-      (block_item_in_sites facts) (sites_in facts) (arm_sites facts) (branch_sites facts) (co_arm_sites facts)
-
-  abbrev spans_branch : Branch-F BlockItem Statement Arm Branch CoArm → Branch-F (List Span) (List Span) (List Span) (List Span) (List Span)
-  spans_branch = map-Branch BlockItem Statement Arm Branch CoArm (List Span) (List Span) (List Span) (List Span) (List Span)
-      block_item_spans spans_in arm_spans branch_spans co_arm_spans
-
-  abbrev bare_branch : Branch-F I S A B C → Branch-F BlockItem Statement Arm Branch CoArm
-  bare_branch = map-Branch I S A B C BlockItem Statement Arm Branch CoArm (λ e. e.0) (λ e. e.0) (λ e. e.0) (λ e. e.0) (λ e. e.0)
-
-  abbrev sites_co_arm : CoArm-F BlockItem Statement Arm Branch CoArm → CoArm-F (List Spot) (List Spot) (List Spot) (List Spot) (List Spot)
-  sites_co_arm = map-CoArm BlockItem Statement Arm Branch CoArm (List Spot) (List Spot) (List Spot) (List Spot) (List Spot)
-      (block_item_in_sites facts) (sites_in facts) (arm_sites facts) (branch_sites facts) (co_arm_sites facts)
-
-  abbrev spans_co_arm : CoArm-F BlockItem Statement Arm Branch CoArm → CoArm-F (List Span) (List Span) (List Span) (List Span) (List Span)
-  spans_co_arm = map-CoArm BlockItem Statement Arm Branch CoArm (List Span) (List Span) (List Span) (List Span) (List Span)
-      block_item_spans spans_in arm_spans branch_spans co_arm_spans
-
-  abbrev bare_co_arm : CoArm-F I S A B C → CoArm-F BlockItem Statement Arm Branch CoArm
-  bare_co_arm = map-CoArm I S A B C BlockItem Statement Arm Branch CoArm (λ e. e.0) (λ e. e.0) (λ e. e.0) (λ e. e.0) (λ e. e.0)
-
-  item_good : (y : BlockItem-F I S A B C) → Among (block_item_sites (sites_item (bare_item y))) (block_item_step (spans_item (bare_item y)))
-  item_good (BlockItem-F.Const constant) = none_left
-  item_good (BlockItem-F.Var variables) = none_left
+  item_good : (y : ItemNode good) → Among (from_item (waiting facts) (bare_item good y)) (from_item spanning (bare_item good y))
   item_good (BlockItem-F.Statement statement) = statement.1
+  item_good _ = none_left
 
-  arm_good : (y : Arm-F I S A B C) → Among (lists (sites_arm (bare_arm y)).block) (arm_step (spans_arm (bare_arm y)))
+  arm_good : (y : ArmNode good) → Among (from_arm (waiting facts) (bare_arm good y)) (from_arm spanning (bare_arm good y))
   arm_good y = items_row y.block
 
-  branch_good : (y : Branch-F I S A B C) → Among (lists (sites_branch (bare_branch y)).block) (branch_step (spans_branch (bare_branch y)))
+  branch_good : (y : BranchNode good) → Among (from_branch (waiting facts) (bare_branch good y)) (from_branch spanning (bare_branch good y))
   branch_good y = items_row y.block
 
-  co_arm_parts_good : (span : Span) (quantifiers : List Quantifier) (target : Option Expr) (with_call : Bool) (invocation : Invocation) (block : Option (List I))
-      → Among (maybe_lists (sites_co_arm (bare_co_arm (record { span = span; quantifiers = quantifiers; target = target; with_call = with_call; invocation = invocation; block = block }))).block)
-      (co_arm_step (spans_co_arm (bare_co_arm (record { span = span; quantifiers = quantifiers; target = target; with_call = with_call; invocation = invocation; block = block }))))
-  co_arm_parts_good span quantifiers target with_call invocation None = none_left
-  co_arm_parts_good span quantifiers target with_call invocation (Some block) = items_row block
+  co_arm_good : (y : CoArmNode good) → Among (from_co_arm (waiting facts) (bare_co_arm good y)) (from_co_arm spanning (bare_co_arm good y))
+  co_arm_good y = by y.block
+    where
+      by : (block : Option (List (Known ItemGood))) → Among (from_co_arm (waiting facts) (bare_co_arm good (record y { block = block }))) (from_co_arm spanning (bare_co_arm good (record y { block = block })))
+      by None = none_left
+      by (Some block) = items_row block
 
-  co_arm_good : (y : CoArm-F I S A B C) → Among (maybe_lists (sites_co_arm (bare_co_arm y)).block) (co_arm_step (spans_co_arm (bare_co_arm y)))
-  co_arm_good y = co_arm_parts_good y.span y.quantifiers y.target y.with_call y.invocation y.block
-
-  step_item : (x : BlockItem-F BlockItem Statement Arm Branch CoArm) (y : BlockItem-F I S A B C) → bare_item y ≡ x → ItemGood (roll-BlockItem x)
-  step_item x y is = subst (λ z. ItemGood (roll-BlockItem z)) is
-      (subst (λ spots. Among spots (block_item_spans (roll-BlockItem (bare_item y))))
-      (sym (fold-roll-BlockItem (List Spot) (List Spot) (List Spot) (List Spot) (List Spot) block_item_sites (statement_sites facts) (λ arm. lists arm.block) (λ branch. lists branch.block) (λ arm. maybe_lists arm.block) (bare_item y)))
-      (subst (λ spans. Among (block_item_sites (sites_item (bare_item y))) spans)
-      (sym (fold-roll-BlockItem (List Span) (List Span) (List Span) (List Span) (List Span) block_item_step statement_step arm_step branch_step co_arm_step (bare_item y)))
-      (item_good y)))
-
-  step_statement : (x : Statement-F BlockItem Statement Arm Branch CoArm) (y : Statement-F I S A B C) → bare y ≡ x → StatementGood (roll-Statement x)
-  step_statement x y is = subst (λ z. StatementGood (roll-Statement z)) is
-      (subst (λ spots. Among spots (spans_in (roll-Statement (bare y))))
-      (sym (fold-roll-Statement (List Spot) (List Spot) (List Spot) (List Spot) (List Spot) block_item_sites (statement_sites facts) (λ arm. lists arm.block) (λ branch. lists branch.block) (λ arm. maybe_lists arm.block) (bare y)))
-      (subst (λ spans. Among (statement_sites facts (sites_statement (bare y))) spans)
-      (sym (fold-roll-Statement (List Span) (List Span) (List Span) (List Span) (List Span) block_item_step statement_step arm_step branch_step co_arm_step (bare y)))
-      (statement_good y)))
-
-  step_arm : (x : Arm-F BlockItem Statement Arm Branch CoArm) (y : Arm-F I S A B C) → bare_arm y ≡ x → ArmGood (roll-Arm x)
-  step_arm x y is = subst (λ z. ArmGood (roll-Arm z)) is
-      (subst (λ spots. Among spots (arm_spans (roll-Arm (bare_arm y))))
-      (sym (fold-roll-Arm (List Spot) (List Spot) (List Spot) (List Spot) (List Spot) block_item_sites (statement_sites facts) (λ arm. lists arm.block) (λ branch. lists branch.block) (λ arm. maybe_lists arm.block) (bare_arm y)))
-      (subst (λ spans. Among (lists (sites_arm (bare_arm y)).block) spans)
-      (sym (fold-roll-Arm (List Span) (List Span) (List Span) (List Span) (List Span) block_item_step statement_step arm_step branch_step co_arm_step (bare_arm y)))
-      (arm_good y)))
-
-  step_branch : (x : Branch-F BlockItem Statement Arm Branch CoArm) (y : Branch-F I S A B C) → bare_branch y ≡ x → BranchGood (roll-Branch x)
-  step_branch x y is = subst (λ z. BranchGood (roll-Branch z)) is
-      (subst (λ spots. Among spots (branch_spans (roll-Branch (bare_branch y))))
-      (sym (fold-roll-Branch (List Spot) (List Spot) (List Spot) (List Spot) (List Spot) block_item_sites (statement_sites facts) (λ arm. lists arm.block) (λ branch. lists branch.block) (λ arm. maybe_lists arm.block) (bare_branch y)))
-      (subst (λ spans. Among (lists (sites_branch (bare_branch y)).block) spans)
-      (sym (fold-roll-Branch (List Span) (List Span) (List Span) (List Span) (List Span) block_item_step statement_step arm_step branch_step co_arm_step (bare_branch y)))
-      (branch_good y)))
-
-  step_co_arm : (x : CoArm-F BlockItem Statement Arm Branch CoArm) (y : CoArm-F I S A B C) → bare_co_arm y ≡ x → CoArmGood (roll-CoArm x)
-  step_co_arm x y is = subst (λ z. CoArmGood (roll-CoArm z)) is
-      (subst (λ spots. Among spots (co_arm_spans (roll-CoArm (bare_co_arm y))))
-      (sym (fold-roll-CoArm (List Spot) (List Spot) (List Spot) (List Spot) (List Spot) block_item_sites (statement_sites facts) (λ arm. lists arm.block) (λ branch. lists branch.block) (λ arm. maybe_lists arm.block) (bare_co_arm y)))
-      (subst (λ spans. Among (maybe_lists (sites_co_arm (bare_co_arm y)).block) spans)
-      (sym (fold-roll-CoArm (List Span) (List Span) (List Span) (List Span) (List Span) block_item_step statement_step arm_step branch_step co_arm_step (bare_co_arm y)))
-      (co_arm_good y)))
+  by_parts : ByParts good
+  by_parts = record {
+    item = λ y. subst (λ t. t) (λ i. Among (item_folds (waiting facts) (bare_item good y) i) (item_folds spanning (bare_item good y) i)) (item_good y);
+    statement = λ y. subst (λ t. t) (λ i. Among (statement_folds (waiting facts) (bare_statement good y) i) (statement_folds spanning (bare_statement good y) i)) (statement_good y);
+    arm = λ y. subst (λ t. t) (λ i. Among (arm_folds (waiting facts) (bare_arm good y) i) (arm_folds spanning (bare_arm good y) i)) (arm_good y);
+    branch = λ y. subst (λ t. t) (λ i. Among (branch_folds (waiting facts) (bare_branch good y) i) (branch_folds spanning (bare_branch good y) i)) (branch_good y);
+    co_arm = λ y. subst (λ t. t) (λ i. Among (co_arm_folds (waiting facts) (bare_co_arm good y) i) (co_arm_folds spanning (bare_co_arm good y) i)) (co_arm_good y);
+  }
 
   tree_good : (tree : Statement) → StatementGood tree
-  tree_good = ind-Statement ItemGood StatementGood ArmGood BranchGood CoArmGood step_item step_statement step_arm step_branch step_co_arm
+  tree_good = each_statement good by_parts
 
   -- ---- components
 
   inner_good : (one : ProcItem) → Among (inner_sites facts one) (inner_statements one)
-  inner_good (inner.Const constant) = none_left
-  inner_good (inner.Var variables) = none_left
-  inner_good (inner.Op operations) = none_left
-  inner_good (inner.Sem semaphores) = none_left
   inner_good (inner.Statement statement) = tree_good statement
+  inner_good _ = none_left
 
   block_good : (block : List ProcItem) → Among (flat_map (inner_sites facts) block) (block_statements block)
   block_good block = among_all (inner_sites facts) inner_statements inner_good block

@@ -1,16 +1,14 @@
 -- Each statement that waits is a site of the core that services what the statement means.
-use Rattle.std.proofs.Common.{◌≡◌, Bool, true, false, List, [], ◌∷◌, ◌++◌, Option, Some, None, map, refl, sym, ap, subst}
+use Rattle.std.proofs.Common.{◌≡◌, Bool, true, false, List, [], ◌∷◌, ◌++◌, Option, Some, None, map, refl, ap, subst}
 use Rattle.std.specs.List.{AllByRecursion, AllZip}
 use Rattle.sr_check.specs.Servicing.{ArmWaits, Together, Waits, arm_step, arm_waits, arms_meant, arms_waits, block_item_waits, branch_step, branch_waits, call_waits, co_arm_step, co_arm_waits, item_step, joined, meant_at, statement_step, statement_waits}
 use Rattle.sr_core.specs.declared.component.Operation.{Operation}
 use Rattle.sr_core.specs.declared.site.Arm.{Arm as CoreArm}
 use Rattle.sr_core.specs.declared.site.Site.{Site}
-use Rattle.sr_core.specs.declared.statement.CoArm.{CoArm as CoreCoArm}
-use Rattle.sr_core.specs.declared.statement.Guarded.{Guarded}
 use Rattle.sr_core.specs.declared.statement.Scope.{Scope}
-use Rattle.sr_core.specs.declared.statement.Statement.{Statement as CoreStatement}
 use Rattle.sr_names.specs.declared.meaning.Decl.{Decl}
 use Rattle.sr_names.specs.declared.spot.Spot.{Spot}
+use Rattle.sr_names.specs.Noted.{Meanings}
 use Rattle.sr_names.specs.Spots.{spot_of}
 use Rattle.sr_check_expr.specs.Meanings.{function_called, meant_by}
 use Rattle.sr_outline.specs.Numbers.{is_p, receive_returned, returned_names, wait_operation}
@@ -19,19 +17,20 @@ use Rattle.sr_tables.specs.Parts.{spot_named}
 use Rattle.sr_tables.specs.Tables.{found_at}
 use Rattle.sr_tree.specs.declared.expr.Expr.{Expr}
 use Rattle.sr_tree.specs.declared.expr.Invocation.{Invocation}
-use Rattle.sr_tree.specs.declared.statement.Arm.{Arm, roll-Arm}
-use Rattle.sr_tree.specs.declared.statement.BlockItem.{BlockItem, roll-BlockItem}
-use Rattle.sr_tree.specs.declared.statement.BlockItem.TheFolds.{fold-roll-Arm, fold-roll-BlockItem, fold-roll-Branch, fold-roll-CoArm, fold-roll-Statement, ind-Statement, map-Arm, map-BlockItem, map-Branch, map-CoArm, map-Statement}
-use Rattle.sr_tree.specs.declared.statement.BlockItem.TheOpen.{Arm-F, BlockItem-F, Branch-F, CoArm-F, Statement-F}
-use Rattle.sr_tree.specs.declared.statement.Branch.{Branch, roll-Branch}
-use Rattle.sr_tree.specs.declared.statement.CoArm.{CoArm, roll-CoArm}
-use Rattle.sr_tree.specs.declared.statement.Statement.{Statement, roll-Statement}
+use Rattle.sr_tree.specs.declared.statement.Arm.{Arm}
+use Rattle.sr_tree.specs.declared.statement.BlockItem.{BlockItem}
+use Rattle.sr_tree.specs.declared.statement.BlockItem.TheOpen.{BlockItem-F, Statement-F}
+use Rattle.sr_tree.specs.declared.statement.Branch.{Branch}
+use Rattle.sr_tree.specs.declared.statement.CoArm.{CoArm}
+use Rattle.sr_tree.specs.declared.statement.Statement.{Statement}
 use Rattle.sr_tree.specs.Expressions.{expr_span}
 use Rattle.sr_value.specs.declared.place.Span.{Span}
 use Rattle.sr_lower_expr.specs.declared.scene.Scene.{Scene}
 use Rattle.sr_lower_expr.specs.Places.{scope_in}
-use Rattle.sr_desugar.specs.Statements.{LoweredArm, Block, WithSites, all_sites, arm_made, arms_of, branch_made, call_made, co_arm_made, core_arm, core_block_item, core_branch, core_co_arm, core_statement, item_made, receive_made, scope_of_arms, statement_made}
+use Rattle.sr_desugar.specs.Statements.{LoweredArm, WithSites, all_sites, arms_of, call_made, core_arm, core_block_item, core_branch, core_co_arm, core_statement, receive_made, scope_of_arms}
 use Rattle.sr_front.specs.Sites.{IsListed}
+use Rattle.sr_desugar.proofs.CodeFold.{making}
+use Rattle.sr_tree.proofs.StatementFolds.{ArmNode, BranchNode, ByParts, Claim, CoArmNode, Fold, ItemNode, Known, StatementNode, arm_folds, bare_arm, bare_branch, bare_co_arm, bare_item, bare_statement, branch_folds, co_arm_folds, each_statement, from_arm, from_branch, from_co_arm, from_item, from_statement, item_folds, statement_folds}
 use Rattle.sr_front.proofs.Serviced.{Called, IsClear, WaitsFor, arm_calls, block_item_calls, branch_calls, co_arm_calls, statement_calls, item_step as item_called, statement_step as statement_called, arm_step as arm_called, branch_step as branch_called, co_arm_step as co_arm_called}
 use Rattle.sr_front.proofs.Procs.{Serves, serves}
 use Rattle.sr_front.proofs.Services.{meant_is}
@@ -69,6 +68,13 @@ abbrev pub FirstScope : List (Spot × Operation) → Scope → Together → Type
 FirstScope table scope [] = Unit {0}
 FirstScope table scope (meant ∷ more) = ScopeServes table scope meant
 
+-- what waits in trees, and the calls in them
+abbrev waiting : Meanings → Fold Waits Waits ArmWaits Waits Waits
+waiting uses = record { item = item_step; statement = statement_step uses; arm = arm_step uses; branch = branch_step; co_arm = co_arm_step }
+
+abbrev calling : Fold (List Called) (List Called) (List Called) (List Called) (List Called)
+calling = record { item = item_called; statement = statement_called; arm = arm_called; branch = branch_called; co_arm = co_arm_called }
+
 module _ (P : Together → Type 0) where
   -- a site services what is meant together
   pub record SiteServes (table : List (Spot × Operation)) (site : Site) : Type 0 where
@@ -103,21 +109,8 @@ module _ (P : Together → Type 0) where
   abbrev CoArmGood : CoArm → Type 0
   CoArmGood tree = (scene : Scene) → Good scene (core_co_arm scene tree).sites (co_arm_waits scene.facts.uses tree) (co_arm_calls tree)
 
-  -- trees with what is known of them
-  abbrev I : Type 0
-  I = (tree : BlockItem) × ItemGood tree
-
-  abbrev S : Type 0
-  S = (tree : Statement) × StatementGood tree
-
-  abbrev A : Type 0
-  A = (tree : Arm) × ArmGood tree
-
-  abbrev B : Type 0
-  B = (tree : Branch) × BranchGood tree
-
-  abbrev C : Type 0
-  C = (tree : CoArm) × CoArmGood tree
+  abbrev good : Claim
+  good = record { item = ItemGood; statement = StatementGood; arm = ArmGood; branch = BranchGood; co_arm = CoArmGood }
 
   -- what is good one after another is good together
   pub good_append : (scene : Scene) (sites more : List Site) (waits others : Waits) (calls rest : List Called)
@@ -127,34 +120,25 @@ module _ (P : Together → Type 0) where
       (first (each_first P waits others hold) (each_first (IsClear scene.facts) calls rest clear))
       (second (each_second P waits others hold) (each_second (IsClear scene.facts) calls rest clear))
 
-  items_good : (scene : Scene) (items : List I)
+  -- trees one after another
+  row_good : {X M : Type 0} (make : Scene → X → WithSites M) (waits : Meanings → X → Waits) (calls : X → List Called) (scene : Scene)
+      (xs : List ((x : X) × ((scene : Scene) → Good scene (make scene x).sites (waits scene.facts.uses x) (calls x))))
+      → Good scene (all_sites (map (make scene) (map (λ e. e.0) xs))) (joined (map (waits scene.facts.uses) (map (λ e. e.0) xs))) (lists (map calls (map (λ e. e.0) xs)))
+  row_good make waits calls scene [] = λ hold clear. tt
+  row_good make waits calls scene (x ∷ xs) =
+      good_append scene (make scene x.0).sites (all_sites (map (make scene) (map (λ e. e.0) xs)))
+      (waits scene.facts.uses x.0) (joined (map (waits scene.facts.uses) (map (λ e. e.0) xs))) (calls x.0) (lists (map calls (map (λ e. e.0) xs)))
+      (x.1 scene) (row_good make waits calls scene xs)
+
+  items_good : (scene : Scene) (items : List (Known ItemGood))
       → Good scene (all_sites (map (core_block_item scene) (map (λ e. e.0) items))) (joined (map (block_item_waits scene.facts.uses) (map (λ e. e.0) items))) (lists (map block_item_calls (map (λ e. e.0) items)))
-  items_good scene [] = λ hold clear. tt
-  items_good scene (item ∷ items) =
-      good_append scene (core_block_item scene item.0).sites (all_sites (map (core_block_item scene) (map (λ e. e.0) items)))
-      (block_item_waits scene.facts.uses item.0) (joined (map (block_item_waits scene.facts.uses) (map (λ e. e.0) items)))
-      (block_item_calls item.0) (lists (map block_item_calls (map (λ e. e.0) items)))
-      (item.1 scene) (items_good scene items)
+  items_good = row_good core_block_item block_item_waits block_item_calls
 
-  branches_good : (scene : Scene) (branches : List B)
+  branches_good : (scene : Scene) (branches : List (Known BranchGood))
       → Good scene (all_sites (map (core_branch scene) (map (λ e. e.0) branches))) (joined (map (branch_waits scene.facts.uses) (map (λ e. e.0) branches))) (lists (map branch_calls (map (λ e. e.0) branches)))
-  branches_good scene [] = λ hold clear. tt
-  branches_good scene (branch ∷ branches) =
-      good_append scene (core_branch scene branch.0).sites (all_sites (map (core_branch scene) (map (λ e. e.0) branches)))
-      (branch_waits scene.facts.uses branch.0) (joined (map (branch_waits scene.facts.uses) (map (λ e. e.0) branches)))
-      (branch_calls branch.0) (lists (map branch_calls (map (λ e. e.0) branches)))
-      (branch.1 scene) (branches_good scene branches)
+  branches_good = row_good core_branch branch_waits branch_calls
 
-  co_arms_good : (scene : Scene) (arms : List C)
-      → Good scene (all_sites (map (core_co_arm scene) (map (λ e. e.0) arms))) (joined (map (co_arm_waits scene.facts.uses) (map (λ e. e.0) arms))) (lists (map co_arm_calls (map (λ e. e.0) arms)))
-  co_arms_good scene [] = λ hold clear. tt
-  co_arms_good scene (arm ∷ arms) =
-      good_append scene (core_co_arm scene arm.0).sites (all_sites (map (core_co_arm scene) (map (λ e. e.0) arms)))
-      (co_arm_waits scene.facts.uses arm.0) (joined (map (co_arm_waits scene.facts.uses) (map (λ e. e.0) arms)))
-      (co_arm_calls arm.0) (lists (map co_arm_calls (map (λ e. e.0) arms)))
-      (arm.1 scene) (co_arms_good scene arms)
-
-  arms_good : (scene : Scene) (arms : List A)
+  arms_good : (scene : Scene) (arms : List (Known ArmGood))
       → Good scene (all_sites (map (core_arm scene) (map (λ e. e.0) arms))) (arms_waits (map (arm_waits scene.facts.uses) (map (λ e. e.0) arms))) (lists (map arm_calls (map (λ e. e.0) arms)))
   arms_good scene [] = λ hold clear. tt
   arms_good scene (arm ∷ arms) =
@@ -163,12 +147,12 @@ module _ (P : Together → Type 0) where
       (arm_calls arm.0) (lists (map arm_calls (map (λ e. e.0) arms)))
       ((arm.1 scene).1) (arms_good scene arms)
 
-  arms_serve : (scene : Scene) (arms : List A)
+  arms_serve : (scene : Scene) (arms : List (Known ArmGood))
       → AllZip (ArmServes scene.tables.operations) (arms_of (map (core_arm scene) (map (λ e. e.0) arms))) (arms_meant (map (arm_waits scene.facts.uses) (map (λ e. e.0) arms)))
   arms_serve scene [] = tt
   arms_serve scene (arm ∷ arms) = ((arm.1 scene).0.0, arms_serve scene arms)
 
-  first_scope : (scene : Scene) (arms : List A)
+  first_scope : (scene : Scene) (arms : List (Known ArmGood))
       → FirstScope scene.tables.operations (scope_of_arms (map (core_arm scene) (map (λ e. e.0) arms))) (arms_meant (map (arm_waits scene.facts.uses) (map (λ e. e.0) arms)))
   first_scope scene [] = tt
   first_scope scene (arm ∷ arms) = (arm.1 scene).0.1
@@ -201,33 +185,12 @@ module _ (P : Together → Type 0) where
 
   -- ---- statements
 
-  abbrev bare : Statement-F I S A B C → Statement-F BlockItem Statement Arm Branch CoArm
-  bare = map-Statement I S A B C BlockItem Statement Arm Branch CoArm (λ e. e.0) (λ e. e.0) (λ e. e.0) (λ e. e.0) (λ e. e.0)
-
-  abbrev made_statement : Scene → Statement-F BlockItem Statement Arm Branch CoArm → Statement-F (WithSites Block) (WithSites CoreStatement) (WithSites LoweredArm) (WithSites Guarded) (WithSites CoreCoArm)
-  made_statement scene =
-      map-Statement BlockItem Statement Arm Branch CoArm (WithSites Block) (WithSites CoreStatement) (WithSites LoweredArm) (WithSites Guarded) (WithSites CoreCoArm)
-      (core_block_item scene) (core_statement scene) (core_arm scene) (core_branch scene) (core_co_arm scene)
-
-  abbrev waits_statement : Scene → Statement-F BlockItem Statement Arm Branch CoArm → Statement-F Waits Waits ArmWaits Waits Waits
-  waits_statement scene =
-      map-Statement BlockItem Statement Arm Branch CoArm Waits Waits ArmWaits Waits Waits
-      (block_item_waits scene.facts.uses) (statement_waits scene.facts.uses) (arm_waits scene.facts.uses) (branch_waits scene.facts.uses) (co_arm_waits scene.facts.uses)
-
-  abbrev calls_statement : Statement-F BlockItem Statement Arm Branch CoArm → Statement-F (List Called) (List Called) (List Called) (List Called) (List Called)
-  calls_statement =
-      map-Statement BlockItem Statement Arm Branch CoArm (List Called) (List Called) (List Called) (List Called) (List Called)
-      block_item_calls statement_calls arm_calls branch_calls co_arm_calls
-
-  abbrev StatementParts : Scene → Statement-F I S A B C → Type 0
-  StatementParts scene y =
-      Good scene (statement_made scene (made_statement scene (bare y))).sites (statement_step scene.facts.uses (waits_statement scene (bare y))) (statement_called (calls_statement (bare y)))
-
   -- parts, and after them a block that may be left out
   with_none : (scene : Scene) (sites : List Site) (waits : Waits) (calls : List Called) → Good scene sites waits calls → Good scene (sites ++ []) (waits ++ []) (calls ++ [])
   with_none scene sites waits calls good = good_append scene sites [] waits [] calls [] good (λ hold clear. tt)
 
-  statement_good : (y : Statement-F I S A B C) (scene : Scene) → StatementParts scene y
+  statement_good : (y : StatementNode good) (scene : Scene)
+      → Good scene (from_statement (making scene) (bare_statement good y)).sites (from_statement (waiting scene.facts.uses) (bare_statement good y)) (from_statement calling (bare_statement good y))
   statement_good (Statement-F.Call span with_call invocation) scene = call_good scene span invocation
   statement_good (Statement-F.Receive span operation places) scene = λ hold clear.
       receive_good scene span (meant_by scene.facts operation) places (meant_at scene.facts.uses operation.span) (λ decl means. meant_is scene.facts.uses scene.facts operation decl refl means) hold.0
@@ -240,53 +203,18 @@ module _ (P : Together → Type 0) where
       (record { together = _; holds = hold.0; arms = arms_serve scene arms; scope = first_scope scene arms; lists = refl }, with_none scene _ _ _ (arms_good scene arms) hold.1 clear)
   statement_good (Statement-F.In span arms (Some otherwise)) scene = λ hold clear.
       (record { together = _; holds = hold.0; arms = arms_serve scene arms; scope = first_scope scene arms; lists = refl }, good_append scene _ _ _ _ _ _ (arms_good scene arms) (items_good scene otherwise) hold.1 clear)
-  statement_good (Statement-F.Co span arms) scene = co_arms_good scene arms
+  statement_good (Statement-F.Co span arms) scene = row_good core_co_arm co_arm_waits co_arm_calls scene arms
   statement_good _ scene = λ hold clear. tt
 
   -- ---- arms, branches and items
 
-  abbrev bare_item : BlockItem-F I S A B C → BlockItem-F BlockItem Statement Arm Branch CoArm
-  bare_item = map-BlockItem I S A B C BlockItem Statement Arm Branch CoArm (λ e. e.0) (λ e. e.0) (λ e. e.0) (λ e. e.0) (λ e. e.0)
-
-  abbrev made_item : Scene → BlockItem-F BlockItem Statement Arm Branch CoArm → BlockItem-F (WithSites Block) (WithSites CoreStatement) (WithSites LoweredArm) (WithSites Guarded) (WithSites CoreCoArm)
-  made_item scene =
-      map-BlockItem BlockItem Statement Arm Branch CoArm (WithSites Block) (WithSites CoreStatement) (WithSites LoweredArm) (WithSites Guarded) (WithSites CoreCoArm)
-      (core_block_item scene) (core_statement scene) (core_arm scene) (core_branch scene) (core_co_arm scene)
-
-  abbrev waits_item : Scene → BlockItem-F BlockItem Statement Arm Branch CoArm → BlockItem-F Waits Waits ArmWaits Waits Waits
-  waits_item scene =
-      map-BlockItem BlockItem Statement Arm Branch CoArm Waits Waits ArmWaits Waits Waits
-      (block_item_waits scene.facts.uses) (statement_waits scene.facts.uses) (arm_waits scene.facts.uses) (branch_waits scene.facts.uses) (co_arm_waits scene.facts.uses)
-
-  abbrev calls_item : BlockItem-F BlockItem Statement Arm Branch CoArm → BlockItem-F (List Called) (List Called) (List Called) (List Called) (List Called)
-  calls_item =
-      map-BlockItem BlockItem Statement Arm Branch CoArm (List Called) (List Called) (List Called) (List Called) (List Called)
-      block_item_calls statement_calls arm_calls branch_calls co_arm_calls
-
-  item_good : (y : BlockItem-F I S A B C) (scene : Scene) → Good scene (item_made scene (made_item scene (bare_item y))).sites (item_step (waits_item scene (bare_item y))) (item_called (calls_item (bare_item y)))
+  item_good : (y : ItemNode good) (scene : Scene)
+      → Good scene (from_item (making scene) (bare_item good y)).sites (from_item (waiting scene.facts.uses) (bare_item good y)) (from_item calling (bare_item good y))
   item_good (BlockItem-F.Statement statement) scene = statement.1 scene
   item_good _ scene = λ hold clear. tt
 
-  abbrev bare_arm : Arm-F I S A B C → Arm-F BlockItem Statement Arm Branch CoArm
-  bare_arm = map-Arm I S A B C BlockItem Statement Arm Branch CoArm (λ e. e.0) (λ e. e.0) (λ e. e.0) (λ e. e.0) (λ e. e.0)
-
-  abbrev made_arm : Scene → Arm-F BlockItem Statement Arm Branch CoArm → Arm-F (WithSites Block) (WithSites CoreStatement) (WithSites LoweredArm) (WithSites Guarded) (WithSites CoreCoArm)
-  made_arm scene =
-      map-Arm BlockItem Statement Arm Branch CoArm (WithSites Block) (WithSites CoreStatement) (WithSites LoweredArm) (WithSites Guarded) (WithSites CoreCoArm)
-      (core_block_item scene) (core_statement scene) (core_arm scene) (core_branch scene) (core_co_arm scene)
-
-  abbrev waits_arm : Scene → Arm-F BlockItem Statement Arm Branch CoArm → Arm-F Waits Waits ArmWaits Waits Waits
-  waits_arm scene =
-      map-Arm BlockItem Statement Arm Branch CoArm Waits Waits ArmWaits Waits Waits
-      (block_item_waits scene.facts.uses) (statement_waits scene.facts.uses) (arm_waits scene.facts.uses) (branch_waits scene.facts.uses) (co_arm_waits scene.facts.uses)
-
-  abbrev calls_arm : Arm-F BlockItem Statement Arm Branch CoArm → Arm-F (List Called) (List Called) (List Called) (List Called) (List Called)
-  calls_arm =
-      map-Arm BlockItem Statement Arm Branch CoArm (List Called) (List Called) (List Called) (List Called) (List Called)
-      block_item_calls statement_calls arm_calls branch_calls co_arm_calls
-
-  arm_good : (y : Arm-F I S A B C) (scene : Scene)
-      → ArmParts scene (arm_made scene (made_arm scene (bare_arm y))) (arm_step scene.facts.uses (waits_arm scene (bare_arm y))) (arm_called (calls_arm (bare_arm y)))
+  arm_good : (y : ArmNode good) (scene : Scene)
+      → ArmParts scene (from_arm (making scene) (bare_arm good y)) (from_arm (waiting scene.facts.uses) (bare_arm good y)) (from_arm calling (bare_arm good y))
   arm_good y scene = (
     (
       (λ decl means.
@@ -297,93 +225,31 @@ module _ (P : Together → Type 0) where
     items_good scene y.block,
   )
 
-  abbrev bare_branch : Branch-F I S A B C → Branch-F BlockItem Statement Arm Branch CoArm
-  bare_branch = map-Branch I S A B C BlockItem Statement Arm Branch CoArm (λ e. e.0) (λ e. e.0) (λ e. e.0) (λ e. e.0) (λ e. e.0)
-
-  abbrev made_branch : Scene → Branch-F BlockItem Statement Arm Branch CoArm → Branch-F (WithSites Block) (WithSites CoreStatement) (WithSites LoweredArm) (WithSites Guarded) (WithSites CoreCoArm)
-  made_branch scene =
-      map-Branch BlockItem Statement Arm Branch CoArm (WithSites Block) (WithSites CoreStatement) (WithSites LoweredArm) (WithSites Guarded) (WithSites CoreCoArm)
-      (core_block_item scene) (core_statement scene) (core_arm scene) (core_branch scene) (core_co_arm scene)
-
-  abbrev waits_branch : Scene → Branch-F BlockItem Statement Arm Branch CoArm → Branch-F Waits Waits ArmWaits Waits Waits
-  waits_branch scene =
-      map-Branch BlockItem Statement Arm Branch CoArm Waits Waits ArmWaits Waits Waits
-      (block_item_waits scene.facts.uses) (statement_waits scene.facts.uses) (arm_waits scene.facts.uses) (branch_waits scene.facts.uses) (co_arm_waits scene.facts.uses)
-
-  abbrev calls_branch : Branch-F BlockItem Statement Arm Branch CoArm → Branch-F (List Called) (List Called) (List Called) (List Called) (List Called)
-  calls_branch =
-      map-Branch BlockItem Statement Arm Branch CoArm (List Called) (List Called) (List Called) (List Called) (List Called)
-      block_item_calls statement_calls arm_calls branch_calls co_arm_calls
-
-  branch_good : (y : Branch-F I S A B C) (scene : Scene) → Good scene (branch_made scene (made_branch scene (bare_branch y))).sites (branch_step (waits_branch scene (bare_branch y))) (branch_called (calls_branch (bare_branch y)))
+  branch_good : (y : BranchNode good) (scene : Scene)
+      → Good scene (from_branch (making scene) (bare_branch good y)).sites (from_branch (waiting scene.facts.uses) (bare_branch good y)) (from_branch calling (bare_branch good y))
   branch_good y scene = items_good scene y.block
 
-  abbrev bare_co_arm : CoArm-F I S A B C → CoArm-F BlockItem Statement Arm Branch CoArm
-  bare_co_arm = map-CoArm I S A B C BlockItem Statement Arm Branch CoArm (λ e. e.0) (λ e. e.0) (λ e. e.0) (λ e. e.0) (λ e. e.0)
+  abbrev CoArmParts : Scene → CoArmNode good → Type 0
+  CoArmParts scene y = Good scene (from_co_arm (making scene) (bare_co_arm good y)).sites (from_co_arm (waiting scene.facts.uses) (bare_co_arm good y)) (from_co_arm calling (bare_co_arm good y))
 
-  abbrev made_co_arm : Scene → CoArm-F BlockItem Statement Arm Branch CoArm → CoArm-F (WithSites Block) (WithSites CoreStatement) (WithSites LoweredArm) (WithSites Guarded) (WithSites CoreCoArm)
-  made_co_arm scene =
-      map-CoArm BlockItem Statement Arm Branch CoArm (WithSites Block) (WithSites CoreStatement) (WithSites LoweredArm) (WithSites Guarded) (WithSites CoreCoArm)
-      (core_block_item scene) (core_statement scene) (core_arm scene) (core_branch scene) (core_co_arm scene)
-
-  abbrev waits_co_arm : Scene → CoArm-F BlockItem Statement Arm Branch CoArm → CoArm-F Waits Waits ArmWaits Waits Waits
-  waits_co_arm scene =
-      map-CoArm BlockItem Statement Arm Branch CoArm Waits Waits ArmWaits Waits Waits
-      (block_item_waits scene.facts.uses) (statement_waits scene.facts.uses) (arm_waits scene.facts.uses) (branch_waits scene.facts.uses) (co_arm_waits scene.facts.uses)
-
-  abbrev calls_co_arm : CoArm-F BlockItem Statement Arm Branch CoArm → CoArm-F (List Called) (List Called) (List Called) (List Called) (List Called)
-  calls_co_arm =
-      map-CoArm BlockItem Statement Arm Branch CoArm (List Called) (List Called) (List Called) (List Called) (List Called)
-      block_item_calls statement_calls arm_calls branch_calls co_arm_calls
-
-  abbrev CoArmParts : Scene → CoArm-F I S A B C → Type 0
-  CoArmParts scene y =
-      Good scene (co_arm_made scene (made_co_arm scene (bare_co_arm y))).sites (co_arm_step (waits_co_arm scene (bare_co_arm y))) (co_arm_called (calls_co_arm (bare_co_arm y)))
-
-  co_arm_good : (y : CoArm-F I S A B C) (scene : Scene) → CoArmParts scene y
+  co_arm_good : (y : CoArmNode good) (scene : Scene) → CoArmParts scene y
   co_arm_good y scene = by y.block
     where
-      by : (block : Option (List I)) → CoArmParts scene (record y { block = block })
+      by : (block : Option (List (Known ItemGood))) → CoArmParts scene (record y { block = block })
       by None = λ hold clear. tt
       by (Some items) = items_good scene items
 
   -- ---- all trees
 
-  step_item : (x : BlockItem-F BlockItem Statement Arm Branch CoArm) (y : BlockItem-F I S A B C) → bare_item y ≡ x → ItemGood (roll-BlockItem x)
-  step_item x y is = subst (λ z. ItemGood (roll-BlockItem z)) is (λ scene.
-      let made = fold-roll-BlockItem (WithSites Block) (WithSites CoreStatement) (WithSites LoweredArm) (WithSites Guarded) (WithSites CoreCoArm) (item_made scene) (statement_made scene) (arm_made scene) (branch_made scene) (co_arm_made scene) (bare_item y) in
-      let waits = fold-roll-BlockItem Waits Waits ArmWaits Waits Waits item_step (statement_step scene.facts.uses) (arm_step scene.facts.uses) branch_step co_arm_step (bare_item y) in
-      let calls = fold-roll-BlockItem (List Called) (List Called) (List Called) (List Called) (List Called) item_called statement_called arm_called branch_called co_arm_called (bare_item y) in
-      subst (λ z. z) (λ i. Good scene (sym made i).sites (sym waits i) (sym calls i)) (item_good y scene))
-
-  step_statement : (x : Statement-F BlockItem Statement Arm Branch CoArm) (y : Statement-F I S A B C) → bare y ≡ x → StatementGood (roll-Statement x)
-  step_statement x y is = subst (λ z. StatementGood (roll-Statement z)) is (λ scene.
-      let made = fold-roll-Statement (WithSites Block) (WithSites CoreStatement) (WithSites LoweredArm) (WithSites Guarded) (WithSites CoreCoArm) (item_made scene) (statement_made scene) (arm_made scene) (branch_made scene) (co_arm_made scene) (bare y) in
-      let waits = fold-roll-Statement Waits Waits ArmWaits Waits Waits item_step (statement_step scene.facts.uses) (arm_step scene.facts.uses) branch_step co_arm_step (bare y) in
-      let calls = fold-roll-Statement (List Called) (List Called) (List Called) (List Called) (List Called) item_called statement_called arm_called branch_called co_arm_called (bare y) in
-      subst (λ z. z) (λ i. Good scene (sym made i).sites (sym waits i) (sym calls i)) (statement_good y scene))
-
-  step_arm : (x : Arm-F BlockItem Statement Arm Branch CoArm) (y : Arm-F I S A B C) → bare_arm y ≡ x → ArmGood (roll-Arm x)
-  step_arm x y is = subst (λ z. ArmGood (roll-Arm z)) is (λ scene.
-      let made = fold-roll-Arm (WithSites Block) (WithSites CoreStatement) (WithSites LoweredArm) (WithSites Guarded) (WithSites CoreCoArm) (item_made scene) (statement_made scene) (arm_made scene) (branch_made scene) (co_arm_made scene) (bare_arm y) in
-      let waits = fold-roll-Arm Waits Waits ArmWaits Waits Waits item_step (statement_step scene.facts.uses) (arm_step scene.facts.uses) branch_step co_arm_step (bare_arm y) in
-      let calls = fold-roll-Arm (List Called) (List Called) (List Called) (List Called) (List Called) item_called statement_called arm_called branch_called co_arm_called (bare_arm y) in
-      subst (λ z. z) (λ i. ArmParts scene (sym made i) (sym waits i) (sym calls i)) (arm_good y scene))
-
-  step_branch : (x : Branch-F BlockItem Statement Arm Branch CoArm) (y : Branch-F I S A B C) → bare_branch y ≡ x → BranchGood (roll-Branch x)
-  step_branch x y is = subst (λ z. BranchGood (roll-Branch z)) is (λ scene.
-      let made = fold-roll-Branch (WithSites Block) (WithSites CoreStatement) (WithSites LoweredArm) (WithSites Guarded) (WithSites CoreCoArm) (item_made scene) (statement_made scene) (arm_made scene) (branch_made scene) (co_arm_made scene) (bare_branch y) in
-      let waits = fold-roll-Branch Waits Waits ArmWaits Waits Waits item_step (statement_step scene.facts.uses) (arm_step scene.facts.uses) branch_step co_arm_step (bare_branch y) in
-      let calls = fold-roll-Branch (List Called) (List Called) (List Called) (List Called) (List Called) item_called statement_called arm_called branch_called co_arm_called (bare_branch y) in
-      subst (λ z. z) (λ i. Good scene (sym made i).sites (sym waits i) (sym calls i)) (branch_good y scene))
-
-  step_co_arm : (x : CoArm-F BlockItem Statement Arm Branch CoArm) (y : CoArm-F I S A B C) → bare_co_arm y ≡ x → CoArmGood (roll-CoArm x)
-  step_co_arm x y is = subst (λ z. CoArmGood (roll-CoArm z)) is (λ scene.
-      let made = fold-roll-CoArm (WithSites Block) (WithSites CoreStatement) (WithSites LoweredArm) (WithSites Guarded) (WithSites CoreCoArm) (item_made scene) (statement_made scene) (arm_made scene) (branch_made scene) (co_arm_made scene) (bare_co_arm y) in
-      let waits = fold-roll-CoArm Waits Waits ArmWaits Waits Waits item_step (statement_step scene.facts.uses) (arm_step scene.facts.uses) branch_step co_arm_step (bare_co_arm y) in
-      let calls = fold-roll-CoArm (List Called) (List Called) (List Called) (List Called) (List Called) item_called statement_called arm_called branch_called co_arm_called (bare_co_arm y) in
-      subst (λ z. z) (λ i. Good scene (sym made i).sites (sym waits i) (sym calls i)) (co_arm_good y scene))
+  by_parts : ByParts good
+  by_parts = record {
+    item = λ y scene. subst (λ t. t) (λ i. Good scene (item_folds (making scene) (bare_item good y) i).sites (item_folds (waiting scene.facts.uses) (bare_item good y) i) (item_folds calling (bare_item good y) i)) (item_good y scene);
+    statement = λ y scene. subst (λ t. t) (λ i. Good scene (statement_folds (making scene) (bare_statement good y) i).sites (statement_folds (waiting scene.facts.uses) (bare_statement good y) i) (statement_folds calling (bare_statement good y) i)) (statement_good y scene);
+    arm = λ y scene. subst (λ t. t) (λ i. ArmParts scene (arm_folds (making scene) (bare_arm good y) i) (arm_folds (waiting scene.facts.uses) (bare_arm good y) i) (arm_folds calling (bare_arm good y) i)) (arm_good y scene);
+    branch = λ y scene. subst (λ t. t) (λ i. Good scene (branch_folds (making scene) (bare_branch good y) i).sites (branch_folds (waiting scene.facts.uses) (bare_branch good y) i) (branch_folds calling (bare_branch good y) i)) (branch_good y scene);
+    co_arm = λ y scene. subst (λ t. t) (λ i. Good scene (co_arm_folds (making scene) (bare_co_arm good y) i).sites (co_arm_folds (waiting scene.facts.uses) (bare_co_arm good y) i) (co_arm_folds calling (bare_co_arm good y) i)) (co_arm_good y scene);
+  }
 
   -- each statement that waits in a statement services what it means
   pub statement_serves : (tree : Statement) → StatementGood tree
-  statement_serves = ind-Statement ItemGood StatementGood ArmGood BranchGood CoArmGood step_item step_statement step_arm step_branch step_co_arm
+  statement_serves = each_statement good by_parts

@@ -36,9 +36,8 @@ use Rattle.sr_types.specs.Types.{is_of_nulls}
 use Rattle.sr_value.specs.declared.place.Span.{Span}
 use Rattle.sr_front.proofs.ConstantsChecked.{CheckedAt, found_in}
 use Rattle.sr_front.proofs.InfosStay.{Reads}
-use Rattle.sr_front.proofs.KeptNames.{Anywhere, Closed}
-use Rattle.sr_front.proofs.KeptProcs.{closed_in, keeps_item}
-use Rattle.sr_front.proofs.ReadsCode.{component_inside, item_inside, reads_item}
+use Rattle.sr_front.proofs.KeptNames.{Anywhere, Closed, anywhere}
+use Rattle.sr_front.proofs.ReadsCode.{component_inside, item_inside, keeps_item, reads_item}
 use Rattle.sr_front.proofs.Typed.{IsTyped}
 use Rattle.sr_front.proofs.TypedDecls.{nulls_by, own_typed}
 use Rattle.sr_front.proofs.WaitingItems.{Stands, WaitsAs, as_const, as_var, of_body, of_spec}
@@ -119,17 +118,6 @@ module _ (here : Here) where
     operation = λ facts spot ty component is_local fits h. h;
   }
 
-abbrev Anything : {A : Type 0} → A → Type 0
-Anything one = Unit {0}
-
-anything : {A : Type 0} (all : List A) → Each Anything all
-anything [] = tt
-anything (one ∷ all) = (tt, anything all)
-
-anywhere : (spans : List Span) → Each (λ span. Anywhere (spot_of span)) spans
-anywhere [] = tt
-anywhere (span ∷ spans) = (tt, anywhere spans)
-
 module _ (all : List Component) (first : Facts) (component : Component) (there : IsIn component all) (waiting : Waiting) where
   abbrev inside : List Span
   inside = flat_map component_inside all
@@ -153,7 +141,7 @@ module _ (all : List Component) (first : Facts) (component : Component) (there :
   body_checked procs (next ∷ items) now among reads at whole one (inr k) waits =
       body_checked procs items (item_read procs next now).facts (λ other h. among other (inr h))
       (λ Q Free steady free h. reads_item procs next now Q Free steady (some_free Free item_inside (body_of component) next (among next (inl refl)) (some_free Free component_inside all component there free)) (reads Q Free steady free h))
-      (keeps_item now [] [] (IsHere place) Anywhere Anything (closed_in now [] [] (IsHere place) Anywhere Anywhere (here_closed place) Anything (λ opened h. tt)) procs next now (anywhere _) (anything _) at (error_free_first (item_read procs next now).found _ whole))
+      (keeps_item (IsHere place) Anywhere Anywhere (here_closed place) procs next now (anywhere _) (anywhere _) at)
       (error_free_second (item_read procs next now).found _ whole) one k waits
 
   -- the value of what waits in a component

@@ -41,10 +41,7 @@ module _ (P : Waiting → Type 0) (variables_are : (waiting : Waiting) → waiti
 
   of_vars : (component : Decl) (span : Span) (decls : List DeclTree) (values : List Expr) → IsIn waiting (vars_waiting component span decls values) → P waiting
   of_vars component span (decl ∷ []) (value ∷ []) k = of_waits (has_no_dims decl.dims) (var_waiting component span decl value) refl k
-  of_vars component span [] values k = absurd k
-  of_vars component span (decl ∷ []) [] k = absurd k
-  of_vars component span (decl ∷ []) (value ∷ other ∷ values) k = absurd k
-  of_vars component span (decl ∷ other ∷ decls) values k = absurd k
+  of_vars component span _ _ k = absurd k
 
   of_variables : (component : Decl) (variables : VarDecl) → IsIn waiting (unless_typed variables.ty (vars_waiting component variables.span variables.decls variables.values)) → P waiting
   of_variables component variables = by variables.ty
@@ -57,11 +54,7 @@ module _ (P : Waiting → Type 0) (variables_are : (waiting : Waiting) → waiti
       → IsIn waiting (spec_item_waiting in_spec component one) → P waiting
   of_spec_item in_spec component (spec.Const constant) is k = of_constant in_spec component constant (is constant refl) k
   of_spec_item in_spec component (spec.Var variables) is k = of_variables component variables k
-  of_spec_item in_spec component (spec.Import declared) is k = absurd k
-  of_spec_item in_spec component (spec.«Type» named) is k = absurd k
-  of_spec_item in_spec component (spec.OpType named) is k = absurd k
-  of_spec_item in_spec component (spec.Op operations) is k = absurd k
-  of_spec_item in_spec component (spec.Sem declared) is k = absurd k
+  of_spec_item in_spec component _ is k = absurd k
 
   -- ---- what waits of a component
 
@@ -82,11 +75,7 @@ module _ (P : Waiting → Type 0) (variables_are : (waiting : Waiting) → waiti
 
   of_item : (component : Decl) (one : Item) → ((constant : ConstDecl) → item.Spec (spec.Const constant) ≡ one → constant.ty ≡ None → P (const_waiting false component constant)) → IsIn waiting (item_waiting component one) → P waiting
   of_item component (item.Spec inner) is k = of_spec_item false component inner (λ constant same. is constant (ap item.Spec same)) k
-  of_item component (item.Proc proc) is k = absurd k
-  of_item component (item.Procedure procedure) is k = absurd k
-  of_item component (item.Process process) is k = absurd k
-  of_item component (item.Final final) is k = absurd k
-  of_item component (item.Statement statement) is k = absurd k
+  of_item component _ is k = absurd k
 
   of_body : (component : Decl) (items : List Item) → InBody component items → IsIn waiting (items_waiting component items) → P waiting
   of_body component [] is k = absurd k

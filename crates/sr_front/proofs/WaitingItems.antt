@@ -61,11 +61,7 @@ module _ (waiting : Waiting) where
   item_waits : (in_spec : Bool) (component : Decl) (one : SpecItem) → IsIn waiting (spec_item_waiting in_spec component one) → WaitsAs in_spec component one waiting
   item_waits in_spec component (spec.Const constant) k = const_waits in_spec component constant k
   item_waits in_spec component (spec.Var variables) k = var_waits in_spec component variables k
-  item_waits in_spec component (spec.Import declared) k = absurd k
-  item_waits in_spec component (spec.«Type» named) k = absurd k
-  item_waits in_spec component (spec.OpType named) k = absurd k
-  item_waits in_spec component (spec.Op operations) k = absurd k
-  item_waits in_spec component (spec.Sem declared) k = absurd k
+  item_waits in_spec component _ k = absurd k
 
   -- where the item stands
   pub data Stands (component : Component) : Type 0 where
@@ -87,11 +83,7 @@ module _ (waiting : Waiting) where
 
     of_item : (one : Item) → IsIn one (body_of component) → IsIn waiting (item_waiting decl_here one) → Stands component
     of_item (item.Spec inner) among k = of_body inner among (item_waits false decl_here inner k)
-    of_item (item.Proc proc) among k = absurd k
-    of_item (item.Procedure procedure) among k = absurd k
-    of_item (item.Process process) among k = absurd k
-    of_item (item.Final final) among k = absurd k
-    of_item (item.Statement statement) among k = absurd k
+    of_item _ among k = absurd k
 
     of_items : (items : List Item) → ((one : Item) → IsIn one items → IsIn one (body_of component)) → IsIn waiting (items_waiting decl_here items) → Stands component
     of_items [] among k = absurd k

@@ -1,6 +1,7 @@
 -- What waits for its type gets one, where its value breaks no rule by all that is known before any statement is looked at: wave by wave, all that is known has a type.
-use Rattle.std.proofs.Common.{◌≡◌, ◌⊎◌, inl, inr, ℕ, suc, zero, Bool, true, false, not, List, [], ◌∷◌, length, Option, Some, None, is_some, refl, sym, ap, subst, ◌∙◌}
+use Rattle.std.proofs.Common.{◌≡◌, inl, inr, ℕ, suc, zero, Bool, true, false, not, List, [], ◌∷◌, length, Option, Some, None, is_some, refl, sym, ap, subst, ◌∙◌}
 use Rattle.std.proofs.lemmas.Bool.{false≢true}
+use Rattle.std.proofs.lemmas.Option.{none-some}
 use Rattle.std.specs.List.{filter, list_all}
 use Rattle.std.specs.Option.{option_and_then}
 use Rattle.sr_check.specs.ErrorFree.{ErrorFree}
@@ -20,11 +21,10 @@ use Rattle.sr_check_expr.specs.Infos.{info_at, name_spot}
 use Rattle.sr_check_expr.specs.Naming.{decl_of, fields_of, operation_type}
 use Rattle.sr_check_expr.specs.PredefinedCalls.{info_shape}
 use Rattle.sr_check_expr.specs.Typings.{Typing, valued}
-use Rattle.sr_names.proofs.Marking.{entry-other, entry-same, same_spot-cases}
 use Rattle.sr_names.specs.declared.meaning.Decl.{Decl}
 use Rattle.sr_names.specs.declared.spot.Spot.{Spot}
 use Rattle.sr_names.specs.Components.{member_named}
-use Rattle.sr_names.specs.Spots.{same_spot, spot_of}
+use Rattle.sr_names.specs.Spots.{spot_of}
 use Rattle.sr_names.specs.Uses.{meaning_at}
 use Rattle.sr_scope.specs.Uses.{IsIn}
 use Rattle.sr_types.specs.declared.ty.Ty.{Ty}
@@ -32,9 +32,10 @@ use Rattle.sr_types.specs.declared.typed.Typed.{Typed}
 use Rattle.sr_types.specs.Signatures.{signature_of}
 use Rattle.sr_value.specs.declared.place.Span.{Span}
 use Rattle.sr_front.proofs.SameExprs.{Alike, SameNames, expr_same}
-use Rattle.sr_front.proofs.Typed.{AllTyped, FoundTyped, IsTyped}
+use Rattle.sr_front.proofs.Typed.{AllTyped, FoundTyped, IsTyped, typed_test}
 use Rattle.sr_front.proofs.TypedCode.{AllSigned}
-use Rattle.sr_front.proofs.TypedExprs.{value_typed}
+use Rattle.sr_front.proofs.PassingExprs.{value_passes}
+use Rattle.sr_front.proofs.Put.{put_holds}
 use Rattle.sr_front.proofs.TypedHalf.{Half, HalfTyped, half_put}
 use Rattle.sr_front.proofs.TypedOps.{signed_is_typed}
 use Rattle.sr_front.proofs.WavesSettle.{in_filter}
@@ -44,9 +45,6 @@ abbrev pub IsValue : Option Info → Type 0
 IsValue None = Unit {0}
 IsValue (Some (info.Value typed)) = Unit {0}
 IsValue (Some one) = ⊥
-
-none_some : (one : Info) → None ≡ Some one → ⊥
-none_some one e = cc
 
 -- what is known of the one is known of the other
 abbrev pub Extends : Facts → Facts → Type 0
@@ -85,11 +83,8 @@ module _ (first : Facts) where
   added_first = record { uses = refl; specs = refl; signatures = refl; kept = λ spot one is. is; values = λ spot none. subst IsValue (sym none) tt }
 
   extends_with : (before facts : Facts) (at : Spot) (one : Info) → info_at before.infos at ≡ None → Extends before facts → Extends before (declare facts at one)
-  extends_with before facts at one none extends spot known is = by (same_spot-cases spot at)
-    where
-      by : (spot ≡ at) ⊎ (same_spot spot at ≡ false) → info_at (declare facts at one).infos spot ≡ Some known
-      by (inl same) = absurd (none_some known (sym none ∙ ap (info_at before.infos) (sym same) ∙ is))
-      by (inr apart) = entry-other facts.infos at one spot apart ∙ extends spot known is
+  extends_with before facts at one none extends spot known is =
+      put_holds facts at one (λ other found. info_at before.infos other ≡ Some known → found ≡ Some known) (λ there. absurd (none-some known (sym none ∙ there))) spot (λ apart there. extends spot known there) is
 
   pub added_with : (facts : Facts) (at : Spot) (typed : Typed) → info_at first.infos at ≡ None → Added first facts → Added first (declare facts at (info.Value typed))
   added_with facts at typed none added = record {
@@ -97,22 +92,15 @@ module _ (first : Facts) where
     specs = added.specs;
     signatures = added.signatures;
     kept = extends_with first facts at (info.Value typed) none added.kept;
-    values = values;
+    values = λ spot nothing. put_holds facts at (info.Value typed) (λ other. IsValue) tt spot (λ apart. added.values spot nothing);
   }
-    where
-      values : (spot : Spot) → info_at first.infos spot ≡ None → IsValue (info_at (declare facts at (info.Value typed)).infos spot)
-      values spot nothing = by (same_spot-cases spot at)
-        where
-          by : (spot ≡ at) ⊎ (same_spot spot at ≡ false) → IsValue (info_at (declare facts at (info.Value typed)).infos spot)
-          by (inl same) = subst (λ s. IsValue (info_at (declare facts at (info.Value typed)).infos s)) (sym same) (subst IsValue (sym (entry-same facts.infos at (info.Value typed))) tt)
-          by (inr apart) = subst IsValue (sym (entry-other facts.infos at (info.Value typed) spot apart)) (added.values spot nothing)
 
   unknown_first : (before : Facts) → Added first before → (spot : Spot) → info_at before.infos spot ≡ None → info_at first.infos spot ≡ None
   unknown_first before added spot none = by (info_at first.infos spot) refl
     where
       by : (found : Option Info) → info_at first.infos spot ≡ found → info_at first.infos spot ≡ None
       by None is = is
-      by (Some one) is = absurd (none_some one (sym none ∙ added.kept spot one is))
+      by (Some one) is = absurd (none-some one (sym none ∙ added.kept spot one is))
 
   -- what is settled is a value
   added_one : (facts : Facts) (waiting : Waiting) → info_at first.infos waiting.spot ≡ None → Added first facts → Added first (settled facts waiting)
@@ -133,7 +121,12 @@ module _ (first : Facts) where
 
   -- ---- what facts with more values tell the same
 
-  module _ {A : Type 0} (tell : Option Info → A) (quiet : (found : Option Info) → IsValue found → tell found ≡ tell None) where
+  module _ {A : Type 0} (tell : Option Info → A) (value : (typed : Typed) → tell (Some (info.Value typed)) ≡ tell None) where
+    quiet : (found : Option Info) → IsValue found → tell found ≡ tell None
+    quiet None h = refl
+    quiet (Some (info.Value typed)) h = value typed
+    quiet (Some _) h = absurd h
+
     told : (facts : Facts) → Added first facts → (spot : Spot) → tell (info_at facts.infos spot) ≡ tell (info_at first.infos spot)
     told facts added spot = by (info_at first.infos spot) refl
       where
@@ -144,64 +137,24 @@ module _ (first : Facts) where
     same_told : (now end : Facts) → Added first now → Added first end → (spot : Spot) → tell (info_at now.infos spot) ≡ tell (info_at end.infos spot)
     same_told now end a b spot = told now a spot ∙ sym (told end b spot)
 
-  quiet_fields : (found : Option Info) → IsValue found → fields_of found ≡ fields_of None
-  quiet_fields None h = refl
-  quiet_fields (Some (info.Value typed)) h = refl
-  quiet_fields (Some (info.«Type» type)) h = absurd h
-  quiet_fields (Some (info.Enumeration number literals)) h = absurd h
-  quiet_fields (Some (info.Record fields)) h = absurd h
-  quiet_fields (Some (info.OpType type)) h = absurd h
-  quiet_fields (Some (info.Operation type component is_local)) h = absurd h
-  quiet_fields (Some (info.Component type)) h = absurd h
-
-  quiet_shape : (found : Option Info) → IsValue found → info_shape found ≡ info_shape None
-  quiet_shape None h = refl
-  quiet_shape (Some (info.Value typed)) h = refl
-  quiet_shape (Some (info.«Type» type)) h = absurd h
-  quiet_shape (Some (info.Enumeration number literals)) h = absurd h
-  quiet_shape (Some (info.Record fields)) h = absurd h
-  quiet_shape (Some (info.OpType type)) h = absurd h
-  quiet_shape (Some (info.Operation type component is_local)) h = absurd h
-  quiet_shape (Some (info.Component type)) h = absurd h
-
-  quiet_operation : (found : Option Info) → IsValue found → option_and_then operation_type found ≡ option_and_then operation_type None
-  quiet_operation None h = refl
-  quiet_operation (Some (info.Value typed)) h = refl
-  quiet_operation (Some (info.«Type» type)) h = absurd h
-  quiet_operation (Some (info.Enumeration number literals)) h = absurd h
-  quiet_operation (Some (info.Record fields)) h = absurd h
-  quiet_operation (Some (info.OpType type)) h = absurd h
-  quiet_operation (Some (info.Operation type component is_local)) h = absurd h
-  quiet_operation (Some (info.Component type)) h = absurd h
-
-  quiet_component : (found : Option Info) → IsValue found → component_type found ≡ component_type None
-  quiet_component None h = refl
-  quiet_component (Some (info.Value typed)) h = refl
-  quiet_component (Some (info.«Type» type)) h = absurd h
-  quiet_component (Some (info.Enumeration number literals)) h = absurd h
-  quiet_component (Some (info.Record fields)) h = absurd h
-  quiet_component (Some (info.OpType type)) h = absurd h
-  quiet_component (Some (info.Operation type component is_local)) h = absurd h
-  quiet_component (Some (info.Component type)) h = absurd h
-
   abbrev Any : Ty → Type 0
   Any type = Unit {0}
 
   member_same : (now end : Facts) → Added first now → Added first end → (found : Option Decl)
       → option_and_then (λ (decl : Decl). option_and_then operation_type (info_at now.infos decl.spot)) found ≡ option_and_then (λ (decl : Decl). option_and_then operation_type (info_at end.infos decl.spot)) found
   member_same now end a b None = refl
-  member_same now end a b (Some decl) = same_told (option_and_then operation_type) quiet_operation now end a b decl.spot
+  member_same now end a b (Some decl) = same_told (option_and_then operation_type) (λ typed. refl) now end a b decl.spot
 
   pub added_alike : (now end : Facts) (component : Decl) → Added first now → Added first end → Alike Any (standing now component) (standing end component)
   added_alike now end component a b = record {
     uses = a.uses ∙ sym b.uses;
     here = refl;
-    fields = λ spot. same_told fields_of quiet_fields now end a b (name_spot spot);
-    shapes = λ spot. same_told info_shape quiet_shape now end a b (name_spot spot);
+    fields = λ spot. same_told fields_of (λ typed. refl) now end a b (name_spot spot);
+    shapes = λ spot. same_told info_shape (λ typed. refl) now end a b (name_spot spot);
     operations = λ spot name.
         ap (λ specs. option_and_then (λ (decl : Decl). option_and_then operation_type (info_at now.infos decl.spot)) (member_named specs (name_spot spot) name)) (a.specs ∙ sym b.specs)
         ∙ member_same now end a b (member_named end.specs (name_spot spot) name);
-    components = λ decl. same_told component_type quiet_component now end a b decl.spot;
+    components = λ decl. same_told component_type (λ typed. refl) now end a b decl.spot;
     signatures = λ type numbered. ap (λ signatures. signature_of signatures type) (a.signatures ∙ sym b.signatures);
     numbered = λ tree. tt;
     made = λ resource type is. tt;
@@ -239,14 +192,11 @@ module _ (first : Facts) where
 
     half_found : (facts : Facts) → Added first facts → (spot : Spot) (found : Option Info) → info_at facts.infos spot ≡ found → HalfTyped found → FoundTyped found
     half_found facts added spot None is h = tt
-    half_found facts added spot (Some (info.Value typed)) is h = h
-    half_found facts added spot (Some (info.«Type» type)) is h = h
     half_found facts added spot (Some (info.Enumeration number literals)) is h = tt
-    half_found facts added spot (Some (info.Record fields)) is h = h
-    half_found facts added spot (Some (info.OpType type)) is h = h
     half_found facts added spot (Some (info.Operation type component is_local)) is h =
         signed_is_typed end type (signed spot type component is_local (operation_at facts added spot type component is_local is))
     half_found facts added spot (Some (info.Component type)) is h = tt
+    half_found facts added spot (Some _) is h = h
 
     pub half_all : (facts : Facts) (component : Decl) → Added first facts → Half facts → AllTyped (standing facts component)
     half_all facts component added half = record {
@@ -265,7 +215,7 @@ module _ (first : Facts) where
         let same : infer_expr waiting.value here ≡ infer_expr waiting.value (standing end waiting.component) =
         expr_same Any here (standing end waiting.component) (added_alike facts end waiting.component added added_end) waiting.value
         (ready_same before facts end waiting.component added added_end uses in_now in_end (names_in waiting.value) ready) in
-        let typed = value_typed here (half_all facts waiting.component added half) waiting.value (subst (λ (typing : Typing). ErrorFree (valued typing)) (sym same) fine.whole) in
+        let typed = value_passes typed_test here (half_all facts waiting.component added half) waiting.value (subst (λ (typing : Typing). ErrorFree (valued typing)) (sym same) fine.whole) in
         info_typed waiting.is_constant waiting.in_spec (infer_expr waiting.value here).typed_expr.typed
         (subst (λ (typing : Typing). IsTyped (type_of_value typing.typed_expr.typed.ty)) (sym same) (fine.typed (subst (λ (typing : Typing). IsTyped typing.typed_expr.typed.ty) same typed)))
 

@@ -1,7 +1,8 @@
 -- What waits for its type gets none that is static: what is known before the waves stays known as it is, and all else is a value that isn't static.
-use Rattle.std.proofs.Common.{◌≡◌, ◌⊎◌, inl, inr, ℕ, suc, zero, Bool, true, false, not, ◌&&◌, List, [], ◌∷◌, length, Option, Some, None, is_some, if◌then◌else◌, refl, sym, ap, subst, ◌∙◌}
+use Rattle.std.proofs.Common.{◌≡◌, inl, inr, ℕ, suc, zero, Bool, true, false, not, ◌&&◌, List, [], ◌∷◌, length, Option, Some, None, is_some, if◌then◌else◌, refl, sym, ap, subst, ◌∙◌}
 use Rattle.std.specs.List.{filter}
 use Rattle.std.proofs.lemmas.Bool.{false≢true}
+use Rattle.std.proofs.lemmas.Option.{none-some}
 use Rattle.sr_check_decl.specs.Declaring.{program_declared, standing}
 use Rattle.sr_check_decl.specs.Inferring.{all_settled, can_settle, given_up, given_up_if, is_settled, program_inferred, program_known, settled, waiting_info, wave, waves}
 use Rattle.sr_check_decl.specs.NamesIn.{is_ready}
@@ -11,12 +12,11 @@ use Rattle.sr_check_expr.specs.declared.facts.Facts.{Facts}
 use Rattle.sr_check_expr.specs.declared.info.Info.{Info}
 use Rattle.sr_check_expr.specs.declared.info.Info.TheVariants as info
 use Rattle.sr_check_expr.specs.Infos.{info_at}
-use Rattle.sr_names.proofs.Marking.{entry-other, entry-same, same_spot-cases}
+use Rattle.sr_front.proofs.Put.{put_holds}
 use Rattle.sr_names.specs.declared.meaning.Decl.{Decl}
 use Rattle.sr_names.specs.declared.spot.Spot.{Spot}
 use Rattle.sr_names.specs.Noted.{Meanings}
 use Rattle.sr_names.specs.Specs.{Specs}
-use Rattle.sr_names.specs.Spots.{same_spot}
 use Rattle.sr_scope.specs.Uses.{IsIn}
 use Rattle.sr_tree.specs.declared.component.File.{File}
 use Rattle.sr_types.specs.declared.typed.Static.TheVariants.{Unknown}
@@ -31,9 +31,6 @@ abbrev pub IsWaiting : Option Info → Type 0
 IsWaiting None = Unit {0}
 IsWaiting (Some one) = IsUnknown one
 
-none_some : (one : Info) → None ≡ Some one → ⊥
-none_some one e = cc
-
 module _ (first : Facts) where
   -- as after waves: what is known at first is known as it is, and all else isn't static
   pub record Waved (facts : Facts) : Type 0 where
@@ -46,21 +43,13 @@ module _ (first : Facts) where
   waved_first = record { uses = refl; signatures = refl; kept = λ spot one is. is; others = λ spot none. subst IsWaiting (sym none) tt }
 
   waved_with : (facts : Facts) (at : Spot) (one : Info) → info_at first.infos at ≡ None → IsUnknown one → Waved facts → Waved (declare facts at one)
-  waved_with facts at one none unknown waved = record { uses = waved.uses; signatures = waved.signatures; kept = kept; others = others }
-    where
-      kept : (spot : Spot) (known : Info) → info_at first.infos spot ≡ Some known → info_at (declare facts at one).infos spot ≡ Some known
-      kept spot known is = by (same_spot-cases spot at)
-        where
-          by : (spot ≡ at) ⊎ (same_spot spot at ≡ false) → info_at (declare facts at one).infos spot ≡ Some known
-          by (inl same) = absurd (none_some known (sym none ∙ ap (info_at first.infos) (sym same) ∙ is))
-          by (inr apart) = entry-other facts.infos at one spot apart ∙ waved.kept spot known is
-
-      others : (spot : Spot) → info_at first.infos spot ≡ None → IsWaiting (info_at (declare facts at one).infos spot)
-      others spot nothing = by (same_spot-cases spot at)
-        where
-          by : (spot ≡ at) ⊎ (same_spot spot at ≡ false) → IsWaiting (info_at (declare facts at one).infos spot)
-          by (inl same) = subst (λ s. IsWaiting (info_at (declare facts at one).infos s)) (sym same) (subst IsWaiting (sym (entry-same facts.infos at one)) unknown)
-          by (inr apart) = subst IsWaiting (sym (entry-other facts.infos at one spot apart)) (waved.others spot nothing)
+  waved_with facts at one none unknown waved = record {
+    uses = waved.uses;
+    signatures = waved.signatures;
+    kept = λ spot known is.
+        put_holds facts at one (λ other found. info_at first.infos other ≡ Some known → found ≡ Some known) (λ there. absurd (none-some known (sym none ∙ there))) spot (λ apart there. waved.kept spot known there) is;
+    others = λ spot nothing. put_holds facts at one (λ other. IsWaiting) unknown spot (λ apart. waved.others spot nothing);
+  }
 
   pub waved_standing : (facts : Facts) (component : Decl) → Waved facts → Waved (standing facts component)
   waved_standing facts component waved = record { uses = waved.uses; signatures = waved.signatures; kept = waved.kept; others = waved.others }

@@ -2,9 +2,12 @@
 use Rattle.std.proofs.Common.{◌≡◌, ℕ, List, map, None, sym, ap, ◌∙◌, subst}
 use Rattle.std.specs.Prelude.{All, flat_map, IsTrue}
 use Rattle.std.specs.List.{IsDistinct, list_all}
+use Rattle.sr_scope.specs.Uses.{IsIn}
+use Rattle.sr_tree.specs.declared.component.Component.{Component}
+use Rattle.sr_check.specs.ErrorFree.{ErrorFree}
 use Rattle.sr_check.specs.Checked.{checked, first_refused}
 use Rattle.sr_check.specs.Servicing.{AllServiceOwn, ServesShared}
-use Rattle.sr_check.proofs.Kept.{all_service_own, facts_known, none_refused, uses_kept}
+use Rattle.sr_check.proofs.Kept.{all_service_own, facts_known, none_found, none_refused, uses_kept}
 use Rattle.sr_check_decl.specs.Inferring.{program_known}
 use Rattle.sr_check_expr.specs.declared.facts.Facts.{Facts}
 use Rattle.sr_core.specs.WellFormed.{IsWellFormed}
@@ -29,6 +32,12 @@ use Rattle.sr_front.specs.Invocations.{HasInvocations}
 use Rattle.sr_front.specs.Program.{IsAccepted}
 use Rattle.sr_front.specs.Sites.{HasSites}
 use Rattle.sr_front.specs.Variables.{HasVariables}
+use Rattle.sr_front.proofs.ReadsCode.{component_inside}
+use Rattle.sr_front.proofs.ThenKnown.{known_typed}
+use Rattle.sr_front.proofs.TypedTypes.{InfosTyped}
+use Rattle.sr_front.proofs.Heads.{heads_found}
+use Rattle.sr_front.proofs.HeadsPass.{Seen, heads_free, optypes as optypes_numbered, seen_whole, typed}
+use Rattle.sr_front.proofs.FreeBlocks.{FreeComponents}
 use Rattle.sr_front.proofs.AllowedCode.{accepted_allowed}
 use Rattle.sr_front.proofs.Clear.{all_clear}
 use Rattle.sr_front.proofs.Declared.{Apart, all_component_keys}
@@ -45,7 +54,6 @@ use Rattle.sr_front.proofs.FilesInOrder.{declared_agrees}
 use Rattle.sr_front.proofs.FreeFiles.{free_components}
 use Rattle.sr_front.proofs.Rising.{Rises, names_rise}
 use Rattle.sr_front.proofs.TypedCode.{Good}
-use Rattle.sr_front.proofs.TypedItems.{FreeComponents}
 use Rattle.sr_front.proofs.TypedProgram.{program_good}
 use Rattle.sr_front.proofs.UsedSorts.{used_sort}
 use Rattle.sr_front.proofs.ServedApart.{all_serve_shared, served_apart}
@@ -140,19 +148,40 @@ module _ (contents : List (List ℕ)) (accepted : Checked) (is : IsAccepted cont
 
   -- ---- heads
 
+  -- names stand in the order of the text
+  rises : Rises (flat_map file_names trees)
+  rises = names_rise contents trees is.read
+
+  -- what is checked outside of blocks
+  seen : (component : Component) → IsIn component (components_in trees) → Seen (flat_map component_inside (components_in trees)) known component
+  seen = seen_whole uses is.names.specs trees (none_found uses is.names.specs trees none)
+
+  -- all that is declared outside of blocks is known by the types that heads make
+  heads_known : ErrorFree (heads_found uses is.names.specs trees)
+  heads_known = heads_free trees is.names is.named names_apart rises is.names.specs seen
+
+  infos_typed : InfosTyped known
+  infos_typed = known_typed trees is.names is.named names_apart rises is.names.specs (typed trees is.names is.named names_apart rises is.names.specs seen)
+
+  -- so it is in blocks, and no type is known where code declares operations
+  free : FreeComponents (components_in trees) known
+  free =
+      free_components uses is.names.specs trees names_apart heads_known rises infos_typed (λ spot type at. optypes_numbered trees is.names is.named names_apart rises is.names.specs seen spot type at)
+      is.read.parsed
+
   abbrev served : List Spot
   served = served_spots facts (components_in trees)
 
   -- each type of operations that is declared has a signature that fits its head
   optypes : OptypesHeaded (tables trees facts).heads known
-  optypes = optypes_known uses is.names.specs trees facts (tables trees facts).shapes none names_apart
+  optypes = optypes_known uses is.names.specs trees facts (tables trees facts).shapes heads_known names_apart
 
   -- and so has each operation that is known at first
   headed : Plain (Headed (components_in trees) served (tables trees facts).operations) uses known
-  headed = known_headed uses is.names.specs trees facts kept (tables trees facts).shapes (tables trees facts).heads served apart none optypes
+  headed = known_headed uses is.names.specs trees facts kept (tables trees facts).shapes (tables trees facts).heads served apart heads_known optypes
 
   services_owned : ComponentsOkay (λ number count owns. arms_own owns) facts (tables trees facts) (imports trees facts) 0 (components trees facts) × IsTrue (list_all proc_own (core trees facts).procs)
-  services_owned = all_own uses is.names.specs trees facts kept (facts_known uses is.names.specs trees facts is.checked) none apart names_apart headed optypes
+  services_owned = all_own uses is.names.specs trees facts kept (facts_known uses is.names.specs trees facts is.checked) none apart names_apart headed optypes free
 
   -- the variables that stand for formals are own ones
   pub accepted_formals : HasFormals (core_of trees facts)
@@ -173,25 +202,17 @@ module _ (contents : List (List ℕ)) (accepted : Checked) (is : IsAccepted cont
   accepted_invocations =
       let components_apart = subst (IsDistinct same_spot) (all_component_keys trees) apart.components in
       record {
-        made = made_ok is.names.specs trees facts is.names is.named kept services apart components_apart names_apart none known_facts;
-        called = called_ok is.names.specs trees facts is.names is.named kept services apart components_apart names_apart none known_facts;
-        sent = sent_ok is.names.specs trees facts is.names is.named kept services apart components_apart names_apart none known_facts;
-        forwarded = forwarded_ok is.names.specs trees facts is.names is.named kept services apart components_apart names_apart none known_facts;
+        made = made_ok is.names.specs trees facts is.names is.named kept services apart components_apart names_apart none heads_known free known_facts;
+        called = called_ok is.names.specs trees facts is.names is.named kept services apart components_apart names_apart none heads_known free known_facts;
+        sent = sent_ok is.names.specs trees facts is.names is.named kept services apart components_apart names_apart none heads_known free known_facts;
+        forwarded = forwarded_ok is.names.specs trees facts is.names is.named kept services apart components_apart names_apart none heads_known free known_facts;
       }
 
   -- ---- types
 
-  -- names stand in the order of the text
-  rises : Rises (flat_map file_names trees)
-  rises = names_rise contents trees is.read
-
   -- all that is known before code is read has a type
   good : Good known
-  good = program_good trees is.names is.named names_apart apart none (declared_agrees trees is.names is.named names_apart rises is.names.specs)
-
-  -- and no type is known where code declares operations
-  free : FreeComponents (components_in trees) known
-  free = free_components uses is.names.specs trees names_apart none is.read.parsed
+  good = program_good trees is.names is.named names_apart apart none heads_known (declared_agrees trees is.names is.named names_apart rises is.names.specs)
 
   -- the constants in the specs of resources are static
   specs_static : ConstantsStatic trees facts
@@ -203,6 +224,6 @@ module _ (contents : List (List ℕ)) (accepted : Checked) (is : IsAccepted cont
   -- each shared variable that code and sites name is one that the component has which is meant
   pub accepted_variables : HasVariables (core_of trees facts)
   accepted_variables =
-      variables_stand is.names.specs trees facts is.names is.named kept services apart names_apart none known_facts wait_apart
+      variables_stand is.names.specs trees facts is.names is.named kept services apart names_apart none heads_known free known_facts wait_apart
       (record { specs = record { static = specs_static; no_vars = no_vars_met is.read.parsed }; values = values_met uses is.names.specs trees none })
-      (λ component there spot decl. used_sort trees is.names is.named names_apart rises is.names.specs facts apart known_facts component there spot decl) free good
+      (λ component there spot decl. used_sort trees is.names is.named names_apart rises is.names.specs facts apart known_facts component there spot decl) good
