@@ -22,11 +22,14 @@ pub fn take_call(alloc: Global, operands: &mut Operands) -> Call
     ensures call { result ≡ call_on operands.old }
     ensures others { operands.new ≡ drop_call operands.old }
 {
-    operands.calls.take(Call {
-        target: Cap::Null,
-        values: Row::new(alloc),
-        places: Row::new(alloc),
-    })
+    match operands.calls.pop() {
+        Some(call) => call,
+        None => Call {
+            target: Cap::Null,
+            values: Row::new(alloc),
+            places: Row::new(alloc),
+        },
+    }
 }
 
 /// A value becomes a call of that capability, without arguments.

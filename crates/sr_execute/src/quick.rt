@@ -15,7 +15,7 @@ use crate::quick_calls::{
 use crate::quick_variables::{
     quick_each, quick_make, quick_make_formal, quick_store_formal, quick_store_in,
 };
-use crate::tops::top_or;
+use crate::tops::{take_value, top_or};
 use sr_ask::{Located, Own, Spot};
 use sr_code::Instruction;
 use sr_core::{OperationOwner, Scope, number, truth};
@@ -49,6 +49,7 @@ pub fn execute_quickly(
 {
     match instruction {
         Instruction::Constant(Value::Int(number)) => quick_value(frame, Value::Int(*number), next),
+        Instruction::Constant(Value::Bool(truth)) => quick_value(frame, Value::Bool(*truth), next),
         Instruction::Spot(root) => quick_place(
             frame,
             whole(scene.alloc, root_in(scene, *root)),
@@ -103,6 +104,8 @@ pub fn execute_quickly(
 }
 
 /// A value goes on the operands.
+// A call of it would have temporaries that are filled for each instruction.
+#[inline(always)]
 pub fn quick_value(frame: &mut Frame, value: Value, next: usize) -> Result<Carried, NoMemory>
     ensures { DoesOrLeaves result frame.old frame.new (went next (put_value value frame.old.operands) frame.old) }
 {
@@ -235,7 +238,7 @@ fn quick_store(scene: &Scene, frame: &mut Frame, next: usize) -> Result<Carried,
     let Spot::Own(var) = top_or(&frame.operands.places, &none).spot else {
         return Ok(Carried::Left);
     };
-    let value = frame.operands.values.take(Value::Bool(false));
+    let value = take_value(&mut frame.operands.values);
     let place = take_place(scene.alloc, &mut frame.operands);
     match own_stored(&mut frame.own, var, place.path.as_slice(), value) {
         Ok(()) => Ok(Carried::Goes(next)),
@@ -252,8 +255,8 @@ fn quick_operate(
 ) -> Result<Carried, NoMemory>
     ensures { DoesOrLeaves result frame.old frame.new (begun scene.now.names.now (instruction.Operate op) (here_of scene.now) next frame.old.operands frame.old) }
 {
-    let y = frame.operands.values.take(Value::Bool(false));
-    let x = frame.operands.values.take(Value::Bool(false));
+    let y = take_value(&mut frame.operands.values);
+    let x = take_value(&mut frame.operands.values);
     match arith(scene.alloc, op, &x, &y) {
         Ok(value) => {
             frame.operands.values.push(value)?;
@@ -268,7 +271,7 @@ fn quick_operate(
 fn quick_number(scene: &Scene, frame: &mut Frame, next: usize) -> Result<Carried, NoMemory>
     ensures { DoesOrLeaves result frame.old frame.new (begun scene.now.names.now instruction.ToNumber (here_of scene.now) next frame.old.operands frame.old) }
 {
-    let value = frame.operands.values.take(Value::Bool(false));
+    let value = take_value(&mut frame.operands.values);
     match number(&value) {
         Ok(number) => {
             frame.operands.numbers.push(number)?;
@@ -310,7 +313,7 @@ fn quick_jump_unless(
 ) -> Result<Carried, NoMemory>
     ensures { DoesOrLeaves result frame.old frame.new (begun scene.now.names.now (instruction.JumpUnless to) (here_of scene.now) next frame.old.operands frame.old) }
 {
-    let value = frame.operands.values.take(Value::Bool(false));
+    let value = take_value(&mut frame.operands.values);
     match truth(&value) {
         Ok(true) => Ok(Carried::Goes(next)),
         Ok(false) => Ok(Carried::Goes(to.min(next))),

@@ -7,7 +7,7 @@ ghost use Rattle.sr_code.specs.declared.instruction.Instruction.TheVariants as i
 use crate::calls::take_call;
 use crate::frame::Frame;
 use crate::quick::Carried;
-use crate::tops::top_or;
+use crate::tops::{take_value, top_or};
 use sr_ask::{Gives, Pick, Service};
 use sr_code::Call;
 use sr_core::capability;
@@ -52,7 +52,7 @@ fn quick_list(frame: &mut Frame, list: Row<Value>, next: usize) -> Result<Carrie
 pub fn quick_collect(scene: &Scene, frame: &mut Frame, next: usize) -> Result<Carried, NoMemory>
     ensures { DoesOrLeaves result frame.old frame.new (begun scene.now.names.now instruction.Collect (here_of scene.now) next frame.old.operands frame.old) }
 {
-    let value = frame.operands.values.take(Value::Bool(false));
+    let value = take_value(&mut frame.operands.values);
     let mut list = frame.operands.lists.take(Row::new(scene.alloc));
     list.push(value)?;
     frame.operands.lists.push(list)?;
@@ -64,7 +64,7 @@ pub fn quick_collect(scene: &Scene, frame: &mut Frame, next: usize) -> Result<Ca
 pub fn quick_to_call(scene: &Scene, frame: &mut Frame, next: usize) -> Result<Carried, NoMemory>
     ensures { DoesOrLeaves result frame.old frame.new (begun scene.now.names.now instruction.ToCall (here_of scene.now) next frame.old.operands frame.old) }
 {
-    let value = frame.operands.values.take(Value::Bool(false));
+    let value = take_value(&mut frame.operands.values);
     match capability(&value) {
         Ok(target) => {
             frame.operands.calls.push(Call {
@@ -84,7 +84,7 @@ pub fn quick_to_call(scene: &Scene, frame: &mut Frame, next: usize) -> Result<Ca
 pub fn quick_pass_value(scene: &Scene, frame: &mut Frame, next: usize) -> Result<Carried, NoMemory>
     ensures { DoesOrLeaves result frame.old frame.new (begun scene.now.names.now instruction.PassValue (here_of scene.now) next frame.old.operands frame.old) }
 {
-    let value = frame.operands.values.take(Value::Bool(false));
+    let value = take_value(&mut frame.operands.values);
     let mut call = take_call(scene.alloc, &mut frame.operands);
     call.values.push(value)?;
     frame.operands.calls.push(call)?;

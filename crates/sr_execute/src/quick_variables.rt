@@ -1,4 +1,4 @@
-ghost use Rattle.std.specs.Prelude.{[]};
+ghost use Rattle.std.specs.Prelude.{◌≢◌, [], IfOk};
 ghost use Rattle.sr_frame.specs.Scenes.{here_of};
 ghost use Rattle.sr_execute.specs.Executes.{begun, makes};
 ghost use Rattle.sr_execute.specs.Quick.{DoesOrLeaves};
@@ -9,13 +9,14 @@ use crate::frame::Frame;
 use crate::quick::Carried;
 use crate::shapes::{formal_found, take_sent};
 use crate::ticks::next_number;
+use crate::tops::{take_shape, take_value};
 use sr_ask::Own;
 use sr_core::{FormalShape, Mode, Scope};
-use sr_frame::{Scene, number_own, own_stored, set_own};
+use sr_frame::{Scene, own_stored, set_number, set_own};
 use sr_value::{NoMemory, Row, Shape, Value, ValueFail, default_of};
 use std::alloc::Global;
 
-/// An own variable is made.
+/// An own variable is made. Numbers are 0 at first.
 fn quick_made(
     alloc: Global,
     frame: &mut Frame,
@@ -23,7 +24,30 @@ fn quick_made(
     shape: Shape,
     next: usize,
 ) -> Result<Carried, NoMemory>
-    ensures { DoesOrLeaves result frame.old frame.new (makes (spot.Own var) shape next frame.old.operands frame.old) }
+    ensures made { DoesOrLeaves result frame.old frame.new (makes (spot.Own var) shape next frame.old.operands frame.old) }
+    ensures not_left { IfOk result (λ carried. carried ≢ Carried.Left) }
+{
+    match shape {
+        Shape::Int => {
+            set_number(&mut frame.own, var, 0);
+            Ok(Carried::Goes(next))
+        }
+        _ => quick_made_of(alloc, frame, var, shape, next),
+    }
+}
+
+/// An own variable of any shape is made.
+// In `quick_made` its temporaries would be filled for numbers too.
+#[inline(never)]
+fn quick_made_of(
+    alloc: Global,
+    frame: &mut Frame,
+    var: u32,
+    shape: Shape,
+    next: usize,
+) -> Result<Carried, NoMemory>
+    ensures made { DoesOrLeaves result frame.old frame.new (makes (spot.Own var) shape next frame.old.operands frame.old) }
+    ensures not_left { IfOk result (λ carried. carried ≢ Carried.Left) }
 {
     match default_of(alloc, &shape) {
         Ok(value) => {
@@ -45,15 +69,8 @@ pub fn quick_make(
 ) -> Result<Carried, NoMemory>
     ensures { DoesOrLeaves result frame.old frame.new (begun scene.now.names.now (instruction.Make Scope.Own var) (here_of scene.now) next frame.old.operands frame.old) }
 {
-    let shape = frame.operands.shapes.take(Shape::Int);
-    match default_of(scene.alloc, &shape) {
-        Ok(value) => {
-            set_own(&mut frame.own, var, Own { shape, value });
-            Ok(Carried::Goes(next))
-        }
-        Err(ValueFail::Fault(fault)) => Ok(Carried::Faults(fault)),
-        Err(ValueFail::NoMemory) => Err(NoMemory),
-    }
+    let shape = take_shape(&mut frame.operands.shapes);
+    quick_made(scene.alloc, frame, var, shape, next)
 }
 
 /// Stores a value in a whole own variable.
@@ -66,7 +83,7 @@ pub fn quick_store_in(
 ) -> Result<Carried, NoMemory>
     ensures { DoesOrLeaves result frame.old frame.new (begun scene.now.names.now (instruction.StoreIn Scope.Own var) (here_of scene.now) next frame.old.operands frame.old) }
 {
-    let value = frame.operands.values.take(Value::Bool(false));
+    let value = take_value(&mut frame.operands.values);
     match own_stored(&mut frame.own, var, &[], value) {
         Ok(()) => Ok(Carried::Goes(next)),
         Err(fault) => Ok(Carried::Faults(fault)),
@@ -132,7 +149,7 @@ pub fn quick_each(
         return Ok(Carried::Goes(next));
     };
     frame.ticks -= 1;
-    set_own(&mut frame.own, var, number_own(number));
+    set_number(&mut frame.own, var, number);
     frame.operands.loops.push(rest)?;
     Ok(Carried::Goes(head))
 }

@@ -7,6 +7,7 @@ use crate::frame::Frame;
 use crate::places::{copied_place, copied_second, take_place};
 use crate::putting::put_value;
 use crate::step::Step;
+use crate::tops::take_value;
 use sr_ask::{Located, Own, Request, Spot};
 use sr_frame::{Scene, own_stored, own_value, set_own};
 use sr_value::{NoMemory, Row, Sel, Shape, Value, ValueFail, default_of};
@@ -102,7 +103,7 @@ pub fn load_again(scene: &Scene, frame: &mut Frame, next: usize) -> Result<Step,
 pub fn store(scene: &Scene, frame: &mut Frame, next: usize) -> Result<Step, NoMemory>
     ensures { Does result frame.new (begun scene.now.names.now instruction.Store (here_of scene.now) next frame.old.operands frame.old) }
 {
-    let value = frame.operands.values.take(Value::Bool(false));
+    let value = take_value(&mut frame.operands.values);
     let Located { spot, path } = take_place(scene.alloc, &mut frame.operands);
     store_at(frame, spot, path, value, next)
 }
@@ -122,6 +123,6 @@ pub fn store_second(scene: &Scene, frame: &mut Frame, next: usize) -> Result<Ste
     let first = take_place(scene.alloc, &mut frame.operands);
     let Located { spot, path } = take_place(scene.alloc, &mut frame.operands);
     frame.operands.places.push(first)?;
-    let value = frame.operands.values.take(Value::Bool(false));
+    let value = take_value(&mut frame.operands.values);
     store_at(frame, spot, path, value, next)
 }

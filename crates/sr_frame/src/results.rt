@@ -8,10 +8,13 @@ pub fn take_first<T: Drop>(row: &mut Row<T>) -> Option<T>
     ensures { MatchOption result ((row.old ≡ []) × (row.new ≡ [])) (λ item. row.old ≡ item ∷ row.new) }
 {
     if row.is_empty() {
-        None
-    } else {
-        Some(row.remove(0))
+        return None;
     }
+    // The only item moves no other.
+    if row.len() == 1 {
+        return row.pop();
+    }
+    Some(row.remove(0))
 }
 
 /// The value of a call, whose other results were stored.

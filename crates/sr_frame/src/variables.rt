@@ -1,4 +1,4 @@
-ghost use Rattle.std.specs.Prelude.{◌≡◌, IfOk, None as none, Some, map, replicate, slice_set};
+ghost use Rattle.std.specs.Prelude.{◌≡◌, [], IfOk, None as none, Some, false, map, option_map, replicate, slice_set, true};
 ghost use Rattle.sr_ask.specs.Places.{own_at, own_or_nothing};
 ghost use Rattle.sr_frame.specs.Variables.{number_held, number_own, own_stored, own_value, vars_set};
 ghost use Rattle.sr_in_place.specs.Puts.{Wrote};
@@ -69,8 +69,74 @@ pub fn set_own(own: &mut Row<Option<Own>>, var: u32, held: Own)
     }
 }
 
+/// An own variable holds a number from now on.
+pub fn set_number(own: &mut Row<Option<Own>>, var: u32, number: i32)
+    ensures { own.new ≡ slice_set own.old var (Some (number_own number)) }
+{
+    if own.len() <= var as usize {
+        return;
+    }
+    if put_number(own.at_mut(var as usize), number) {
+        return;
+    }
+    set_own(own, var, number_own(number));
+}
+
+/// Writes a number in a variable of numbers, where it stands, and whether it is one.
+fn put_number(held: &mut Option<Own>, number: i32) -> bool
+    ensures numbers { result ≡ true → option_map (λ own. own.shape) held.old ≡ Some Shape.Int }
+    ensures put { result ≡ true → held.new ≡ Some (number_own number) }
+    ensures left { result ≡ false → held.new ≡ held.old }
+{
+    match held {
+        Some(
+            Own {
+                shape: Shape::Int,
+                value: Value::Int(old),
+            },
+        ) => {
+            *old = number;
+            true
+        }
+        _ => false,
+    }
+}
+
 /// Stores in a part of an own variable. After a fault all is as before. It takes no memory.
+#[inline(always)]
 pub fn own_stored(
+    own: &mut Row<Option<Own>>,
+    var: u32,
+    path: &[Sel],
+    value: Value,
+) -> Result<(), Fault>
+    ensures { Wrote result own.old own.new (own_stored own.old var path.now value) }
+{
+    match path {
+        [] => match value {
+            Value::Int(number) => number_stored(own, var, number),
+            _ => part_stored(own, var, &[], value),
+        },
+        _ => part_stored(own, var, path, value),
+    }
+}
+
+/// Stores a number in a whole variable.
+fn number_stored(own: &mut Row<Option<Own>>, var: u32, number: i32) -> Result<(), Fault>
+    ensures { Wrote result own.old own.new (own_stored own.old var [] (Value.Int number)) }
+{
+    if own.len() <= var as usize {
+        return Err(Fault::Early);
+    }
+    if put_number(own.at_mut(var as usize), number) {
+        return Ok(());
+    }
+    part_stored(own, var, &[], Value::Int(number))
+}
+
+/// Stores any value in a part of an own variable.
+#[inline(never)]
+fn part_stored(
     own: &mut Row<Option<Own>>,
     var: u32,
     path: &[Sel],

@@ -1,9 +1,10 @@
 ghost use Rattle.std.specs.Prelude.{◌≡◌, ◌≢◌, ◌<◌, ◌-◌, ◌∷◌, ◌++◌, [], IfOk, IsSome, IsErr, List, None, Ok, OnErr, OnOk, Some, ℕ, option_copied};
 ghost use Rattle.sr_ask.specs.declared.answer.Answer.{Answer as an_answer};
+ghost use Rattle.sr_ask.specs.declared.ask.Asks.TheVariants.{OverTicks as over_ticks};
 ghost use Rattle.sr_ask.specs.declared.start.Start.{Start as a_start};
 ghost use Rattle.sr_code.specs.Runs.{code_ask};
 ghost use Rattle.sr_code.specs.declared.code.Program.{Program as a_program};
-ghost use Rattle.sr_process.specs.declared.process.Phase.TheVariants.{New as new_phase, Waiting as waiting_phase};
+ghost use Rattle.sr_process.specs.declared.process.Phase.TheVariants.{New as new_phase, Stopped as stopped_phase, Waiting as waiting_phase};
 ghost use Rattle.sr_process.specs.Processes.{Carries, Failed, Ready, Runs, Hears, ReadyIn, SameAsks, StandsFor, asked_by, asks_after, asking, coded_at, left, me_of, stepped};
 ghost use Rattle.sr_process.specs.Together.{Does, Puts, TicksTo};
 
@@ -17,7 +18,7 @@ use sr_code::{Coded, Instruction, Program};
 use sr_core::Me;
 use sr_execute::{Carried, Frame, Step, execute, execute_quickly, resume};
 use sr_frame::{Scene, results_now};
-use sr_value::{Duplicate, NoMemory, Place, Value};
+use sr_value::{Duplicate, Fault, NoMemory, Place, Value};
 use std::alloc::Global;
 
 /// How far a process has come.
@@ -150,6 +151,27 @@ impl Process {
         });
     }
 
+    /// Asks for good to end the run with a fault.
+    // In `take_step` the temporaries of its drop would be filled for each step.
+    #[cold]
+    #[inline(never)]
+    fn fail(&mut self, fault: Fault, place: Place)
+        ensures { self.new ≡ stepped (Step.Faults fault) place self.old }
+    {
+        self.phase = Phase::Stopped;
+        self.ask(Request::Fail { fault }, place);
+    }
+
+    /// Has no tick left, for good.
+    #[cold]
+    #[inline(never)]
+    fn run_out(&mut self)
+        ensures { self.new ≡ record self.old { phase = stopped_phase; asks = over_ticks } }
+    {
+        self.phase = Phase::Stopped;
+        self.asks = Asks::OverTicks;
+    }
+
     /// What an instruction leads to.
     #[inline(always)]
     fn take_step(&mut self, step: Step, place: Place)
@@ -161,14 +183,8 @@ impl Process {
                 self.phase = Phase::Waiting;
                 self.ask(request, place);
             }
-            Step::Faults(fault) => {
-                self.phase = Phase::Stopped;
-                self.ask(Request::Fail { fault }, place);
-            }
-            Step::OverTicks => {
-                self.phase = Phase::Stopped;
-                self.asks = Asks::OverTicks;
-            }
+            Step::Faults(fault) => self.fail(fault, place),
+            Step::OverTicks => self.run_out(),
         }
     }
 
@@ -286,7 +302,7 @@ impl Process {
                 Ok(true)
             }
             Carried::Faults(fault) => {
-                self.take_step(Step::Faults(fault), coded.place);
+                self.fail(fault, coded.place);
                 Ok(true)
             }
             Carried::Left => Ok(false),
@@ -392,21 +408,39 @@ impl Process {
         Ok(())
     }
 
+    /// Drops an answer that nothing waits for.
+    #[cold]
+    #[inline(never)]
+    fn forget(&mut self)
+        ensures { self.new ≡ record self.old { fed = None } }
+    {
+        self.fed = None;
+    }
+
     /// Hears an answer that was fed.
     fn hear(&mut self, program: &Program) -> Result<(), NoMemory>
         requires { ReadyIn self.old.phase }
         ensures same { OnOk result (SameAsks program.now self.old self.new) }
         ensures ready { OnOk result (Ready self.new) }
     {
-        let Some(answer) = std::mem::replace(&mut self.fed, None) else {
+        if self.fed.is_none() {
             return Ok(());
-        };
+        }
         match self.phase {
             Phase::Waiting => match instruction_at(&program.code, self.address) {
-                Some(coded) => self.hear_at(coded, answer),
-                None => Ok(()),
+                Some(coded) => match std::mem::replace(&mut self.fed, None) {
+                    Some(answer) => self.hear_at(coded, answer),
+                    None => Ok(()),
+                },
+                None => {
+                    self.forget();
+                    Ok(())
+                }
             },
-            _ => Ok(()),
+            _ => {
+                self.forget();
+                Ok(())
+            }
         }
     }
 

@@ -11,8 +11,8 @@ returns-in-Goes c =
 
 pub returns-in-Faults : goal.returns-in-Faults
 returns-in-Faults c =
-    fails_quickly c.args.program.now c.args.self.now c.take_step.new.self c.args.coded.now c.execute_quickly.new.frame c.in_ok-carried.carried c.in-Faults.fault c.requires.runs c.requires.at
-    c.in_ok-carried.ensures c.in-Faults.is c.take_step.ensures
+    fails_quickly c.args.program.now c.args.self.now c.fail.new.self c.args.coded.now c.execute_quickly.new.frame c.in_ok-carried.carried c.in-Faults.fault c.requires.runs c.requires.at
+    c.in_ok-carried.ensures c.in-Faults.is c.fail.ensures
 
 pub returns-in-Left : goal.returns-in-Left
 returns-in-Left c =

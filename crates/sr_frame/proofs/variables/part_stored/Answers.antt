@@ -1,6 +1,6 @@
 use Rattle.std.proofs.Common.{Some, ap, ◌∙◌}
 use Rattle.sr_frame.proofs.Stores.{stored_early, stored_in}
-use Rattle.sr_frame.proofs.variables.own_stored.Goals as goal
+use Rattle.sr_frame.proofs.variables.part_stored.Goals as goal
 
 pub returns-in-Some : goal.returns-in-Some
 returns-in-Some c =
