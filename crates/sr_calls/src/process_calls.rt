@@ -1,7 +1,9 @@
-ghost use Rattle.std.specs.Prelude.{◌≡◌, ◌<◌, ◌≤◌, [], ◌∷◌, ◌++◌, IfNone, IsOk, OnErr, OnOk, Some, find, is_some, position};
+ghost use Rattle.std.specs.Prelude.{◌≡◌, ◌+◌, ◌<◌, ◌≤◌, [], ◌∷◌, ◌++◌, IfNone, IsOk, OnErr, OnOk, OnSome, Some, find, is_some, position, remove, slice_index_or};
 ghost use Rattle.std.specs.List.{list_any};
 ghost use Rattle.sr_calls.specs.Calls.{answers_one, is_held_as, without_first};
 ghost use Rattle.sr_calls.specs.PerProcess.{KeepsRoom};
+ghost use Rattle.sr_calls.specs.declared.held.Reply.{Reply};
+ghost use Rattle.std.specs.VecDeque.{deque_capacity, deque_len};
 
 use crate::held::{Held, Reply};
 use sr_value::{NoMemory, Row};
@@ -144,7 +146,7 @@ impl ProcessCalls {
         ensures kept { KeepsRoom self.old.room self.new.room }
     {
         let at = place_among(&self.replies, ids.as_slice())?;
-        self.replies.remove(at)
+        take_at(&mut self.replies, at)
     }
 }
 
@@ -174,6 +176,20 @@ fn place_among(replies: &VecDeque<Reply>, ids: &[u32]) -> Option<usize>
     ensures { result ≡ position (answers_one ids.now) replies.now.items }
 {
     replies.iter().position(|reply| ids.contains(&reply.id))
+}
+
+/// Takes the reply at a place out. The first leaves without a move of the others.
+fn take_at(replies: &mut VecDeque<Reply>, place: usize) -> Option<Reply>
+    ensures items { OnSome result (replies.new.items ≡ remove replies.old.items place) }
+    ensures succeeds { (other : Reply) → place < deque_len replies.old → result ≡ Some (slice_index_or replies.old.items place other) }
+    ensures len { OnSome result (deque_len replies.new + 1 ≡ deque_len replies.old) }
+    ensures unchanged { IfNone result (replies.new.items ≡ replies.old.items) }
+    ensures capacity { deque_capacity replies.new ≡ deque_capacity replies.old }
+{
+    if place == 0 {
+        return replies.pop_front();
+    }
+    replies.remove(place)
 }
 
 /// Whether the number of a reply is among `ids`.

@@ -1,5 +1,6 @@
 pub mod ClassLemmas
 pub mod IndexLemmas
 pub mod LineLemmas
+pub mod NextLemmas
 pub mod QueueLemmas
 pub mod SearchLemmas

@@ -1,4 +1,4 @@
-ghost use Rattle.std.specs.Prelude.{◌≡◌, ◌<◌, ℕ, [], ◌∷◌, ◌++◌, IfSome, OnErr, OnOk, Some, count_by, find, length, nat_le, remove, slice_get};
+ghost use Rattle.std.specs.Prelude.{◌≡◌, ◌<◌, ℕ, [], ◌∷◌, ◌++◌, IfSome, IsTrue, OnErr, OnOk, Some, count_by, find, length, nat_le, remove, slice_get};
 ghost use Rattle.sr_queue.specs.Classes.{next_among, same_class};
 ghost use Rattle.sr_queue.specs.Indexes.{IsAscending};
 ghost use Rattle.sr_queue.specs.Lines.{ChangesLine, IsRising, line_in};
@@ -6,6 +6,7 @@ ghost use Rattle.sr_queue.specs.declared.class.Class.{Class};
 ghost use Rattle.sr_queue.specs.declared.index.Numbered.{Numbered};
 
 use crate::class::Class;
+use crate::taking::take_at;
 use indexmap::IndexMap;
 use sr_value::NoMemory;
 use std::alloc::Global;
@@ -71,7 +72,29 @@ impl Index {
     }
 
     /// The place of the first of an operation at or after a place.
+    #[tactic(auto, using(crate::proofs::NextLemmas::next_here))]
     pub fn next_of(&self, class: Class, from: usize) -> Option<usize>
+        ensures { result ≡ next_among class from self.now }
+    {
+        if self.is_at(class, from) {
+            return Some(from);
+        }
+        self.next_in_line(class, from)
+    }
+
+    /// Whether the one at a place is of an operation.
+    #[tactic(auto, using(crate::proofs::NextLemmas::class_at))]
+    fn is_at(&self, class: Class, place: usize) -> bool
+        ensures { IsTrue result → slice_get self.now place ≡ Some class }
+    {
+        match self.entries.get(place) {
+            Some(entry) => entry.class == class,
+            None => false,
+        }
+    }
+
+    /// The same as `next_of`, by the line of the operation.
+    fn next_in_line(&self, class: Class, from: usize) -> Option<usize>
         ensures { result ≡ next_among class from self.now }
     {
         let line = self.lines.get(&class)?;
@@ -100,7 +123,7 @@ impl Index {
         requires { place < length self.old }
         ensures { self.new ≡ remove self.old place }
     {
-        if let Some(Numbered { number, class }) = self.entries.remove(place) {
+        if let Some(Numbered { number, class }) = take_at(&mut self.entries, place) {
             forget(&mut self.lines, class, number);
         }
     }
@@ -156,7 +179,7 @@ fn take_number(line: &mut VecDeque<u64>, number: u64)
     ensures { (place : ℕ) → slice_get line.old.items place ≡ Some number → line.new.items ≡ remove line.old.items place }
 {
     if let Ok(at) = line.binary_search(&number) {
-        let _ = line.remove(at);
+        let _ = take_at(line, at);
     }
 }
 

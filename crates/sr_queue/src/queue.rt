@@ -9,6 +9,7 @@ ghost use Rattle.sr_queue.specs.declared.pending.Pending.{Pending};
 use crate::class::{Class, class_of};
 use crate::index::Index;
 use crate::pending::Pending;
+use crate::taking::take_at;
 use sr_value::{Duplicate, NoMemory, Owner};
 use std::alloc::Global;
 use std::collections::VecDeque;
@@ -249,7 +250,7 @@ fn take_out(pending: &mut VecDeque<Pending>, i: u32) -> Pending
     ensures others { pending.new.items ≡ remove pending.old.items i }
     ensures room { deque_capacity pending.new ≡ deque_capacity pending.old }
 {
-    match pending.remove(i as usize) {
+    match take_at(pending, i as usize) {
         Some(taken) => taken,
         None => unreachable!(),
     }

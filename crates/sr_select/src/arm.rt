@@ -24,6 +24,9 @@ fn passes<'a, R: Reads>(
 ) -> Result<bool, ValueFail>
     ensures { Adds (passes_with (seeing (R.reading reads.now) scene.now) arm.now args.now) result seen.old seen.new }
 {
+    if arm.guard.is_none() {
+        return Ok(true);
+    }
     let sight = Sight {
         scene: *scene,
         arm,

@@ -1,5 +1,5 @@
-ghost use Rattle.std.specs.Prelude.{◌≡◌, ◌++◌, IfOk, OnOk};
-ghost use Rattle.sr_select.specs.Choices.{choice, choice_seen, owner_in};
+ghost use Rattle.std.specs.Prelude.{◌≡◌, ◌++◌, IfOk, None, OnOk};
+ghost use Rattle.sr_select.specs.Choices.{choice, choice_seen, otherwise, owner_in};
 ghost use Rattle.sr_select.specs.Selections.{choice_from, pairs_at, pairs_in, seen_by, seen_from, serviced_by};
 
 use crate::arm::passes_one;
@@ -120,6 +120,17 @@ fn first_choice<'a, R: Reads>(
     Ok(None)
 }
 
+/// What an `in` statement does that can service nothing.
+pub fn unserviced(site: &Site) -> Choice
+    ensures { result ≡ otherwise site.now.has_else None }
+{
+    if site.has_else {
+        Choice::Else
+    } else {
+        Choice::Nothing
+    }
+}
+
 /// What an `in` statement of a process does, and what the choice reads. `env` has the values of what the
 /// statement's guards name of the process.
 pub fn choose_and_see<R: Reads>(
@@ -148,8 +159,7 @@ pub fn choose_and_see<R: Reads>(
     let found = first_choice(&selection, reads, &mut seen)?;
     let choice = match found {
         Some(choice) => choice,
-        None if site.has_else => Choice::Else,
-        None => Choice::Nothing,
+        None => unserviced(site),
     };
     Ok(Chosen { choice, seen })
 }

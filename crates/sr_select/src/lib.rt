@@ -18,7 +18,7 @@ mod selection;
 mod sight;
 
 pub use choice::Choice;
-pub use choosing::{Chosen, choose, choose_and_see};
+pub use choosing::{Chosen, choose, choose_and_see, unserviced};
 pub use laws::{
     oldest_goes_first, one_class_decides, others_change_nothing, the_serviced_is_pending,
 };

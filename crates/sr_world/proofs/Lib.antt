@@ -19,6 +19,7 @@ pub mod ReadyLemmas
 pub mod RequestLemmas
 pub mod RunInputLemmas
 pub mod RunLemmas
+pub mod SelectLemmas
 pub mod StandLemmas
 pub mod StartLemmas
 pub mod StepLemmas

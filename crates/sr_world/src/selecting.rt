@@ -9,11 +9,12 @@ use crate::world::World;
 use sr_ask::Answer;
 use sr_core::{Core, Me, Site};
 use sr_queue::Pending;
-use sr_select::{Choice, choose};
+use sr_select::{Choice, choose, unserviced};
 use sr_value::{Fault, NoMemory, Row, Value};
 
 impl World {
     /// What an `in` statement of a process does. It takes memory only where guards do.
+    #[tactic(auto, using(crate::proofs::SelectLemmas::unserviced_is))]
     pub(crate) fn choice(
         &self,
         core: &Core,
@@ -23,6 +24,9 @@ impl World {
     ) -> Result<Choice, NoMemory>
         ensures { IfOk result (λ chosen. chosen ≡ choice_of core.now self.now process env.now site.now) }
     {
+        if self.queue.len() == 0 {
+            return Ok(unserviced(site));
+        }
         let me = Me {
             process,
             instance: self.instance_of_process(process),

@@ -11,7 +11,7 @@ returns-in-Ok c = λ place at.
     let found : c.binary_search.result ≡ Ok place = searched_at (λ x. x) deque.items c.requires c.args.number c.binary_search.result within c.binary_search.ensures.position place c.args.number at refl in
     let same : c.in-Ok.at ≡ place = cc in
     let low = c.in-Ok.ensures.bound in
-    on_some c.remove.result (c.remove.ensures.succeeds c.args.number low) c.remove.ensures.items ∙ ap (remove deque.items) same
+    on_some c.take_at.result (c.take_at.ensures.succeeds c.args.number low) c.take_at.ensures.items ∙ ap (remove deque.items) same
 
 pub returns-in_default : goal.returns-in_default
 returns-in_default c = λ place at.

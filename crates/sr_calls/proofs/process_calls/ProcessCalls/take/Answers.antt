@@ -18,16 +18,16 @@ returns-in_err-at-clause-found c = c.from_residual.ensures ∙ sym (none-found (
 pub returns-in_err-at-clause-replies : goal.returns-in_err-at-clause-replies
 returns-in_err-at-clause-replies c = sym (none-gone (answers_one c.args.ids.now) c.args.self.now.replies (none c))
 
-at : (c : goal.After-remove) → position (answers_one c.args.ids.now) c.self.inside.replies.items ≡ Some c.in_ok-at.at
+at : (c : goal.After-take_at) → position (answers_one c.args.ids.now) c.self.inside.replies.items ≡ Some c.in_ok-at.at
 at c = ap (λ ids. position (answers_one ids) c.self.inside.replies.items) (sym c.as_slice.ensures) ∙ sym c.in_ok-at.ensures
 
 no_reply : Reply
 no_reply = record { id = 0; results = None }
 
-removed : (c : goal.After-remove) → c.remove.result ≡ Some (get_or c.self.inside.replies.items c.in_ok-at.at no_reply)
+removed : (c : goal.After-take_at) → c.take_at.result ≡ Some (get_or c.self.inside.replies.items c.in_ok-at.at no_reply)
 removed c =
     let within = place-within (answers_one c.args.ids.now) c.self.inside.replies.items c.in_ok-at.at (at c) in
-    c.remove.ensures.succeeds no_reply (subst (λ n. c.in_ok-at.at < n) (sym c.self.inside.replies.ok.0) within)
+    c.take_at.ensures.succeeds no_reply (subst (λ n. c.in_ok-at.at < n) (sym c.self.inside.replies.ok.0) within)
 
 pub returns-clause-found : goal.returns-clause-found
 returns-clause-found c =
@@ -42,6 +42,6 @@ on_some o x P is h = subst (λ r. OnSome r P) is h
 
 pub returns-clause-replies : goal.returns-clause-replies
 returns-clause-replies c =
-    on_some c.remove.result _ _ (removed c) c.remove.ensures.items
+    on_some c.take_at.result _ _ (removed c) c.take_at.ensures.items
     ∙ sym (one-gone (answers_one c.args.ids.now) c.self.inside.replies.items c.in_ok-at.at (at c))
     ∙ ap (λ (d : ProcessCalled). without_first (answers_one c.args.ids.now) d.replies) c.self.view_is

@@ -6,7 +6,7 @@ use Rattle.sr_queue.specs.Lines.{IsRising, numbers_of}
 use Rattle.sr_queue.specs.declared.index.Numbered.{Numbered}
 use Rattle.sr_queue.proofs.IndexLemmas.{next-place, no-line, no-next, rising}
 use Rattle.sr_queue.proofs.SearchLemmas.{copied_item}
-use Rattle.sr_queue.proofs.index.Index.next_of.Goals as goal
+use Rattle.sr_queue.proofs.index.Index.next_in_line.Goals as goal
 
 pub returns-in_err-line : goal.returns-in_err-line
 returns-in_err-line c =
