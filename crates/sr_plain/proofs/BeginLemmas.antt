@@ -1,5 +1,5 @@
 -- A look at a process that may have to begin.
-use Rattle.std.proofs.Common.{◌≡◌, inl, inr, ℕ, List, Option, Some, None, is_some, false, refl, sym, ◌∙◌, subst, true≢false}
+use Rattle.std.proofs.Common.{◌≡◌, ◌<◌, inl, inr, ℕ, List, Option, Some, None, IsSome, is_some, false, refl, sym, ◌∙◌, subst, true≢false, arith}
 use Rattle.std.specs.HashMap.{HashMap}
 use Rattle.std.specs.Prelude.{Result, Ok, Err, OnOk}
 use Rattle.sr_ask.specs.declared.answer.Answer.{Answer}
@@ -43,3 +43,14 @@ on_ok (Err e) f h = h
 pub absent-here : {A : Type 0} (o : Option A) → is_some o ≡ false → o ≡ None
 absent-here None none = refl
 absent-here (Some a) none = absurd (true≢false none)
+
+-- ---- how many have still to begin
+
+abbrev pub to_begin : {A : Type 0} → Option A → ℕ
+to_begin None = 1
+to_begin (Some a) = 0
+
+pub begins-less : {A : Type 0} (new old : Option A) → IsSome new → old ≡ None → to_begin new < to_begin old
+begins-less None old begun unbegun = absurd (true≢false (sym begun))
+begins-less (Some a) None begun unbegun = omega arith
+begins-less (Some a) (Some b) begun unbegun = absurd (cc)

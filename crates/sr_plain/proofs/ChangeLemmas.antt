@@ -38,7 +38,7 @@ use Rattle.sr_world.specs.Inputs.{is_decided}
 use Rattle.sr_world.specs.Invoking.{arrive, instance_of_process, invoke, invoke_operation, is_gone}
 use Rattle.sr_world.specs.Making.{is_ready as instance_ready, make_ready, needs_ready, ready_from}
 use Rattle.sr_world.specs.Selecting.{by_choice, choice_of, held_from, me_of, reading_of, select_at, service}
-use Rattle.sr_world.specs.Steps.{done_by, duty_for, ensure_found, on_machine, ready_after, reply}
+use Rattle.sr_world.specs.Steps.{done_by, duty_for, ensure_found, on_machine, ready_after}
 use Rattle.sr_world.specs.Updates.{add_reply, drop_pending, drop_reply, end_process, hold, release, use_name}
 use Rattle.sr_world.specs.Worlds.{World, is_live}
 use Rattle.sr_world.specs.declared.duty.Duty.{Duty}

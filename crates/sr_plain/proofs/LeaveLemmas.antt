@@ -30,7 +30,7 @@ use Rattle.sr_world.specs.Inputs.{is_decided}
 use Rattle.sr_world.specs.Invoking.{arrive, instance_of_process, invoke, is_gone, owner_instance}
 use Rattle.sr_world.specs.Making.{component_at, has_final_code, is_open, is_ready, make_ready, needs_ready, ready_from, run_final, run_initial, run_proc, start_in}
 use Rattle.sr_world.specs.Selecting.{by_choice, choice_of}
-use Rattle.sr_world.specs.Steps.{create_on, done_by, duty_for, ensure_found, on_machine, ready_after, reply}
+use Rattle.sr_world.specs.Steps.{create_on, done_by, duty_for, ensure_found, on_machine, ready_after}
 use Rattle.sr_world.specs.Updates.{add_instance, add_reply, drop_reply, end_all, end_instance, end_process, end_processes, fix, processes_of, release, set_state, use_name}
 use Rattle.sr_world.specs.Worlds.{World, is_live, started}
 use Rattle.sr_world.specs.declared.duty.Duty.{Duty}

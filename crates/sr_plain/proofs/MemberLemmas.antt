@@ -23,7 +23,7 @@ use Rattle.sr_plain.specs.Answering.{AnsweredBy}
 use Rattle.sr_plain.specs.Carrying.{Names}
 use Rattle.sr_plain.specs.Crew.{Answers, IsFed, IsSame, Looks, member_of}
 use Rattle.sr_plain.specs.Leaving.{written_by}
-use Rattle.sr_plain.specs.Engine.{Comes, IsCarried, IsEngine, Steps, Tries, last_in}
+use Rattle.sr_plain.specs.Engine.{Comes, IfAsked, IfUnbegun, IsCarried, IsEngine, Steps, Tries, TriesIfBegun, last_in}
 use Rattle.sr_plain.specs.Noting.{NotesBy}
 use Rattle.sr_plain.specs.Ready.{AreAside, me_at}
 use Rattle.sr_plain.specs.Turns.{takes_turn, turn, turn_of}
@@ -33,6 +33,8 @@ use Rattle.sr_plain.specs.declared.member.Member.{Member}
 use Rattle.sr_plain.specs.declared.plain.Plain.{Plain}
 use Rattle.sr_plain.specs.declared.plainly.Plainly.{Plainly}
 use Rattle.sr_plain.specs.declared.plainly.Plainly.TheVariants as plainly
+use Rattle.sr_plain.specs.declared.tried.Tried.{Tried}
+use Rattle.sr_plain.specs.declared.tried.Tried.TheVariants as attempt
 use Rattle.sr_plain.specs.declared.waiters.Waiters.{Waiters}
 use Rattle.sr_plain.proofs.AnswerLemmas.{answered_done, answered_ends, answered_not, answered_wants, is_over}
 use Rattle.sr_plain.proofs.AsideLemmas.{aside_out, noted_aside, noted_is}
@@ -50,6 +52,14 @@ module _ {A : Type 0} (after : A → List Answer → Asks) (can_feed : A → Typ
 
     pub tries_err : (r : Result (Option Plainly) NoMemory) (e : NoMemory) (plain : Plain A) → r ≡ Err e → plain.world ≡ state.world → Tries after can_feed core limit state events whose r plain
     tries_err r e plain is same = subst (λ (x : Result (Option Plainly) NoMemory). Tries after can_feed core limit state events whose x plain) (sym is) same
+
+    -- the same of a process that may not have begun
+    pub tried_err : (r : Result Tried NoMemory) (e : NoMemory) (plain : Plain A) → r ≡ Err e → plain.world ≡ state.world → TriesIfBegun after can_feed core limit state events whose r plain
+    tried_err r e plain is same = subst (λ (x : Result Tried NoMemory). TriesIfBegun after can_feed core limit state events whose x plain) (sym is) same
+
+    pub tries_asked : (t : Tried) (came : Option Plainly) (plain : Plain A) → t ≡ attempt.Asked came → TriesIfBegun after can_feed core limit state events whose (Ok t) plain
+        → Tries after can_feed core limit state events whose (Ok came) plain
+    tries_asked t came plain is = subst (λ (x : Tried). TriesIfBegun after can_feed core limit state events whose (Ok x) plain) is
 
     pub tries_as : (o o' : Option Plainly) (plain : Plain A) → o ≡ o' → Tries after can_feed core limit state events whose (Ok o) plain → Tries after can_feed core limit state events whose (Ok o') plain
     tries_as o o' plain is = subst (λ (x : Option Plainly). Tries after can_feed core limit state events whose (Ok x) plain) is
@@ -231,3 +241,12 @@ module _ {A : Type 0} (after : A → List Answer → Asks) (can_feed : A → Typ
 pub if_none : {X : Type 0} {P : Type 0} (o : Option X) → o ≡ None → IfNone o P → P
 if_none None is h = h
 if_none (Some x) is h = absurd (cc)
+
+-- ---- one that may not have begun
+
+pub at_unbegun : (t : Tried) (P : Type 0) → t ≡ attempt.Unbegun → IfUnbegun t P → P
+at_unbegun attempt.Unbegun P is h = h
+at_unbegun (attempt.Asked came) P is h = absurd (cc)
+
+pub at_asked : (t : Tried) (came : Option Plainly) (P : Option Plainly → Type 0) → t ≡ attempt.Asked came → IfAsked t P → P came
+at_asked t came P is h = subst (λ (x : Tried). IfAsked x P) is h

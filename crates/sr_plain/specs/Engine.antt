@@ -27,6 +27,8 @@ use Rattle.sr_plain.specs.declared.member.Member.{Member}
 use Rattle.sr_plain.specs.declared.plain.Plain.{Plain}
 use Rattle.sr_plain.specs.declared.plainly.Plainly.{Plainly}
 use Rattle.sr_plain.specs.declared.plainly.Plainly.TheVariants.{Stepped, Wants, Over, Ended}
+use Rattle.sr_plain.specs.declared.tried.Tried.{Tried}
+use Rattle.sr_plain.specs.declared.tried.Tried.TheVariants as tried
 
 -- who made the last step
 abbrev pub last_by : ℕ → Event → ℕ
@@ -121,3 +123,19 @@ module _ {A : Type 0} (after : A → List Answer → Asks) (can_feed : A → Typ
   Tries (Ok (Some plainly)) plain = IsSome turn × Comes plainly plain
   Tries (Ok None) plain = (turn ≡ None) × IsEngine after can_feed core limit state events plain
   Tries (Err out_of_memory) plain = plain.world ≡ state.world
+
+  -- the same of one process, which may not have begun
+  abbrev pub TriesIfBegun : Result Tried NoMemory → Plain A → Type 0
+  TriesIfBegun (Ok (tried.Asked came)) plain = Tries (Ok came) plain
+  TriesIfBegun (Ok tried.Unbegun) plain = Unit {0}
+  TriesIfBegun (Err out_of_memory) plain = plain.world ≡ state.world
+
+-- what holds of one that hasn't begun
+abbrev pub IfUnbegun : Tried → Type 0 → Type 0
+IfUnbegun tried.Unbegun holds = holds
+IfUnbegun (tried.Asked came) holds = Unit {0}
+
+-- what holds of one that was asked
+abbrev pub IfAsked : Tried → (Option Plainly → Type 0) → Type 0
+IfAsked tried.Unbegun holds = Unit {0}
+IfAsked (tried.Asked came) holds = holds came

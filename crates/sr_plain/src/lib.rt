@@ -9,6 +9,7 @@ pub mod laws;
 mod member;
 mod plain;
 mod plainly;
+mod tried;
 mod waiters;
 mod waking;
 

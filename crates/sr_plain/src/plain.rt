@@ -14,6 +14,7 @@ use crate::change::Woken;
 use crate::crew::{begin_once, let_go};
 use crate::member::Member;
 use crate::plainly::Plainly;
+use crate::tried::Tried;
 use crate::waiters::Waiters;
 use crate::waking::wake_up;
 use sr_actor::Actor;
@@ -42,7 +43,7 @@ pub struct Plain<A> {
 }
 
 impl<A: Actor> Plain<A> {
-    ghost use Rattle.sr_plain.specs.Engine.{IsEngine, Steps, Tries, last_in};
+    ghost use Rattle.sr_plain.specs.Engine.{IfAsked, IfUnbegun, IsEngine, Steps, Tries, TriesIfBegun, last_in};
 
     /// The beginning of a run, in which a process may begin `ticks` statements between two answers.
     pub fn begin(alloc: Global, ticks: u32) -> Result<Self, NoMemory>
@@ -149,8 +150,7 @@ impl<A: Actor> Plain<A> {
                     process: start.process,
                     instance: start.instance,
                 };
-                begin_once(&mut self.crew, self.alloc, start, self.ticks)?;
-                self.try_member(program, me)
+                self.try_living(program, me)
             }
             None => {
                 self.waiters.take_out(process);
@@ -159,13 +159,47 @@ impl<A: Actor> Plain<A> {
         }
     }
 
-    /// Has the machine carry out what a process asks that has begun.
+    /// Asks a process that lives. It begins first, where it hasn't.
     #[inline(always)]
-    fn try_member(&mut self, program: &A::Program, me: Me) -> Result<Option<Plainly>, NoMemory>
-        requires begun { IsSome (member_of self.old.crew me.process) }
+    fn try_living(&mut self, program: &A::Program, me: Me) -> Result<Option<Plainly>, NoMemory>
+        requires lives { IsSome (started self.old.world me.process) }
         ensures tries { (limit : ℕ) (state : State) (events : List Event) (start : starts.Start) → IsEngine (A.asks_after program.now) A.can_feed (A.core_of program.now) limit state events self.old → started state.world start.process ≡ Some start → me ≡ me_at start → is_ready self.old.waiters me.process ≡ true → self.old.woken ≡ None → Tries (A.asks_after program.now) A.can_feed (A.core_of program.now) limit state events (find (takes_turn (A.core_of program.now) limit state) (start ∷ [])) result self.new }
         ensures less { is_ready self.old.waiters me.process ≡ true → IfOk result (λ tried. IfNone tried (btree_set_len self.new.waiters.ready < btree_set_len self.old.waiters.ready)) }
         ensures awake { IfOk result (λ tried. IfNone tried (self.new.woken ≡ None)) }
+    {
+        loop {
+            let tried = self.try_member(program, me)?;
+            match tried {
+                Tried::Asked(came) => return Ok(came),
+                Tried::Unbegun => self.begin_process(me.process)?,
+            }
+        }
+    }
+
+    /// Has a process begin that lives.
+    #[cold]
+    #[inline(never)]
+    fn begin_process(&mut self, process: u32) -> Result<(), NoMemory>
+        requires lives { IsSome (started self.old.world process) }
+        ensures begun { OnOk result (IsSome (member_of self.new.crew process)) }
+        ensures engine { OnOk result ((program : A.Program) (limit : ℕ) (state : State) (events : List Event) → IsEngine (A.asks_after program) A.can_feed (A.core_of program) limit state events self.old → IsEngine (A.asks_after program) A.can_feed (A.core_of program) limit state events self.new) }
+        ensures world { self.new.world ≡ self.old.world }
+        ensures waiters { self.new.waiters ≡ self.old.waiters }
+        ensures woken { self.new.woken ≡ self.old.woken }
+    {
+        match self.world.started(process) {
+            Some(start) => begin_once(&mut self.crew, self.alloc, start, self.ticks),
+            None => unreachable!(),
+        }
+    }
+
+    /// Has the machine carry out what a process asks, where it has begun.
+    #[inline(always)]
+    fn try_member(&mut self, program: &A::Program, me: Me) -> Result<Tried, NoMemory>
+        ensures tries { (limit : ℕ) (state : State) (events : List Event) (start : starts.Start) → IsEngine (A.asks_after program.now) A.can_feed (A.core_of program.now) limit state events self.old → started state.world start.process ≡ Some start → me ≡ me_at start → is_ready self.old.waiters me.process ≡ true → self.old.woken ≡ None → TriesIfBegun (A.asks_after program.now) A.can_feed (A.core_of program.now) limit state events (find (takes_turn (A.core_of program.now) limit state) (start ∷ [])) result self.new }
+        ensures unbegun { IfOk result (λ tried. IfUnbegun tried ((self.new ≡ self.old) × (member_of self.old.crew me.process ≡ None))) }
+        ensures less { is_ready self.old.waiters me.process ≡ true → IfOk result (λ tried. IfAsked tried (λ came. IfNone came (btree_set_len self.new.waiters.ready < btree_set_len self.old.waiters.ready))) }
+        ensures awake { IfOk result (λ tried. IfAsked tried (λ came. IfNone came (self.new.woken ≡ None))) }
     {
         match self.crew.get_mut(&me.process) {
             Some(member) => {
@@ -181,12 +215,12 @@ impl<A: Actor> Plain<A> {
                             ask,
                         )?;
                         self.woken = note(&mut self.waiters, core, me, ask, &carried)?;
-                        Ok(member.hear(me.process, carried, &mut self.last))
+                        Ok(Tried::Asked(member.hear(me.process, carried, &mut self.last)))
                     }
-                    Asks::OverTicks => Ok(Some(Plainly::Over(me.process))),
+                    Asks::OverTicks => Ok(Tried::Asked(Some(Plainly::Over(me.process)))),
                 }
             }
-            None => unreachable!(),
+            None => Ok(Tried::Unbegun),
         }
     }
 

@@ -14,21 +14,21 @@ use Rattle.sr_plain.specs.Turns.{takes_turn}
 use Rattle.sr_plain.specs.declared.member.Member.{Member}
 use Rattle.sr_plain.specs.declared.plain.Plain.{Plain}
 use Rattle.sr_plain.proofs.CrewLemmas.{written-itself}
-use Rattle.sr_plain.proofs.MemberLemmas.{answers_member, carried_of, carried_wrote, hears, looked_member, over_of, tries_err}
+use Rattle.sr_plain.proofs.MemberLemmas.{answers_member, carried_of, carried_wrote, hears, looked_member, over_of, tried_err}
 use Rattle.sr_plain.proofs.plain.Plain.try_member.Goals as goal
 
 pub returns-in_err-look-in-Some-clause-tries : goal.returns-in_err-look-in-Some-clause-tries
 returns-in_err-look-in-Some-clause-tries g c = λ limit state events start engine lives same ready awake.
     let core = g.A.Actor.core_of c.args.program.now in
     let failed = err_from_is_err_and c.from_residual.result c.from_residual.ensures.1 in
-    tries_err (g.A.Actor.asks_after c.args.program.now) g.A.Actor.can_feed core limit state events (find (takes_turn core limit state) (start ∷ [])) c.from_residual.result failed.0
+    tried_err (g.A.Actor.asks_after c.args.program.now) g.A.Actor.can_feed core limit state events (find (takes_turn core limit state) (start ∷ [])) c.from_residual.result failed.0
     (record c.args.self.now { crew = c.get_mut.follows.lender c.look.new.self }) failed.1 engine.world
 
 pub returns-in_err-carried-in-Asked-clause-tries : goal.returns-in_err-carried-in-Asked-clause-tries
 returns-in_err-carried-in-Asked-clause-tries g c = λ limit state events start engine lives same ready awake.
     let core = g.A.Actor.core_of c.args.program.now in
     let failed = err_from_is_err_and c.from_residual-in_err-carried-in-Asked.result c.from_residual-in_err-carried-in-Asked.ensures.1 in
-    tries_err (g.A.Actor.asks_after c.args.program.now) g.A.Actor.can_feed core limit state events (find (takes_turn core limit state) (start ∷ [])) c.from_residual-in_err-carried-in-Asked.result failed.0
+    tried_err (g.A.Actor.asks_after c.args.program.now) g.A.Actor.can_feed core limit state events (find (takes_turn core limit state) (start ∷ [])) c.from_residual-in_err-carried-in-Asked.result failed.0
     (record c.args.self.now { crew = c.get_mut.follows.lender c.look.new.self; world = c.carry_out.new.world }) failed.1 (c.in_err-carried-in-Asked.ensures.err ∙ engine.world)
 
 pub returns-in-OverTicks-clause-tries : goal.returns-in-OverTicks-clause-tries

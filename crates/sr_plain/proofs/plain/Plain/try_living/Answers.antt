@@ -1,0 +1,70 @@
+use Rattle.std.proofs.Common.{◌≡◌, ◌<◌, [], ◌∷◌, ap, subst, sym, ◌∙◌, IsSome, true}
+use Rattle.std.proofs.lemmas.Result.{err_from_is_err_and}
+use Rattle.std.specs.BTreeSet.{btree_set_len}
+use Rattle.std.specs.Prelude.{IfNone, find}
+use Rattle.sr_world.specs.Worlds.{World, started}
+use Rattle.sr_plain.specs.Crew.{member_of}
+use Rattle.sr_plain.specs.Engine.{IsEngine}
+use Rattle.sr_plain.specs.Turns.{takes_turn}
+use Rattle.sr_plain.specs.Waiting.{is_ready}
+use Rattle.sr_plain.specs.declared.plain.Plain.{Plain}
+use Rattle.sr_plain.specs.declared.waiters.Waiters.{Waiters}
+use Rattle.sr_plain.proofs.BeginLemmas.{begins-less}
+use Rattle.sr_plain.proofs.MemberLemmas.{at_asked, at_unbegun, tries_asked, tries_err}
+use Rattle.sr_plain.proofs.plain.Plain.try_living.Goals as goal
+
+pub returns-in_err-tried-clause-tries : goal.returns-in_err-tried-clause-tries
+returns-in_err-tried-clause-tries g c = λ limit state events start engine lives same ready awake.
+    let inv = c.loop-tried.invariant in
+    let core = g.A.Actor.core_of c.args.program.now in
+    let failed = err_from_is_err_and c.from_residual.result c.from_residual.ensures.1 in
+    tries_err (g.A.Actor.asks_after c.args.program.now) g.A.Actor.can_feed core limit state events (find (takes_turn core limit state) (start ∷ [])) c.from_residual.result failed.0 c.try_member.new.self failed.1
+    (c.in_err-tried.ensures.tries limit state events start (inv.3 limit state events engine) lives same (subst (λ (w : Waiters). is_ready w c.args.me.process ≡ true) (sym inv.1) ready) (inv.2 ∙ awake))
+
+pub returns-in-Asked-clause-tries : goal.returns-in-Asked-clause-tries
+returns-in-Asked-clause-tries g c = λ limit state events start engine lives same ready awake.
+    let inv = c.loop-tried.invariant in
+    let core = g.A.Actor.core_of c.args.program.now in
+    tries_asked (g.A.Actor.asks_after c.args.program.now) g.A.Actor.can_feed core limit state events (find (takes_turn core limit state) (start ∷ [])) c.in_ok-tried.tried c.in-Asked.came c.try_member.new.self c.in-Asked.is
+    (c.in_ok-tried.ensures.tries limit state events start (inv.3 limit state events engine) lives same (subst (λ (w : Waiters). is_ready w c.args.me.process ≡ true) (sym inv.1) ready) (inv.2 ∙ awake))
+
+pub returns-in_err-begin_process-in-Unbegun-clause-tries : goal.returns-in_err-begin_process-in-Unbegun-clause-tries
+returns-in_err-begin_process-in-Unbegun-clause-tries g c = λ limit state events start engine lives same ready awake.
+    let inv = c.loop-tried.invariant in
+    let core = g.A.Actor.core_of c.args.program.now in
+    let unbegun = (at_unbegun c.in_ok-tried.tried _ c.in-Unbegun.is c.in_ok-tried.ensures.unbegun).0 in
+    let failed = err_from_is_err_and c.from_residual-in_err-begin_process-in-Unbegun.result c.from_residual-in_err-begin_process-in-Unbegun.ensures.1 in
+    tries_err (g.A.Actor.asks_after c.args.program.now) g.A.Actor.can_feed core limit state events (find (takes_turn core limit state) (start ∷ [])) c.from_residual-in_err-begin_process-in-Unbegun.result failed.0
+    c.begin_process.new.self failed.1 (c.begin_process.ensures.world ∙ ap (λ (p : Plain _). p.world) unbegun ∙ inv.0 ∙ engine.world)
+
+pub begin_process-requires : goal.begin_process-requires
+begin_process-requires g c =
+    let unbegun = (at_unbegun c.in_ok-tried.tried _ c.in-Unbegun.is c.in_ok-tried.ensures.unbegun).0 in
+    record { lives = subst (λ (w : World). IsSome (started w c.args.me.process)) (sym (ap (λ (p : Plain _). p.world) unbegun ∙ c.loop-tried.invariant.0)) c.requires.lives }
+
+pub loop-tried-preserved : goal.loop-tried-preserved
+loop-tried-preserved g c =
+    let inv = c.loop-tried.invariant in
+    let unbegun = (at_unbegun c.in_ok-tried.tried _ c.in-Unbegun.is c.in_ok-tried.ensures.unbegun).0 in (
+      c.begin_process.ensures.world ∙ ap (λ (p : Plain _). p.world) unbegun ∙ inv.0,
+      c.begin_process.ensures.waiters ∙ ap (λ (p : Plain _). p.waiters) unbegun ∙ inv.1,
+      c.begin_process.ensures.woken ∙ ap (λ (p : Plain _). p.woken) unbegun ∙ inv.2,
+      λ limit state events engine.
+          let core = g.A.Actor.core_of c.args.program.now in
+          c.in_ok-begin_process-in-Unbegun.ensures.engine c.args.program.now limit state events
+          (subst (λ (p : Plain _). IsEngine (g.A.Actor.asks_after c.args.program.now) g.A.Actor.can_feed core limit state events p) (sym unbegun) (inv.3 limit state events engine)),
+    )
+
+pub loop-tried-smaller : goal.loop-tried-smaller
+loop-tried-smaller g c =
+    let unbegun = at_unbegun c.in_ok-tried.tried _ c.in-Unbegun.is c.in_ok-tried.ensures.unbegun in
+    begins-less (member_of c.begin_process.new.self.crew c.args.me.process) (member_of c.loop-tried.self.crew c.args.me.process) c.in_ok-begin_process-in-Unbegun.ensures.begun unbegun.1
+
+pub returns-in-Asked-clause-less : goal.returns-in-Asked-clause-less
+returns-in-Asked-clause-less g c = λ ready.
+    let inv = c.loop-tried.invariant in
+    subst (λ (w : Waiters). IfNone c.in-Asked.came (btree_set_len c.try_member.new.self.waiters.ready < btree_set_len w.ready)) inv.1
+    (at_asked c.in_ok-tried.tried c.in-Asked.came _ c.in-Asked.is (c.in_ok-tried.ensures.less (subst (λ (w : Waiters). is_ready w c.args.me.process ≡ true) (sym inv.1) ready)))
+
+pub returns-in-Asked-clause-awake : goal.returns-in-Asked-clause-awake
+returns-in-Asked-clause-awake g c = at_asked c.in_ok-tried.tried c.in-Asked.came _ c.in-Asked.is c.in_ok-tried.ensures.awake
