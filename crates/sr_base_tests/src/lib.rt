@@ -1,11 +1,5 @@
-//! Tests of the lowest crates that need code: collections, lines of sources, types, and devices that fail.
+//! Tests of the devices of the host: streams that fail, and files.
 #![tactic(auto)]
 
 #[cfg(test)]
-mod collections;
-#[cfg(test)]
-mod lines;
-#[cfg(test)]
 mod ports;
-#[cfg(test)]
-mod types;

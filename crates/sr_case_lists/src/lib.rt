@@ -8,8 +8,9 @@ mod comparing;
 mod kept;
 mod picks;
 mod replies;
+mod reporting;
 mod starts;
 mod telling;
 mod values;
 
-pub use telling::tell_program;
+pub use reporting::report_of;

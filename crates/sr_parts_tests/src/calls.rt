@@ -1,92 +1,37 @@
 use sr_calls::Calls;
-use sr_value::{NoMemory, Row};
-use std::alloc::Global;
-use std::test::Fail;
+use sr_value::Row;
 
-const REPLIES: u32 = 70_000;
+/// Whether process 1 holds an invocation until it releases it.
+fn is_held(calls: &mut Calls) -> bool {
+    calls.reserve(1).is_ok()
+        && calls.hold(1, 20, 6, 60).is_ok()
+        && calls.holding(1, 20).is_some()
+        && calls.release(1, 20) == Some((6, 60))
+}
 
-const PROCESSES: u32 = 300;
+/// Whether process 1 gets a reply that it waits for.
+fn is_answered(calls: &mut Calls, ids: &mut Row<u32>) -> bool {
+    ids.push(20).is_ok()
+        && calls.answer(1, 20, None).is_ok()
+        && calls.has_reply(1, ids)
+        && calls.take(1, ids).is_some()
+}
 
-/// How many of many replies are found when they are taken from the last to the first, and from the right process alone.
-fn taken_backwards(alloc: Global) -> Result<u32, NoMemory> {
-    let mut calls = Calls::new(alloc);
-    for id in 0..REPLIES {
-        calls.reserve(id % PROCESSES)?;
-        calls.answer(id % PROCESSES, id, None)?;
-    }
-    let mut ids = Row::new(alloc);
-    let mut taken = 0u32;
-    for id in (0..REPLIES).rev() {
-        ids.truncate(0);
-        ids.push(id)?;
-        let misses = calls.take((id + 1) % PROCESSES, &ids).is_none();
-        if misses && calls.take(id % PROCESSES, &ids).is_some() {
-            taken = taken.wrapping_add(1);
-        }
-    }
-    Ok(taken)
+/// Whether replies to a process that is forgotten are gone.
+fn is_forgotten(calls: &mut Calls, ids: &Row<u32>) -> bool {
+    let is_answered = calls.answer(1, 20, None).is_ok();
+    calls.forget(1);
+    is_answered && !calls.has_reply(1, ids)
 }
 
 #[test]
-fn replies_of_many(rt: HostRuntime) -> Result<(), Fail> {
-    assert_eq!(rt; taken_backwards(rt.alloc())?, REPLIES);
-    Ok(())
-}
-
-/// The numbers of the replies that a process gets, one after another, of those with these numbers.
-fn order(alloc: Global, wanted: &[u32]) -> Result<Vec<u32>, NoMemory> {
-    let mut calls = Calls::new(alloc);
-    for id in [5, 3, 9, 5] {
-        calls.answer(1, id, None)?;
-        calls.answer(2, 4, None)?;
-    }
-    let mut ids = Row::new(alloc);
-    for id in wanted {
-        ids.push(*id)?;
-    }
-    let mut order = Vec::new(alloc);
-    for _ in 0..5 {
-        if let Some((id, _)) = calls.take(1, &ids) {
-            order.push(id)?;
-        }
-    }
-    Ok(order)
-}
-
-#[test]
-fn replies_in_order(rt: HostRuntime) -> Result<(), Fail> {
-    assert_eq!(rt;
-        order(rt.alloc(), &[9, 5])?.as_slice(),
-        [5, 9, 5].as_slice()
-    );
-    assert_eq!(rt; order(rt.alloc(), &[3])?.as_slice(), [3].as_slice());
-    assert_eq!(rt; order(rt.alloc(), &[4])?.as_slice(), [].as_slice());
-    Ok(())
-}
-
-/// What a process releases, after a third process was forgotten.
-fn released(alloc: Global, actor: u32, id: u32) -> Result<Option<(u32, u32)>, NoMemory> {
-    let mut calls = Calls::new(alloc);
-    calls.hold(1, 20, 6, 60)?;
-    calls.hold(2, 20, 7, 70)?;
-    calls.hold(1, 21, 0, 0)?;
-    calls.hold(3, 22, 8, 80)?;
-    calls.forget(3);
-    Ok(calls.release(actor, id))
-}
-
-#[test]
-fn releases(rt: HostRuntime) -> Result<(), Fail> {
-    let rows = [
-        (1, 20, Some((6, 60))),
-        (2, 20, Some((7, 70))),
-        (1, 21, Some((0, 0))),
-        (2, 21, None),
-        (3, 22, None),
-        (4, 20, None),
-    ];
-    for (actor, id, want) in rows {
-        assert_eq!(rt; released(rt.alloc(), actor, id)?, want);
-    }
-    Ok(())
+fn held_invocations_and_replies(rt: HostRuntime) {
+    let mut calls = Calls::new(rt.alloc());
+    let mut ids = Row::new(rt.alloc());
+    let is_kept = is_held(&mut calls)
+        && is_answered(&mut calls, &mut ids)
+        && is_forgotten(&mut calls, &ids);
+    drop(calls);
+    drop(ids);
+    assert!(rt; is_kept);
 }

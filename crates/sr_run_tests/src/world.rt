@@ -1,0 +1,28 @@
+//! The world that guards read in these tests.
+
+use sr_select::Reads;
+use sr_value::{EnumNames, Sel, Value, ValueFail};
+
+/// A world in which each shared variable is true, and one invocation of each operation is pending.
+#[derive(Drop)]
+pub struct World {
+    pub names: EnumNames,
+}
+
+impl Reads for World {
+    ghost use Rattle.sr_run_tests.specs.Worlds.{reading_of};
+
+    ghost reading = { reading_of };
+
+    fn load(&self, _block: u32, _var: u32, _path: &[Sel]) -> Result<Value, ValueFail> {
+        Ok(Value::Bool(true))
+    }
+
+    fn count(&self, _op: u32) -> u32 {
+        1
+    }
+
+    fn names(&self) -> &EnumNames {
+        &self.names
+    }
+}
