@@ -49,6 +49,7 @@ fn after_made(frame: &Frame, answer: Answer, to: usize) -> Result<Option<usize>,
 }
 
 /// A value that was loaded goes on the operands.
+#[inline(always)]
 fn put_got(frame: &mut Frame, answer: Answer, next: usize) -> Result<Option<usize>, NoMemory>
     ensures { Leads result frame.old frame.new (led (got answer) (λ value. moved next (put_value value frame.old.operands) frame.old)) }
 {

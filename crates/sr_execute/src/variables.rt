@@ -14,6 +14,7 @@ use sr_value::{NoMemory, Row, Sel, Shape, Value, ValueFail, default_of};
 use std::alloc::Global;
 
 /// A value goes to a place; a shared one is asked for.
+#[inline(always)]
 pub fn store_at(
     frame: &mut Frame,
     spot: Spot,
@@ -61,6 +62,7 @@ pub fn make_at(
 }
 
 /// What a place holds goes on the operands; a shared one is asked for.
+#[inline(always)]
 fn load_place(
     alloc: Global,
     frame: &mut Frame,

@@ -4,7 +4,10 @@ ghost use Rattle.sr_ask.specs.Asking.{as_moment, done, got, made, moment, number
 use sr_ask::{Answer, InputItem, Pick, Selection, Taken};
 use sr_value::Value;
 
+// A call of one of the most frequent of these would move the answer once more.
+
 /// `Done`.
+#[inline(always)]
 pub fn done(answer: Answer) -> Option<()>
     ensures { result ≡ done answer }
 {
@@ -15,6 +18,7 @@ pub fn done(answer: Answer) -> Option<()>
 }
 
 /// `Got`, with the value.
+#[inline(always)]
 pub fn got(answer: Answer) -> Option<Value>
     ensures { result ≡ got answer }
 {
@@ -25,6 +29,7 @@ pub fn got(answer: Answer) -> Option<Value>
 }
 
 /// `Made`, with the number of what was made.
+#[inline(always)]
 pub fn made(answer: Answer) -> Option<u32>
     ensures { result ≡ made answer }
 {
@@ -99,6 +104,7 @@ pub fn took(wanted: u32, answer: Answer) -> Option<Taken>
 }
 
 /// `Picked`, of one of so many arms; `Else`, where the statement has one.
+#[inline(always)]
 pub fn selected(arms: usize, has_else: bool, answer: Answer) -> Option<Selection>
     ensures { result ≡ selected arms has_else answer }
 {
