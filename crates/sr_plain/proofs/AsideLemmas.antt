@@ -3,7 +3,7 @@ use Rattle.std.proofs.Common.{◌≡◌, ◌≢◌, ◌<◌, ◌⊎◌, inl, inr
 use Rattle.std.specs.BTreeSet.{BTreeSet, contains}
 use Rattle.std.specs.HashMap.{get}
 use Rattle.std.specs.Ordering.{nat_cmp}
-use Rattle.std.specs.Prelude.{Ok, find, option_map, unwrap_or}
+use Rattle.std.specs.Prelude.{Result, Ok, Err, find, option_map, slice_get, unwrap_or}
 use Rattle.sr_ask.specs.declared.answer.Answer.{Answer}
 use Rattle.sr_ask.specs.declared.ask.Ask.{Ask}
 use Rattle.sr_ask.specs.declared.ask.Asks.TheVariants.{Asked}
@@ -11,10 +11,16 @@ use Rattle.sr_ask.specs.declared.request.Request.{Request}
 use Rattle.sr_ask.specs.declared.request.Request.TheVariants as request
 use Rattle.sr_ask.specs.declared.start.Start.{Start}
 use Rattle.sr_core.specs.declared.component.Core.{Core}
+use Rattle.sr_core.specs.declared.component.Operation.{Operation}
 use Rattle.sr_core.specs.declared.owner.Me.{Me}
+use Rattle.sr_core.specs.declared.site.Site.{Site}
 use Rattle.sr_meaning.specs.Processes.{ask}
 use Rattle.sr_processes.specs.Living.{is_process}
 use Rattle.sr_queue.specs.Classes.{same_class}
+use Rattle.sr_select.proofs.MoreLemmas.{reads-more}
+use Rattle.sr_select.specs.Guards.{guard_block, home_seen}
+use Rattle.sr_value.specs.declared.fault.Fault.{Fault}
+use Rattle.sr_value.specs.declared.value.Value.{Value}
 use Rattle.sr_world.proofs.StepLemmas.{same-step}
 use Rattle.sr_world.specs.Acting.{Acts}
 use Rattle.sr_world.specs.Deciding.{can_do}
@@ -30,11 +36,11 @@ use Rattle.sr_plain.specs.Changes.{change_of}
 use Rattle.sr_plain.specs.Noting.{IsSetAside, NotesBy}
 use Rattle.sr_plain.specs.Ready.{AreAside, IsAside, IsNoted, me_at}
 use Rattle.sr_plain.specs.Order.{Ascend}
-use Rattle.sr_plain.specs.Waiting.{IsTakenOut, WaitsFor, is_among, is_ready, waits, wakes}
+use Rattle.sr_plain.specs.Waiting.{IsTakenOut, WaitsAtSite, WaitsFor, at_block, at_operation, is_among, is_ready, same_variable, variable_of, waits, wakes, watching}
 use Rattle.sr_plain.specs.Waking.{WakesUp}
 use Rattle.sr_plain.specs.declared.change.Woken.{Woken}
 use Rattle.sr_plain.specs.declared.waiters.Place.{Place}
-use Rattle.sr_plain.specs.declared.waiters.Place.TheVariants.{Watched, Served}
+use Rattle.sr_plain.specs.declared.waiters.Place.TheVariants.{Watched, Served, Stored}
 use Rattle.sr_plain.specs.declared.waiters.Waiters.{Waiters}
 use Rattle.sr_plain.proofs.ChangeLemmas.{Keeps, KeepsIf, keeps}
 use Rattle.sr_plain.proofs.WakeLemmas.{as-before, still_waits}
@@ -75,12 +81,29 @@ three-off false false true h = absurd (true≢false h)
 three-off false false false h = (refl, refl, refl)
 
 -- who waits at more places waits as before
+module _ (me : Me) (at at' : Place → Bool) (more : (k : Place) → at k ≡ true → at' k ≡ true) where
+  pub block-more : (var : ℕ) (block : Result ℕ Fault) → at_block at var block ≡ true → at_block at' var block ≡ true
+  block-more var (Ok block) here = more (variable_of block var) here
+  block-more var (Err fault) here = refl
+
+  pub operation-more : (op : ℕ) (o : Option Operation) → at_operation at me op o ≡ true → at_operation at' me op o ≡ true
+  operation-more op None here = refl
+  operation-more op (Some operation) here = more _ here
+
+  site-more : (core : Core) (env : List Value) (site : Site) → WaitsAtSite core me at env site → WaitsAtSite core me at' env site
+  site-more core env site (inl here) = inl (more Watched here)
+  site-more core env site (inr waits) = inr (record {
+    arms = λ number arm is. more _ (waits.arms number arm is);
+    names = reads-more (watching core me at site.names env) (watching core me at' site.names env)
+        (λ home var here. block-more var (guard_block me (home_seen site.names env) home) here) (λ op here. operation-more op (slice_get core.operations op) here) site waits.names;
+  })
+
 waits-more : (core : Core) (me : Me) (at at' : Place → Bool) → ((k : Place) → at k ≡ true → at' k ≡ true) → (r : Request) → WaitsFor core me at r → WaitsFor core me at' r
 waits-more core me at at' more (request.Declare block var shape) w = more Watched w
 waits-more core me at at' more (request.Load block var path) w = more Watched w
 waits-more core me at at' more (request.Store block var path value) w = more Watched w
 waits-more core me at at' more (request.Invoke target args wants) w = more Watched w
-waits-more core me at at' more (request.Select site env) w = λ s found number arm is. more _ (w s found number arm is)
+waits-more core me at at' more (request.Select site env) w = λ s found. site-more me at at' more core env s (w s found)
 waits-more core me at at' more (request.Take ids) w = tt
 waits-more core me at at' more (request.Reply held back results) w = more Watched w
 waits-more core me at at' more (request.Forward held back target args) w = more Watched w
@@ -119,6 +142,7 @@ module _ (core : Core) (limit : ℕ) (state : State) where
   same-places : (p q : ℕ) (old new : Waiters) → IsTakenOut p old new → (k : Place) → waits old k q ≡ true → waits new k q ≡ true
   same-places p q old new out Watched here = ap (λ (s : BTreeSet ℕ). contains nat_cmp s q) out.watched ∙ here
   same-places p q old new out (Served class) here = ap (λ places. is_among (get same_class places class) q) out.classes ∙ here
+  same-places p q old new out (Stored variable) here = ap (λ places. is_among (get same_variable places variable) q) out.variables ∙ here
 
   -- one that has ended is taken out
   pub aside_out : (p : ℕ) (old new : Waiters) → started state.world p ≡ None → IsTakenOut p old new → AreAside core limit state old None → AreAside core limit state new None

@@ -29,6 +29,7 @@ use Rattle.sr_value.specs.declared.capability.Cap.TheVariants as cap
 use Rattle.sr_value.specs.declared.capability.Owner.{Owner}
 use Rattle.sr_value.specs.declared.capability.Owner.TheVariants.{Inst, Proc}
 use Rattle.sr_value.specs.declared.fault.Fault.{Fault}
+use Rattle.sr_value.specs.declared.shape.Sel.{Sel}
 use Rattle.sr_value.specs.declared.place.Place.{Place}
 use Rattle.sr_value.specs.declared.value.Value.{Value}
 use Rattle.sr_world.specs.Answering.{answer as answered, answer_held, duty_held}
@@ -45,7 +46,8 @@ use Rattle.sr_world.specs.declared.duty.Duty.{Duty}
 use Rattle.sr_world.specs.Callers.{caller_in}
 use Rattle.sr_plain.specs.Changes.{arrival, call_of, change_by, change_of_call, change_of_end, change_of_reply, chosen_at, goes_at}
 use Rattle.sr_plain.specs.declared.change.Change.{Change}
-use Rattle.sr_plain.specs.declared.change.Change.TheVariants.{Nothing, Watched, Class, Everything}
+use Rattle.sr_plain.specs.declared.change.Change.TheVariants.{Nothing, Watched, Variable, Class, Everything}
+use Rattle.sr_plain.proofs.StoreLemmas.{declared-apart, stored-apart}
 
 -- ---- what a step keeps
 
@@ -64,15 +66,24 @@ module _ (actor caller : ℕ) where
   pub record Waits (old new : World) : Type 0 where
     pub heard : Heard old new
     pub pending : old.pending ≡ new.pending
+    pub variables : old.variables ≡ new.variables
+
+  -- all other variables hold what they held
+  pub record Stores (block var : ℕ) (old new : World) : Type 0 where
+    pub heard : Heard old new
+    pub pending : old.pending ≡ new.pending
+    pub cells : (other_block other : ℕ) → (other_block ≡ block → other ≢ var) → (path : List Sel) → loaded_in old.variables other_block other path ≡ loaded_in new.variables other_block other path
 
   -- of other operations, and of those of others, the same invocations wait
   pub record Apart (owner : Owner) (op : ℕ) (old new : World) : Type 0 where
     pub heard : Heard old new
     pub pending : (other : Owner) (class : ℕ → Bool) → (class op && owner_eq owner other) ≡ false → filter (is_in_class other class) old.pending ≡ filter (is_in_class other class) new.pending
+    pub variables : old.variables ≡ new.variables
 
   abbrev pub Keeps : Change → World → World → Type 0
   Keeps Nothing old new = Still old new
   Keeps Watched old new = Waits old new
+  Keeps (Variable block var) old new = Stores block var old new
   Keeps (Class owner op) old new = Apart owner op old new
   Keeps Everything old new = Unit {0}
 
@@ -97,6 +108,10 @@ module _ (actor caller : ℕ) where
     if-done place (Ok a) next h = h a
     if-done place (Err fault) next h = tt
 
+    if-ok : {A : Type 0} (place : Place) (r : Result A Fault) (next : A → Does) → ((a : A) → r ≡ Ok a → KeepsIf change w (next a)) → KeepsIf change w (done_or place r next)
+    if-ok place (Ok a) next h = h a refl
+    if-ok place (Err fault) next h = tt
+
     either : (b : Bool) (x y : Does) → KeepsIf change w x → KeepsIf change w y → KeepsIf change w (cond b x y)
     either true x y hx hy = hx
     either false x y hx hy = hy
@@ -107,8 +122,8 @@ module _ (actor caller : ℕ) where
   still-same : (w new : World) → w.replies ≡ new.replies → w.moment ≡ new.moment → w.pending ≡ new.pending → w.variables ≡ new.variables → w.places.instances ≡ new.places.instances → Still w new
   still-same w new replies moment pending variables instances = record { heard = heard-same w new replies moment; pending = pending; variables = variables; instances = instances }
 
-  waits-same : (w new : World) → w.replies ≡ new.replies → w.moment ≡ new.moment → w.pending ≡ new.pending → Waits w new
-  waits-same w new replies moment pending = record { heard = heard-same w new replies moment; pending = pending }
+  waits-same : (w new : World) → w.replies ≡ new.replies → w.moment ≡ new.moment → w.pending ≡ new.pending → w.variables ≡ new.variables → Waits w new
+  waits-same w new replies moment pending variables = record { heard = heard-same w new replies moment; pending = pending; variables = variables }
 
   heard-then : (w from new : World) → Heard w from → Heard from new → Heard w new
   heard-then w from new first second = record { replies = λ q a c. first.replies q a c ∙ second.replies q a c; moment = first.moment ∙ second.moment }
@@ -122,10 +137,10 @@ module _ (actor caller : ℕ) where
   }
 
   waits-then : (w from new : World) → Waits w from → Waits from new → Waits w new
-  waits-then w from new first second = record { heard = heard-then w from new first.heard second.heard; pending = first.pending ∙ second.pending }
+  waits-then w from new first second = record { heard = heard-then w from new first.heard second.heard; pending = first.pending ∙ second.pending; variables = first.variables ∙ second.variables }
 
   waiting : (w new : World) → Still w new → Waits w new
-  waiting w new still = record { heard = still.heard; pending = still.pending }
+  waiting w new still = record { heard = still.heard; pending = still.pending; variables = still.variables }
 
   -- ---- replies
 
@@ -161,11 +176,11 @@ module _ (actor caller : ℕ) where
   made_ready-waits instance w = by (state_of w.places instance)
     where
       by : (s : Option InstanceState) → Waits w (ready_from s instance w)
-      by (Some Starting) = waits-same w _ refl refl refl
-      by (Some Ready) = waits-same w w refl refl refl
-      by (Some Closing) = waits-same w w refl refl refl
-      by (Some Gone) = waits-same w w refl refl refl
-      by None = waits-same w w refl refl refl
+      by (Some Starting) = waits-same w _ refl refl refl refl
+      by (Some Ready) = waits-same w w refl refl refl refl
+      by (Some Closing) = waits-same w w refl refl refl refl
+      by (Some Gone) = waits-same w w refl refl refl refl
+      by None = waits-same w w refl refl refl refl
 
   -- ---- invocations
 
@@ -177,6 +192,7 @@ module _ (actor caller : ℕ) where
       pending = λ other class off. ap (filter (is_in_class other class)) same.pending ∙ sym (append-nil (filter (is_in_class other class) from.pending))
           ∙ ap (λ b. filter (is_in_class other class) from.pending ++ cond b (arrives ∷ []) []) (sym off)
           ∙ sym (filter-append (is_in_class other class) from.pending (arrives ∷ []));
+      variables = same.variables;
     }
       where
         there : World
@@ -224,6 +240,7 @@ module _ (core : Core) (w : World) (actor : ℕ) (me : Me) (me_is : me_of w acto
     heard = heard-same actor 0 w there refl refl;
     pending = λ other class off. filter-removed (is_in_class other class) w.pending place p here
         (ap (λ n. class n && owner_eq p.owner other) named.0 ∙ ap (λ o. class served.arm.op && owner_eq o other) (named.1 ∙ ap (λ (m : Me). owner_in s.scope m) me_is) ∙ off);
+    variables = refl;
   })
     where
       served : Services s (me_of w actor) w.pending place arm
@@ -319,8 +336,8 @@ module _ (core : Core) (w : World) (actor : ℕ) where
       by Final (suc n) = tt
 
   found : (caller name global machine : ℕ) (o : Option ℕ) → KeepsIf actor caller (λ a. Watched) w (ensure_found core name global w machine o)
-  found caller name global machine None = waits-same actor caller w _ refl refl refl
-  found caller name global machine (Some instance) = either actor caller (λ a. Watched) w (instance_ready (state_of w.places instance)) _ _ (waits-same actor caller w w refl refl refl) tt
+  found caller name global machine None = waits-same actor caller w _ refl refl refl refl
+  found caller name global machine (Some instance) = either actor caller (λ a. Watched) w (instance_ready (state_of w.places instance)) _ _ (waits-same actor caller w w refl refl refl refl) tt
 
   on-machine : (caller : ℕ) (place : Place) (target : Cap) (next : ℕ → Does) → ((machine : ℕ) → KeepsIf actor caller (λ a. Watched) w (next machine)) → KeepsIf actor caller (λ a. Watched) w (on_machine place target next)
   on-machine caller place cap.Null next h = tt
@@ -331,9 +348,13 @@ module _ (core : Core) (w : World) (actor : ℕ) where
 
   -- what a request changes is what its step doesn't keep
   pub keeps : (me : Me) → me_of w actor ≡ me → me.process ≡ actor → (name : ℕ) (place : Place) (role : Role) (r : Request) → KeepsIf actor (caller_in w actor r) (change_by core me role r) w (done_by core w actor name place role r)
-  keeps me is named name place role (request.Declare block var shape) = if-done actor 0 (λ a. Watched) w place (declared_in w.variables block var shape) _ (λ variables. waits-same actor 0 w _ refl refl refl)
+  keeps me is named name place role (request.Declare block var shape) =
+      if-ok actor 0 (λ a. Variable block var) w place (declared_in w.variables block var shape) _
+      (λ variables same. record { heard = heard-same actor 0 w (record w { variables = variables }) refl refl; pending = refl; cells = declared-apart w.variables variables block var shape same })
   keeps me is named name place role (request.Load block var path) = if-done actor 0 (λ a. Nothing) w place (loaded_in w.variables block var path) _ (λ value. still-same actor 0 w w refl refl refl refl refl)
-  keeps me is named name place role (request.Store block var path value) = if-done actor 0 (λ a. Watched) w place (stored_in w.variables block var path value) _ (λ variables. waits-same actor 0 w _ refl refl refl)
+  keeps me is named name place role (request.Store block var path value) =
+      if-ok actor 0 (λ a. Variable block var) w place (stored_in w.variables block var path value) _
+      (λ variables same. record { heard = heard-same actor 0 w (record w { variables = variables }) refl refl; pending = refl; cells = stored-apart w.variables variables block var path value same })
   keeps me is named name place role (request.Invoke target args wants) = invoked actor 0 w w (still-same actor 0 w w refl refl refl refl refl) core name place target args (duty_for wants actor name) (duty-apart 0 name wants)
   keeps me is named name place role (request.Select site env) = selects core w actor me is env (slice_get core.sites site)
   keeps me is named name place role (request.Take ids) = if-some actor 0 (λ a. Nothing) w (earliest_reply w.replies actor ids) _ (λ reply. taken-still actor 0 ids w)
@@ -350,7 +371,7 @@ module _ (core : Core) (w : World) (actor : ℕ) where
       if-some actor 0 (λ a. Watched) w (slice_get core.components global) _ (λ component. on-machine 0 place vm _ (λ machine. found 0 name global machine (global_in w.places global machine)))
   keeps me is named name place role (request.Create resource args vm) =
       if-some actor 0 (λ a. Watched) w (slice_get core.components resource) _
-      (λ component. on-machine 0 place vm _ (λ machine. either actor 0 (λ a. Watched) w (needs_ready core w resource machine) _ _ (waits-same actor 0 w _ refl refl refl) tt))
+      (λ component. on-machine 0 place vm _ (λ machine. either actor 0 (λ a. Watched) w (needs_ready core w resource machine) _ _ (waits-same actor 0 w _ refl refl refl refl) tt))
   keeps me is named name place role request.MakeVm = still-same actor 0 w _ refl refl refl refl refl
   keeps me is named name place role (request.Destroy target) = any-everything actor 0 w (done_by core w actor name place role (request.Destroy target))
   keeps me is named name place role (request.Finish answered back results) = finished role answered back results

@@ -4,11 +4,8 @@ use Rattle.std.proofs.lemmas.Bool.{cases_eq}
 use Rattle.std.proofs.lemmas.Option.{slice_get-get_or}
 use Rattle.std.specs.Prelude.{find, slice_get}
 use Rattle.sr_ask.specs.declared.start.Start.{Start}
-use Rattle.sr_core.specs.declared.site.Arm.{Arm}
 use Rattle.sr_processes.specs.Living.{is_process}
-use Rattle.sr_value.specs.declared.capability.Owner.{Owner}
-use Rattle.sr_plain.specs.Waiting.{WaitsThere, is_ready, place_of, waits}
-use Rattle.sr_plain.specs.declared.waiters.Place.{Place}
+use Rattle.sr_plain.specs.Waiting.{is_ready}
 use Rattle.sr_plain.specs.declared.waiters.Waiters.{Waiters}
 use Rattle.sr_plain.proofs.AsideLemmas.{find-number}
 
@@ -23,17 +20,17 @@ find-place (x ∷ xs) q s is = by (q == x.process) is (find-place xs q s)
 
 -- ---- one more that waits, and one more that is ready
 
-pub at-more : (process : ℕ) (owner : Owner) (arms : List Arm) (i : ℕ) (key : Place) (arm : Arm) (mid new : Waiters) → slice_get arms i ≡ Some arm → key ≡ place_of owner arm → WaitsThere key process mid new
-    → ((number : ℕ) (a : Arm) → slice_get arms number ≡ Some a → number < i → waits mid (place_of owner a) process ≡ true)
-    → (number : ℕ) (a : Arm) → slice_get arms number ≡ Some a → number < i + 1 → waits new (place_of owner a) process ≡ true
-at-more process owner arms i key arm mid new here key_is there before number a is below = by (cases_eq number i)
+pub one-more : {X : Type 0} (old new : X → Bool) (xs : List X) (i : ℕ) (x : X) → slice_get xs i ≡ Some x → ((y : X) → old y ≡ true → new y ≡ true) → new x ≡ true
+    → ((number : ℕ) (y : X) → slice_get xs number ≡ Some y → number < i → old y ≡ true)
+    → (number : ℕ) (y : X) → slice_get xs number ≡ Some y → number < i + 1 → new y ≡ true
+one-more old new xs i x here stay itself before number y is below = by (cases_eq number i)
   where
-    by : (number ≡ i) ⊎ (number ≡ i → ⊥) → waits new (place_of owner a) process ≡ true
+    by : (number ≡ i) ⊎ (number ≡ i → ⊥) → new y ≡ true
     by (inl same) =
-        let found : slice_get arms i ≡ Some a = subst (λ n. slice_get arms n ≡ Some a) same is in
-        let one : arm ≡ a = cc in
-        subst (λ k. waits new k process ≡ true) (key_is ∙ ap (place_of owner) one) there.itself
-    by (inr apart) = there.others (place_of owner a) process (before number a is (omega arith))
+        let found : slice_get xs i ≡ Some y = subst (λ n. slice_get xs n ≡ Some y) same is in
+        let one : x ≡ y = cc in
+        subst (λ z. new z ≡ true) one itself
+    by (inr apart) = stay y (before number y is (omega arith))
 
 -- where each place was passed, all who live are ready
 pub ready-all : (live : List Start) (i : ℕ) (new : Waiters) → length live ≤ i → ((k : ℕ) (s : Start) → slice_get live k ≡ Some s → k < i → is_ready new s.process ≡ false → ⊥)
@@ -54,7 +51,7 @@ within-row [] (suc k) x is = absurd (cc)
 within-row (y ∷ ys) zero x is = omega arith
 within-row (y ∷ ys) (suc k) x is = let more = within-row ys k x is in omega arith
 
-pub waits-all : (process : ℕ) (owner : Owner) (xs arms : List Arm) (count : ℕ) (waiters : Waiters) → xs ≡ arms → length xs ≤ count → count ≤ length xs
-    → ((number : ℕ) (a : Arm) → slice_get arms number ≡ Some a → number < count → waits waiters (place_of owner a) process ≡ true)
-    → (number : ℕ) (a : Arm) → slice_get arms number ≡ Some a → waits waiters (place_of owner a) process ≡ true
-waits-all process owner xs arms count waiters same low high each number a is = let within = within-row arms number a is in each number a is (omega (arith, ap (λ ys. length ys) same))
+pub each-passed : {X : Type 0} (test : X → Bool) (xs ys : List X) (count : ℕ) → xs ≡ ys → length xs ≤ count → count ≤ length xs
+    → ((number : ℕ) (y : X) → slice_get ys number ≡ Some y → number < count → test y ≡ true)
+    → (number : ℕ) (y : X) → slice_get ys number ≡ Some y → test y ≡ true
+each-passed test xs ys count same low high each number y is = let within = within-row ys number y is in each number y is (omega (arith, ap (λ zs. length zs) same))

@@ -7,11 +7,13 @@ pub mod EngineLemmas
 pub mod JoinLemmas
 pub mod LeaveLemmas
 pub mod LedLemmas
+pub mod ListedLemmas
 pub mod MemberLemmas
 pub mod NextLemmas
 pub mod OrderLemmas
 pub mod RestLemmas
 pub mod RotationLemmas
+pub mod StoreLemmas
 pub mod TurnLemmas
 pub mod WaitLemmas
 pub mod WakeLemmas

@@ -1,6 +1,8 @@
 -- A process that waits for what a step keeps still cannot go on after it.
-use Rattle.std.proofs.Common.{◌≡◌, ◌≢◌, ℕ, suc, ◌==◌, ◌&&◌, ◌||◌, not, Bool, true, false, cond, List, [], ◌∷◌, Option, None, Some, is_some, refl, ap, sym, ◌∙◌, subst, eq-eqb, eqb-true, true≢false}
-use Rattle.std.specs.Prelude.{filter, find, is_none, nat_lt, option_map, slice_get, unwrap_or}
+use Rattle.std.proofs.Common.{◌≡◌, ◌≢◌, inl, inr, ℕ, suc, ◌==◌, ◌&&◌, ◌||◌, not, Bool, true, false, List, [], ◌∷◌, length, Option, None, Some, Ok, is_some, refl, ap, sym, ◌∙◌, subst, eq-eqb, eqb-true, true≢false}
+use Rattle.std.proofs.lemmas.List.Sums.{length-filter}
+use Rattle.std.specs.Cmp.{nat_eq_equiv}
+use Rattle.std.specs.Prelude.{filter, find, nat_lt, option_map, slice_get, unwrap_or}
 use Rattle.std.specs.List.{list_all}
 use Rattle.sr_ask.specs.declared.ask.Ask.{Ask}
 use Rattle.sr_ask.specs.declared.ask.Role.{Role}
@@ -10,23 +12,26 @@ use Rattle.sr_ask.specs.declared.start.Start.{Start}
 use Rattle.sr_calls.specs.Calls.{answers_one}
 use Rattle.sr_core.specs.declared.component.Core.{Core}
 use Rattle.sr_core.specs.declared.component.Operation.{Operation}
-use Rattle.sr_core.specs.declared.expression.Expr.{Expr}
+use Rattle.sr_core.specs.declared.owner.Home.{Home}
 use Rattle.sr_core.specs.declared.owner.Me.{Me}
 use Rattle.sr_core.specs.declared.site.Arm.{Arm}
 use Rattle.sr_core.specs.declared.site.Site.{Site}
 use Rattle.sr_core.specs.declared.statement.Scope.{Scope}
 use Rattle.sr_core.specs.declared.statement.Scope.TheVariants.{Own, Shared}
-use Rattle.sr_queue.specs.Queues.{waiting}
+use Rattle.sr_queue.specs.Queues.{is_of, waiting}
+use Rattle.sr_queue.specs.declared.pending.Pending.{Pending}
 use Rattle.sr_select.specs.Choices.{choice, owner_in}
-use Rattle.sr_select.specs.Laws.{is_in_class, is_plain}
-use Rattle.sr_select.specs.Worlds.{Watched as Watching, arm_names_only, maybe_names_only, reads_only}
+use Rattle.sr_select.specs.Guards.{guard_block, home_seen}
+use Rattle.sr_select.specs.Laws.{is_in_class}
+use Rattle.sr_select.specs.Worlds.{Watched as Watching}
 use Rattle.sr_select.specs.declared.choice.Choice.{Choice}
 use Rattle.sr_select.specs.declared.choice.Choice.TheVariants as chosen
 use Rattle.sr_store.specs.Variables.{loaded_in}
 use Rattle.sr_value.specs.Operators.{owner_eq}
 use Rattle.sr_value.specs.declared.capability.Owner.{Owner}
-use Rattle.sr_value.specs.declared.capability.Owner.TheVariants.{Inst, Proc}
+use Rattle.sr_value.specs.declared.capability.Owner.TheVariants.{Inst}
 use Rattle.sr_value.specs.declared.place.Place.{Place}
+use Rattle.sr_value.specs.declared.shape.Sel.{Sel}
 use Rattle.sr_value.specs.declared.value.Value.{Value}
 use Rattle.sr_world.proofs.ReadyLemmas.{can_is}
 use Rattle.sr_world.proofs.WakingLemmas.{still_not}
@@ -38,9 +43,9 @@ use Rattle.sr_world.specs.Steps.{done_by}
 use Rattle.sr_world.specs.Waking.{SameFor, SameForSite}
 use Rattle.sr_world.specs.Worlds.{World, started}
 use Rattle.sr_plain.specs.Ready.{me_at}
-use Rattle.sr_plain.specs.Waiting.{WaitsAtSite, WaitsFor, key_of, place_of, wakes}
+use Rattle.sr_plain.specs.Waiting.{WaitsAtSite, WaitsFor, WaitsForAll, at_block, at_operation, key_of, variable_of, wakes, watching}
 use Rattle.sr_plain.specs.declared.change.Change.{Change}
-use Rattle.sr_plain.specs.declared.change.Change.TheVariants.{Nothing, Watched, Class, Everything}
+use Rattle.sr_plain.specs.declared.change.Change.TheVariants.{Nothing, Watched, Variable, Class, Everything}
 use Rattle.sr_plain.specs.declared.waiters.Place.{Place as Spot}
 use Rattle.sr_plain.specs.declared.waiters.Place.TheVariants as places
 use Rattle.sr_plain.proofs.ChangeLemmas.{Heard, Keeps, Still, same-owner}
@@ -67,53 +72,49 @@ pub all-from : {X : Type 0} (test : X → Bool) (xs : List X) → ((k : ℕ) (x 
 all-from test [] each = refl
 all-from test (x ∷ xs) each = ap (λ b. b && list_all test xs) (each 0 x refl) ∙ all-from test xs (λ k y is. each (suc k) y is)
 
--- nothing of a world
-unwatched : Watching
-unwatched = record { variable = λ home var. false; operation = λ op. false }
+both-off : (a b : Bool) → (a || b) ≡ false → (a ≡ false) × (b ≡ false)
+both-off true b h = absurd (true≢false h)
+both-off false b h = (refl, h)
 
-module _ (at : Spot → Bool) (none : at places.Watched ≡ false) (owner : Owner) (site : Site) (waits : WaitsAtSite at owner site) where
-  plain-arm : (arm : Arm) → at (place_of owner arm) ≡ true → (is_plain arm ≡ true) × (at (key_of owner arm.op) ≡ true)
-  plain-arm arm here = by (is_plain arm) refl here
+-- all operations but one, where that one is of this owner
+without : Owner → Owner → ℕ → ℕ → Bool
+without owner whose op n = not (n == op && owner_eq whose owner)
+
+apart-class : (owner whose : Owner) (op : ℕ) → (without owner whose op op && owner_eq whose owner) ≡ false
+unfolding without
+apart-class owner whose op = by (owner_eq whose owner)
+  where
+    other : (a : Bool) → (a && false) ≡ false
+    other true = refl
+    other false = refl
+
+    by : (b : Bool) → (not (op == op && b) && b) ≡ false
+    by true = ap (λ a. not (a && true) && true) (eq-eqb op op refl)
+    by false = other (not (op == op && false))
+
+-- where a process waits for an operation, and not for another, the two are apart
+module _ (at : Spot → Bool) (whose : Owner) (op : ℕ) (off : at (key_of whose op) ≡ false) where
+  apart-keys : (owner : Owner) (other : ℕ) → at (key_of owner other) ≡ true → (other == op && owner_eq whose owner) ≡ false
+  apart-keys owner other here = by (other == op) refl (owner_eq whose owner) refl
     where
-      by : (b : Bool) → is_plain arm ≡ b → at (cond b (key_of owner arm.op) places.Watched) ≡ true → (is_plain arm ≡ true) × (at (key_of owner arm.op) ≡ true)
-      by true is h = (is, h)
-      by false is h = absurd (true≢false (sym h ∙ none))
-
-  plain-reads : (g b : Option Expr) → (is_none g && is_none b) ≡ true → (maybe_names_only unwatched g && maybe_names_only unwatched b) ≡ true
-  plain-reads None None is = refl
-  plain-reads None (Some b) is = absurd (true≢false (sym is))
-  plain-reads (Some g) b is = absurd (true≢false (sym is))
-
-  reads-nothing : reads_only unwatched site ≡ true
-  reads-nothing = all-from (arm_names_only unwatched) site.arms (λ k arm is. plain-reads arm.guard arm.by (plain-arm arm (waits k arm is)).0)
-
-  -- a class without an operation that nobody is woken at has the operations of the statement
-  without : Owner → ℕ → ℕ → Bool
-  without whose op n = not (n == op && owner_eq whose owner)
-
-  has-operations : (whose : Owner) (op : ℕ) → at (key_of whose op) ≡ false → list_all (λ arm. without whose op arm.op) site.arms ≡ true
-  unfolding without
-  has-operations whose op off = all-from (λ (arm : Arm). without whose op arm.op) site.arms (λ k arm is. by arm (plain-arm arm (waits k arm is)).1 (arm.op == op) refl (owner_eq whose owner) refl)
-    where
-      by : (arm : Arm) → at (key_of owner arm.op) ≡ true → (a : Bool) → (arm.op == op) ≡ a → (b : Bool) → owner_eq whose owner ≡ b → not (a && b) ≡ true
-      by arm here false is b is' = refl
-      by arm here true is false is' = refl
-      by arm here true is true is' =
-          let op-is : arm.op ≡ op = eqb-true arm.op op is in
+      by : (a : Bool) → (other == op) ≡ a → (b : Bool) → owner_eq whose owner ≡ b → (a && b) ≡ false
+      by false is b is' = refl
+      by true is false is' = refl
+      by true is true is' =
+          let op-is : other ≡ op = eqb-true other op is in
           let owner-is : whose ≡ owner = same-owner whose owner is' in
           absurd (true≢false (sym here ∙ ap (λ n. at (key_of owner n)) op-is ∙ ap (λ o. at (key_of o op)) (sym owner-is) ∙ off))
 
-  apart-class : (whose : Owner) (op : ℕ) → (without whose op op && owner_eq whose owner) ≡ false
+  -- a class without an operation that nobody is woken at has the operations of the statement
+  has-operations : (core : Core) (me : Me) (env : List Value) (site : Site) → WaitsForAll core me at env site
+      → list_all (λ (arm : Arm). without (owner_in site.scope me) whose op arm.op) site.arms ≡ true
   unfolding without
-  apart-class whose op = by (owner_eq whose owner)
-    where
-      other : (a : Bool) → (a && false) ≡ false
-      other true = refl
-      other false = refl
+  has-operations core me env site waits =
+      all-from (λ (arm : Arm). without (owner_in site.scope me) whose op arm.op) site.arms (λ k arm is. ap not (apart-keys (owner_in site.scope me) arm.op (waits.arms k arm is)))
 
-      by : (b : Bool) → (not (op == op && b) && b) ≡ false
-      by true = ap (λ a. not (a && true) && true) (eq-eqb op op refl)
-      by false = other (not (op == op && false))
+-- how many wait follows from which do
+counted-class : (owner : Owner) (op : ℕ) (old new : List Pending) → filter (is_in_class owner (λ n. n == op)) old ≡ filter (is_in_class owner (λ n. n == op)) new → waiting owner op old ≡ waiting owner op new
+counted-class owner op old new same = sym (length-filter (is_of owner op) old) ∙ ap length same ∙ length-filter (is_of owner op) new
 
 -- ---- one process
 
@@ -125,22 +126,29 @@ module _ (core : Core) (old new : World) (q : Start) (was : started old q.proces
   unfolding as-me
   me-old = ap as-me was
 
-  me-same : me_of old q.process ≡ me_of new q.process
+  me-new : me_of new q.process ≡ me_at q
   unfolding as-me
-  me-same = ap as-me (was ∙ sym is)
+  me-new = ap as-me is
+
+  me-same : me_of old q.process ≡ me_of new q.process
+  me-same = me-old ∙ sym me-new
+
+  -- whose operations of a scope are
+  owner-at : (w : World) → me_of w q.process ≡ me_at q → (s : Scope) → owner_for w q.process s ≡ owner_in s (me_at q)
+  owner-at w same Shared = ap (λ (m : Me). Inst m.instance) same
+  owner-at w same Own = refl
+
+  count-by : (op : ℕ) (s : Scope) → waiting (owner_in s (me_at q)) op old.pending ≡ waiting (owner_in s (me_at q)) op new.pending → waiting (owner_for old q.process s) op old.pending ≡ waiting (owner_for new q.process s) op new.pending
+  count-by op s same = ap (λ o. waiting o op old.pending) (owner-at old me-old s) ∙ same ∙ ap (λ o. waiting o op new.pending) (sym (owner-at new me-new s))
+
+  counted : old.pending ≡ new.pending → (op : ℕ) (o : Option Operation) → waiting_for old q.process op o ≡ waiting_for new q.process op o
+  counted pending op None = refl
+  counted pending op (Some operation) = count-by op operation.scope (ap (waiting (owner_in operation.scope (me_at q)) op) pending)
 
   -- a world that is the same in what choices read
   module _ (pending : old.pending ≡ new.pending) (variables : old.variables ≡ new.variables) where
-    counted : (op : ℕ) (o : Option Operation) → waiting_for old q.process op o ≡ waiting_for new q.process op o
-    counted op None = refl
-    counted op (Some operation) = by operation.scope
-      where
-        by : (s : Scope) → waiting (owner_for old q.process s) op old.pending ≡ waiting (owner_for new q.process s) op new.pending
-        by Shared = λ i. waiting (Inst (me-same i).instance) op (pending i)
-        by Own = ap (λ ps. waiting (Proc q.process) op ps) pending
-
     reading : reading_of core old q.process ≡ reading_of core new q.process
-    reading = λ i. record { load = loaded_in (variables i); count = λ op. counted op (slice_get core.operations op) i; names = core.names }
+    reading = λ i. record { load = loaded_in (variables i); count = λ op. counted pending op (slice_get core.operations op) i; names = core.names }
 
     same-choice : (site : Site) (env : List Value) → choice_of core old q.process env site ≡ choice_of core new q.process env site
     same-choice site env = λ i. choice (reading i) site (me-same i) env (pending i)
@@ -182,7 +190,11 @@ module _ (core : Core) (old new : World) (q : Start) (was : started old q.proces
     still-can still request.Age = refl
     still-can still (request.Wake until) = ap (λ moment. not (nat_lt moment until)) still.heard.moment
 
-    module _ (at : Spot → Bool) (none : at places.Watched ≡ false) (heard : Heard a c old new) (sites : (env : List Value) (site : Site) → WaitsAtSite at (owner_in site.scope (me_at q)) site → SameForSite core q.process env site old new) where
+    module _ (at : Spot → Bool) (none : at places.Watched ≡ false) (heard : Heard a c old new) (sites : (env : List Value) (site : Site) → WaitsForAll core (me_at q) at env site → SameForSite core q.process env site old new) where
+      always : (env : List Value) (site : Site) → WaitsAtSite core (me_at q) at env site → SameForSite core q.process env site old new
+      always env site (inl here) = absurd (true≢false (sym here ∙ none))
+      always env site (inr waits) = sites env site waits
+
       never : {P : Type 0} → at places.Watched ≡ true → P
       never here = absurd (true≢false (sym here ∙ none))
 
@@ -191,7 +203,7 @@ module _ (core : Core) (old new : World) (q : Start) (was : started old q.proces
       same-for (request.Load block var path) waits = tt
       same-for (request.Store block var path value) waits = tt
       same-for (request.Invoke target args wants) waits = tt
-      same-for (request.Select number env) waits = λ site found. sites env site (waits site found)
+      same-for (request.Select number env) waits = λ site found. always env site (waits site found)
       same-for (request.Take ids) waits = heard.replies q.process not_a not_c
       same-for (request.Reply held back results) waits = tt
       same-for (request.Forward held back target args) waits = tt
@@ -208,50 +220,85 @@ module _ (core : Core) (old new : World) (q : Start) (was : started old q.proces
       same-for request.Age waits = tt
       same-for (request.Wake until) waits = heard.moment
 
-    module _ (at : Spot → Bool) (none : at places.Watched ≡ false) where
-      owner-is : (site : Site) → owner_in site.scope (me_of old q.process) ≡ owner_in site.scope (me_at q)
-      owner-is site = ap (owner_in site.scope) me-old
+    module _ (at : Spot → Bool) (env : List Value) (site : Site) (waits : WaitsForAll core (me_at q) at env site) where
+      watched : Watching
+      watched = watching core (me_at q) at site.names env
 
-      site-by : (env : List Value) (site : Site) → WaitsAtSite at (owner_in site.scope (me_at q)) site → (class : ℕ → Bool) → list_all (λ (arm : Arm). class arm.op) site.arms ≡ true
-          → filter (is_in_class (owner_in site.scope (me_at q)) class) old.pending ≡ filter (is_in_class (owner_in site.scope (me_at q)) class) new.pending → SameForSite core q.process env site old new
-      unfolding unwatched
-      site-by env site waits class has same = record {
+      owner : Owner
+      owner = owner_in site.scope (me_at q)
+
+      owner-is : owner_in site.scope (me_of old q.process) ≡ owner
+      unfolding owner
+      owner-is = ap (owner_in site.scope) me-old
+
+      site-by : (class : ℕ → Bool) → list_all (λ (arm : Arm). class arm.op) site.arms ≡ true → filter (is_in_class owner class) old.pending ≡ filter (is_in_class owner class) new.pending
+          → ((home : Home) (var block : ℕ) (path : List Sel) → at_block at var (guard_block (me_at q) (home_seen site.names env) home) ≡ true → guard_block (me_at q) (home_seen site.names env) home ≡ Ok block
+          → loaded_in old.variables block var path ≡ loaded_in new.variables block var path)
+          → ((op : ℕ) (o : Option Operation) → at_operation at (me_at q) op o ≡ true → waiting_for old q.process op o ≡ waiting_for new q.process op o)
+          → SameForSite core q.process env site old new
+      unfolding watched
+      site-by class has same cells counts = record {
         process = me-same;
         class = class;
         has_operations = has;
-        invocations = subst (λ o. filter (is_in_class o class) old.pending ≡ filter (is_in_class o class) new.pending) (sym (owner-is site)) same;
-        watched = unwatched;
-        has_names = reads-nothing at none (owner_in site.scope (me_at q)) site waits;
+        invocations = subst (λ o. filter (is_in_class o class) old.pending ≡ filter (is_in_class o class) new.pending) (sym owner-is) same;
+        watched = watched;
+        has_names = waits.names;
         guards = record {
-          cells = λ home var block path watched seen. absurd (true≢false (sym watched));
-          counts = λ op watched. absurd (true≢false (sym watched));
+          cells = λ home var block path here seen. cells home var block path here (ap (λ m. guard_block m (home_seen site.names env) home) (sym me-old) ∙ seen);
+          counts = λ op here. counts op (slice_get core.operations op) here;
           literals = refl;
         };
       }
 
       -- where no invocation comes or goes
-      site-kept : old.pending ≡ new.pending → (env : List Value) (site : Site) → WaitsAtSite at (owner_in site.scope (me_at q)) site → SameForSite core q.process env site old new
-      site-kept same env site waits =
-          site-by env site waits (λ n. true) (all-from (λ arm. true) site.arms (λ k arm found. refl)) (ap (filter (is_in_class (owner_in site.scope (me_at q)) (λ n. true))) same)
+      site-kept : old.pending ≡ new.pending
+          → ((home : Home) (var block : ℕ) (path : List Sel) → at_block at var (guard_block (me_at q) (home_seen site.names env) home) ≡ true → guard_block (me_at q) (home_seen site.names env) home ≡ Ok block
+          → loaded_in old.variables block var path ≡ loaded_in new.variables block var path)
+          → SameForSite core q.process env site old new
+      site-kept same cells =
+          site-by (λ n. true) (all-from (λ arm. true) site.arms (λ k arm found. refl)) (ap (filter (is_in_class owner (λ n. true))) same) cells (λ op o here. counted same op o)
+
+      -- nor a variable changes
+      site-still : old.pending ≡ new.pending → old.variables ≡ new.variables → SameForSite core q.process env site old new
+      site-still same variables = site-kept same (λ home var block path here seen. ap (λ vs. loaded_in vs block var path) variables)
+
+      -- where one variable changes that the process doesn't wait for
+      site-stored : (block var : ℕ) → at (variable_of block var) ≡ false → old.pending ≡ new.pending
+          → ((other_block other : ℕ) → (other_block ≡ block → other ≢ var) → (path : List Sel) → loaded_in old.variables other_block other path ≡ loaded_in new.variables other_block other path)
+          → SameForSite core q.process env site old new
+      site-stored block var off same others =
+          site-kept same (λ home other other_block path here seen. others other_block other (apart other_block other (subst (λ r. at_block at other r ≡ true) seen here)) path)
+        where
+          apart : (other_block other : ℕ) → at (variable_of other_block other) ≡ true → other_block ≡ block → other ≢ var
+          apart other_block other here same_block same_var = true≢false (sym here ∙ ap (λ n. at (variable_of n other)) same_block ∙ ap (λ n. at (variable_of block n)) same_var ∙ off)
 
       -- where those of one operation come or go
       site-apart : (whose : Owner) (op : ℕ) → at (key_of whose op) ≡ false
           → ((other : Owner) (class : ℕ → Bool) → (class op && owner_eq whose other) ≡ false → filter (is_in_class other class) old.pending ≡ filter (is_in_class other class) new.pending)
-          → (env : List Value) (site : Site) → WaitsAtSite at (owner_in site.scope (me_at q)) site → SameForSite core q.process env site old new
-      site-apart whose op off same env site waits =
-          let owner : Owner = owner_in site.scope (me_at q) in
-          site-by env site waits (without at none owner site waits whose op) (has-operations at none owner site waits whose op off)
-          (same owner (without at none owner site waits whose op) (apart-class at none owner site waits whose op))
+          → old.variables ≡ new.variables → SameForSite core q.process env site old new
+      unfolding owner
+      site-apart whose op off same variables =
+          site-by (without owner whose op) (has-operations at whose op off core (me_at q) env site waits) (same owner (without owner whose op) (apart-class owner whose op))
+          (λ home var block path here seen. ap (λ vs. loaded_in vs block var path) variables) counts
+        where
+          counts : (other : ℕ) (o : Option Operation) → at_operation at (me_at q) other o ≡ true → waiting_for old q.process other o ≡ waiting_for new q.process other o
+          counts other None here = refl
+          counts other (Some operation) here =
+              let counted_of : Owner = owner_in operation.scope (me_at q) in
+              count-by other operation.scope
+              (counted-class counted_of other old.pending new.pending (same counted_of (λ n. n == other) (ap (λ b. b && owner_eq whose counted_of) (nat_eq_equiv.symm op other) ∙ apart-keys at whose op off counted_of other here)))
 
     -- who isn't woken still cannot
     pub still_waits : (change : Change) (at : Spot → Bool) → wakes change at ≡ false → Keeps a c change old new → (ask : Ask) → WaitsFor core (me_at q) at ask.request
         → comes_to (done_by core old q.process 0 ask.place ask.role ask.request) ≡ IsNot → comes_to (done_by core new q.process 0 ask.place ask.role ask.request) ≡ IsNot
     still_waits Nothing at off keeps ask waits cannot = as-before core old new q.process ask.place ask.role ask.request (still-can keeps ask.request) cannot
-    still_waits Watched at off keeps ask waits cannot = still_not core old new q.process ask 0 0 (same-for at off keeps.heard (site-kept at off keeps.pending) ask.request waits) cannot
-    still_waits (Class owner op) at off keeps ask waits cannot = by (at places.Watched) refl (at (key_of owner op)) refl off
-      where
-        by : (x : Bool) → at places.Watched ≡ x → (y : Bool) → at (key_of owner op) ≡ y → (x || y) ≡ false → comes_to (done_by core new q.process 0 ask.place ask.role ask.request) ≡ IsNot
-        by true is-x y is-y h = absurd (true≢false h)
-        by false none true is-y h = absurd (true≢false h)
-        by false none false apart h = still_not core old new q.process ask 0 0 (same-for at none keeps.heard (site-apart at none owner op apart keeps.pending) ask.request waits) cannot
+    still_waits Watched at off keeps ask waits cannot =
+        still_not core old new q.process ask 0 0 (same-for at off keeps.heard (λ env site all. site-still at env site all keeps.pending keeps.variables) ask.request waits) cannot
+    still_waits (Variable block var) at off keeps ask waits cannot =
+        let apart = both-off (at places.Watched) (at (variable_of block var)) off in
+        still_not core old new q.process ask 0 0 (same-for at apart.0 keeps.heard (λ env site all. site-stored at env site all block var apart.1 keeps.pending keeps.cells) ask.request waits) cannot
+    still_waits (Class owner op) at off keeps ask waits cannot =
+        let apart = both-off (at places.Watched) (at (key_of owner op)) off in
+        still_not core old new q.process ask 0 0 (same-for at apart.0 keeps.heard (λ env site all. site-apart at env site all owner op apart.1 keeps.pending keeps.variables) ask.request waits) cannot
     still_waits Everything at off keeps ask waits cannot = absurd (true≢false off)

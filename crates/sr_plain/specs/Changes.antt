@@ -18,7 +18,7 @@ use Rattle.sr_value.specs.declared.capability.Cap.{Cap}
 use Rattle.sr_value.specs.declared.capability.Cap.TheVariants as cap
 use Rattle.sr_value.specs.declared.capability.Owner.{Owner}
 use Rattle.sr_plain.specs.declared.change.Change.{Change}
-use Rattle.sr_plain.specs.declared.change.Change.TheVariants.{Nothing, Watched, Class, Everything}
+use Rattle.sr_plain.specs.declared.change.Change.TheVariants.{Nothing, Watched, Variable, Class, Everything}
 
 abbrev pub owner_at : Scope → Me → Owner
 owner_at scope me = owner_in scope me
@@ -64,8 +64,8 @@ change_of_end Final (suc caller) = Everything
 change_of_end role back = Nothing
 
 abbrev pub change_by : Core → Me → Role → Request → Answer → Change
-change_by core me role (request.Declare block var shape) answer = Watched
-change_by core me role (request.Store block var path value) answer = Watched
+change_by core me role (request.Declare block var shape) answer = Variable block var
+change_by core me role (request.Store block var path value) answer = Variable block var
 change_by core me role (request.EnsureGlobal global vm) answer = Watched
 change_by core me role (request.Create resource args vm) answer = Watched
 change_by core me role (request.Invoke target args wants) answer = change_of_call core target

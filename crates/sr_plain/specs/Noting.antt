@@ -1,24 +1,59 @@
 -- What is noted of a request that the machine has carried out.
-use Rattle.std.specs.Prelude.{◌≡◌, ◌<◌, ℕ, true, Option, Some, None}
+use Rattle.std.specs.Prelude.{◌≡◌, ◌<◌, ℕ, true, List, Option, Some, None, Result, slice_get}
 use Rattle.std.specs.BTreeSet.{btree_set_len}
 use Rattle.sr_ask.specs.declared.ask.Ask.{Ask}
 use Rattle.sr_core.specs.declared.component.Core.{Core}
 use Rattle.sr_core.specs.declared.owner.Me.{Me}
+use Rattle.sr_core.specs.declared.site.Arm.{Arm}
+use Rattle.sr_core.specs.declared.site.SharedRead.{SharedRead}
 use Rattle.sr_core.specs.declared.site.Site.{Site}
+use Rattle.sr_select.specs.Guards.{guard_block, home_seen}
+use Rattle.sr_value.specs.declared.fault.Fault.{Fault}
+use Rattle.sr_value.specs.declared.value.Value.{Value}
 use Rattle.sr_world.specs.declared.acted.Acted.{Acted}
 use Rattle.sr_world.specs.declared.acted.Acted.TheVariants.{Done, Cannot}
 use Rattle.sr_plain.specs.Changes.{change_of, owner_at}
-use Rattle.sr_plain.specs.Waiting.{IsTakenOut, IsWaiting, WaitsAtSite, is_ready, waits}
+use Rattle.sr_plain.specs.Waiting.{IsTakenOut, IsWaiting, WaitsAtSite, at_block, at_operation, is_ready, key_of, waits}
 use Rattle.sr_plain.specs.declared.carrying.Carried.{Carried}
 use Rattle.sr_plain.specs.declared.change.Woken.{Woken}
 use Rattle.sr_plain.specs.declared.waiters.Place.{Place}
 use Rattle.sr_plain.specs.declared.waiters.Waiters.{Waiters}
 
--- a process waits at each arm of a statement
-pub record WaitsAt (me : Me) (site : Site) (old new : Waiters) : Type 0 where
+-- whoever waited waits, and nobody more is ready
+pub record StillWait (old new : Waiters) : Type 0 where
   pub ready : new.ready ≡ old.ready
-  pub itself : WaitsAtSite (λ key. waits new key me.process) (owner_at site.scope me) site
   pub others : (k : Place) (other : ℕ) → waits old k other ≡ true → waits new k other ≡ true
+
+-- a process waits at each arm of a statement
+pub record WaitsAtArms (me : Me) (site : Site) (old new : Waiters) : Type 0 where
+  pub still : StillWait old new
+  pub itself : (number : ℕ) (arm : Arm) → slice_get site.arms number ≡ Some arm → waits new (key_of (owner_at site.scope me) arm.op) me.process ≡ true
+
+-- a process waits for a variable of this block
+pub record WaitsForRead (me : Me) (var : ℕ) (block : Result ℕ Fault) (old new : Waiters) : Type 0 where
+  pub still : StillWait old new
+  pub itself : at_block (λ key. waits new key me.process) var block ≡ true
+
+-- a process waits for each variable that a statement lists
+pub record WaitsForReads (me : Me) (env : List Value) (site : Site) (old new : Waiters) : Type 0 where
+  pub still : StillWait old new
+  pub itself : (number : ℕ) (read : SharedRead) → slice_get site.reads number ≡ Some read
+      → at_block (λ key. waits new key me.process) read.var (guard_block me (home_seen site.names env) read.home) ≡ true
+
+-- a process waits for invocations of an operation that it counts
+pub record WaitsForCount (core : Core) (me : Me) (op : ℕ) (old new : Waiters) : Type 0 where
+  pub still : StillWait old new
+  pub itself : at_operation (λ key. waits new key me.process) me op (slice_get core.operations op) ≡ true
+
+-- a process waits for each operation that a statement lists as counted
+pub record WaitsForCounts (core : Core) (me : Me) (site : Site) (old new : Waiters) : Type 0 where
+  pub still : StillWait old new
+  pub itself : (number op : ℕ) → slice_get site.counts number ≡ Some op → at_operation (λ key. waits new key me.process) me op (slice_get core.operations op) ≡ true
+
+-- a process waits for what lets a statement go on
+pub record WaitsAt (core : Core) (me : Me) (env : List Value) (site : Site) (old new : Waiters) : Type 0 where
+  pub still : StillWait old new
+  pub itself : WaitsAtSite core me (λ key. waits new key me.process) env site
 
 -- a process waits, and isn't asked any more
 pub record IsSetAside (core : Core) (me : Me) (ask : Ask) (old new : Waiters) : Type 0 where

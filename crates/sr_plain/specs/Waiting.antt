@@ -1,21 +1,27 @@
 -- Who is asked in turn, and where the others wait.
-use Rattle.std.specs.Prelude.{◌≡◌, ◌<◌, ◌≤◌, ◌==◌, ◌||◌, ℕ, Bool, true, false, Option, Some, None, slice_get, if◌then◌else◌}
+use Rattle.std.specs.Prelude.{◌≡◌, ◌<◌, ◌≤◌, ◌==◌, ◌&&◌, ◌||◌, ◌⊎◌, ℕ, Bool, true, false, List, Option, Some, None, Result, Ok, Err, slice_get}
 use Rattle.std.specs.BTreeSet.{BTreeSet, contains}
 use Rattle.std.specs.HashMap.{get}
 use Rattle.std.specs.Ordering.{nat_cmp}
 use Rattle.sr_ask.specs.declared.request.Request.{Request}
 use Rattle.sr_ask.specs.declared.request.Request.TheVariants as request
 use Rattle.sr_core.specs.declared.component.Core.{Core}
+use Rattle.sr_core.specs.declared.component.Operation.{Operation}
 use Rattle.sr_core.specs.declared.owner.Me.{Me}
 use Rattle.sr_core.specs.declared.site.Arm.{Arm}
+use Rattle.sr_core.specs.declared.site.Named.{Named}
 use Rattle.sr_core.specs.declared.site.Site.{Site}
 use Rattle.sr_queue.specs.Classes.{class_of, same_class}
-use Rattle.sr_select.specs.Laws.{is_plain}
+use Rattle.sr_select.specs.Guards.{guard_block, home_seen}
+use Rattle.sr_select.specs.Worlds.{Watched as Watching, reads_only}
 use Rattle.sr_value.specs.declared.capability.Owner.{Owner}
+use Rattle.sr_value.specs.declared.fault.Fault.{Fault}
+use Rattle.sr_value.specs.declared.value.Value.{Value}
 use Rattle.sr_plain.specs.Changes.{owner_at}
 use Rattle.sr_plain.specs.declared.change.Change.{Change}
-use Rattle.sr_plain.specs.declared.change.Change.TheVariants.{Nothing, Watched, Class, Everything}
+use Rattle.sr_plain.specs.declared.change.Change.TheVariants.{Nothing, Watched, Variable, Class, Everything}
 use Rattle.sr_plain.specs.declared.change.Woken.{Woken}
+use Rattle.sr_plain.specs.declared.variable.Variable.{Variable as Cell}
 use Rattle.sr_plain.specs.declared.waiters.Place.{Place}
 use Rattle.sr_plain.specs.declared.waiters.Place.TheVariants as places
 use Rattle.sr_plain.specs.declared.waiters.Waiters.{Waiters}
@@ -28,9 +34,12 @@ use Rattle.sr_plain.specs.declared.waiters.Waiting.TheVariants.{One, Many}
 abbrev pub key_of : Owner → ℕ → Place
 key_of owner op = places.Served (class_of owner op)
 
--- a guard may read more than the invocations of its operation
-abbrev pub place_of : Owner → Arm → Place
-place_of owner arm = if is_plain arm then key_of owner arm.op else places.Watched
+-- where a process waits for what a shared variable holds
+abbrev pub variable_of : ℕ → ℕ → Place
+variable_of block var = places.Stored (record { block = block; var = var })
+
+abbrev pub same_variable : Cell → Cell → Bool
+same_variable a b = (a.block == b.block) && (a.var == b.var)
 
 abbrev pub is_ready : Waiters → ℕ → Bool
 is_ready waiters process = contains nat_cmp waiters.ready process
@@ -43,17 +52,41 @@ is_among (Some (Many processes)) process = contains nat_cmp processes process
 abbrev pub waits : Waiters → Place → ℕ → Bool
 waits waiters places.Watched process = contains nat_cmp waiters.watched process
 waits waiters (places.Served class) process = is_among (get same_class waiters.classes class) process
+waits waiters (places.Stored variable) process = is_among (get same_variable waiters.variables variable) process
 
 -- ---- where a process waits, by what it asks
 
-abbrev pub WaitsAtSite : (Place → Bool) → Owner → Site → Type 0
-WaitsAtSite at owner site = (number : ℕ) (arm : Arm) → slice_get site.arms number ≡ Some arm → at (place_of owner arm) ≡ true
+-- a variable of no block is never read
+abbrev pub at_block : (Place → Bool) → ℕ → Result ℕ Fault → Bool
+at_block at var (Ok block) = at (variable_of block var)
+at_block at var (Err fault) = true
 
--- A `Take` is woken by the reply, and a `Wake` by the moment. A `Select` waits at each of its arms.
+-- whose invocations `?op` counts goes by the scope of the operation
+abbrev pub at_operation : (Place → Bool) → Me → ℕ → Option Operation → Bool
+at_operation at me op None = true
+at_operation at me op (Some operation) = at (key_of (owner_at operation.scope me) op)
+
+-- what of the world a process waits for, of all that guards may name
+abbrev pub watching : Core → Me → (Place → Bool) → List Named → List Value → Watching
+watching core me at names env = record {
+  variable = λ home var. at_block at var (guard_block me (home_seen names env) home);
+  operation = λ op. at_operation at me op (slice_get core.operations op);
+}
+
+-- a process waits at each arm of a statement, and for all that its guards name
+pub record WaitsForAll (core : Core) (me : Me) (at : Place → Bool) (env : List Value) (site : Site) : Type 0 where
+  pub arms : (number : ℕ) (arm : Arm) → slice_get site.arms number ≡ Some arm → at (key_of (owner_at site.scope me) arm.op) ≡ true
+  pub names : reads_only (watching core me at site.names env) site ≡ true
+
+-- or it waits for any change
+abbrev pub WaitsAtSite : Core → Me → (Place → Bool) → List Value → Site → Type 0
+WaitsAtSite core me at env site = (at places.Watched ≡ true) ⊎ WaitsForAll core me at env site
+
+-- A `Take` is woken by the reply, and a `Wake` by the moment.
 abbrev pub WaitsFor : Core → Me → (Place → Bool) → Request → Type 0
 WaitsFor core me at (request.Take ids) = Unit {0}
 WaitsFor core me at (request.Wake until) = Unit {0}
-WaitsFor core me at (request.Select site env) = (s : Site) → slice_get core.sites site ≡ Some s → WaitsAtSite at (owner_at s.scope me) s
+WaitsFor core me at (request.Select site env) = (s : Site) → slice_get core.sites site ≡ Some s → WaitsAtSite core me at env s
 WaitsFor core me at _ = at places.Watched ≡ true
 
 -- ---- who is woken
@@ -61,6 +94,7 @@ WaitsFor core me at _ = at places.Watched ≡ true
 abbrev pub wakes : Change → (Place → Bool) → Bool
 wakes Nothing at = false
 wakes Watched at = at places.Watched
+wakes (Variable block var) at = at places.Watched || at (variable_of block var)
 wakes (Class owner op) at = at places.Watched || at (key_of owner op)
 wakes Everything at = true
 
@@ -118,6 +152,7 @@ pub record IsTakenOut (process : ℕ) (old new : Waiters) : Type 0 where
   pub others : (other : ℕ) → (process == other) ≡ false → is_ready new other ≡ is_ready old other
   pub watched : new.watched ≡ old.watched
   pub classes : new.classes ≡ old.classes
+  pub variables : new.variables ≡ old.variables
 
 -- ---- who is next
 

@@ -1,36 +1,95 @@
 ghost use Rattle.std.specs.Prelude.{◌≡◌, OnOk, IfOk, OnErr};
-ghost use Rattle.sr_plain.specs.Noting.{Notes, WaitsAt};
-ghost use Rattle.sr_plain.specs.Waiting.{IsWaiting, place_of};
+ghost use Rattle.sr_plain.specs.Noting.{Notes, WaitsAt, WaitsAtArms, WaitsForCount, WaitsForCounts, WaitsForRead, WaitsForReads};
+ghost use Rattle.sr_plain.specs.Waiting.{IsWaiting};
 ghost use Rattle.sr_world.specs.declared.acted.Acted.TheVariants.{Cannot};
 
 use crate::carrying::Carried;
 use crate::change::{Woken, change_of, owner_of};
+use crate::variable::Variable;
 use crate::waiters::{Place, Waiters};
 use sr_ask::{Ask, Request};
-use sr_core::{Arm, Core, Me, Site};
+use sr_core::{Core, Me, Site};
 use sr_queue::class_of;
-use sr_value::{NoMemory, Owner};
+use sr_select::{block_of, names_listed};
+use sr_value::{Fault, NoMemory, Value};
 use sr_world::Acted;
 
-/// Where a process waits for what an arm services.
-fn place_at(owner: Owner, arm: &Arm) -> Place
-    ensures { result ≡ place_of owner arm.now }
-{
-    if arm.guard.is_none() && arm.by.is_none() {
-        Place::Served(class_of(owner, arm.op))
-    } else {
-        Place::Watched
-    }
-}
-
-fn wait_at(waiters: &mut Waiters, me: Me, site: &Site) -> Result<(), NoMemory>
-    ensures { OnOk result (WaitsAt me site.now waiters.old waiters.new) }
+/// Has a process wait for invocations of each arm.
+fn wait_at_arms(waiters: &mut Waiters, me: Me, site: &Site) -> Result<(), NoMemory>
+    ensures { OnOk result (WaitsAtArms me site.now waiters.old waiters.new) }
 {
     let owner = owner_of(site.scope, me);
     for arm in site.arms.as_slice() {
-        waiters.wait(place_at(owner, arm), me.process)?;
+        waiters.wait(Place::Served(class_of(owner, arm.op)), me.process)?;
     }
     Ok(())
+}
+
+/// Has a process wait for a shared variable, if there is one.
+fn wait_for_read(
+    waiters: &mut Waiters,
+    me: Me,
+    block: Result<u32, Fault>,
+    var: u32,
+) -> Result<(), NoMemory>
+    ensures { OnOk result (WaitsForRead me var block waiters.old waiters.new) }
+{
+    match block {
+        Ok(block) => waiters.wait(Place::Stored(Variable { block, var }), me.process),
+        Err(_) => Ok(()),
+    }
+}
+
+/// Has a process wait for each shared variable that a statement lists.
+fn wait_for_reads(waiters: &mut Waiters, me: Me, site: &Site, env: &[Value]) -> Result<(), NoMemory>
+    ensures { OnOk result (WaitsForReads me env.now site.now waiters.old waiters.new) }
+{
+    for read in site.reads.as_slice() {
+        let block = block_of(me, site.names.as_slice(), env, read.home);
+        wait_for_read(waiters, me, block, read.var)?;
+    }
+    Ok(())
+}
+
+/// Has a process wait for invocations of an operation that it counts.
+fn wait_for_count(waiters: &mut Waiters, core: &Core, me: Me, op: u32) -> Result<(), NoMemory>
+    ensures { OnOk result (WaitsForCount core.now me op waiters.old waiters.new) }
+{
+    match core.operations.get(op as usize) {
+        Some(operation) => {
+            let owner = owner_of(operation.scope, me);
+            waiters.wait(Place::Served(class_of(owner, op)), me.process)
+        }
+        None => Ok(()),
+    }
+}
+
+/// Has a process wait for invocations of each operation that a statement lists as counted.
+fn wait_for_counts(waiters: &mut Waiters, core: &Core, me: Me, site: &Site) -> Result<(), NoMemory>
+    ensures { OnOk result (WaitsForCounts core.now me site.now waiters.old waiters.new) }
+{
+    for op in site.counts.as_slice() {
+        wait_for_count(waiters, core, me, *op)?;
+    }
+    Ok(())
+}
+
+/// Has a process wait for what lets its statement go on. Where the guards name more than is listed, that is any change.
+fn wait_at(
+    waiters: &mut Waiters,
+    core: &Core,
+    me: Me,
+    site: &Site,
+    env: &[Value],
+) -> Result<(), NoMemory>
+    ensures { OnOk result (WaitsAt core.now me env.now site.now waiters.old waiters.new) }
+{
+    if !names_listed(site) {
+        return waiters.wait(Place::Watched, me.process);
+    }
+    wait_at_arms(waiters, me, site)?;
+    wait_for_reads(waiters, me, site, env)?;
+    wait_for_counts(waiters, core, me, site)
 }
 
 /// Has a process wait for what lets its request go on.
@@ -39,8 +98,8 @@ fn wait_for(waiters: &mut Waiters, core: &Core, me: Me, request: &Request) -> Re
 {
     match request {
         Request::Take { .. } | Request::Wake { .. } => Ok(()),
-        Request::Select { site, .. } => match core.sites.get(*site as usize) {
-            Some(site) => wait_at(waiters, me, site),
+        Request::Select { site, env } => match core.sites.get(*site as usize) {
+            Some(site) => wait_at(waiters, core, me, site, env.as_slice()),
             None => Ok(()),
         },
         _ => waiters.wait(Place::Watched, me.process),

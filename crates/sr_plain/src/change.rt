@@ -10,8 +10,10 @@ use sr_value::{Cap, Owner};
 #[derive(Clone, Copy)]
 pub enum Change {
     Nothing,
-    /// A shared variable, or an instance.
+    /// An instance.
     Watched,
+    /// A shared variable.
+    Variable { block: u32, var: u32 },
     /// An invocation of an operation comes or goes.
     Class { owner: Owner, op: u32 },
     Everything,
@@ -127,8 +129,14 @@ pub fn change_of(core: &Core, me: Me, ask: &Ask, answer: &Answer) -> Change
     ensures { result ≡ change_in core.now me ask.now answer.now }
 {
     match &ask.request {
-        Request::Declare { .. } => Change::Watched,
-        Request::Store { .. } => Change::Watched,
+        Request::Declare { block, var, .. } => Change::Variable {
+            block: *block,
+            var: *var,
+        },
+        Request::Store { block, var, .. } => Change::Variable {
+            block: *block,
+            var: *var,
+        },
         Request::EnsureGlobal { .. } | Request::Create { .. } => Change::Watched,
         Request::Invoke { target, .. } => of_call(core, *target),
         Request::Forward { target, .. } => of_call(core, *target),

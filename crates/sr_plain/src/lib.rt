@@ -10,6 +10,7 @@ mod member;
 mod plain;
 mod plainly;
 mod tried;
+mod variable;
 mod waiters;
 mod waking;
 

@@ -2,8 +2,9 @@ ghost use Rattle.std.specs.Prelude.{◌≡◌, ◌<◌, ℕ, IfNone, IfOk, IfSom
 ghost use Rattle.std.specs.BTreeSet.{btree_set_len, contains};
 ghost use Rattle.std.specs.Ordering.{nat_cmp};
 ghost use Rattle.sr_plain.specs.Waiting.{HaveJoined, IsJoined, IsMadeReady, IsNext, IsTakenOut, IsWokenAt, WaitsAlso, WaitsThere, is_ready};
-ghost use Rattle.sr_plain.specs.declared.waiters.Place.TheVariants.{Served};
+ghost use Rattle.sr_plain.specs.declared.waiters.Place.TheVariants.{Served, Stored};
 
+use crate::variable::Variable;
 use sr_queue::Class;
 use sr_value::NoMemory;
 use std::alloc::Global;
@@ -13,10 +14,12 @@ use std::ops::Bound;
 /// Where a process waits.
 #[derive(Clone, Copy)]
 pub enum Place {
-    /// For more than a reply or an invocation.
+    /// For any change.
     Watched,
     /// For invocations of an operation.
     Served(Class),
+    /// For what a shared variable holds.
+    Stored(Variable),
 }
 
 /// Those that wait at one place.
@@ -32,10 +35,12 @@ pub struct Waiters {
     pub(crate) alloc: Global,
     /// The processes that may be able to make a step.
     pub(crate) ready: BTreeSet<u32>,
-    /// Those that wait for more than a reply or an invocation.
+    /// Those that wait for any change.
     pub(crate) watched: BTreeSet<u32>,
     /// Those that wait for invocations.
     pub(crate) classes: HashMap<Class, Waiting>,
+    /// Those that wait for shared variables.
+    pub(crate) variables: HashMap<Variable, Waiting>,
 }
 
 fn join(ready: &mut BTreeSet<u32>, processes: &mut BTreeSet<u32>) -> Result<(), NoMemory>
@@ -108,6 +113,7 @@ impl Waiters {
             ready: BTreeSet::new(alloc),
             watched: BTreeSet::new(alloc),
             classes: HashMap::new(alloc),
+            variables: HashMap::new(alloc),
         }
     }
 
@@ -137,6 +143,7 @@ impl Waiters {
                 Ok(())
             }
             Place::Served(class) => self.wait_for(class, process),
+            Place::Stored(variable) => self.wait_for_variable(variable, process),
         }
     }
 
@@ -153,6 +160,19 @@ impl Waiters {
         }
     }
 
+    /// Has a process wait for a shared variable.
+    fn wait_for_variable(&mut self, variable: Variable, process: u32) -> Result<(), NoMemory>
+        ensures { OnOk result (WaitsThere (Stored variable) process self.old self.new) }
+    {
+        match self.variables.get_mut(&variable) {
+            Some(waiting) => waiting.add(self.alloc, process),
+            None => {
+                self.variables.insert(variable, Waiting::One(process))?;
+                Ok(())
+            }
+        }
+    }
+
     /// Makes ready who waits there.
     #[inline(always)]
     pub(crate) fn wake(&mut self, place: Place) -> Result<(), NoMemory>
@@ -164,6 +184,21 @@ impl Waiters {
                 Some(waiting) => join_waiting(&mut self.ready, waiting),
                 None => Ok(()),
             },
+            Place::Stored(variable) => self.wake_for_variable(variable),
+        }
+    }
+
+    /// Makes ready who waits for a shared variable. Mostly there is no such process, and then nothing is looked up.
+    #[inline(always)]
+    fn wake_for_variable(&mut self, variable: Variable) -> Result<(), NoMemory>
+        ensures { OnOk result (IsWokenAt (Stored variable) self.old self.new) }
+    {
+        if self.variables.is_empty() {
+            return Ok(());
+        }
+        match self.variables.remove(&variable) {
+            Some(waiting) => join_waiting(&mut self.ready, waiting),
+            None => Ok(()),
         }
     }
 

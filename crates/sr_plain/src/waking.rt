@@ -2,6 +2,7 @@ ghost use Rattle.std.specs.Prelude.{OnOk};
 ghost use Rattle.sr_plain.specs.Waking.{ReadiesAll, ReadiesIfLives, WakesUp, WakesByChange};
 
 use crate::change::{Change, Woken};
+use crate::variable::Variable;
 use crate::waiters::{Place, Waiters};
 use sr_queue::class_of;
 use sr_value::NoMemory;
@@ -42,6 +43,10 @@ fn wake_by(waiters: &mut Waiters, world: &World, change: Change) -> Result<(), N
         Change::Class { owner, op } => {
             waiters.wake(Place::Watched)?;
             waiters.wake(Place::Served(class_of(owner, op)))
+        }
+        Change::Variable { block, var } => {
+            waiters.wake(Place::Watched)?;
+            waiters.wake(Place::Stored(Variable { block, var }))
         }
         Change::Everything => wake_all(waiters, world),
     }

@@ -1,7 +1,10 @@
+pub mod AlikeLemmas
 pub mod ChoiceLemmas
+pub mod ClosingLemmas
 pub mod CountedLemmas
 pub mod LawProofs
 pub mod LeastLemmas
+pub mod MoreLemmas
 pub mod NameLemmas
 pub mod NamedLemmas
 pub mod PlaceLemmas

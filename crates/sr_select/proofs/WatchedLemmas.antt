@@ -1,45 +1,25 @@
 -- A guard comes to the same in two worlds that hold the same in all that it names.
-use Rattle.std.proofs.Common.{◌≡◌, ℕ, Bool, ◌&&◌, true, false, List, [], ◌∷◌, ◌++◌, map, refl, ap, sym, subst, ◌∙◌, true≢false}
-use Rattle.std.specs.Prelude.{Option, Some, None, Result, Ok, Err, ℤ, pos}
-use Rattle.std.specs.List.{list_all}
+use Rattle.std.proofs.Common.{◌≡◌, ℕ, true, List, [], ◌∷◌, ◌++◌, refl, ap}
+use Rattle.std.specs.Prelude.{Option, Result, Ok, Err, pos}
 use Rattle.sr_value.specs.declared.fault.Fault.{Fault}
-use Rattle.sr_value.specs.declared.operator.Operator.{Operator}
-use Rattle.sr_value.specs.declared.operator.Operator.TheVariants.{And as both, Or as either}
 use Rattle.sr_value.specs.declared.shape.Sel.{Sel}
-use Rattle.sr_value.specs.declared.shape.Sel.TheVariants.{At as at_one, At2 as at_two, Field as at_field}
 use Rattle.sr_value.specs.declared.value.Value.{Value}
-use Rattle.sr_value.specs.declared.value.Value.TheVariants.{Bool as truth_value}
-use Rattle.sr_value.specs.Operators.{int_result, value_of, value_of_one}
-use Rattle.sr_value.specs.Parts.{part_of, with_ok}
+use Rattle.sr_value.specs.Operators.{int_result}
 use Rattle.sr_ask.specs.declared.entry.Seen.{Seen}
 use Rattle.sr_ask.specs.declared.entry.Seen.TheVariants.{Pending as pending_count}
-use Rattle.sr_core.specs.declared.expression.Argument.{Argument, roll-Argument}
-use Rattle.sr_core.specs.declared.expression.Argument.TheFolds.{fold-Argument, fold-Reading, fold-roll-Expr, fold-roll-Part, fold-roll-PlaceExpr, fold-roll-Step, ind-Expr, map-Argument, map-Expr, map-Part, map-PlaceExpr, map-Reading, map-Step}
-use Rattle.sr_core.specs.declared.expression.Argument.TheOpen.{Argument-F, Expr-F, Part-F, PlaceExpr-F, Reading-F, Step-F}
-use Rattle.sr_core.specs.declared.expression.Expr.{Expr, roll-Expr}
+use Rattle.sr_core.specs.declared.expression.Expr.{Expr}
 use Rattle.sr_core.specs.declared.expression.Leaf.{Leaf}
 use Rattle.sr_core.specs.declared.expression.Leaf.TheVariants.{Constant, Operation, MyResource, MyMachine, Count as count_of_op, MakeMachine, Moment}
-use Rattle.sr_core.specs.declared.expression.Part.{Part, roll-Part}
-use Rattle.sr_core.specs.declared.expression.PlaceExpr.{PlaceExpr, roll-PlaceExpr}
-use Rattle.sr_core.specs.declared.expression.Reading.{Reading as ReadItem, roll-Reading}
-use Rattle.sr_core.specs.declared.expression.Step.{Step, roll-Step}
 use Rattle.sr_core.specs.declared.owner.Home.{Home}
 use Rattle.sr_core.specs.declared.owner.Me.{Me}
 use Rattle.sr_core.specs.declared.owner.Root.{Root}
 use Rattle.sr_core.specs.declared.owner.Root.TheVariants.{Own as own_root, Shared as shared_root}
-use Rattle.sr_core.specs.declared.piece.Piece.{Piece}
-use Rattle.sr_core.specs.Applied.{applied}
-use Rattle.sr_core.specs.Values.{array_of, cap_of, count_of, member_of, number_of, truth_of}
-use Rattle.sr_select.specs.Choices.{key_in, key_of, key_where}
-use Rattle.sr_select.specs.Guards.{Guard, Guarding, after_and, after_operand, after_or, after_whole, cell_read, choose_look, guard_block, guard_leaf, guard_load, guard_node, guard_part, guard_part_node, guard_place, guard_place_node, guard_shared, guard_step, guard_step_node, guard_value, in_order, no_argument, no_reading, truth_of_guard}
-use Rattle.sr_select.specs.Looks.{Looked, Found, Faulted, Looking, give, settle, then_look, ◌>>>◌}
+use Rattle.sr_select.specs.Choices.{key_in}
+use Rattle.sr_select.specs.Guards.{Guard, Guarding, cell_read, guard_block, guard_leaf, guard_load, guard_shared, truth_of_guard}
+use Rattle.sr_select.specs.Looks.{settle, then_look}
 use Rattle.sr_select.specs.Readings.{Reading}
-use Rattle.sr_select.specs.Worlds.{Watched, all_within, leaf_within, maybe_names_only, names_only, node_within, part_names_only, part_within, place_names_only, place_within, root_within, step_names_only, step_within}
-
-both-parts : (a b : Bool) → (a && b) ≡ true → (a ≡ true) × (b ≡ true)
-both-parts true true h = (refl, refl)
-both-parts true false h = absurd (true≢false (sym h))
-both-parts false b h = absurd (true≢false (sym h))
+use Rattle.sr_select.proofs.AlikeLemmas.{keys-agree, truths-agree}
+use Rattle.sr_select.specs.Worlds.{Watched, leaf_within, maybe_names_only, names_only, root_within}
 
 module _ (watched : Watched) (reading reading' : Reading) (me : Me) (own : ℕ → Result Value Fault) (home : ℕ → Option ℕ) (machine : Option ℕ)
     (cells : (whose : Home) (var block : ℕ) (path : List Sel) → watched.variable whose var ≡ true → guard_block me home whose ≡ Ok block → reading.load block var path ≡ reading'.load block var path)
@@ -54,29 +34,6 @@ module _ (watched : Watched) (reading reading' : Reading) (me : Me) (own : ℕ �
   -- a part of a guard comes to the same in both worlds, and reads the same
   abbrev pub Alike : {A : Type 0} → Guard A → Type 0
   Alike guard = (seen : List Seen) → guard One seen ≡ guard Other seen
-
-  abbrev pub AllAlike : {A : Type 0} → List (Guard A) → Type 0
-  AllAlike [] = Unit {0}
-  AllAlike (guard ∷ guards) = Alike guard × AllAlike guards
-
-  -- ---- looks
-
-  next-alike : {A B : Type 0} (next : A → Guard B) → ((a : A) → Alike (next a)) → (look : Looked A) → then_look look (λ a. next a One) ≡ then_look look (λ a. next a Other)
-  next-alike next alike (Found a seen) = alike a seen
-  next-alike next alike (Faulted found seen) = refl
-
-  pub alike-then : {A B : Type 0} (guard : Guard A) (next : A → Guard B) → Alike guard → ((a : A) → Alike (next a)) → (seen : List Seen)
-      → then_look (guard One seen) (λ a. next a One) ≡ then_look (guard Other seen) (λ a. next a Other)
-  alike-then {A = A} guard next first later seen =
-      ap (λ (look : Looked A). then_look look (λ a. next a One)) (first seen) ∙ next-alike next later (guard Other seen)
-
-  alike-order : {A : Type 0} (guards : List (Guard A)) → AllAlike guards → Alike (in_order guards)
-  alike-order [] all = λ seen. refl
-  alike-order (guard ∷ guards) all =
-      alike-then guard (λ first at. in_order guards at >>> λ rest. give (first ∷ rest)) all.0
-      (λ first. alike-then (in_order guards) (λ rest at. give (first ∷ rest)) (alike-order guards all.1) (λ rest seen. refl))
-
-  -- ---- leaves and places
 
   leaf-alike : (leaf : Leaf) → leaf_within watched leaf ≡ true → Alike (guard_leaf leaf)
   leaf-alike (count_of_op op) within = λ seen. ap (λ (n : ℕ). settle (int_result (pos n)) (seen ++ pending_count op n ∷ [])) (counts op within)
@@ -96,247 +53,8 @@ module _ (watched : Watched) (reading reading' : Reading) (me : Me) (own : ℕ �
   load-alike (own_root var) path within = λ seen. refl
   load-alike (shared_root whose var) path within = λ seen. shared-alike whose var path (guard_block me home whose) within refl seen
 
-  -- ---- operators
-
-  operand-alike : (op : Operator) (x : Value) (right : Guard Value) → Alike right → Alike (after_operand op x right)
-  operand-alike op x right alike = alike-then right (λ y at. settle (value_of op x y)) alike (λ y seen. refl)
-
-  choose-alike : (truth : Bool) (one other : Guard Value) → Alike one → Alike other → Alike (λ at. choose_look truth (one at) (other at))
-  choose-alike true one other first second = first
-  choose-alike false one other first second = second
-
-  and-alike : (x : Value) (right : Guard Value) → Alike right → Alike (after_and x right)
-  and-alike x right alike =
-      alike-then (λ at. settle (truth_of x)) (λ truth at. choose_look truth (after_operand both x right at) (give (truth_value false))) (λ seen. refl)
-      (λ truth. choose-alike truth (after_operand both x right) (λ at. give (truth_value false)) (operand-alike both x right alike) (λ seen. refl))
-
-  or-alike : (x : Value) (right : Guard Value) → Alike right → Alike (after_or x right)
-  or-alike x right alike =
-      alike-then (λ at. settle (truth_of x)) (λ truth at. choose_look truth (give (truth_value true)) (after_operand either x right at)) (λ seen. refl)
-      (λ truth. choose-alike truth (λ at. give (truth_value true)) (after_operand either x right) (λ seen. refl) (operand-alike either x right alike))
-
-  number-alike : (value : Guard Value) → Alike value → Alike (λ at. value at >>> λ x. settle (number_of x))
-  number-alike value alike = alike-then value (λ x at. settle (number_of x)) alike (λ x seen. refl)
-
-  -- ---- trees
-
-  abbrev ArgumentGood : Argument → Type 0
-  ArgumentGood argument = Unit {0}
-
-  abbrev ExprGood : Expr → Type 0
-  ExprGood expr = names_only watched expr ≡ true → Alike (guard_value expr)
-
-  abbrev PartGood : Part → Type 0
-  PartGood part = part_names_only watched part ≡ true → Alike (guard_part part)
-
-  abbrev StepGood : Step → Type 0
-  StepGood step = step_names_only watched step ≡ true → Alike (guard_step step)
-
-  abbrev PlaceGood : PlaceExpr → Type 0
-  PlaceGood place = place_names_only watched place ≡ true → Alike (guard_place place)
-
-  abbrev ReadGood : ReadItem → Type 0
-  ReadGood item = Unit {0}
-
-  abbrev A : Type 0
-  A = (tree : Argument) × ArgumentGood tree
-
-  abbrev E : Type 0
-  E = (tree : Expr) × ExprGood tree
-
-  abbrev P : Type 0
-  P = (tree : Part) × PartGood tree
-
-  abbrev S : Type 0
-  S = (tree : Step) × StepGood tree
-
-  abbrev L : Type 0
-  L = (tree : PlaceExpr) × PlaceGood tree
-
-  abbrev R : Type 0
-  R = (tree : ReadItem) × ReadGood tree
-
-  abbrev G : Type 0
-  G = Guard (Unit {0})
-
-  abbrev argument_within : Argument → Bool
-  argument_within = fold-Argument Bool Bool Bool Bool Bool Bool (λ argument. true) (node_within watched) part_within step_within (place_within watched) (λ item. true)
-
-  abbrev item_within : ReadItem → Bool
-  item_within = fold-Reading Bool Bool Bool Bool Bool Bool (λ argument. true) (node_within watched) part_within step_within (place_within watched) (λ item. true)
-
-  abbrev guard_argument : Argument → G
-  guard_argument = fold-Argument G (Guard Value) (Guard Piece) (Guard Sel) (Guard Value) G no_argument guard_node guard_part_node guard_step_node guard_place_node no_reading
-
-  abbrev guard_item : ReadItem → G
-  guard_item = fold-Reading G (Guard Value) (Guard Piece) (Guard Sel) (Guard Value) G no_argument guard_node guard_part_node guard_step_node guard_place_node no_reading
-
-  -- the parts alone, what they name and what they mean
-  abbrev first_expr : Expr-F A E P S L R → Expr-F Argument Expr Part Step PlaceExpr ReadItem
-  first_expr = map-Expr A E P S L R Argument Expr Part Step PlaceExpr ReadItem (λ x. x.0) (λ x. x.0) (λ x. x.0) (λ x. x.0) (λ x. x.0) (λ x. x.0)
-
-  abbrev first_part : Part-F A E P S L R → Part-F Argument Expr Part Step PlaceExpr ReadItem
-  first_part = map-Part A E P S L R Argument Expr Part Step PlaceExpr ReadItem (λ x. x.0) (λ x. x.0) (λ x. x.0) (λ x. x.0) (λ x. x.0) (λ x. x.0)
-
-  abbrev first_step : Step-F A E P S L R → Step-F Argument Expr Part Step PlaceExpr ReadItem
-  first_step = map-Step A E P S L R Argument Expr Part Step PlaceExpr ReadItem (λ x. x.0) (λ x. x.0) (λ x. x.0) (λ x. x.0) (λ x. x.0) (λ x. x.0)
-
-  abbrev first_place : PlaceExpr-F A E P S L R → PlaceExpr-F Argument Expr Part Step PlaceExpr ReadItem
-  first_place = map-PlaceExpr A E P S L R Argument Expr Part Step PlaceExpr ReadItem (λ x. x.0) (λ x. x.0) (λ x. x.0) (λ x. x.0) (λ x. x.0) (λ x. x.0)
-
-  abbrev first_argument : Argument-F A E P S L R → Argument-F Argument Expr Part Step PlaceExpr ReadItem
-  first_argument = map-Argument A E P S L R Argument Expr Part Step PlaceExpr ReadItem (λ x. x.0) (λ x. x.0) (λ x. x.0) (λ x. x.0) (λ x. x.0) (λ x. x.0)
-
-  abbrev first_item : Reading-F A E P S L R → Reading-F Argument Expr Part Step PlaceExpr ReadItem
-  first_item = map-Reading A E P S L R Argument Expr Part Step PlaceExpr ReadItem (λ x. x.0) (λ x. x.0) (λ x. x.0) (λ x. x.0) (λ x. x.0) (λ x. x.0)
-
-  abbrev ExprAlike : Expr-F Argument Expr Part Step PlaceExpr ReadItem → Type 0
-  ExprAlike x =
-      node_within watched (map-Expr Argument Expr Part Step PlaceExpr ReadItem Bool Bool Bool Bool Bool Bool argument_within (names_only watched) (part_names_only watched) (step_names_only watched) (place_names_only watched) item_within x) ≡ true
-      → Alike (guard_node (map-Expr Argument Expr Part Step PlaceExpr ReadItem G (Guard Value) (Guard Piece) (Guard Sel) (Guard Value) G guard_argument guard_value guard_part guard_step guard_place guard_item x))
-
-  abbrev PartAlike : Part-F Argument Expr Part Step PlaceExpr ReadItem → Type 0
-  PartAlike x =
-      part_within (map-Part Argument Expr Part Step PlaceExpr ReadItem Bool Bool Bool Bool Bool Bool argument_within (names_only watched) (part_names_only watched) (step_names_only watched) (place_names_only watched) item_within x) ≡ true
-      → Alike (guard_part_node (map-Part Argument Expr Part Step PlaceExpr ReadItem G (Guard Value) (Guard Piece) (Guard Sel) (Guard Value) G guard_argument guard_value guard_part guard_step guard_place guard_item x))
-
-  abbrev StepAlike : Step-F Argument Expr Part Step PlaceExpr ReadItem → Type 0
-  StepAlike x =
-      step_within (map-Step Argument Expr Part Step PlaceExpr ReadItem Bool Bool Bool Bool Bool Bool argument_within (names_only watched) (part_names_only watched) (step_names_only watched) (place_names_only watched) item_within x) ≡ true
-      → Alike (guard_step_node (map-Step Argument Expr Part Step PlaceExpr ReadItem G (Guard Value) (Guard Piece) (Guard Sel) (Guard Value) G guard_argument guard_value guard_part guard_step guard_place guard_item x))
-
-  abbrev PlaceAlike : PlaceExpr-F Argument Expr Part Step PlaceExpr ReadItem → Type 0
-  PlaceAlike x =
-      place_within watched (map-PlaceExpr Argument Expr Part Step PlaceExpr ReadItem Bool Bool Bool Bool Bool Bool argument_within (names_only watched) (part_names_only watched) (step_names_only watched) (place_names_only watched) item_within x) ≡ true
-      → Alike (guard_place_node (map-PlaceExpr Argument Expr Part Step PlaceExpr ReadItem G (Guard Value) (Guard Piece) (Guard Sel) (Guard Value) G guard_argument guard_value guard_part guard_step guard_place guard_item x))
-
-  all-exprs : (trees : List E) → all_within (map (names_only watched) (map (λ (x : E). x.0) trees)) ≡ true → AllAlike (map guard_value (map (λ (x : E). x.0) trees))
-  all-exprs [] within = tt
-  all-exprs (tree ∷ trees) within =
-      let parts = both-parts (names_only watched tree.0) (all_within (map (names_only watched) (map (λ (x : E). x.0) trees))) within in
-      (tree.1 parts.0, all-exprs trees parts.1)
-
-  all-parts : (trees : List P) → all_within (map (part_names_only watched) (map (λ (x : P). x.0) trees)) ≡ true → AllAlike (map guard_part (map (λ (x : P). x.0) trees))
-  all-parts [] within = tt
-  all-parts (tree ∷ trees) within =
-      let parts = both-parts (part_names_only watched tree.0) (all_within (map (part_names_only watched) (map (λ (x : P). x.0) trees))) within in
-      (tree.1 parts.0, all-parts trees parts.1)
-
-  all-steps : (trees : List S) → all_within (map (step_names_only watched) (map (λ (x : S). x.0) trees)) ≡ true → AllAlike (map guard_step (map (λ (x : S). x.0) trees))
-  all-steps [] within = tt
-  all-steps (tree ∷ trees) within =
-      let parts = both-parts (step_names_only watched tree.0) (all_within (map (step_names_only watched) (map (λ (x : S). x.0) trees))) within in
-      (tree.1 parts.0, all-steps trees parts.1)
-
-  expr-good : (y : Expr-F A E P S L R) → ExprAlike (first_expr y)
-  expr-good (Expr-F.Leaf leaf) within = leaf-alike leaf within
-  expr-good (Expr-F.Load place) within = place.1 within
-  expr-good (Expr-F.Unary op operand) within = alike-then (guard_value operand.0) (λ x at. settle (value_of_one op x)) (operand.1 within) (λ x seen. refl)
-  expr-good (Expr-F.Binary op left right) within =
-      let parts = both-parts (names_only watched left.0) (names_only watched right.0) within in
-      alike-then (guard_value left.0) (λ x at. after_operand op x (guard_value right.0) at) (left.1 parts.0) (λ x. operand-alike op x (guard_value right.0) (right.1 parts.1))
-  expr-good (Expr-F.And left right) within =
-      let parts = both-parts (names_only watched left.0) (names_only watched right.0) within in
-      alike-then (guard_value left.0) (λ x at. after_and x (guard_value right.0) at) (left.1 parts.0) (λ x. and-alike x (guard_value right.0) (right.1 parts.1))
-  expr-good (Expr-F.Or left right) within =
-      let parts = both-parts (names_only watched left.0) (names_only watched right.0) within in
-      alike-then (guard_value left.0) (λ x at. after_or x (guard_value right.0) at) (left.1 parts.0) (λ x. or-alike x (guard_value right.0) (right.1 parts.1))
-  expr-good (Expr-F.Apply function args) within =
-      alike-then (in_order (map guard_value (map (λ (x : E). x.0) args))) (λ values at. settle (applied at.reading.names function values))
-      (alike-order (map guard_value (map (λ (x : E). x.0) args)) (all-exprs args within))
-      (λ values seen. ap (λ (names : List (List (List ℕ))). settle (applied names function values) seen) literals)
-  expr-good (Expr-F.Array parts) within =
-      alike-then (in_order (map guard_part (map (λ (x : P). x.0) parts))) (λ pieces at. settle (array_of pieces))
-      (alike-order (map guard_part (map (λ (x : P). x.0) parts)) (all-parts parts within)) (λ pieces seen. refl)
-  expr-good (Expr-F.Of whole step) within =
-      let parts = both-parts (names_only watched whole.0) (step_names_only watched step.0) within in
-      alike-then (guard_value whole.0) (λ value at. after_whole value (guard_step step.0) at) (whole.1 parts.0)
-      (λ value. alike-then (guard_step step.0) (λ sel at. settle (part_of value sel)) (step.1 parts.1) (λ sel seen. refl))
-  expr-good (Expr-F.Member of op) within =
-      alike-then (guard_value of.0) (λ value at. settle (with_ok (cap_of value) (member_of op))) (of.1 within) (λ value seen. refl)
-  expr-good (Expr-F.Call target args returns) within = λ seen. refl
-  expr-good (Expr-F.Create resource args machine) within = λ seen. refl
-  expr-good (Expr-F.Read readings) within = λ seen. refl
-
-  step-good : (y : Step-F A E P S L R) → StepAlike (first_step y)
-  step-good (Step-F.At index) within =
-      alike-then (guard_value index.0) (λ x at. settle (number_of x) >>> λ i. give (at_one i)) (index.1 within) (λ x seen. refl)
-  step-good (Step-F.At2 row column) within =
-      let parts = both-parts (names_only watched row.0) (names_only watched column.0) within in
-      alike-then (guard_value row.0) (λ x at. settle (number_of x) >>> λ i. guard_value column.0 at >>> λ y. settle (number_of y) >>> λ j. give (at_two i j)) (row.1 parts.0)
-      (λ x. alike-then (λ at. settle (number_of x)) (λ i at. guard_value column.0 at >>> λ y. settle (number_of y) >>> λ j. give (at_two i j)) (λ seen. refl)
-      (λ i. alike-then (guard_value column.0) (λ y at. settle (number_of y) >>> λ j. give (at_two i j)) (column.1 parts.1) (λ y seen. refl)))
-  step-good (Step-F.Field field) within = λ seen. refl
-
-  part-good : (y : Part-F A E P S L R) → PartAlike (first_part y)
-  part-good (Part-F.One value) within =
-      alike-then (guard_value value.0) (λ x at. give (record { count = 1; value = x })) (value.1 within) (λ x seen. refl)
-  part-good (Part-F.Repeated count value) within =
-      let parts = both-parts (names_only watched count.0) (names_only watched value.0) within in
-      alike-then (guard_value count.0)
-      (λ n at. settle (number_of n) >>> λ number. guard_value value.0 at >>> λ x. settle (count_of number) >>> λ times. give (record { count = times; value = x })) (count.1 parts.0)
-      (λ n. alike-then (λ at. settle (number_of n)) (λ number at. guard_value value.0 at >>> λ x. settle (count_of number) >>> λ times. give (record { count = times; value = x })) (λ seen. refl)
-      (λ number. alike-then (guard_value value.0) (λ x at. settle (count_of number) >>> λ times. give (record { count = times; value = x })) (value.1 parts.1) (λ x seen. refl)))
-
-  place-good : (y : PlaceExpr-F A E P S L R) → PlaceAlike (first_place y)
-  place-good y within =
-      let parts = both-parts (root_within watched y.root) (all_within (map (step_names_only watched) (map (λ (x : S). x.0) y.path))) within in
-      alike-then (in_order (map guard_step (map (λ (x : S). x.0) y.path))) (λ path at. guard_load y.root path at)
-      (alike-order (map guard_step (map (λ (x : S). x.0) y.path)) (all-steps y.path parts.1)) (λ path. load-alike y.root path parts.0)
-
-  -- ---- all trees
-
-  argument-rolled : (x : Argument-F Argument Expr Part Step PlaceExpr ReadItem) (y : Argument-F A E P S L R) → first_argument y ≡ x → ArgumentGood (roll-Argument x)
-  argument-rolled x y is = tt
-
-  item-rolled : (x : Reading-F Argument Expr Part Step PlaceExpr ReadItem) (y : Reading-F A E P S L R) → first_item y ≡ x → ReadGood (roll-Reading x)
-  item-rolled x y is = tt
-
-  along-both : {V : Type 0} (b b' : Bool) (g g' : Guard V) → b ≡ b' → g ≡ g' → (b' ≡ true → Alike g') → b ≡ true → Alike g
-  along-both b b' g g' same_test same_guard good within =
-      λ seen. ap (λ f. f One seen) same_guard ∙ good (sym same_test ∙ within) seen ∙ sym (ap (λ f. f Other seen) same_guard)
-
-  expr-rolled : (x : Expr-F Argument Expr Part Step PlaceExpr ReadItem) (y : Expr-F A E P S L R) → first_expr y ≡ x → ExprGood (roll-Expr x)
-  expr-rolled x y is =
-      along-both (names_only watched (roll-Expr x)) _ (guard_value (roll-Expr x)) _
-      (fold-roll-Expr Bool Bool Bool Bool Bool Bool (λ argument. true) (node_within watched) part_within step_within (place_within watched) (λ item. true) x)
-      (fold-roll-Expr G (Guard Value) (Guard Piece) (Guard Sel) (Guard Value) G no_argument guard_node guard_part_node guard_step_node guard_place_node no_reading x)
-      (subst ExprAlike is (expr-good y))
-
-  part-rolled : (x : Part-F Argument Expr Part Step PlaceExpr ReadItem) (y : Part-F A E P S L R) → first_part y ≡ x → PartGood (roll-Part x)
-  part-rolled x y is =
-      along-both (part_names_only watched (roll-Part x)) _ (guard_part (roll-Part x)) _
-      (fold-roll-Part Bool Bool Bool Bool Bool Bool (λ argument. true) (node_within watched) part_within step_within (place_within watched) (λ item. true) x)
-      (fold-roll-Part G (Guard Value) (Guard Piece) (Guard Sel) (Guard Value) G no_argument guard_node guard_part_node guard_step_node guard_place_node no_reading x)
-      (subst PartAlike is (part-good y))
-
-  step-rolled : (x : Step-F Argument Expr Part Step PlaceExpr ReadItem) (y : Step-F A E P S L R) → first_step y ≡ x → StepGood (roll-Step x)
-  step-rolled x y is =
-      along-both (step_names_only watched (roll-Step x)) _ (guard_step (roll-Step x)) _
-      (fold-roll-Step Bool Bool Bool Bool Bool Bool (λ argument. true) (node_within watched) part_within step_within (place_within watched) (λ item. true) x)
-      (fold-roll-Step G (Guard Value) (Guard Piece) (Guard Sel) (Guard Value) G no_argument guard_node guard_part_node guard_step_node guard_place_node no_reading x)
-      (subst StepAlike is (step-good y))
-
-  place-rolled : (x : PlaceExpr-F Argument Expr Part Step PlaceExpr ReadItem) (y : PlaceExpr-F A E P S L R) → first_place y ≡ x → PlaceGood (roll-PlaceExpr x)
-  place-rolled x y is =
-      along-both (place_names_only watched (roll-PlaceExpr x)) _ (guard_place (roll-PlaceExpr x)) _
-      (fold-roll-PlaceExpr Bool Bool Bool Bool Bool Bool (λ argument. true) (node_within watched) part_within step_within (place_within watched) (λ item. true) x)
-      (fold-roll-PlaceExpr G (Guard Value) (Guard Piece) (Guard Sel) (Guard Value) G no_argument guard_node guard_part_node guard_step_node guard_place_node no_reading x)
-      (subst PlaceAlike is (place-good y))
-
-  pub expr-alike : (expr : Expr) → names_only watched expr ≡ true → Alike (guard_value expr)
-  expr-alike = ind-Expr ArgumentGood ExprGood PartGood StepGood PlaceGood ReadGood argument-rolled expr-rolled part-rolled step-rolled place-rolled item-rolled
-
   pub truth-alike : (condition : Option Expr) → maybe_names_only watched condition ≡ true → Alike (truth_of_guard condition)
-  truth-alike None within = λ seen. refl
-  truth-alike (Some expr) within = alike-then (guard_value expr) (λ value at. settle (truth_of value)) (expr-alike expr within) (λ value seen. refl)
-
-  -- ---- keys
-
-  where-alike : (by : Expr) → names_only watched by ≡ true → (truth : Bool) → Alike (key_where by truth)
-  where-alike by within true =
-      alike-then (guard_value by) (λ value at. settle (key_of value) >>> λ key. give (Some key)) (expr-alike by within) (λ value seen. refl)
-  where-alike by within false = λ seen. refl
+  truth-alike = truths-agree (leaf_within watched) (root_within watched) One Other leaf-alike load-alike literals
 
   pub key-alike : (condition : Option Expr) (by : Expr) → maybe_names_only watched condition ≡ true → names_only watched by ≡ true → Alike (key_in condition by)
-  key-alike condition by within by_within = alike-then (truth_of_guard condition) (λ truth at. key_where by truth at) (truth-alike condition within) (where-alike by by_within)
+  key-alike = keys-agree (leaf_within watched) (root_within watched) One Other leaf-alike load-alike literals

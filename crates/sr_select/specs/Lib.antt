@@ -1,4 +1,5 @@
 pub mod Choices
+pub mod Closing
 pub mod Guards
 pub mod Laws
 pub mod Leasts
@@ -8,4 +9,5 @@ pub mod Readings
 pub mod Selections
 pub mod Sights
 pub mod Steps
+pub mod Tests
 pub mod Worlds

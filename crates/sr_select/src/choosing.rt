@@ -1,11 +1,18 @@
-ghost use Rattle.std.specs.Prelude.{◌≡◌, ◌++◌, IfOk, None, OnOk};
+ghost use Rattle.std.specs.Prelude.{◌≡◌, ℕ, ◌++◌, false, slice_get, IfOk, None, OnOk, Some};
+ghost use Rattle.sr_value.specs.Operators.{Answers};
 ghost use Rattle.sr_select.specs.Choices.{choice, choice_seen, otherwise, owner_in};
+ghost use Rattle.sr_select.specs.Closing.{AreClosed, closes, is_closed};
+ghost use Rattle.sr_select.specs.Looks.{Adds, result_of};
 ghost use Rattle.sr_select.specs.Selections.{choice_from, pairs_at, pairs_in, seen_by, seen_from, serviced_by};
+ghost use Rattle.sr_select.specs.Sights.{seeing};
+ghost use Rattle.sr_select.specs.Steps.{passes_one};
 
 use crate::arm::passes_one;
 use crate::choice::Choice;
+use crate::closed::Closed;
 use crate::least::least_from;
-use crate::named::next_named;
+use crate::named::next_open;
+use crate::naming::guard_names_none;
 use crate::reads::Reads;
 use crate::selection::Selection;
 use crate::sight::Scene;
@@ -68,21 +75,60 @@ fn serviced<'a, R: Reads>(
     }
 }
 
+/// Whether an invocation passes an arm. Where the arm's guard is false for all invocations, the arm is closed.
+fn passes_open<'a, R: Reads>(
+    selection: &Selection<'a>,
+    reads: &R,
+    seen: &mut Row<Seen>,
+    closed: &mut Closed,
+    number: usize,
+    arm: &'a Arm,
+    pending: &'a Pending,
+) -> Result<bool, ValueFail>
+    requires arm { slice_get selection.now.arms.now number ≡ Some arm.now }
+    requires closed { AreClosed (seeing (R.reading reads.now) selection.now.scene) selection.now.arms.now closed.old }
+    ensures passes { Answers result (result_of (passes_one (seeing (R.reading reads.now) selection.now.scene) selection.now.owner arm.now pending.now)) }
+    ensures seen { closes closed.old ≡ false → Adds (passes_one (seeing (R.reading reads.now) selection.now.scene) selection.now.owner arm.now pending.now) result seen.old seen.new }
+    ensures closed { AreClosed (seeing (R.reading reads.now) selection.now.scene) selection.now.arms.now closed.new }
+    ensures closes { closes closed.new ≡ closes closed.old }
+{
+    if closed.is_closed(number) {
+        return Ok(false);
+    }
+    let owner = selection.owner;
+    let passes = passes_one(&selection.scene, reads, seen, owner, arm, pending)?;
+    if !passes && pending.is_of(owner, arm.op) && guard_names_none(arm) {
+        closed.close(number)?;
+    }
+    Ok(passes)
+}
+
 /// The choice where an arm is fixed by an invocation: the first arm of its operation whose `and` isn't false.
 fn choice_at<'a, R: Reads>(
     selection: &Selection<'a>,
     reads: &R,
     seen: &mut Row<Seen>,
+    closed: &mut Closed,
     place: u32,
     pending: &'a Pending,
 ) -> Result<Option<Choice>, NoMemory>
+    requires { AreClosed (seeing (R.reading reads.now) selection.now.scene) selection.now.arms.now closed.old }
     ensures choice { IfOk result (λ chosen. chosen ≡ choice_from (R.reading reads.now) selection.now (pairs_at selection.now place pending.now)) }
-    ensures seen { OnOk result (seen.new ≡ seen.old ++ seen_from (R.reading reads.now) selection.now (pairs_at selection.now place pending.now)) }
+    ensures seen { closes closed.old ≡ false → OnOk result (seen.new ≡ seen.old ++ seen_from (R.reading reads.now) selection.now (pairs_at selection.now place pending.now)) }
+    ensures closed { AreClosed (seeing (R.reading reads.now) selection.now.scene) selection.now.arms.now closed.new }
+    ensures closes { closes closed.new ≡ closes closed.old }
 {
-    let scene = &selection.scene;
     let mut number: u32 = 0;
     for arm in selection.arms {
-        match passes_one(scene, reads, seen, selection.owner, arm, pending) {
+        match passes_open(
+            selection,
+            reads,
+            seen,
+            closed,
+            number as usize,
+            arm,
+            pending,
+        ) {
             Ok(true) => {
                 let choice = serviced(selection, reads, seen, place, number, arm)?;
                 return Ok(Some(choice));
@@ -101,18 +147,26 @@ fn first_choice<'a, R: Reads>(
     selection: &Selection<'a>,
     reads: &R,
     seen: &mut Row<Seen>,
+    closed: &mut Closed,
 ) -> Result<Option<Choice>, NoMemory>
+    requires { AreClosed (seeing (R.reading reads.now) selection.now.scene) selection.now.arms.now closed.old }
     ensures choice { IfOk result (λ chosen. chosen ≡ choice_from (R.reading reads.now) selection.now (pairs_in selection.now)) }
-    ensures seen { OnOk result (seen.new ≡ seen.old ++ seen_from (R.reading reads.now) selection.now (pairs_in selection.now)) }
+    ensures seen { closes closed.old ≡ false → OnOk result (seen.new ≡ seen.old ++ seen_from (R.reading reads.now) selection.now (pairs_in selection.now)) }
 {
     let mut from = 0;
     while from < selection.queue.len() {
-        let named = next_named(selection.queue, selection.owner, selection.arms, from);
+        let named = next_open(
+            selection.queue,
+            selection.owner,
+            selection.arms,
+            closed,
+            from,
+        );
         let Some(place) = named else {
             return Ok(None);
         };
         let pending = selection.queue.at(place);
-        if let Some(choice) = choice_at(selection, reads, seen, place, pending)? {
+        if let Some(choice) = choice_at(selection, reads, seen, closed, place, pending)? {
             return Ok(Some(choice));
         }
         from = place + 1;
@@ -131,18 +185,19 @@ pub fn unserviced(site: &Site) -> Choice
     }
 }
 
-/// What an `in` statement of a process does, and what the choice reads. `env` has the values of what the
-/// statement's guards name of the process.
-pub fn choose_and_see<R: Reads>(
+/// What an `in` statement of a process does, and, where no arm is ever closed, what the choice reads.
+fn choose_among<R: Reads>(
     alloc: Global,
     queue: &Queue,
     site: &Site,
     me: Me,
     env: &Row<Value>,
     reads: &R,
+    mut closed: Closed,
 ) -> Result<Chosen, NoMemory>
+    requires { (number : ℕ) → is_closed closed number ≡ false }
     ensures choice { IfOk result (λ chosen. chosen.choice ≡ choice (R.reading reads.now) site.now me env.now queue.now.items) }
-    ensures seen { IfOk result (λ chosen. chosen.seen ≡ choice_seen (R.reading reads.now) site.now me env.now queue.now.items) }
+    ensures seen { closes closed ≡ false → IfOk result (λ chosen. chosen.seen ≡ choice_seen (R.reading reads.now) site.now me env.now queue.now.items) }
 {
     let selection = Selection {
         scene: Scene {
@@ -156,7 +211,7 @@ pub fn choose_and_see<R: Reads>(
         owner: owner_in(site.scope, me),
     };
     let mut seen = Row::new(alloc);
-    let found = first_choice(&selection, reads, &mut seen)?;
+    let found = first_choice(&selection, reads, &mut seen, &mut closed)?;
     let choice = match found {
         Some(choice) => choice,
         None => unserviced(site),
@@ -164,7 +219,24 @@ pub fn choose_and_see<R: Reads>(
     Ok(Chosen { choice, seen })
 }
 
+/// What an `in` statement of a process does, and what the choice reads. `env` has the values of what the
+/// statement's guards name of the process. The guards are evaluated for each invocation.
+pub fn choose_and_see<R: Reads>(
+    alloc: Global,
+    queue: &Queue,
+    site: &Site,
+    me: Me,
+    env: &Row<Value>,
+    reads: &R,
+) -> Result<Chosen, NoMemory>
+    ensures choice { IfOk result (λ chosen. chosen.choice ≡ choice (R.reading reads.now) site.now me env.now queue.now.items) }
+    ensures seen { IfOk result (λ chosen. chosen.seen ≡ choice_seen (R.reading reads.now) site.now me env.now queue.now.items) }
+{
+    choose_among(alloc, queue, site, me, env, reads, Closed::Never)
+}
+
 /// What an `in` statement of a process does: it services an invocation, runs its `else`, waits, or faults.
+/// Where a guard that names no formal of its arm is false, it isn't evaluated for other invocations.
 pub fn choose<R: Reads>(
     alloc: Global,
     queue: &Queue,
@@ -175,6 +247,7 @@ pub fn choose<R: Reads>(
 ) -> Result<Choice, NoMemory>
     ensures { IfOk result (λ chosen. chosen ≡ choice (R.reading reads.now) site.now me env.now queue.now.items) }
 {
-    let chosen = choose_and_see(alloc, queue, site, me, env, reads)?;
+    let closed = Closed::Arms(Row::new(alloc));
+    let chosen = choose_among(alloc, queue, site, me, env, reads, closed)?;
     Ok(chosen.choice)
 }

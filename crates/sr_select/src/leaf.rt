@@ -1,14 +1,14 @@
 ghost use Rattle.std.specs.Prelude.{◌≡◌, [], ◌∷◌, ◌++◌, OnOk};
-ghost use Rattle.sr_select.specs.Guards.{guard_block, guard_count, guard_leaf, guard_load, guard_owner, guard_shared, home_seen};
+ghost use Rattle.sr_select.specs.Guards.{guard_count, guard_leaf, guard_load, guard_owner, guard_shared, home_seen};
 ghost use Rattle.sr_select.specs.Looks.{Sees};
 ghost use Rattle.sr_select.specs.Sights.{guarding_of};
 
 use crate::formals::load_own;
-use crate::names::{home_in, machine_in};
+use crate::names::{block_of, home_in, machine_in};
 use crate::reads::Reads;
 use crate::sight::{Scene, Sight};
 use sr_ask::Seen;
-use sr_core::{Home, Leaf, OperationOwner, Root};
+use sr_core::{Leaf, OperationOwner, Root};
 use sr_value::{Cap, Duplicate, Fault, NoMemory, Owner, Row, Sel, Value, ValueFail};
 use std::alloc::Global;
 
@@ -23,19 +23,6 @@ fn owner_of(scene: &Scene, whose: OperationOwner) -> Result<Owner, Fault>
             None => Err(Fault::Range),
         },
         OperationOwner::Process => Ok(Owner::Proc(scene.me.process)),
-    }
-}
-
-/// The instance whose variables are meant.
-fn block_of(scene: &Scene, home: Home) -> Result<u32, Fault>
-    ensures { result ≡ guard_block scene.now.me (home_seen scene.now.names.now scene.now.env.now) home }
-{
-    match home {
-        Home::Mine => Ok(scene.me.instance),
-        Home::Imported(import) => match home_in(scene.names, scene.env, import) {
-            Some(instance) => Ok(instance),
-            None => Err(Fault::Range),
-        },
     }
 }
 
@@ -128,10 +115,11 @@ pub fn load_at<R: Reads>(
 ) -> Result<Value, ValueFail>
     ensures { Sees (guard_load root path (guarding_of (R.reading reads.now) sight.now) seen.old) result seen.new }
 {
+    let scene = &sight.scene;
     match root {
         Root::Own(var) => load_own(sight, var, path.as_slice()),
-        Root::Shared { home, var } => match block_of(&sight.scene, home) {
-            Ok(block) => load_shared(sight.scene.alloc, reads, seen, block, var, path),
+        Root::Shared { home, var } => match block_of(scene.me, scene.names, scene.env, home) {
+            Ok(block) => load_shared(scene.alloc, reads, seen, block, var, path),
             Err(fault) => Err(ValueFail::Fault(fault)),
         },
     }

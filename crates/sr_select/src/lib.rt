@@ -1,9 +1,11 @@
 //! Which pending invocation an `in` statement services: the guards of its arms, and the choice.
 #![tactic(auto)]
 
+mod allowed;
 mod arm;
 mod choice;
 mod choosing;
+mod closed;
 mod counted;
 mod expression;
 mod formals;
@@ -11,8 +13,10 @@ mod laws;
 mod leaf;
 mod least;
 mod letting_go;
+mod listed;
 mod named;
 mod names;
+mod naming;
 mod reads;
 mod selection;
 mod sight;
@@ -22,4 +26,6 @@ pub use choosing::{Chosen, choose, choose_and_see, unserviced};
 pub use laws::{
     oldest_goes_first, one_class_decides, others_change_nothing, the_serviced_is_pending,
 };
+pub use listed::names_listed;
+pub use names::block_of;
 pub use reads::Reads;

@@ -1,8 +1,8 @@
 ghost use Rattle.std.specs.Prelude.{◌≡◌, option_copied};
-ghost use Rattle.sr_select.specs.Guards.{home_seen, instance_of_cap, machine_of_cap, machine_seen, named_seen};
+ghost use Rattle.sr_select.specs.Guards.{guard_block, home_seen, instance_of_cap, machine_of_cap, machine_seen, named_seen};
 
-use sr_core::Named;
-use sr_value::{Cap, Value};
+use sr_core::{Home, Me, Named};
+use sr_value::{Cap, Fault, Value};
 
 /// The value of an own variable among those that went with the `Select`.
 pub fn own_in<'a>(names: &[Named], env: &'a [Value], var: u32) -> Option<&'a Value>
@@ -58,6 +58,19 @@ pub fn home_in(names: &[Named], env: &[Value], import: u32) -> Option<u32>
         }
     }
     None
+}
+
+/// The instance whose variables are meant.
+pub fn block_of(me: Me, names: &[Named], env: &[Value], home: Home) -> Result<u32, Fault>
+    ensures { result ≡ guard_block me (home_seen names.now env.now) home }
+{
+    match home {
+        Home::Mine => Ok(me.instance),
+        Home::Imported(import) => match home_in(names, env, import) {
+            Some(instance) => Ok(instance),
+            None => Err(Fault::Range),
+        },
+    }
 }
 
 /// The machine of the process.

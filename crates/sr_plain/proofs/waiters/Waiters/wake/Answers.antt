@@ -13,11 +13,11 @@ returns-in-Some c =
     let new : Waiters = record old { ready = c.join_waiting.new.ready; classes = c.remove.new.self } in
     subst (λ (place : Place). OnOk c.join_waiting.result (IsWokenAt place old new)) (sym c.in-Served.is)
     (on_ok c.join_waiting.result
-    (λ joined. woken-class c.in-Served.class old new (Some c.in-Some.waiting) c.in-Some.ensures.value c.remove.ensures.updates refl (λ p off. (joined.ready p off, joined.joined p off)))
+    (λ joined. woken-class c.in-Served.class old new (Some c.in-Some.waiting) c.in-Some.ensures.value c.remove.ensures.updates refl refl (λ p off. (joined.ready p off, joined.joined p off)))
     c.join_waiting.ensures)
 
 pub returns-in-None : goal.returns-in-None
 returns-in-None c =
     let old : Waiters = c.args.self.now in
     let new : Waiters = record old { classes = c.remove.new.self } in
-    subst (λ (place : Place). IsWokenAt place old new) (sym c.in-Served.is) (woken-class c.in-Served.class old new None c.in-None.ensures.value c.remove.ensures.updates refl (λ p off. (off, refl)))
+    subst (λ (place : Place). IsWokenAt place old new) (sym c.in-Served.is) (woken-class c.in-Served.class old new None c.in-None.ensures.value c.remove.ensures.updates refl refl (λ p off. (off, refl)))
