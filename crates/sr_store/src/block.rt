@@ -5,9 +5,9 @@ ghost use Rattle.sr_value.specs.Operators.{Answers};
 ghost use Rattle.sr_in_place.specs.Puts.{Wrote};
 ghost use Rattle.sr_store.specs.Variables.{block_loaded, block_stored};
 
+use crate::part::{put_at, value_at};
 use crate::variable::Variable;
-use sr_in_place::put;
-use sr_value::{Duplicate, Fault, NoMemory, Sel, Value, ValueFail, loaded};
+use sr_value::{Duplicate, Fault, NoMemory, Sel, Value, ValueFail};
 use std::alloc::Global;
 use std::collections::HashMap;
 use std::marker::Model;
@@ -82,7 +82,7 @@ impl Block {
         ensures { Answers result (block_loaded self.now.variables var path.now) }
     {
         match self.variables.get(&var) {
-            Some(variable) => loaded(alloc, &variable.value, path),
+            Some(variable) => value_at(alloc, &variable.value, path),
             None => Err(ValueFail::Fault(Fault::Early)),
         }
     }
@@ -96,7 +96,7 @@ impl Block {
         let Some(variable) = self.variables.get_mut(&var) else {
             return Err(Fault::Early);
         };
-        put(&variable.shape, &mut variable.value, path, value)
+        put_at(&variable.shape, &mut variable.value, path, value)
     }
 
     /// A copy of the variables.

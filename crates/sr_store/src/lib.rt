@@ -4,6 +4,7 @@
 mod block;
 mod blocks;
 mod laws;
+mod part;
 mod variable;
 
 pub use blocks::Blocks;

@@ -5,8 +5,8 @@ use Rattle.sr_store.proofs.block.Block.load.Goals as goal
 
 pub returns-in-Some : goal.returns-in-Some
 returns-in-Some c =
-    subst (λ meant. Answers c.loaded.result meant)
-    (sym (loaded-here c.self.inside.variables.entries c.args.self.now.variables (ap (λ k. k.variables) c.self.view_is) c.args.var c.args.path.now c.in-Some.variable.now c.in-Some.ensures.value)) c.loaded.ensures
+    subst (λ meant. Answers c.value_at.result meant)
+    (sym (loaded-here c.self.inside.variables.entries c.args.self.now.variables (ap (λ k. k.variables) c.self.view_is) c.args.var c.args.path.now c.in-Some.variable.now c.in-Some.ensures.value)) c.value_at.ensures
 
 pub returns-in-None : goal.returns-in-None
 returns-in-None c = loaded-early c.self.inside.variables.entries c.args.self.now.variables (ap (λ k. k.variables) c.self.view_is) c.args.var c.args.path.now c.in-None.ensures.value

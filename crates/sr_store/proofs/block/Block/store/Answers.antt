@@ -13,15 +13,15 @@ returns-in_default-clause-wrote c = (
 pub returns-clause-wrote : goal.returns-clause-wrote
 returns-clause-wrote c =
     let variable : Variable = c.in-Some.variable.now in
-    let written : Variable = record variable { value = c.put.new.place } in
+    let written : Variable = record variable { value = c.put_at.new.place } in
     let through = c.get_mut.follows.holds written in
-    stored-here c.self.inside.variables.entries c.args.self.now.variables (ap (λ k. k.variables) c.self.view_is) c.args.var c.args.path.now c.args.value _ variable c.put.new.place c.put.result c.in-Some.ensures.value
-    (through.3 (sym (ap is_some c.in-Some.ensures.value))).0 (written-same _ _ c.args.var variable c.put.new.place c.in-Some.ensures.value through.0) c.put.ensures
+    stored-here c.self.inside.variables.entries c.args.self.now.variables (ap (λ k. k.variables) c.self.view_is) c.args.var c.args.path.now c.args.value _ variable c.put_at.new.place c.put_at.result c.in-Some.ensures.value
+    (through.3 (sym (ap is_some c.in-Some.ensures.value))).0 (written-same _ _ c.args.var variable c.put_at.new.place c.in-Some.ensures.value through.0) c.put_at.ensures
 
 pub returns-clause-err : goal.returns-clause-err
 returns-clause-err c =
     let variable : Variable = c.in-Some.variable.now in
-    let written : Variable = record variable { value = c.put.new.place } in
+    let written : Variable = record variable { value = c.put_at.new.place } in
     let through = c.get_mut.follows.holds written in
-    on_fault c.put.result variable.value c.put.new.place _ _ c.put.ensures
-    (λ same. kept-same c.self.inside.variables.entries _ _ _ c.args.self.now c.self.view_is (written-same _ _ c.args.var variable c.put.new.place c.in-Some.ensures.value through.0 same) through.6)
+    on_fault c.put_at.result variable.value c.put_at.new.place _ _ c.put_at.ensures
+    (λ same. kept-same c.self.inside.variables.entries _ _ _ c.args.self.now c.self.view_is (written-same _ _ c.args.var variable c.put_at.new.place c.in-Some.ensures.value through.0 same) through.6)
