@@ -1,6 +1,6 @@
 use Rattle.std.proofs.Common.{◌≡◌, ◌++◌, ◌∷◌, [], IsOk, OnOk, Result, Ok, Err, Some, arith, nat_eq, sym, true≢false, ◌∙◌}
 use Rattle.indexmap.proofs.CallerLemmas.{insert_entry-new}
-use Rattle.sr_processes.proofs.NumberLemmas.{few-starts, starts-put, table-put}
+use Rattle.sr_processes.proofs.SeatLemmas.{few-starts, starts-put, table-put}
 use Rattle.sr_processes.proofs.processes.put.Goals as goal
 
 on_ok : {T E P : Type 0} (r : Result T E) → IsOk r → OnOk r P → P

@@ -1,7 +1,7 @@
 use Rattle.std.proofs.Common.{ap, option_copied, ◌∙◌}
 use Rattle.std.specs.Map.{values_of}
 use Rattle.std.specs.Option.{option_flatten}
-use Rattle.sr_processes.proofs.NumberLemmas.{at-taken}
+use Rattle.sr_processes.proofs.SeatLemmas.{at-taken}
 use Rattle.sr_processes.proofs.processes.start_at.Goals as goal
 
 pub returns-in_err-taken_at : goal.returns-in_err-taken_at

@@ -1,7 +1,7 @@
 use Rattle.std.proofs.Common.{◌≡◌, ap, filter, rules, ◌∙◌}
 use Rattle.indexmap.proofs.CallerLemmas.{filter-RetainsPairs}
 use Rattle.sr_processes.specs.Tables.{starts_in}
-use Rattle.sr_processes.proofs.NumberLemmas.{is_taken, starts-swept, table-swept}
+use Rattle.sr_processes.proofs.SeatLemmas.{is_taken, starts-swept, table-swept}
 use Rattle.sr_processes.proofs.processes.sweep.Goals as goal
 
 swept : (c : goal.After-retain) → c.retain.new.self.entries ≡ filter is_taken c.args.seats.now.entries

@@ -1,7 +1,7 @@
 use Rattle.std.proofs.Common.{ap, is_some, nat_eq, ◌∙◌}
 use Rattle.std.specs.Map.{set_value}
 use Rattle.sr_processes.specs.Tables.{starts_in}
-use Rattle.sr_processes.proofs.NumberLemmas.{count-vacated, starts-absent, starts-vacated, table-vacated}
+use Rattle.sr_processes.proofs.SeatLemmas.{count-vacated, starts-absent, starts-vacated, table-vacated}
 use Rattle.sr_processes.proofs.processes.vacate.Goals as goal
 
 pub returns-in-Some-clause-table : goal.returns-in-Some-clause-table

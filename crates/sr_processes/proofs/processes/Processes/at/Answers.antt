@@ -1,6 +1,6 @@
 use Rattle.std.proofs.Common.{ap, slice_get, sym, ◌∙◌}
 use Rattle.std.specs.Option.{option_flatten, option_map}
-use Rattle.sr_processes.proofs.NumberLemmas.{Entry, at-full}
+use Rattle.sr_processes.proofs.SeatLemmas.{Entry, at-full}
 use Rattle.sr_processes.proofs.processes.Processes.at.Goals as goal
 
 pub returns-then-self-len : goal.returns-then-self-len

@@ -3,7 +3,7 @@ use Rattle.std.proofs.lemmas.Iterator.Consumers.{YieldsList-at, YieldsList-from_
 use Rattle.std.proofs.lemmas.Iterator.Search.{position_from_yields_List}
 use Rattle.std.specs.Map.{values_of}
 use Rattle.sr_processes.specs.Living.{is_among}
-use Rattle.sr_processes.proofs.NumberLemmas.{position-taken, seat_is_among}
+use Rattle.sr_processes.proofs.SeatLemmas.{position-taken, seat_is_among}
 use Rattle.sr_processes.proofs.processes.Processes.first_among.Goals as goal
 
 pub returns : goal.returns

@@ -1,7 +1,7 @@
 use Rattle.std.proofs.Common.{ap, option_copied, sym, ◌∙◌}
 use Rattle.std.specs.Option.{option_flatten}
 use Rattle.sr_processes.specs.Living.{start_of}
-use Rattle.sr_processes.proofs.NumberLemmas.{look-up}
+use Rattle.sr_processes.proofs.SeatLemmas.{look-up}
 use Rattle.sr_processes.proofs.processes.Processes.start.Goals as goal
 
 pub returns-in_err-get : goal.returns-in_err-get

@@ -1,5 +1,5 @@
 -- Processes in the seats of a table.
-use Rattle.std.proofs.Common.{◌≡◌, ◌≤◌, ◌<◌, ◌+◌, ℕ, suc, zero, nat_lt, Bool, true, false, cond, not, List, [], ◌∷◌, ◌++◌, Option, None, Some, IfSome, IsSome, is_some, refl, ap, arith, sym, subst, ◌∙◌, true≢false, nat_eq, length, map, filter, option_to_list, slice_get, position}
+use Rattle.std.proofs.Common.{◌≡◌, ◌≤◌, ◌+◌, ℕ, suc, zero, nat_lt, Bool, true, false, cond, not, List, [], ◌∷◌, ◌++◌, Option, None, Some, IfSome, IsSome, is_some, refl, ap, arith, sym, subst, ◌∙◌, true≢false, nat_eq, length, map, filter, option_to_list, slice_get, position}
 use Rattle.std.proofs.lemmas.List.{map-append}
 use Rattle.std.proofs.lemmas.List.Elements.{filter_map-append}
 use Rattle.std.proofs.lemmas.Map.{lookup-none}
@@ -7,7 +7,7 @@ use Rattle.std.proofs.lemmas.Map.Entries.{none_past_head}
 use Rattle.std.proofs.lemmas.Map.Keys.{IsDistinct-tail}
 use Rattle.std.specs.Borrow.{Bor}
 use Rattle.std.specs.Cmp.{nat_eq_equiv}
-use Rattle.std.specs.List.{IsDistinct, cons_option, filter_map, position_or_len, prefix_len}
+use Rattle.std.specs.List.{IsDistinct, cons_option, filter_map, position_or_len}
 use Rattle.std.specs.Map.{keys_of, lookup, remove_entry, set_value, values_of}
 use Rattle.std.specs.Option.{option_flatten, option_map, option_map_or}
 use Rattle.sr_ask.specs.declared.start.Start.{Start}
