@@ -1,4 +1,4 @@
-ghost use Rattle.std.specs.Prelude.{◌≡◌, ◌↔◌, ◌++◌, ◌∷◌, [], IfNone, IfOk, IfSome, IsTrue, OnErr, OnOk, length, option_copied, slice_get, true};
+ghost use Rattle.std.specs.Prelude.{◌≡◌, ◌↔◌, ◌++◌, ◌∷◌, [], IfNone, IfOk, IfSome, IsTrue, OnErr, OnOk, length, map, option_copied, slice_get, true};
 ghost use Rattle.std.specs.Option.{option_map};
 ghost use Rattle.sr_processes.specs.Living.{IsLive};
 ghost use Rattle.sr_world.specs.Acting.{IsNew, NeedsNew};
@@ -141,7 +141,15 @@ impl World {
         self.processes.len()
     }
 
-    /// What the process was started with that stands at a place in the order of their making, from 0.
+    /// The numbers of all that live, in the order of their making.
+    pub fn living(&self) -> Result<Row<u32>, NoMemory>
+        ensures { IfOk result (λ numbers. numbers ≡ map (λ s. s.process) self.now.live) }
+    {
+        self.processes.numbers(self.alloc)
+    }
+
+    /// What the process was started with that stands at a place in the order of their making, from 0. Where
+    /// some have ended since the last sweep of `Processes`, it takes time by the place.
     pub fn live_at(&self, place: usize) -> Option<&Start>
         ensures { option_copied result ≡ slice_get self.now.live place }
     {

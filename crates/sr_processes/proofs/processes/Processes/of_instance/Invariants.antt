@@ -1,6 +1,7 @@
 use Rattle.std.proofs.Common.{◌≡◌, map}
-use Rattle.sr_processes.specs.Living.{numbers_in}
+use Rattle.std.specs.List.{filter_map}
+use Rattle.sr_processes.specs.Tables.{number_in}
 use Rattle.sr_processes.proofs.processes.Processes.of_instance.Given as goal
 
-abbrev pub invariant-loop-start : goal.invariant-loop-start
-invariant-loop-start l = l.numbers ≡ numbers_in (map (λ start. start.now) l.yielded) l.instance
+abbrev pub invariant-loop-seat : goal.invariant-loop-seat
+invariant-loop-seat l = l.numbers ≡ filter_map (number_in l.instance) (map (λ seat. seat.now) l.yielded)
