@@ -4,6 +4,7 @@ pub mod BeginLemmas
 pub mod ChangeLemmas
 pub mod CrewLemmas
 pub mod EngineLemmas
+pub mod IdleLemmas
 pub mod JoinLemmas
 pub mod LeaveLemmas
 pub mod LedLemmas

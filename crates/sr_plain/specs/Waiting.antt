@@ -1,7 +1,8 @@
 -- Who is asked in turn, and where the others wait.
-use Rattle.std.specs.Prelude.{◌≡◌, ◌<◌, ◌≤◌, ◌==◌, ◌&&◌, ◌||◌, ◌⊎◌, ℕ, Bool, true, false, List, Option, Some, None, Result, Ok, Err, slice_get}
+use Rattle.std.specs.Prelude.{◌≡◌, ◌<◌, ◌≤◌, ◌==◌, ◌&&◌, ◌||◌, ◌⊎◌, ℕ, Bool, not, true, false, List, Option, Some, None, Result, Ok, Err, slice_get}
 use Rattle.std.specs.BTreeSet.{BTreeSet, contains}
 use Rattle.std.specs.HashMap.{get}
+use Rattle.std.specs.List.{list_all}
 use Rattle.std.specs.Ordering.{nat_cmp}
 use Rattle.sr_ask.specs.declared.request.Request.{Request}
 use Rattle.sr_ask.specs.declared.request.Request.TheVariants as request
@@ -13,6 +14,7 @@ use Rattle.sr_core.specs.declared.site.Named.{Named}
 use Rattle.sr_core.specs.declared.site.Site.{Site}
 use Rattle.sr_queue.specs.Classes.{class_of, same_class}
 use Rattle.sr_select.specs.Guards.{guard_block, home_seen}
+use Rattle.sr_select.specs.Laws.{is_plain}
 use Rattle.sr_select.specs.Worlds.{Watched as Watching, reads_only}
 use Rattle.sr_value.specs.declared.capability.Owner.{Owner}
 use Rattle.sr_value.specs.declared.fault.Fault.{Fault}
@@ -81,6 +83,10 @@ pub record WaitsForAll (core : Core) (me : Me) (at : Place → Bool) (env : List
 -- or it waits for any change
 abbrev pub WaitsAtSite : Core → Me → (Place → Bool) → List Value → Site → Type 0
 WaitsAtSite core me at env site = (at places.Watched ≡ true) ⊎ WaitsForAll core me at env site
+
+-- a statement without guards and `else`
+abbrev pub is_simple : Site → Bool
+is_simple site = list_all is_plain site.arms && not site.has_else
 
 -- A `Take` is woken by the reply, and a `Wake` by the moment.
 abbrev pub WaitsFor : Core → Me → (Place → Bool) → Request → Type 0
