@@ -1,28 +1,64 @@
 -- A statement without guards and `else` can be done exactly where an invocation of one of its operations is pending.
-use Rattle.std.proofs.Common.{◌≡◌, ◌+◌, ℕ, zero, suc, ◌&&◌, not, Bool, true, false, cond, List, [], ◌∷◌, ◌++◌, Option, None, Some, refl, ap, sym, ◌∙◌, subst, true≢false}
+use Rattle.std.proofs.Common.{◌≡◌, ◌+◌, ℕ, zero, suc, ◌&&◌, ◌||◌, ◌==◌, not, Bool, true, false, cond, List, [], ◌∷◌, ◌++◌, None, Some, refl, ap, sym, ◌∙◌, true≢false}
+use Rattle.std.specs.BTreeSet.{contains}
+use Rattle.std.specs.Ordering.{nat_cmp}
 use Rattle.std.specs.List.{cons_option, enumerate_from, list_all}
-use Rattle.std.specs.Prelude.{filter, filter_map, option_map, slice_get}
+use Rattle.std.specs.Prelude.{filter, option_map, slice_get}
 use Rattle.sr_ask.specs.declared.ask.Role.{Role}
 use Rattle.sr_ask.specs.declared.request.Request.TheVariants as request
 use Rattle.sr_core.specs.Formals.{first_of}
 use Rattle.sr_core.specs.declared.component.Core.{Core}
 use Rattle.sr_core.specs.declared.site.Arm.{Arm}
 use Rattle.sr_core.specs.declared.site.Site.{Site}
+use Rattle.sr_queue.specs.Classes.{class_of, same_class}
 use Rattle.sr_queue.specs.Queues.{is_of}
+use Rattle.sr_queue.specs.declared.class.Class.{Class}
 use Rattle.sr_queue.specs.declared.pending.Pending.{Pending}
 use Rattle.sr_select.proofs.LawProofs.{oldest-first, serves-pending}
-use Rattle.sr_select.specs.Choices.{Pair, all_pairs, otherwise, owner_in, paired, pairs, pairs_of}
-use Rattle.sr_select.specs.Laws.{Services, is_plain}
-use Rattle.sr_select.specs.declared.choice.Choice.{Choice}
-use Rattle.sr_select.specs.declared.choice.Choice.TheVariants.{Service, Nothing}
+use Rattle.sr_select.specs.Choices.{Pair, all_pairs, otherwise, owner_in, pairs, pairs_of}
+use Rattle.sr_select.specs.Laws.{is_plain}
+use Rattle.sr_select.specs.declared.choice.Choice.TheVariants.{Service}
 use Rattle.sr_value.specs.declared.capability.Owner.{Owner}
+use Rattle.sr_value.specs.declared.capability.Owner.TheVariants.{Inst, Proc}
 use Rattle.sr_value.specs.declared.place.Place.{Place}
 use Rattle.sr_value.specs.declared.value.Value.{Value}
 use Rattle.sr_world.specs.Does.{IsDone, IsNot, comes_to, where_some}
 use Rattle.sr_world.specs.Selecting.{by_choice, choice_of, me_of, reading_of, select_at, service}
 use Rattle.sr_world.specs.Steps.{done_by}
 use Rattle.sr_world.specs.Worlds.{World}
-use Rattle.sr_plain.specs.Waiting.{is_simple}
+use Rattle.sr_plain.specs.Waiting.{is_open, is_open_at, is_simple, opens}
+use Rattle.sr_plain.specs.declared.change.Change.{Change}
+use Rattle.sr_plain.specs.declared.change.Change.TheVariants as change
+use Rattle.sr_plain.specs.declared.crowd.Opened.{Opened}
+use Rattle.sr_plain.proofs.ChangeLemmas.{Keeps}
+
+-- ---- what stays pending
+
+-- of an operation that isn't opened the same are pending
+pub pending-kept : (actor caller : ℕ) (change : Change) (old new : World) → Keeps actor caller change old new → (owner : Owner) (op : ℕ) → opens change owner op ≡ false
+    → filter (is_of owner op) old.pending ≡ filter (is_of owner op) new.pending
+pending-kept actor caller change.Nothing old new keeps owner op off = ap (filter (is_of owner op)) keeps.pending
+pending-kept actor caller change.Watched old new keeps owner op off = ap (filter (is_of owner op)) keeps.pending
+pending-kept actor caller (change.Variable block var) old new keeps owner op off = ap (filter (is_of owner op)) keeps.pending
+pending-kept actor caller (change.Class whose n) old new keeps owner op off = keeps.pending owner (λ m. m == op) off
+pending-kept actor caller change.Everything old new keeps owner op off = absurd (true≢false off)
+
+-- ---- open operations
+
+pub open-at : (opened : List Opened) (class : Class) (process : ℕ) → is_open opened process ≡ false → is_open_at opened class process ≡ false
+open-at [] class process off = refl
+open-at (o ∷ opened) class process off = by (contains nat_cmp o.processes process) (same_class o.class class) off (open-at opened class process)
+  where
+    by : (b c : Bool) → (b || is_open opened process) ≡ false → (is_open opened process ≡ false → is_open_at opened class process ≡ false) → ((c && b) || is_open_at opened class process) ≡ false
+    by true c h more = absurd (true≢false h)
+    by false true h more = more h
+    by false false h more = more h
+
+pub same-operation : (whose owner : Owner) (n op : ℕ) → class_of whose n ≡ class_of owner op → (whose ≡ owner) × (n ≡ op)
+same-operation (Inst a) (Inst b) n op is = (ap Inst (ap (λ (c : Class). c.owner) is), ap (λ (c : Class). c.op) is)
+same-operation (Proc a) (Proc b) n op is = (ap Proc (ap (λ (c : Class). c.owner) is), ap (λ (c : Class). c.op) is)
+same-operation (Inst a) (Proc b) n op is = absurd (true≢false (sym (ap (λ (c : Class). c.of_process) is)))
+same-operation (Proc a) (Inst b) n op is = absurd (true≢false (ap (λ (c : Class). c.of_process) is))
 
 -- ---- pairs
 

@@ -1,6 +1,5 @@
 -- What is noted of a request that the machine has carried out.
 use Rattle.std.specs.Prelude.{◌≡◌, ◌<◌, ℕ, true, List, Option, Some, None, Result, slice_get}
-use Rattle.std.specs.BTreeSet.{btree_set_len}
 use Rattle.sr_ask.specs.declared.ask.Ask.{Ask}
 use Rattle.sr_core.specs.declared.component.Core.{Core}
 use Rattle.sr_core.specs.declared.owner.Me.{Me}
@@ -13,7 +12,7 @@ use Rattle.sr_value.specs.declared.value.Value.{Value}
 use Rattle.sr_world.specs.declared.acted.Acted.{Acted}
 use Rattle.sr_world.specs.declared.acted.Acted.TheVariants.{Done, Cannot}
 use Rattle.sr_plain.specs.Changes.{change_of, owner_at}
-use Rattle.sr_plain.specs.Waiting.{IsTakenOut, IsWaiting, WaitsAtSite, at_block, at_operation, is_ready, key_of, waits}
+use Rattle.sr_plain.specs.Waiting.{IsTakenOut, IsWaiting, WaitsAtSite, at_block, at_operation, is_ready, key_of, turns_len, waits}
 use Rattle.sr_plain.specs.declared.carrying.Carried.{Carried}
 use Rattle.sr_plain.specs.declared.change.Woken.{Woken}
 use Rattle.sr_plain.specs.declared.waiters.Place.{Place}
@@ -60,7 +59,7 @@ pub record IsSetAside (core : Core) (me : Me) (ask : Ask) (old new : Waiters) : 
   pub between : Waiters
   pub waiting : IsWaiting core me ask.request old between
   pub out : IsTakenOut me.process between new
-  pub less : is_ready old me.process ≡ true → btree_set_len new.ready < btree_set_len old.ready
+  pub less : is_ready old me.process ≡ true → turns_len new < turns_len old
 
 abbrev pub NotesBy : Core → Me → Ask → ℕ → ℕ → Acted → Waiters → Waiters → Option Woken → Type 0
 NotesBy core me ask caller name (Done answer) old new woken =

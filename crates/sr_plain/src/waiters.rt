@@ -4,9 +4,10 @@ ghost use Rattle.std.specs.Ordering.{nat_cmp};
 ghost use Rattle.sr_plain.specs.Waiting.{HaveJoined, IsJoined, IsMadeReady, IsNext, IsTakenOut, IsWokenAt, WaitsAlso, WaitsThere, is_ready};
 ghost use Rattle.sr_plain.specs.declared.waiters.Place.TheVariants.{Served, Stored};
 
+use crate::crowd::Opened;
 use crate::variable::Variable;
 use sr_queue::Class;
-use sr_value::NoMemory;
+use sr_value::{NoMemory, Row};
 use std::alloc::Global;
 use std::collections::{BTreeSet, HashMap};
 use std::ops::Bound;
@@ -20,6 +21,8 @@ pub enum Place {
     Served(Class),
     /// For what a shared variable holds.
     Stored(Variable),
+    /// For invocations of an operation, at a statement without guards and `else`.
+    Idle(Class),
 }
 
 /// Those that wait at one place.
@@ -41,6 +44,10 @@ pub struct Waiters {
     pub(crate) classes: HashMap<Class, Waiting>,
     /// Those that wait for shared variables.
     pub(crate) variables: HashMap<Variable, Waiting>,
+    /// Those that wait at statements without guards and `else`, for operations that have no invocations.
+    pub(crate) idle: HashMap<Class, Waiting>,
+    /// Those that wait so for operations that may have got some.
+    pub(crate) opened: Row<Opened>,
 }
 
 fn join(ready: &mut BTreeSet<u32>, processes: &mut BTreeSet<u32>) -> Result<(), NoMemory>
