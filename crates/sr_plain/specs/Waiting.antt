@@ -215,11 +215,35 @@ pub record IsMadeReady (process : ℕ) (old new : Waiters) : Type 0 where
   pub idle : new.idle ≡ old.idle
   pub apart : (other : ℕ) → is_ready new other ≡ false → (process == other) ≡ false
 
+-- some more wait idly for an operation, and all else is as before
+pub record UpdatesIdle (class : Served_class) (old new : Waiters) : Type 0 where
+  pub ready : new.ready ≡ old.ready
+  pub watched : new.watched ≡ old.watched
+  pub classes : new.classes ≡ old.classes
+  pub variables : new.variables ≡ old.variables
+  pub opened : new.opened ≡ old.opened
+  pub stay : (wanted : Served_class) (other : ℕ) → is_closed old wanted other ≡ true → is_closed new wanted other ≡ true
+  pub closed : (wanted : Served_class) (other : ℕ) → same_class class wanted ≡ false → is_closed new wanted other ≡ true → is_closed old wanted other ≡ true
+
 -- a process waits there too
 pub record WaitsThere (key : Place) (process : ℕ) (old new : Waiters) : Type 0 where
   pub ready : new.ready ≡ old.ready
   pub itself : waits new key process ≡ true
   pub others : (k : Place) (other : ℕ) → waits old k other ≡ true → waits new k other ≡ true
+  pub closed : (class : Served_class) (other : ℕ) → is_closed new class other ≡ true → (is_closed old class other ≡ true) ⊎ (key ≡ places.Idle class)
+  pub less : turns_len new ≤ turns_len old
+
+-- those of an operation are put back that were asked in turn
+pub record IsPutBack (class : Served_class) (processes : BTreeSet ℕ) (old new : Waiters) : Type 0 where
+  pub idle : UpdatesIdle class old new
+  pub themselves : (other : ℕ) → contains nat_cmp processes other ≡ true → is_closed new class other ≡ true
+
+-- those of an operation aren't asked in turn any more
+pub record IsShut (class : Served_class) (old new : Waiters) : Type 0 where
+  pub ready : new.ready ≡ old.ready
+  pub others : (k : Place) (other : ℕ) → waits old k other ≡ true → waits new k other ≡ true
+  pub closed : (wanted : Served_class) (other : ℕ) → same_class class wanted ≡ false → is_closed new wanted other ≡ true → is_closed old wanted other ≡ true
+  pub less : turns_len new ≤ turns_len old
 
 -- a process waits for what lets its request go on
 pub record IsWaiting (core : Core) (me : Me) (asked : Request) (old new : Waiters) : Type 0 where
@@ -237,7 +261,22 @@ pub record IsTakenOut (process : ℕ) (old new : Waiters) : Type 0 where
   pub idle : new.idle ≡ old.idle
   pub opened : new.opened ≡ old.opened
 
+-- some of those who wait stand at this place, with their operation, or with this process
+pub record HoldsClass (crowds : List Opened) (class : Served_class) (place : ℕ) : Type 0 where
+  pub crowd : Opened
+  pub here : slice_get crowds place ≡ Some crowd
+  pub same : same_class crowd.class class ≡ true
+
+pub record HoldsProcess (crowds : List Opened) (process place : ℕ) : Type 0 where
+  pub crowd : Opened
+  pub here : slice_get crowds place ≡ Some crowd
+  pub holds : contains nat_cmp crowd.processes process ≡ true
+
 -- ---- who is next
+
+abbrev pub IsFirst : (ℕ → Bool) → Option ℕ → Type 0
+IsFirst test None = (other : ℕ) → test other ≡ false
+IsFirst test (Some process) = (test process ≡ true) × ((other : ℕ) → other < process → test other ≡ false)
 
 -- the first that may be asked of those after the last actor, or else of all
 pub record IsNextAfter (waiters : Waiters) (last process : ℕ) : Type 0 where

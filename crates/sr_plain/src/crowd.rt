@@ -1,9 +1,108 @@
+ghost use Rattle.std.specs.Prelude.{◌≡◌, ◌<◌, ◌||◌, ℕ, Bool, IfNone, IfSome, Some, false, length, nat_lt, slice_get, true};
+ghost use Rattle.std.specs.BTreeSet.{contains};
+ghost use Rattle.std.specs.Ordering.{nat_cmp};
+ghost use Rattle.sr_plain.specs.Waiting.{HoldsClass, HoldsProcess, IsFirst, is_open};
+
 use sr_queue::Class;
 use std::collections::BTreeSet;
+use std::ops::Bound;
 
 /// Those that wait for invocations of an operation that may have got one.
 #[derive(Drop)]
 pub(crate) struct Opened {
     pub(crate) class: Class,
     pub(crate) processes: BTreeSet<u32>,
+}
+
+/// Whether none stands after it, which takes less time than to look for the first.
+fn none_after(processes: &BTreeSet<u32>, last: u32) -> bool
+    ensures { result ≡ true → (other : ℕ) → last < other → contains nat_cmp processes.now other ≡ false }
+{
+    match processes.last() {
+        Some(greatest) => *greatest <= last,
+        None => true,
+    }
+}
+
+/// The first of those after a process.
+pub(crate) fn first_after(processes: &BTreeSet<u32>, last: u32) -> Option<u32>
+    ensures { IsFirst (λ q. nat_lt last q && contains nat_cmp processes.now q) result }
+{
+    if none_after(processes, last) {
+        return None;
+    }
+    processes
+        .range((Bound::Excluded(last), Bound::Unbounded))
+        .next()
+        .copied()
+}
+
+pub(crate) fn first(processes: &BTreeSet<u32>) -> Option<u32>
+    ensures { IsFirst (contains nat_cmp processes.now) result }
+{
+    processes.first().copied()
+}
+
+/// The first of both.
+pub(crate) fn sooner(one: Option<u32>, other: Option<u32>) -> Option<u32>
+    ensures { (f g : ℕ → Bool) → IsFirst f one → IsFirst g other → IsFirst (λ q. f q || g q) result }
+{
+    match one {
+        Some(one) => match other {
+            Some(other) => {
+                if other < one {
+                    Some(other)
+                } else {
+                    Some(one)
+                }
+            }
+            None => Some(one),
+        },
+        None => other,
+    }
+}
+
+pub(crate) fn first_open_after(crowds: &[Opened], last: u32) -> Option<u32>
+    ensures { IsFirst (λ q. nat_lt last q && is_open crowds.now q) result }
+{
+    let mut least = None;
+    for crowd in crowds {
+        least = sooner(least, first_after(&crowd.processes, last));
+    }
+    least
+}
+
+pub(crate) fn first_open(crowds: &[Opened]) -> Option<u32>
+    ensures { IsFirst (is_open crowds.now) result }
+{
+    let mut least = None;
+    for crowd in crowds {
+        least = sooner(least, first(&crowd.processes));
+    }
+    least
+}
+
+/// Where those stand that wait for an operation.
+pub(crate) fn place_of(crowds: &[Opened], class: Class) -> Option<usize>
+    ensures { IfSome result (HoldsClass crowds.now class) }
+{
+    for (place, crowd) in crowds.iter().enumerate() {
+        if crowd.class == class {
+            return Some(place);
+        }
+    }
+    None
+}
+
+/// Where a process stands.
+pub(crate) fn place_with(crowds: &[Opened], process: u32) -> Option<usize>
+    ensures some { IfSome result (HoldsProcess crowds.now process) }
+    ensures none { IfNone result (is_open crowds.now process ≡ false) }
+{
+    for (place, crowd) in crowds.iter().enumerate() {
+        if crowd.processes.contains(&process) {
+            return Some(place);
+        }
+    }
+    None
 }

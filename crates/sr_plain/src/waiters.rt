@@ -1,16 +1,16 @@
-ghost use Rattle.std.specs.Prelude.{◌≡◌, ◌<◌, ℕ, IfNone, IfOk, IfSome, IsTrue, OnOk, false, true};
-ghost use Rattle.std.specs.BTreeSet.{btree_set_len, contains};
+ghost use Rattle.std.specs.Prelude.{◌≡◌, ◌&&◌, ◌<◌, ℕ, IfOk, OnOk, false, nat_lt, true};
+ghost use Rattle.std.specs.BTreeSet.{contains};
 ghost use Rattle.std.specs.Ordering.{nat_cmp};
-ghost use Rattle.sr_plain.specs.Waiting.{HaveJoined, IsJoined, IsMadeReady, IsNext, IsTakenOut, IsWokenAt, WaitsAlso, WaitsThere, is_ready};
-ghost use Rattle.sr_plain.specs.declared.waiters.Place.TheVariants.{Served, Stored};
+ghost use Rattle.sr_plain.specs.Waiting.{HaveJoined, HoldsProcess, IsFirst, IsJoined, IsMadeReady, IsNext, IsOpenedAt, IsPromoted, IsPutBack, IsShut, IsTakenOut, IsWokenAt, WaitsAlso, WaitsThere, is_closed, is_ready, may_go, turns_len};
+ghost use Rattle.sr_plain.specs.declared.waiters.Place.TheVariants.{Idle, Served, Stored, Watched};
+ghost use Rattle.sr_queue.specs.declared.class.Class as served;
 
-use crate::crowd::Opened;
+use crate::crowd::{Opened, first, first_after, first_open, first_open_after, place_of, place_with, sooner};
 use crate::variable::Variable;
 use sr_queue::Class;
 use sr_value::{NoMemory, Row};
 use std::alloc::Global;
 use std::collections::{BTreeSet, HashMap};
-use std::ops::Bound;
 
 /// Where a process waits.
 #[derive(Clone, Copy)]
@@ -121,6 +121,8 @@ impl Waiters {
             watched: BTreeSet::new(alloc),
             classes: HashMap::new(alloc),
             variables: HashMap::new(alloc),
+            idle: HashMap::new(alloc),
+            opened: Row::new(alloc),
         }
     }
 
@@ -135,7 +137,7 @@ impl Waiters {
     /// Has a process be asked no more.
     pub(crate) fn take_out(&mut self, process: u32)
         ensures out { IsTakenOut process self.old self.new }
-        ensures less { is_ready self.old process ≡ true → btree_set_len self.new.ready < btree_set_len self.old.ready }
+        ensures less { is_ready self.old process ≡ true → turns_len self.new < turns_len self.old }
     {
         self.ready.remove(&process);
     }
@@ -151,6 +153,7 @@ impl Waiters {
             }
             Place::Served(class) => self.wait_for(class, process),
             Place::Stored(variable) => self.wait_for_variable(variable, process),
+            Place::Idle(class) => self.wait_idle(class, process),
         }
     }
 
@@ -180,24 +183,115 @@ impl Waiters {
         }
     }
 
-    /// Makes ready who waits there.
-    #[inline(always)]
-    pub(crate) fn wake(&mut self, place: Place) -> Result<(), NoMemory>
-        ensures { OnOk result (IsWokenAt place self.old self.new) }
+    /// Has a process wait for invocations of an operation, and for nothing else. Those who wait so aren't asked until it
+    /// gets one.
+    fn wait_idle(&mut self, class: Class, process: u32) -> Result<(), NoMemory>
+        ensures { OnOk result (WaitsThere (Idle class) process self.old self.new) }
     {
-        match place {
-            Place::Watched => join(&mut self.ready, &mut self.watched),
-            Place::Served(class) => match self.classes.remove(&class) {
-                Some(waiting) => join_waiting(&mut self.ready, waiting),
-                None => Ok(()),
-            },
-            Place::Stored(variable) => self.wake_for_variable(variable),
+        self.shut(class)?;
+        self.add_idle(class, process)
+    }
+
+    fn add_idle(&mut self, class: Class, process: u32) -> Result<(), NoMemory>
+        ensures { OnOk result (WaitsThere (Idle class) process self.old self.new) }
+    {
+        match self.idle.get_mut(&class) {
+            Some(waiting) => waiting.add(self.alloc, process),
+            None => {
+                self.idle.insert(class, Waiting::One(process))?;
+                Ok(())
+            }
+        }
+    }
+
+    /// Has those asked no more that wait for invocations of an operation.
+    fn shut(&mut self, class: Class) -> Result<(), NoMemory>
+        ensures { OnOk result (IsShut class self.old self.new) }
+    {
+        match place_of(self.opened.as_slice(), class) {
+            Some(place) => {
+                let Opened { processes, .. } = self.opened.remove(place);
+                self.put_back(class, processes)
+            }
+            None => Ok(()),
+        }
+    }
+
+    fn put_back(&mut self, class: Class, processes: BTreeSet<u32>) -> Result<(), NoMemory>
+        ensures { OnOk result (IsPutBack class processes self.old self.new) }
+    {
+        let mut processes = processes;
+        if let Some(waiting) = self.idle.remove(&class) {
+            join_waiting(&mut processes, waiting)?;
+        }
+        self.idle.insert(class, Waiting::Many(processes))?;
+        Ok(())
+    }
+
+    /// Has those asked in turn that wait for invocations of an operation, which may have got one.
+    pub(crate) fn open(&mut self, class: Class) -> Result<(), NoMemory>
+        ensures { OnOk result (IsOpenedAt class self.old self.new) }
+    {
+        match self.idle.remove(&class) {
+            Some(Waiting::One(process)) => {
+                self.ready.insert(process)?;
+                Ok(())
+            }
+            Some(Waiting::Many(processes)) => self.opened.push(Opened { class, processes }),
+            None => Ok(()),
+        }
+    }
+
+    /// Nobody waits for invocations alone.
+    pub(crate) fn open_all(&mut self)
+        ensures { (class : served.Class) (process : ℕ) → is_closed self.new class process ≡ false }
+    {
+        self.idle = HashMap::new(self.alloc);
+        self.opened = Row::new(self.alloc);
+    }
+
+    /// Has a process be asked by itself, and not as one of many.
+    pub(crate) fn promote(&mut self, process: u32) -> Result<(), NoMemory>
+        requires { may_go self.old process ≡ true }
+        ensures { OnOk result (IsPromoted process self.old self.new) }
+    {
+        match place_with(self.opened.as_slice(), process) {
+            Some(place) => self.promote_from(place, process),
+            None => Ok(()),
+        }
+    }
+
+    fn promote_from(&mut self, place: usize, process: u32) -> Result<(), NoMemory>
+        requires { HoldsProcess self.old.opened process place }
+        ensures { OnOk result (IsPromoted process self.old self.new) }
+    {
+        self.opened.at_mut(place).processes.remove(&process);
+        self.ready.insert(process)?;
+        Ok(())
+    }
+
+    /// Makes ready who waits for any change.
+    pub(crate) fn wake_watched(&mut self) -> Result<(), NoMemory>
+        ensures { OnOk result (IsWokenAt Watched self.old self.new) }
+    {
+        join(&mut self.ready, &mut self.watched)
+    }
+
+    /// Makes ready who waits for invocations of an operation, and for more.
+    pub(crate) fn wake_served(&mut self, class: Class) -> Result<(), NoMemory>
+        ensures { OnOk result (IsWokenAt (Served class) self.old self.new) }
+    {
+        if self.classes.is_empty() {
+            return Ok(());
+        }
+        match self.classes.remove(&class) {
+            Some(waiting) => join_waiting(&mut self.ready, waiting),
+            None => Ok(()),
         }
     }
 
     /// Makes ready who waits for a shared variable. Mostly there is no such process, and then nothing is looked up.
-    #[inline(always)]
-    fn wake_for_variable(&mut self, variable: Variable) -> Result<(), NoMemory>
+    pub(crate) fn wake_stored(&mut self, variable: Variable) -> Result<(), NoMemory>
         ensures { OnOk result (IsWokenAt (Stored variable) self.old self.new) }
     {
         if self.variables.is_empty() {
@@ -220,35 +314,20 @@ impl Waiters {
     }
 
     fn first_after(&self, last: u32) -> Option<u32>
-        ensures ready { IfSome result (λ process. is_ready self.now process ≡ true) }
-        ensures later { IfSome result (λ process. last < process) }
-        ensures least { IfSome result (λ process. (other : ℕ) → last < other → other < process → is_ready self.now other ≡ false) }
-        ensures none { IfNone result ((other : ℕ) → last < other → is_ready self.now other ≡ false) }
+        ensures { IsFirst (λ q. nat_lt last q && may_go self.now q) result }
     {
-        if self.none_after(last) {
-            return None;
-        }
-        self.ready
-            .range((Bound::Excluded(last), Bound::Unbounded))
-            .next()
-            .copied()
-    }
-
-    /// Whether none is ready after it, which takes less time than to look for the first.
-    fn none_after(&self, last: u32) -> bool
-        ensures { IsTrue result → (other : ℕ) → last < other → is_ready self.now other ≡ false }
-    {
-        match self.ready.last() {
-            Some(greatest) => *greatest <= last,
-            None => true,
-        }
+        sooner(
+            first_after(&self.ready, last),
+            first_open_after(self.opened.as_slice(), last),
+        )
     }
 
     fn first(&self) -> Option<u32>
-        ensures ready { IfSome result (λ process. is_ready self.now process ≡ true) }
-        ensures least { IfSome result (λ process. (other : ℕ) → other < process → is_ready self.now other ≡ false) }
-        ensures none { IfNone result ((other : ℕ) → is_ready self.now other ≡ false) }
+        ensures { IsFirst (may_go self.now) result }
     {
-        self.ready.first().copied()
+        sooner(
+            first(&self.ready),
+            first_open(self.opened.as_slice()),
+        )
     }
 }
