@@ -3,6 +3,7 @@ pub mod AsideLemmas
 pub mod BeginLemmas
 pub mod ChangeLemmas
 pub mod CrewLemmas
+pub mod CrowdLemmas
 pub mod EngineLemmas
 pub mod IdleLemmas
 pub mod JoinLemmas

@@ -1,6 +1,6 @@
 -- Those that wait, and those that are woken.
 use Rattle.std.proofs.Common.{◌≡◌, ◌≤◌, ◌+◌, inl, inr, ◌⊎◌, ◌&&◌, ◌||◌, ◌==◌, ℕ, Bool, true, false, cond, List, [], ◌∷◌, length, Option, Some, None, refl, ap, sym, ◌∙◌, subst, eqb-true, true≢false, arith}
-use Rattle.std.specs.BTreeSet.{BTreeSet, btree_set_len, contains}
+use Rattle.std.specs.BTreeSet.{BTreeSet, Updates, btree_set_len, contains}
 use Rattle.std.specs.HashMap.{HashMap, UpdatesBy, get, hash_map_len}
 use Rattle.std.specs.List.{sum_by}
 use Rattle.std.specs.Map.{lookup}
@@ -8,13 +8,11 @@ use Rattle.std.specs.Ordering.{nat_cmp}
 use Rattle.sr_queue.proofs.ClassLemmas.{same_class-itself, same_parts}
 use Rattle.sr_queue.specs.Classes.{class_of, same_class}
 use Rattle.sr_queue.specs.declared.class.Class.{Class}
-use Rattle.sr_ask.specs.declared.start.Start.{Start}
 use Rattle.sr_value.specs.Operators.{owner_eq}
 use Rattle.sr_value.specs.declared.capability.Owner.{Owner}
-use Rattle.sr_world.specs.Worlds.{World, started}
-use Rattle.sr_plain.specs.Waiting.{GoOn, IsOpenedAt, IsWokenAt, WaitsThere, is_among, is_closed, is_open_at, is_ready, key_of, opens, same_variable, turns_len, variable_of, waits, wakes}
-use Rattle.sr_plain.specs.Waking.{LivingGoOn, Opens, ReadiesAll, ReadiesIfLives, WakesByChange, WakesUp}
-use Rattle.sr_plain.specs.declared.change.Change.{Change}
+use Rattle.sr_world.specs.Worlds.{World}
+use Rattle.sr_plain.specs.Waiting.{GoOn, IsJoined, IsOpenedAt, IsWokenAt, WaitsThere, is_among, is_closed, is_open_at, is_ready, key_of, opens, same_variable, turns_len, variable_of, waits, wakes}
+use Rattle.sr_plain.specs.Waking.{LivingGoOn, ReadiesAll, ReadiesIfLives, WakesByChange, WakesUp}
 use Rattle.sr_plain.specs.declared.change.Change.TheVariants as change
 use Rattle.sr_plain.specs.declared.change.Woken.{Woken}
 use Rattle.sr_plain.specs.declared.crowd.Opened.{Opened}
@@ -24,6 +22,7 @@ use Rattle.sr_plain.specs.declared.waiters.Place.TheVariants.{Watched, Served, S
 use Rattle.sr_plain.specs.declared.waiters.Waiters.{Waiters}
 use Rattle.sr_plain.specs.declared.waiters.Waiting.{Waiting}
 use Rattle.sr_plain.proofs.ChangeLemmas.{same-owner}
+use Rattle.sr_plain.proofs.CrowdLemmas.{set-more}
 
 -- ---- keys
 
@@ -87,6 +86,11 @@ waits-watched process old new ready classes variables idle opened itself keeps =
     more (Served c) other here = ap (λ m. is_among (get same_class m c) other) classes ∙ here
     more (Stored v) other here = ap (λ m. is_among (get same_variable m v) other) variables ∙ here
     more (Idle c) other here = idle-same old new idle opened c other here
+
+pub waits-inserted : (process : ℕ) (old new : Waiters) → new.ready ≡ old.ready → new.classes ≡ old.classes → new.variables ≡ old.variables → new.idle ≡ old.idle → new.opened ≡ old.opened
+    → Updates nat_cmp old.watched new.watched process true → WaitsThere Watched process old new
+waits-inserted process old new ready classes variables idle opened updates =
+    waits-watched process old new ready classes variables idle opened updates.1 (set-more process old.watched new.watched updates)
 
 pub waits-written : (class : Class) (process : ℕ) (w : Waiting) (old new : Waiters) → new.ready ≡ old.ready → new.watched ≡ old.watched → new.variables ≡ old.variables → new.idle ≡ old.idle → new.opened ≡ old.opened
     → UpdatesBy same_class (same_class class) old.classes new.classes (Some w) → ((p : ℕ) → is_among (get same_class old.classes class) p ≡ true → is_among (Some w) p ≡ true)
@@ -155,6 +159,19 @@ idle-written class process w old new ready watched classes variables opened upda
     by c other false is here = inl (sym (ap (λ o. is_among o other) (updates.2 c is)) ∙ here)
 
 -- ---- those that are woken
+
+pub woken-watched : (old new : Waiters) → IsJoined old.watched old.ready new.ready → new.classes ≡ old.classes → new.variables ≡ old.variables → new.idle ≡ old.idle → new.opened ≡ old.opened → IsWokenAt Watched old new
+woken-watched old new joined classes variables idle opened = record {
+  go_on = record { ready = joined.ready; waiting = stay };
+  idle = idle;
+  woken = joined.joined;
+}
+  where
+    stay : (k : Place) (p : ℕ) → is_ready new p ≡ false → waits old k p ≡ true → waits new k p ≡ true
+    stay Watched p off here = absurd (true≢false (sym here ∙ joined.joined p off))
+    stay (Served c) p off here = ap (λ m. is_among (get same_class m c) p) classes ∙ here
+    stay (Stored v) p off here = ap (λ m. is_among (get same_variable m v) p) variables ∙ here
+    stay (Idle c) p off here = idle-same old new idle opened c p here
 
 pub woken-class : (class : Class) (old new : Waiters) (o : Option Waiting) → o ≡ get same_class old.classes class → UpdatesBy same_class (same_class class) old.classes new.classes None
     → new.watched ≡ old.watched → new.variables ≡ old.variables → new.idle ≡ old.idle → new.opened ≡ old.opened
