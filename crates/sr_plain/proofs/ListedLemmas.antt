@@ -110,12 +110,12 @@ counts-there core me op operation key old new found is there = record {
 
 -- ---- one more that waits for invocations alone
 
-abbrev pub ClosedAt : Owner → List Arm → ℕ → Waiters → Waiters → Type 0
-ClosedAt owner arms index old new = (class : Class) (other : ℕ) → is_closed new class other ≡ true
+abbrev pub ClosedAt : Owner → List Arm → Waiters → Waiters → Type 0
+ClosedAt owner arms old new = (class : Class) (other : ℕ) → is_closed new class other ≡ true
     → (is_closed old class other ≡ true) ⊎ ((number : ℕ) × (arm : Arm) × (slice_get arms number ≡ Some arm) × (class ≡ class_of owner arm.op))
 
 pub closed-more : (owner : Owner) (arms : List Arm) (index : ℕ) (arm : Arm) (key : Class) (process : ℕ) (old mid new : Waiters) → slice_get arms index ≡ Some arm → key ≡ class_of owner arm.op
-    → ClosedAt owner arms index old mid → WaitsThere (Idle key) process mid new → ClosedAt owner arms (index + 1) old new
+    → ClosedAt owner arms old mid → WaitsThere (Idle key) process mid new → ClosedAt owner arms old new
 closed-more owner arms index arm key process old mid new found is before there class other here = by (there.closed class other here)
   where
     by : (is_closed mid class other ≡ true) ⊎ (Idle key ≡ Idle class) → (is_closed old class other ≡ true) ⊎ ((number : ℕ) × (a : Arm) × (slice_get arms number ≡ Some a) × (class ≡ class_of owner a.op))

@@ -1,4 +1,4 @@
-ghost use Rattle.std.specs.Prelude.{◌≡◌, ◌<◌, ◌||◌, ℕ, Bool, IfNone, IfSome, Some, false, nat_lt, true};
+ghost use Rattle.std.specs.Prelude.{◌≡◌, ◌<◌, ◌||◌, ℕ, Bool, IfNone, IfSome, IsTrue, false, nat_lt, true};
 ghost use Rattle.std.specs.BTreeSet.{contains};
 ghost use Rattle.std.specs.Ordering.{nat_cmp};
 ghost use Rattle.sr_plain.specs.Waiting.{HoldsClass, HoldsProcess, IsFirst, is_open};
@@ -16,7 +16,7 @@ pub(crate) struct Opened {
 
 /// Whether none stands after it, which takes less time than to look for the first.
 fn none_after(processes: &BTreeSet<u32>, last: u32) -> bool
-    ensures { result ≡ true → (other : ℕ) → last < other → contains nat_cmp processes.now other ≡ false }
+    ensures { IsTrue result → (other : ℕ) → last < other → contains nat_cmp processes.now other ≡ false }
 {
     match processes.last() {
         Some(greatest) => *greatest <= last,
@@ -26,7 +26,10 @@ fn none_after(processes: &BTreeSet<u32>, last: u32) -> bool
 
 /// The first of those after a process.
 pub(crate) fn first_after(processes: &BTreeSet<u32>, last: u32) -> Option<u32>
-    ensures { IsFirst (λ q. nat_lt last q && contains nat_cmp processes.now q) result }
+    ensures there { IfSome result (λ process. contains nat_cmp processes.now process ≡ true) }
+    ensures later { IfSome result (λ process. last < process) }
+    ensures least { IfSome result (λ process. (other : ℕ) → last < other → other < process → contains nat_cmp processes.now other ≡ false) }
+    ensures none { IfNone result ((other : ℕ) → last < other → contains nat_cmp processes.now other ≡ false) }
 {
     if none_after(processes, last) {
         return None;
@@ -38,7 +41,9 @@ pub(crate) fn first_after(processes: &BTreeSet<u32>, last: u32) -> Option<u32>
 }
 
 pub(crate) fn first(processes: &BTreeSet<u32>) -> Option<u32>
-    ensures { IsFirst (contains nat_cmp processes.now) result }
+    ensures there { IfSome result (λ process. contains nat_cmp processes.now process ≡ true) }
+    ensures least { IfSome result (λ process. (other : ℕ) → other < process → contains nat_cmp processes.now other ≡ false) }
+    ensures none { IfNone result ((other : ℕ) → contains nat_cmp processes.now other ≡ false) }
 {
     processes.first().copied()
 }
@@ -86,8 +91,8 @@ pub(crate) fn first_open(crowds: &[Opened]) -> Option<u32>
 pub(crate) fn place_of(crowds: &[Opened], class: Class) -> Option<usize>
     ensures { IfSome result (HoldsClass crowds.now class) }
 {
-    for (place, crowd) in crowds.iter().enumerate() {
-        if crowd.class == class {
+    for place in 0..crowds.len() {
+        if crowds[place].class == class {
             return Some(place);
         }
     }
@@ -99,8 +104,8 @@ pub(crate) fn place_with(crowds: &[Opened], process: u32) -> Option<usize>
     ensures some { IfSome result (HoldsProcess crowds.now process) }
     ensures none { IfNone result (is_open crowds.now process ≡ false) }
 {
-    for (place, crowd) in crowds.iter().enumerate() {
-        if crowd.processes.contains(&process) {
+    for place in 0..crowds.len() {
+        if crowds[place].processes.contains(&process) {
             return Some(place);
         }
     }
