@@ -334,19 +334,19 @@ module _ (core : Core) (limit : ℕ) (state : State) where
             let not_actor : s.process ≢ start.process = (λ same. true≢false (sym ready ∙ ap (is_ready waiters) (sym same ∙ sym number) ∙ unready)) in
             let not_caller : s.process ≢ caller_in state.world start.process asks.request = (λ same. apart-from (caller_in state.world start.process asks.request) q off.1 (number ∙ same)) in
             elim (are.aside q s was unready refl) [
-            | inl before ↦ inl (record {
-              asks = before.asks;
-              asked = ap (λ b. ask core s limit (cond b (state.given s.process ++ a ∷ []) (state.given s.process))) (apart-number s.process start.process not_actor) ∙ before.asked;
-              cannot = still_waits core state.world new s (subst (λ n. started state.world n ≡ Some s) number was) (subst (λ n. started new n ≡ Some s) number is)
-                  start.process (caller_in state.world start.process asks.request) not_actor not_caller (change_of core (me_at start) asks a) (λ k. waits waiters k s.process)
-                  (subst (λ n. wakes (change_of core (me_at start) asks a) (λ k. waits waiters k n) ≡ false) number off.0) kept before.asks before.waiting before.cannot;
-              waiting = before.waiting;
-            })
-            | inr before ↦ inr (record {
-              asks = before.asks;
-              asked = ap (λ b. ask core s limit (cond b (state.given s.process ++ a ∷ []) (state.given s.process))) (apart-number s.process start.process not_actor) ∙ before.asked;
-              waiting = before.waiting;
-            })
+              | inl before ↦ inl (record {
+                asks = before.asks;
+                asked = ap (λ b. ask core s limit (cond b (state.given s.process ++ a ∷ []) (state.given s.process))) (apart-number s.process start.process not_actor) ∙ before.asked;
+                cannot = still_waits core state.world new s (subst (λ n. started state.world n ≡ Some s) number was) (subst (λ n. started new n ≡ Some s) number is)
+                    start.process (caller_in state.world start.process asks.request) not_actor not_caller (change_of core (me_at start) asks a) (λ k. waits waiters k s.process)
+                    (subst (λ n. wakes (change_of core (me_at start) asks a) (λ k. waits waiters k n) ≡ false) number off.0) kept before.asks before.waiting before.cannot;
+                waiting = before.waiting;
+              })
+              | inr before ↦ inr (record {
+                asks = before.asks;
+                asked = ap (λ b. ask core s limit (cond b (state.given s.process ++ a ∷ []) (state.given s.process))) (apart-number s.process start.process not_actor) ∙ before.asked;
+                waiting = before.waiting;
+              })
             ]
 
     -- ---- what is noted

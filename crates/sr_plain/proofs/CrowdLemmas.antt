@@ -14,7 +14,7 @@ use Rattle.sr_queue.proofs.ClassLemmas.{same_class-itself, same_parts}
 use Rattle.sr_queue.specs.Classes.{same_class}
 use Rattle.sr_queue.specs.declared.class.Class.{Class}
 use Rattle.sr_store.proofs.BlockLemmas.{same-test}
-use Rattle.sr_plain.specs.Waiting.{HoldsProcess, IsFirst, IsNext, IsOpenedAt, IsPromoted, IsPutBack, IsShut, WaitsThere, is_among, is_closed, is_open, is_open_at, is_ready, may_go, same_variable, turns_len, waits}
+use Rattle.sr_plain.specs.Waiting.{HoldsProcess, IsFirst, IsNext, IsOpenedAt, IsPromoted, IsPutBack, IsShut, LeavesCrowd, WaitsThere, is_among, is_closed, is_open, is_open_at, is_ready, may_go, same_variable, turns_len, waits}
 use Rattle.sr_plain.specs.declared.crowd.Opened.{Opened}
 use Rattle.sr_plain.specs.declared.waiters.Place.{Place}
 use Rattle.sr_plain.specs.declared.waiters.Place.TheVariants.{Watched, Served, Stored, Idle}
@@ -68,12 +68,6 @@ not-false false off on = off refl
 
 -- ---- sets
 
--- the set without the process
-pub record Leaves_crowd (process : ℕ) (old new : Opened) : Type 0 where
-  pub class : new.class ≡ old.class
-  pub others : (q : ℕ) → (process == q) ≡ false → contains nat_cmp new.processes q ≡ contains nat_cmp old.processes q
-  pub less : btree_set_len new.processes + 1 ≡ btree_set_len old.processes
-
 pub set-more : (k : ℕ) (s n : BTreeSet ℕ) → Updates nat_cmp s n k true → (q : ℕ) → contains nat_cmp s q ≡ true → contains nat_cmp n q ≡ true
 set-more k s n updates q here = updates.0 q ∙ by (is_at (nat_cmp k) q)
   where
@@ -88,12 +82,16 @@ set-apart : (k : ℕ) (b : Bool) (s n : BTreeSet ℕ) → Updates nat_cmp s n k 
 set-apart k b s n updates q off = updates.2 q (sym (same-test k q) ∙ off)
 
 pub crowd-left : (process : ℕ) (crowd : Opened) (n : BTreeSet ℕ) (there : Bool) → Updates nat_cmp crowd.processes n process false → there ≡ contains nat_cmp crowd.processes process → contains nat_cmp crowd.processes process ≡ true
-    → btree_set_len n + cond there 1 0 ≡ btree_set_len crowd.processes → Leaves_crowd process crowd (record crowd { processes = n })
+    → btree_set_len n + cond there 1 0 ≡ btree_set_len crowd.processes → LeavesCrowd process crowd (record crowd { processes = n })
 crowd-left process crowd n there updates is here len = record {
   class = refl;
   others = set-apart process false crowd.processes n updates;
   less = sym (ap (λ b. btree_set_len n + cond b 1 0) (is ∙ here)) ∙ len;
 }
+
+pub longer-set : (added : Bool) (m n : ℕ) → n ≡ m + cond added 1 0 → n ≤ m + 1
+longer-set true m n is = omega arith
+longer-set false m n is = omega arith
 
 -- ---- the first that passes
 
@@ -192,7 +190,7 @@ any-removed test (z ∷ zs) (suc k) x is any = by (or-either (test z) (list_any 
   where
     by : (test z ≡ true) ⊎ (list_any test zs ≡ true) → (list_any test zs ≡ true → (test x ≡ true) ⊎ (list_any test (remove zs k) ≡ true)) → (test x ≡ true) ⊎ ((test z || list_any test (remove zs k)) ≡ true)
     by (inl here) more = inr (or-left (test z) (list_any test (remove zs k)) here)
-    by (inr later) more = elim (more later) [ | inl a ↦ inl a | inr b ↦ inr (or-right (test z) (list_any test (remove zs k)) b) ]
+    by (inr later) more = elim (more later) [ inl a ↦ inl a | inr b ↦ inr (or-right (test z) (list_any test (remove zs k)) b) ]
 
 any-pushed : {X : Type 0} (test : X → Bool) (xs : List X) (y : X) → list_any test xs ≡ true → list_any test (xs ++ y ∷ []) ≡ true
 any-pushed test [] y any = absurd (true≢false (sym any))
@@ -220,7 +218,7 @@ item-is (y ∷ ys) (suc k) x is = item-is ys k x is
 
 -- ---- one is asked by itself
 
-module _ (process place : ℕ) (old new : Waiters) (holds : HoldsProcess old.opened process place) (crowd : Opened) (leaves : Leaves_crowd process holds.crowd crowd)
+module _ (process place : ℕ) (old new : Waiters) (holds : HoldsProcess old.opened process place) (crowd : Opened) (leaves : LeavesCrowd process holds.crowd crowd)
     (watched : new.watched ≡ old.watched) (classes : new.classes ≡ old.classes) (variables : new.variables ≡ old.variables) (idle : new.idle ≡ old.idle) (opened : new.opened ≡ slice_set old.opened place crowd)
     (ready : contains nat_cmp new.ready process ≡ true) (unready : (q : ℕ) → contains nat_cmp new.ready q ≡ false → contains nat_cmp old.ready q ≡ false) (longer : btree_set_len new.ready ≤ btree_set_len old.ready + 1) where
   open-kept : (class : Class) (q : ℕ) → (process == q) ≡ false → is_open_at old.opened class q ≡ true → is_open_at new.opened class q ≡ true
@@ -255,7 +253,7 @@ module _ (process place : ℕ) (old new : Waiters) (holds : HoldsProcess old.ope
 
 pub promoted-same : (process : ℕ) (waiters : Waiters) → may_go waiters process ≡ true → is_open waiters.opened process ≡ false → IsPromoted process waiters waiters
 promoted-same process waiters goes alone = record {
-  ready = elim (or-either (is_ready waiters process) (is_open waiters.opened process) goes) [ | inl a ↦ a | inr b ↦ absurd (true≢false (sym b ∙ alone)) ];
+  ready = elim (or-either (is_ready waiters process) (is_open waiters.opened process) goes) [ inl a ↦ a | inr b ↦ absurd (true≢false (sym b ∙ alone)) ];
   unready = λ other off. off;
   others = λ key other apart here. here;
   idle = refl;
@@ -398,7 +396,7 @@ idle-there class process old mid new shut there = record {
     at c q false apart was = inl (shut.closed c q apart was)
 
     closed : (c : Class) (q : ℕ) → is_closed new c q ≡ true → (is_closed old c q ≡ true) ⊎ (Idle class ≡ Idle c)
-    closed c q now = elim (there.closed c q now) [ | inl was ↦ at c q (same_class class c) refl was | inr one ↦ inr one ]
+    closed c q now = elim (there.closed c q now) [ inl was ↦ at c q (same_class class c) refl was | inr one ↦ inr one ]
 
 -- ---- one more crowd of a row
 

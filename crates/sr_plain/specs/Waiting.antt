@@ -272,6 +272,12 @@ pub record HoldsProcess (crowds : List Opened) (process place : ℕ) : Type 0 wh
   pub here : slice_get crowds place ≡ Some crowd
   pub holds : contains nat_cmp crowd.processes process ≡ true
 
+-- a crowd without one of its processes
+pub record LeavesCrowd (process : ℕ) (old new : Opened) : Type 0 where
+  pub class : new.class ≡ old.class
+  pub others : (q : ℕ) → (process == q) ≡ false → contains nat_cmp new.processes q ≡ contains nat_cmp old.processes q
+  pub less : btree_set_len new.processes + 1 ≡ btree_set_len old.processes
+
 -- ---- who is next
 
 abbrev pub IsFirst : (ℕ → Bool) → Option ℕ → Type 0

@@ -1,7 +1,7 @@
-ghost use Rattle.std.specs.Prelude.{◌≡◌, ◌<◌, ◌||◌, ℕ, Bool, IfNone, IfSome, IsTrue, false, nat_lt, true};
+ghost use Rattle.std.specs.Prelude.{◌≡◌, ◌&&◌, ◌<◌, ◌||◌, ℕ, Bool, IfNone, IfSome, IsTrue, false, nat_lt, true};
 ghost use Rattle.std.specs.BTreeSet.{contains};
 ghost use Rattle.std.specs.Ordering.{nat_cmp};
-ghost use Rattle.sr_plain.specs.Waiting.{HoldsClass, HoldsProcess, IsFirst, is_open};
+ghost use Rattle.sr_plain.specs.Waiting.{HoldsClass, HoldsProcess, IsFirst, LeavesCrowd, is_open};
 
 use sr_queue::Class;
 use std::collections::BTreeSet;
@@ -54,13 +54,7 @@ pub(crate) fn sooner(one: Option<u32>, other: Option<u32>) -> Option<u32>
 {
     match one {
         Some(one) => match other {
-            Some(other) => {
-                if other < one {
-                    Some(other)
-                } else {
-                    Some(one)
-                }
-            }
+            Some(other) => { if other < one { Some(other) } else { Some(one) } }
             None => Some(one),
         },
         None => other,
@@ -85,6 +79,14 @@ pub(crate) fn first_open(crowds: &[Opened]) -> Option<u32>
         least = sooner(least, first(&crowd.processes));
     }
     least
+}
+
+/// A process isn't asked as one of many any more.
+pub(crate) fn leave(crowd: &mut Opened, process: u32)
+    requires { contains nat_cmp crowd.old.processes process ≡ true }
+    ensures { LeavesCrowd process crowd.old crowd.new }
+{
+    crowd.processes.remove(&process);
 }
 
 /// Where those stand that wait for an operation.

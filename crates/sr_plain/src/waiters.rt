@@ -5,7 +5,9 @@ ghost use Rattle.sr_plain.specs.Waiting.{HaveJoined, HoldsProcess, IsFirst, IsJo
 ghost use Rattle.sr_plain.specs.declared.waiters.Place.TheVariants.{Idle, Served, Stored, Watched};
 ghost use Rattle.sr_queue.specs.declared.class.Class as served;
 
-use crate::crowd::{Opened, first, first_after, first_open, first_open_after, place_of, place_with, sooner};
+use crate::crowd::{
+    Opened, first, first_after, first_open, first_open_after, leave, place_of, place_with, sooner,
+};
 use crate::variable::Variable;
 use sr_queue::Class;
 use sr_value::{NoMemory, Row};
@@ -220,12 +222,18 @@ impl Waiters {
     fn put_back(&mut self, class: Class, processes: BTreeSet<u32>) -> Result<(), NoMemory>
         ensures { OnOk result (IsPutBack class processes self.old self.new) }
     {
-        let mut processes = processes;
-        if let Some(waiting) = self.idle.remove(&class) {
-            join_waiting(&mut processes, waiting)?;
+        match self.idle.remove(&class) {
+            Some(waiting) => {
+                let mut processes = processes;
+                join_waiting(&mut processes, waiting)?;
+                self.idle.insert(class, Waiting::Many(processes))?;
+                Ok(())
+            }
+            None => {
+                self.idle.insert(class, Waiting::Many(processes))?;
+                Ok(())
+            }
         }
-        self.idle.insert(class, Waiting::Many(processes))?;
-        Ok(())
     }
 
     /// Has those asked in turn that wait for invocations of an operation, which may have got one.
@@ -265,7 +273,7 @@ impl Waiters {
         requires { HoldsProcess self.old.opened process place }
         ensures { OnOk result (IsPromoted process self.old self.new) }
     {
-        self.opened.at_mut(place).processes.remove(&process);
+        leave(self.opened.at_mut(place), process);
         self.ready.insert(process)?;
         Ok(())
     }
@@ -325,9 +333,6 @@ impl Waiters {
     fn first(&self) -> Option<u32>
         ensures { IsFirst (may_go self.now) result }
     {
-        sooner(
-            first(&self.ready),
-            first_open(self.opened.as_slice()),
-        )
+        sooner(first(&self.ready), first_open(self.opened.as_slice()))
     }
 }

@@ -3,7 +3,7 @@ use Rattle.sr_plain.specs.declared.crowd.Opened.{Opened}
 use Rattle.sr_plain.specs.declared.waiters.Waiters.{Waiters}
 use Rattle.sr_plain.specs.declared.waiters.Waiting.TheVariants.{One, Many}
 use Rattle.sr_plain.proofs.BeginLemmas.{on_ok}
-use Rattle.sr_plain.proofs.CrowdLemmas.{one-ready, open-more, open-pushed, opened-at, set-less}
+use Rattle.sr_plain.proofs.CrowdLemmas.{one-ready, open-more, opened-at, set-less}
 use Rattle.sr_plain.proofs.waiters.Waiters.open.Goals as goal
 
 pub returns-in-None : goal.returns-in-None
