@@ -14,7 +14,7 @@ use Rattle.sr_queue.proofs.ClassLemmas.{same_class-itself, same_parts}
 use Rattle.sr_queue.specs.Classes.{same_class}
 use Rattle.sr_queue.specs.declared.class.Class.{Class}
 use Rattle.sr_store.proofs.BlockLemmas.{same-test}
-use Rattle.sr_plain.specs.Waiting.{HoldsProcess, IsFirst, IsNext, IsOpenedAt, IsPromoted, IsPutBack, IsShut, LeavesCrowd, WaitsThere, is_among, is_closed, is_open, is_open_at, is_ready, may_go, same_variable, turns_len, waits}
+use Rattle.sr_plain.specs.Waiting.{HasLeft, HaveOpened, HoldsNobody, HoldsProcess, IsFirst, IsNext, IsOpenedAt, IsPromoted, IsPutBack, IsShut, LeavesCrowd, StaysOpen, WaitsThere, crowds_len, is_among, is_closed, is_open, is_open_at, is_ready, may_go, same_variable, turns_len, waits}
 use Rattle.sr_plain.specs.declared.crowd.Opened.{Opened}
 use Rattle.sr_plain.specs.declared.waiters.Place.{Place}
 use Rattle.sr_plain.specs.declared.waiters.Place.TheVariants.{Watched, Served, Stored, Idle}
@@ -96,7 +96,7 @@ longer-set false m n is = omega arith
 -- ---- the first that passes
 
 pub first-same : (f g : ℕ → Bool) → ((q : ℕ) → f q ≡ g q) → (r : Option ℕ) → IsFirst f r → IsFirst g r
-first-same f g same None none other = sym (same other) ∙ none other
+first-same f g same None none = λ other. sym (same other) ∙ none other
 first-same f g same (Some p) first = (sym (same p) ∙ first.0, λ other below. sym (same other) ∙ first.1 other below)
 
 module _ (f g : ℕ → Bool) where
@@ -118,11 +118,11 @@ module _ (f g : ℕ → Bool) where
 -- of those after a number
 pub first-later : (test : ℕ → Bool) (last : ℕ) (r : Option ℕ) → IfSome r (λ p. test p ≡ true) → IfSome r (λ p. last < p) → IfSome r (λ p. (other : ℕ) → last < other → other < p → test other ≡ false)
     → IfNone r ((other : ℕ) → last < other → test other ≡ false) → IsFirst (λ q. nat_lt last q && test q) r
-first-later test last None there later least none other = by (nat_lt last other) refl
+first-later test last None there later least none = λ other. by other (nat_lt last other) refl
   where
-    by : (b : Bool) → nat_lt last other ≡ b → (b && test other) ≡ false
-    by true is = none other (ltb-true last other is)
-    by false is = refl
+    by : (other : ℕ) (b : Bool) → nat_lt last other ≡ b → (b && test other) ≡ false
+    by other true is = none other (ltb-true last other is)
+    by other false is = refl
 first-later test last (Some p) there later least none = (and-true (nat_lt last p) (test p) (lt-ltb last p later) there, λ other below. by other below (nat_lt last other) refl)
   where
     by : (other : ℕ) → other < p → (b : Bool) → nat_lt last other ≡ b → (b && test other) ≡ false
@@ -130,7 +130,7 @@ first-later test last (Some p) there later least none = (and-true (nat_lt last p
     by other below false is = refl
 
 pub first-of : (test : ℕ → Bool) (r : Option ℕ) → IfSome r (λ p. test p ≡ true) → IfSome r (λ p. (other : ℕ) → other < p → test other ≡ false) → IfNone r ((other : ℕ) → test other ≡ false) → IsFirst test r
-first-of test None there least none other = none other
+first-of test None there least none = none
 first-of test (Some p) there least none = (there, least)
 
 -- ---- who is next
@@ -216,17 +216,53 @@ item-is [] (suc k) x is = refl
 item-is (y ∷ ys) zero x is = cc
 item-is (y ∷ ys) (suc k) x is = item-is ys k x is
 
+-- ---- crowds that are let go
+
+none-of : (keys : List ℕ) (q : ℕ) → length keys ≡ 0 → list_any (is_at (nat_cmp q)) keys ≡ false
+none-of [] q none = refl
+none-of (k ∷ ks) q none = absurd (cc)
+
+pub stays-same : (opened : List Opened) → StaysOpen opened opened
+stays-same opened = record { stays = λ c q here. here; less = omega arith }
+
+pub stays-without : (opened : List Opened) (place : ℕ) → HoldsNobody opened place → StaysOpen opened (remove opened place)
+stays-without opened place holds = record { stays = kept; less = fewer }
+  where
+    kept : (c : Class) (q : ℕ) → is_open_at opened c q ≡ true → is_open_at (remove opened place) c q ≡ true
+    kept c q here = elim (any-removed (λ (o : Opened). same_class o.class c && contains nat_cmp o.processes q) opened place holds.crowd holds.here here) [
+      | inl a ↦ absurd (true≢false (sym (both-true (same_class holds.crowd.class c) (contains nat_cmp holds.crowd.processes q) a).1 ∙ none-of holds.crowd.processes.keys q holds.nobody))
+      | inr b ↦ b
+    ]
+
+    fewer : crowds_len (remove opened place) ≤ crowds_len opened
+    fewer =
+        let size : Opened → ℕ = λ o. btree_set_len o.processes in
+        let sums : sum_by size (remove opened place) + size (get_or opened place holds.crowd) ≡ sum_by size opened = sum_by-remove size opened place holds.crowd (within-row opened place holds.crowd holds.here) in
+        omega (arith, sums)
+
 -- ---- one is asked by itself
 
-module _ (process place : ℕ) (old new : Waiters) (holds : HoldsProcess old.opened process place) (crowd : Opened) (leaves : LeavesCrowd process holds.crowd crowd)
-    (watched : new.watched ≡ old.watched) (classes : new.classes ≡ old.classes) (variables : new.variables ≡ old.variables) (idle : new.idle ≡ old.idle) (opened : new.opened ≡ slice_set old.opened place crowd)
-    (ready : contains nat_cmp new.ready process ≡ true) (unready : (q : ℕ) → contains nat_cmp new.ready q ≡ false → contains nat_cmp old.ready q ≡ false) (longer : btree_set_len new.ready ≤ btree_set_len old.ready + 1) where
-  open-kept : (class : Class) (q : ℕ) → (process == q) ≡ false → is_open_at old.opened class q ≡ true → is_open_at new.opened class q ≡ true
-  open-kept class q apart here =
-      ap (λ o. is_open_at o class q) opened
-      ∙ any-set (λ (o : Opened). same_class o.class class && contains nat_cmp o.processes q) old.opened place holds.crowd crowd holds.here
-      (λ was. ap (λ c. same_class c class && contains nat_cmp crowd.processes q) leaves.class ∙ ap (λ b. same_class holds.crowd.class class && b) (leaves.others q apart) ∙ was) here
+pub has-left : (process place : ℕ) (old new : List Opened) (holds : HoldsProcess old process place) (crowd : Opened) → LeavesCrowd process holds.crowd crowd → StaysOpen (slice_set old place crowd) new → HasLeft process old new
+has-left process place old new holds crowd leaves stays = record { others = others; less = fewer }
+  where
+    others : (c : Class) (q : ℕ) → (process == q) ≡ false → is_open_at old c q ≡ true → is_open_at new c q ≡ true
+    others c q apart here =
+        stays.stays c q
+        (any-set (λ (o : Opened). same_class o.class c && contains nat_cmp o.processes q) old place holds.crowd crowd holds.here
+        (λ was. ap (λ k. same_class k c && contains nat_cmp crowd.processes q) leaves.class ∙ ap (λ b. same_class holds.crowd.class c && b) (leaves.others q apart) ∙ was) here)
 
+    fewer : crowds_len new + 1 ≤ crowds_len old
+    fewer =
+        let size : Opened → ℕ = λ o. btree_set_len o.processes in
+        let within : place < length old = within-row old place holds.crowd holds.here in
+        let sums : sum_by size (slice_set old place crowd) + size (get_or old place holds.crowd) ≡ sum_by size old + size crowd = sum_by-set size old place crowd holds.crowd within in
+        let was : size (get_or old place holds.crowd) ≡ size holds.crowd = ap size (item-is old place holds.crowd holds.here) in
+        let one : size crowd + 1 ≡ size holds.crowd = leaves.less in
+        let rest : sum_by size new ≤ sum_by size (slice_set old place crowd) = stays.less in
+        omega (arith, sums, was, one, rest)
+
+module _ (process : ℕ) (old new : Waiters) (left : HasLeft process old.opened new.opened) (watched : new.watched ≡ old.watched) (classes : new.classes ≡ old.classes) (variables : new.variables ≡ old.variables) (idle : new.idle ≡ old.idle)
+    (ready : contains nat_cmp new.ready process ≡ true) (unready : (q : ℕ) → contains nat_cmp new.ready q ≡ false → contains nat_cmp old.ready q ≡ false) (longer : btree_set_len new.ready ≤ btree_set_len old.ready + 1) where
   others-wait : (key : Place) (q : ℕ) → (process == q) ≡ false → waits old key q ≡ true → waits new key q ≡ true
   others-wait Watched q apart here = ap (λ (s : BTreeSet ℕ). contains nat_cmp s q) watched ∙ here
   others-wait (Served c) q apart here = ap (λ m. is_among (get same_class m c) q) classes ∙ here
@@ -235,18 +271,13 @@ module _ (process place : ℕ) (old new : Waiters) (holds : HoldsProcess old.ope
       ap (λ m. is_among (get same_class m c) q || is_open_at new.opened c q) idle
       ∙ elim (or-either (is_closed old c q) (is_open_at old.opened c q) here) [
         | inl a ↦ or-left (is_closed old c q) (is_open_at new.opened c q) a
-        | inr b ↦ or-right (is_closed old c q) (is_open_at new.opened c q) (open-kept c q apart b)
+        | inr b ↦ or-right (is_closed old c q) (is_open_at new.opened c q) (left.others c q apart b)
       ]
 
   fewer : turns_len new ≤ turns_len old
   fewer =
-      let size : Opened → ℕ = λ o. btree_set_len o.processes in
-      let within : place < length old.opened = within-row old.opened place holds.crowd holds.here in
-      let sums : sum_by size (slice_set old.opened place crowd) + size (get_or old.opened place holds.crowd) ≡ sum_by size old.opened + size crowd = sum_by-set size old.opened place crowd holds.crowd within in
-      let was : size (get_or old.opened place holds.crowd) ≡ size holds.crowd = ap size (item-is old.opened place holds.crowd holds.here) in
-      let now : sum_by size new.opened ≡ sum_by size (slice_set old.opened place crowd) = ap (sum_by size) opened in
-      let less : size crowd + 1 ≡ size holds.crowd = leaves.less in
-      omega (arith, sums, was, now, less, longer)
+      let one : crowds_len new.opened + 1 ≤ crowds_len old.opened = left.less in
+      omega (arith, one, longer)
 
   pub promoted : IsPromoted process old new
   promoted = record { ready = ready; unready = unready; others = others-wait; idle = idle; less = fewer }
@@ -259,6 +290,24 @@ promoted-same process waiters goes alone = record {
   idle = refl;
   less = omega arith;
 }
+
+-- where no operation is open
+pub promoted-alone : (process : ℕ) (waiters : Waiters) → may_go waiters process ≡ true → waiters.opened ≡ [] → IsPromoted process waiters waiters
+promoted-alone process waiters goes none = promoted-same process waiters goes (ap (λ o. is_open o process) none)
+
+or-none : (b : Bool) → (b || false) ≡ b
+or-none true = refl
+or-none false = refl
+
+only-ready : (waiters : Waiters) (q : ℕ) → waiters.opened ≡ [] → is_ready waiters q ≡ may_go waiters q
+only-ready waiters q none = sym (ap (λ o. is_ready waiters q || is_open o q) none ∙ or-none (is_ready waiters q))
+
+pub ready-later : (waiters : Waiters) (last : ℕ) (r : Option ℕ) → waiters.opened ≡ [] → IsFirst (λ q. nat_lt last q && is_ready waiters q) r → IsFirst (λ q. nat_lt last q && may_go waiters q) r
+ready-later waiters last r none =
+    first-same (λ q. nat_lt last q && is_ready waiters q) (λ q. nat_lt last q && may_go waiters q) (λ q. ap (λ b. nat_lt last q && b) (only-ready waiters q none)) r
+
+pub ready-first : (waiters : Waiters) (r : Option ℕ) → waiters.opened ≡ [] → IsFirst (is_ready waiters) r → IsFirst (may_go waiters) r
+ready-first waiters r none = first-same (is_ready waiters) (may_go waiters) (λ q. only-ready waiters q none) r
 
 -- ---- operations that are opened
 
@@ -301,9 +350,45 @@ open-pushed class processes opened q here =
 pub open-more : (opened : List Opened) (crowd : Opened) (c : Class) (q : ℕ) → is_open_at opened c q ≡ true → is_open_at (opened ++ crowd ∷ []) c q ≡ true
 open-more opened crowd c q = any-pushed (λ (o : Opened). same_class o.class c && contains nat_cmp o.processes q) opened crowd
 
+pub pushed-many : (class : Class) (processes : BTreeSet ℕ) (old new : Waiters) → new.ready ≡ old.ready → new.watched ≡ old.watched → new.classes ≡ old.classes → new.variables ≡ old.variables → new.idle ≡ old.idle
+    → new.opened ≡ old.opened ++ record { class = class; processes = processes } ∷ [] → HaveOpened class (Many processes) old new
+pushed-many class processes old new ready watched classes variables idle opened = record {
+  unready = λ q off. sym (ap (λ (s : BTreeSet ℕ). contains nat_cmp s q) ready) ∙ off;
+  watched = watched;
+  classes = classes;
+  variables = variables;
+  idle = idle;
+  stays = λ c q here. ap (λ o. is_open_at o c q) opened ∙ open-more old.opened (record { class = class; processes = processes }) c q here;
+  covers = λ q off there. ap (λ o. is_open_at o class q) opened ∙ open-pushed class processes old.opened q there;
+}
+
+module _ (class : Class) (w : Waiting) (old new : Waiters) (watched : new.watched ≡ old.watched) (classes : new.classes ≡ old.classes) (variables : new.variables ≡ old.variables) (idle : new.idle ≡ old.idle) (opened : new.opened ≡ old.opened) where
+  -- each of them is ready
+  pub all-ready : ((q : ℕ) → is_ready new q ≡ false → (is_ready old q ≡ false) × (is_among (Some w) q ≡ false)) → HaveOpened class w old new
+  all-ready each = record {
+    unready = λ q off. (each q off).0;
+    watched = watched;
+    classes = classes;
+    variables = variables;
+    idle = idle;
+    stays = λ c q here. ap (λ o. is_open_at o c q) opened ∙ here;
+    covers = λ q off there. absurd (true≢false (sym there ∙ (each q off).1));
+  }
+
 -- one that waits alone is ready
-pub one-ready : (first q : ℕ) (ready : BTreeSet ℕ) (opened : List Opened) (class : Class) → contains nat_cmp ready first ≡ true → contains nat_cmp ready q ≡ false → is_among (Some (One first)) q ≡ true → is_open_at opened class q ≡ true
-one-ready first q ready opened class there off here = absurd (true≢false (sym (subst (λ n. contains nat_cmp ready n ≡ true) (eqb-true first q here) there) ∙ off))
+pub one-ready : (first : ℕ) (old new : BTreeSet ℕ) → Updates nat_cmp old new first true → (q : ℕ) → contains nat_cmp new q ≡ false → (contains nat_cmp old q ≡ false) × ((first == q) ≡ false)
+one-ready first old new updates q off = (set-less first old new updates q off, by (first == q) refl)
+  where
+    by : (b : Bool) → (first == q) ≡ b → (first == q) ≡ false
+    by false apart = apart
+    by true same = absurd (true≢false (sym (subst (λ n. contains nat_cmp new n ≡ true) (eqb-true first q same) updates.1) ∙ off))
+
+pub opened-by : (class : Class) (w : Waiting) (old mid new : Waiters) → Some w ≡ get same_class old.idle class → UpdatesBy same_class (same_class class) old.idle mid.idle None
+    → mid.ready ≡ old.ready → mid.watched ≡ old.watched → mid.classes ≡ old.classes → mid.variables ≡ old.variables → mid.opened ≡ old.opened → HaveOpened class w mid new → IsOpenedAt class old new
+opened-by class w old mid new is updates ready watched classes variables opened have =
+    opened-at class (Some w) old new is (subst (λ m. UpdatesBy same_class (same_class class) old.idle m None) (sym have.idle) updates) (have.watched ∙ watched) (have.classes ∙ classes) (have.variables ∙ variables)
+    (λ q off. sym (ap (λ (s : BTreeSet ℕ). contains nat_cmp s q) ready) ∙ have.unready q off)
+    (λ c q here. have.stays c q (ap (λ o. is_open_at o c q) opened ∙ here)) have.covers
 
 -- ---- operations that are shut
 

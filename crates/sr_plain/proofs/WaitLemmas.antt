@@ -222,6 +222,16 @@ woken-none class waiters none = record {
   woken = λ p off. ap (λ o. is_among o p) (nobody (same_class class) waiters.classes.entries none);
 }
 
+pub closed-none : {S : Type 0} (idle : HashMap Class Waiting S) → hash_map_len idle ≡ 0 → (class : Class) (q : ℕ) → is_among (get same_class idle class) q ≡ false
+closed-none idle none class q = ap (λ o. is_among o q) (nobody (same_class class) idle.entries none)
+
+-- where nobody waits for invocations alone
+pub opened-nobody : (class : Class) (waiters : Waiters) → hash_map_len waiters.idle ≡ 0 → IsOpenedAt class waiters waiters
+opened-nobody class waiters none = record {
+  go_on = record { ready = λ p off. off; waiting = λ k p off here. here };
+  closed = λ c q here. absurd (true≢false (sym here ∙ closed-none waiters.idle none c q));
+}
+
 off-both : (a b : Bool) → a ≡ false → b ≡ false → (a || b) ≡ false
 off-both true b h k = absurd (true≢false h)
 off-both false true h k = absurd (true≢false k)

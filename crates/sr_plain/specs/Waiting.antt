@@ -78,9 +78,13 @@ waits waiters (places.Idle class) process = is_closed waiters class process || i
 abbrev pub may_go : Waiters → ℕ → Bool
 may_go waiters process = is_ready waiters process || is_open waiters.opened process
 
--- how many are asked in turn, where one that stands at several operations counts for each
+-- how many wait at open operations, where one that stands at several counts for each
+abbrev pub crowds_len : List Opened → ℕ
+crowds_len opened = sum_by (λ (o : Opened). btree_set_len o.processes) opened
+
+-- how many are asked in turn
 abbrev pub turns_len : Waiters → ℕ
-turns_len waiters = btree_set_len waiters.ready + sum_by (λ (o : Opened). btree_set_len o.processes) waiters.opened
+turns_len waiters = btree_set_len waiters.ready + crowds_len waiters.opened
 
 -- ---- where a process waits, by what it asks
 
@@ -205,6 +209,16 @@ pub record IsPromoted (process : ℕ) (old new : Waiters) : Type 0 where
   pub idle : new.idle ≡ old.idle
   pub less : turns_len new ≤ turns_len old
 
+-- each of them is ready, or asked in turn as one of many
+pub record HaveOpened (class : Served_class) (waiting : Waiting) (old new : Waiters) : Type 0 where
+  pub unready : (process : ℕ) → is_ready new process ≡ false → is_ready old process ≡ false
+  pub watched : new.watched ≡ old.watched
+  pub classes : new.classes ≡ old.classes
+  pub variables : new.variables ≡ old.variables
+  pub idle : new.idle ≡ old.idle
+  pub stays : (other : Served_class) (process : ℕ) → is_open_at old.opened other process ≡ true → is_open_at new.opened other process ≡ true
+  pub covers : (process : ℕ) → is_ready new process ≡ false → is_among (Some waiting) process ≡ true → is_open_at new.opened class process ≡ true
+
 -- whoever waits for these invocations is asked in turn
 pub record IsOpenedAt (class : Served_class) (old new : Waiters) : Type 0 where
   pub go_on : GoOn old new
@@ -272,11 +286,26 @@ pub record HoldsProcess (crowds : List Opened) (process place : ℕ) : Type 0 wh
   pub here : slice_get crowds place ≡ Some crowd
   pub holds : contains nat_cmp crowd.processes process ≡ true
 
+pub record HoldsNobody (crowds : List Opened) (place : ℕ) : Type 0 where
+  pub crowd : Opened
+  pub here : slice_get crowds place ≡ Some crowd
+  pub nobody : btree_set_len crowd.processes ≡ 0
+
 -- a crowd without one of its processes
 pub record LeavesCrowd (process : ℕ) (old new : Opened) : Type 0 where
   pub class : new.class ≡ old.class
   pub others : (q : ℕ) → (process == q) ≡ false → contains nat_cmp new.processes q ≡ contains nat_cmp old.processes q
   pub less : btree_set_len new.processes + 1 ≡ btree_set_len old.processes
+
+-- whoever stood at an open operation stands there
+pub record StaysOpen (old new : List Opened) : Type 0 where
+  pub stays : (class : Served_class) (process : ℕ) → is_open_at old class process ≡ true → is_open_at new class process ≡ true
+  pub less : crowds_len new ≤ crowds_len old
+
+-- all others stand where they stood
+pub record HasLeft (process : ℕ) (old new : List Opened) : Type 0 where
+  pub others : (class : Served_class) (q : ℕ) → (process == q) ≡ false → is_open_at old class q ≡ true → is_open_at new class q ≡ true
+  pub less : crowds_len new + 1 ≤ crowds_len old
 
 -- ---- who is next
 

@@ -1,9 +1,10 @@
 ghost use Rattle.std.specs.Prelude.{◌≡◌, ◌&&◌, ◌<◌, ◌||◌, ℕ, Bool, IfNone, IfSome, IsTrue, false, nat_lt, true};
 ghost use Rattle.std.specs.BTreeSet.{contains};
 ghost use Rattle.std.specs.Ordering.{nat_cmp};
-ghost use Rattle.sr_plain.specs.Waiting.{HoldsClass, HoldsProcess, IsFirst, LeavesCrowd, is_open};
+ghost use Rattle.sr_plain.specs.Waiting.{HasLeft, HoldsClass, HoldsNobody, HoldsProcess, IsFirst, LeavesCrowd, StaysOpen, is_open};
 
 use sr_queue::Class;
+use sr_value::Row;
 use std::collections::BTreeSet;
 use std::ops::Bound;
 
@@ -81,12 +82,38 @@ pub(crate) fn first_open(crowds: &[Opened]) -> Option<u32>
     least
 }
 
-/// A process isn't asked as one of many any more.
-pub(crate) fn leave(crowd: &mut Opened, process: u32)
+fn leave(crowd: &mut Opened, process: u32)
     requires { contains nat_cmp crowd.old.processes process ≡ true }
     ensures { LeavesCrowd process crowd.old crowd.new }
 {
     crowd.processes.remove(&process);
+}
+
+fn is_empty_at(crowds: &[Opened], place: usize) -> bool
+    ensures { IsTrue result → HoldsNobody crowds.now place }
+{
+    match crowds.get(place) {
+        Some(crowd) => crowd.processes.is_empty(),
+        None => false,
+    }
+}
+
+/// Lets go of an operation that nobody waits for any more.
+fn drop_if_empty(crowds: &mut Row<Opened>, place: usize)
+    ensures { StaysOpen crowds.old crowds.new }
+{
+    if is_empty_at(crowds.as_slice(), place) {
+        crowds.remove(place);
+    }
+}
+
+/// A process isn't asked as one of many any more.
+pub(crate) fn take_from(crowds: &mut Row<Opened>, place: usize, process: u32)
+    requires { HoldsProcess crowds.old process place }
+    ensures { HasLeft process crowds.old crowds.new }
+{
+    leave(crowds.at_mut(place), process);
+    drop_if_empty(crowds, place);
 }
 
 /// Where those stand that wait for an operation.

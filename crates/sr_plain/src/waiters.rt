@@ -1,12 +1,14 @@
-ghost use Rattle.std.specs.Prelude.{◌≡◌, ◌&&◌, ◌<◌, ℕ, IfOk, OnOk, false, nat_lt, true};
+ghost use Rattle.std.specs.Prelude.{◌≡◌, ◌&&◌, ◌<◌, ℕ, [], IfOk, OnOk, false, nat_lt, true};
 ghost use Rattle.std.specs.BTreeSet.{contains};
 ghost use Rattle.std.specs.Ordering.{nat_cmp};
-ghost use Rattle.sr_plain.specs.Waiting.{HaveJoined, HoldsProcess, IsFirst, IsJoined, IsMadeReady, IsNext, IsOpenedAt, IsPromoted, IsPutBack, IsShut, IsTakenOut, IsWokenAt, WaitsAlso, WaitsThere, is_closed, is_ready, may_go, turns_len};
+ghost use Rattle.sr_plain.specs.Waiting.{HaveJoined, HaveOpened, HoldsProcess, IsFirst, IsJoined, IsMadeReady, IsNext, IsOpenedAt, IsPromoted, IsPutBack, IsShut, IsTakenOut, IsWokenAt, WaitsAlso, WaitsThere, is_closed, is_ready, may_go, turns_len};
 ghost use Rattle.sr_plain.specs.declared.waiters.Place.TheVariants.{Idle, Served, Stored, Watched};
+ghost use Rattle.sr_plain.specs.declared.waiters.Waiting.TheVariants.{Many};
 ghost use Rattle.sr_queue.specs.declared.class.Class as served;
 
 use crate::crowd::{
-    Opened, first, first_after, first_open, first_open_after, leave, place_of, place_with, sooner,
+    Opened, first, first_after, first_open, first_open_after, place_of, place_with, sooner,
+    take_from,
 };
 use crate::variable::Variable;
 use sr_queue::Class;
@@ -210,6 +212,9 @@ impl Waiters {
     fn shut(&mut self, class: Class) -> Result<(), NoMemory>
         ensures { OnOk result (IsShut class self.old self.new) }
     {
+        if self.opened.is_empty() {
+            return Ok(());
+        }
         match place_of(self.opened.as_slice(), class) {
             Some(place) => {
                 let Opened { processes, .. } = self.opened.remove(place);
@@ -237,17 +242,42 @@ impl Waiters {
     }
 
     /// Has those asked in turn that wait for invocations of an operation, which may have got one.
+    #[inline(always)]
     pub(crate) fn open(&mut self, class: Class) -> Result<(), NoMemory>
         ensures { OnOk result (IsOpenedAt class self.old self.new) }
     {
+        if self.idle.is_empty() {
+            return Ok(());
+        }
         match self.idle.remove(&class) {
-            Some(Waiting::One(process)) => {
+            Some(waiting) => self.open_waiting(class, waiting),
+            None => Ok(()),
+        }
+    }
+
+    fn open_waiting(&mut self, class: Class, waiting: Waiting) -> Result<(), NoMemory>
+        ensures { OnOk result (HaveOpened class waiting self.old self.new) }
+    {
+        match waiting {
+            Waiting::One(process) => {
                 self.ready.insert(process)?;
                 Ok(())
             }
-            Some(Waiting::Many(processes)) => self.opened.push(Opened { class, processes }),
-            None => Ok(()),
+            Waiting::Many(processes) => self.open_many(class, processes),
         }
+    }
+
+    /// Has them asked in turn as many. If they are no more than the operations that are open, each is asked by itself, for
+    /// whoever looks for the next looks at each open operation.
+    #[inline(never)]
+    fn open_many(&mut self, class: Class, processes: BTreeSet<u32>) -> Result<(), NoMemory>
+        ensures { OnOk result (HaveOpened class (Many processes) self.old self.new) }
+    {
+        if processes.len() <= self.opened.len() {
+            let mut processes = processes;
+            return join(&mut self.ready, &mut processes);
+        }
+        self.opened.push(Opened { class, processes })
     }
 
     /// Nobody waits for invocations alone.
@@ -259,7 +289,19 @@ impl Waiters {
     }
 
     /// Has a process be asked by itself, and not as one of many.
+    #[inline(always)]
     pub(crate) fn promote(&mut self, process: u32) -> Result<(), NoMemory>
+        requires { may_go self.old process ≡ true }
+        ensures { OnOk result (IsPromoted process self.old self.new) }
+    {
+        if self.opened.is_empty() {
+            return Ok(());
+        }
+        self.promote_open(process)
+    }
+
+    #[inline(never)]
+    fn promote_open(&mut self, process: u32) -> Result<(), NoMemory>
         requires { may_go self.old process ≡ true }
         ensures { OnOk result (IsPromoted process self.old self.new) }
     {
@@ -273,12 +315,13 @@ impl Waiters {
         requires { HoldsProcess self.old.opened process place }
         ensures { OnOk result (IsPromoted process self.old self.new) }
     {
-        leave(self.opened.at_mut(place), process);
+        take_from(&mut self.opened, place, process);
         self.ready.insert(process)?;
         Ok(())
     }
 
     /// Makes ready who waits for any change.
+    #[inline(always)]
     pub(crate) fn wake_watched(&mut self) -> Result<(), NoMemory>
         ensures { OnOk result (IsWokenAt Watched self.old self.new) }
     {
@@ -286,6 +329,7 @@ impl Waiters {
     }
 
     /// Makes ready who waits for invocations of an operation, and for more.
+    #[inline(always)]
     pub(crate) fn wake_served(&mut self, class: Class) -> Result<(), NoMemory>
         ensures { OnOk result (IsWokenAt (Served class) self.old self.new) }
     {
@@ -299,6 +343,7 @@ impl Waiters {
     }
 
     /// Makes ready who waits for a shared variable. Mostly there is no such process, and then nothing is looked up.
+    #[inline(always)]
     pub(crate) fn wake_stored(&mut self, variable: Variable) -> Result<(), NoMemory>
         ensures { OnOk result (IsWokenAt (Stored variable) self.old self.new) }
     {
@@ -313,6 +358,27 @@ impl Waiters {
 
     /// Who is asked next.
     pub(crate) fn next_after(&self, last: u32) -> Option<u32>
+        ensures { IsNext self.now last result }
+    {
+        if self.opened.is_empty() {
+            return self.next_ready(last);
+        }
+        self.next_of_all(last)
+    }
+
+    /// Who is asked next, where no operation is open.
+    fn next_ready(&self, last: u32) -> Option<u32>
+        requires { self.now.opened ≡ [] }
+        ensures { IsNext self.now last result }
+    {
+        match first_after(&self.ready, last) {
+            Some(process) => Some(process),
+            None => first(&self.ready),
+        }
+    }
+
+    #[inline(never)]
+    fn next_of_all(&self, last: u32) -> Option<u32>
         ensures { IsNext self.now last result }
     {
         match self.first_after(last) {

@@ -24,3 +24,6 @@ returns-in-Some c =
 
 pub returns-in-None : goal.returns-in-None
 returns-in-None c = shut-nobody c.args.class c.args.self.now
+
+pub returns-then-is_empty : goal.returns-then-is_empty
+returns-then-is_empty c = shut-nobody c.args.class c.args.self.now

@@ -1,8 +1,5 @@
-use Rattle.std.proofs.Common.{None, Some, subst}
-use Rattle.std.specs.Prelude.{nat_lt}
-use Rattle.sr_plain.specs.Waiting.{IsFirst, may_go}
-use Rattle.sr_plain.proofs.CrowdLemmas.{next-after, next-nobody, next-round}
-use Rattle.sr_plain.proofs.waiters.Waiters.next_after.Goals as goal
+use Rattle.sr_plain.proofs.CrowdLemmas.{next-after, next-nobody}
+use Rattle.sr_plain.proofs.waiters.Waiters.next_of_all.Goals as goal
 
 pub returns-in-Some : goal.returns-in-Some
 returns-in-Some c = next-after c.args.self.now c.args.last c.in-Some.process c.in-Some.ensures
