@@ -89,7 +89,7 @@ fn leave(crowd: &mut Opened, process: u32)
     crowd.processes.remove(&process);
 }
 
-fn is_empty_at(crowds: &[Opened], place: usize) -> bool
+fn is_empty_at(crowds: &Row<Opened>, place: usize) -> bool
     ensures { IsTrue result → HoldsNobody crowds.now place }
 {
     match crowds.get(place) {
@@ -102,7 +102,7 @@ fn is_empty_at(crowds: &[Opened], place: usize) -> bool
 fn drop_if_empty(crowds: &mut Row<Opened>, place: usize)
     ensures { StaysOpen crowds.old crowds.new }
 {
-    if is_empty_at(crowds.as_slice(), place) {
+    if is_empty_at(crowds, place) {
         crowds.remove(place);
     }
 }

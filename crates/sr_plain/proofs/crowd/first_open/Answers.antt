@@ -8,8 +8,8 @@ use Rattle.sr_plain.proofs.crowd.first_open.Goals as goal
 pub loop-crowd-preserved : goal.loop-crowd-preserved
 loop-crowd-preserved c =
     let found = c.first.ensures in
-    first-of-more c.args.crowds.now c.loop-crowd.crowd-index c.crowd-item.result c.loop-crowd-test.true c.crowd-item.is c.sooner.result
-    (c.sooner.ensures (is_open (take c.loop-crowd.crowd-index c.args.crowds.now)) (contains nat_cmp c.crowd-item.result.processes) c.loop-crowd.invariant
+    first-of-more c.args.crowds.now c.loop-crowd.crowd-index c.crowd-item.result c.loop-crowd-test.true c.crowd-item.is c.sooner-least.result
+    (c.sooner-least.ensures (is_open (take c.loop-crowd.crowd-index c.args.crowds.now)) (contains nat_cmp c.crowd-item.result.processes) c.loop-crowd.invariant
     (first-of (contains nat_cmp c.crowd-item.result.processes) c.first.result found.there found.least found.none))
 
 pub returns : goal.returns

@@ -12,8 +12,8 @@ loop-crowd-init c = first-any c.args.last
 pub loop-crowd-preserved : goal.loop-crowd-preserved
 loop-crowd-preserved c =
     let found = c.first_after.ensures in
-    first-more c.args.last c.args.crowds.now c.loop-crowd.crowd-index c.crowd-item.result c.loop-crowd-test.true c.crowd-item.is c.sooner.result
-    (c.sooner.ensures (λ q. nat_lt c.args.last q && is_open (take c.loop-crowd.crowd-index c.args.crowds.now) q) (λ q. nat_lt c.args.last q && contains nat_cmp c.crowd-item.result.processes q) c.loop-crowd.invariant
+    first-more c.args.last c.args.crowds.now c.loop-crowd.crowd-index c.crowd-item.result c.loop-crowd-test.true c.crowd-item.is c.sooner-least.result
+    (c.sooner-least.ensures (λ q. nat_lt c.args.last q && is_open (take c.loop-crowd.crowd-index c.args.crowds.now) q) (λ q. nat_lt c.args.last q && contains nat_cmp c.crowd-item.result.processes q) c.loop-crowd.invariant
     (first-later (contains nat_cmp c.crowd-item.result.processes) c.args.last c.first_after.result found.there found.later found.least found.none))
 
 pub returns : goal.returns

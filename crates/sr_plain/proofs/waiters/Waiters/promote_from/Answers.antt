@@ -3,8 +3,8 @@ use Rattle.sr_plain.proofs.CrowdLemmas.{longer-set, promoted, set-less}
 use Rattle.std.proofs.Common.{refl}
 use Rattle.sr_plain.proofs.waiters.Waiters.promote_from.Goals as goal
 
-pub returns-in_ok-insert : goal.returns-in_ok-insert
-returns-in_ok-insert c =
+pub returns : goal.returns
+returns c =
     let old : Waiters = c.args.self.now in
     let new : Waiters = record old { opened = c.take_from.new.crowds; ready = c.insert.new.self } in
     promoted c.args.process old new c.take_from.ensures refl refl refl refl c.in_ok-insert.ensures.updates.1
