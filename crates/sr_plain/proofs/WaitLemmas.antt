@@ -11,7 +11,7 @@ use Rattle.sr_queue.specs.declared.class.Class.{Class}
 use Rattle.sr_value.specs.Operators.{owner_eq}
 use Rattle.sr_value.specs.declared.capability.Owner.{Owner}
 use Rattle.sr_world.specs.Worlds.{World}
-use Rattle.sr_plain.specs.Waiting.{GoOn, IsJoined, IsOpenedAt, IsWokenAt, WaitsThere, is_among, is_closed, is_open_at, is_ready, key_of, opens, same_variable, turns_len, variable_of, waits, wakes}
+use Rattle.sr_plain.specs.Waiting.{AreWokenUnder, GoOn, IsJoined, IsOpenedAt, IsWokenAt, WaitsThere, WaitsUnder, is_among, is_closed, is_open_at, is_ready, key_of, opens, same_variable, turns_len, variable_of, waits, wakes}
 use Rattle.sr_plain.specs.Waking.{LivingGoOn, ReadiesAll, ReadiesIfLives, WakesByChange, WakesUp}
 use Rattle.sr_plain.specs.declared.change.Change.TheVariants as change
 use Rattle.sr_plain.specs.declared.change.Woken.{Woken}
@@ -36,23 +36,25 @@ same-parts a b same = by (a.block == b.block) (a.var == b.var) refl refl same
 
 module _ {K S : Type 0} (eq : K → K → Bool) (parts : (a b : K) → eq a b ≡ true → a ≡ b) (m n : HashMap K Waiting S) (key : K) where
   -- one more waits there
-  key-written : (w : Waiting) → UpdatesBy eq (eq key) m n (Some w) → ((p : ℕ) → is_among (get eq m key) p ≡ true → is_among (Some w) p ≡ true)
-      → (k : K) (p : ℕ) → is_among (get eq m k) p ≡ true → is_among (get eq n k) p ≡ true
-  key-written w updates keeps k p here = by (eq key k) refl
+  key-written : (process : ℕ) → WaitsUnder eq key process m n → (k : K) (p : ℕ) → is_among (get eq m k) p ≡ true → is_among (get eq n k) p ≡ true
+  key-written process under k p here = by (eq key k) refl
     where
       by : (b : Bool) → eq key k ≡ b → is_among (get eq n k) p ≡ true
       by true is =
-          ap (λ o. is_among o p) (updates.0 k ∙ ap (λ b. cond b (Some w) (get eq m k)) is)
-          ∙ keeps p (subst (λ c. is_among (get eq m c) p ≡ true) (sym (parts key k is)) here)
-      by false is = ap (λ o. is_among o p) (updates.2 k is) ∙ here
+          ap (λ o. is_among o p) (under.updates.0 k ∙ ap (λ b. cond b (Some under.waiting) (get eq m k)) is)
+          ∙ under.others p (subst (λ c. is_among (get eq m c) p ≡ true) (sym (parts key k is)) here)
+      by false is = ap (λ o. is_among o p) (under.updates.2 k is) ∙ here
 
-  -- those who waited there are taken out
-  key-taken : (o : Option Waiting) → o ≡ get eq m key → UpdatesBy eq (eq key) m n None → (p : ℕ) → is_among o p ≡ false → (k : K) → is_among (get eq m k) p ≡ true → is_among (get eq n k) p ≡ true
-  key-taken o is updates p off k here = by (eq key k) refl
+  key-itself : (process : ℕ) → WaitsUnder eq key process m n → is_among (get eq n key) process ≡ true
+  key-itself process under = ap (λ o. is_among o process) under.updates.1 ∙ under.itself
+
+  -- those who waited there are ready
+  key-taken : (ready readied : BTreeSet ℕ) → AreWokenUnder eq key m n ready readied → (p : ℕ) → contains nat_cmp readied p ≡ false → (k : K) → is_among (get eq m k) p ≡ true → is_among (get eq n k) p ≡ true
+  key-taken ready readied under p off k here = by (eq key k) refl
     where
       by : (b : Bool) → eq key k ≡ b → is_among (get eq n k) p ≡ true
-      by true same = absurd (true≢false (sym (subst (λ x. is_among (get eq m x) p ≡ true) (sym (parts key k same)) here) ∙ ap (λ x. is_among x p) (sym is) ∙ off))
-      by false apart = ap (λ x. is_among x p) (updates.2 k apart) ∙ here
+      by true same = absurd (true≢false (sym (subst (λ x. is_among (get eq m x) p ≡ true) (sym (parts key k same)) here) ∙ under.woken p off))
+      by false apart = ap (λ x. is_among x p) (under.others k apart) ∙ here
 
 -- ---- those that wait idly
 
@@ -92,12 +94,11 @@ pub waits-inserted : (process : ℕ) (old new : Waiters) → new.ready ≡ old.r
 waits-inserted process old new ready classes variables idle opened updates =
     waits-watched process old new ready classes variables idle opened updates.1 (set-more process old.watched new.watched updates)
 
-pub waits-written : (class : Class) (process : ℕ) (w : Waiting) (old new : Waiters) → new.ready ≡ old.ready → new.watched ≡ old.watched → new.variables ≡ old.variables → new.idle ≡ old.idle → new.opened ≡ old.opened
-    → UpdatesBy same_class (same_class class) old.classes new.classes (Some w) → ((p : ℕ) → is_among (get same_class old.classes class) p ≡ true → is_among (Some w) p ≡ true)
-    → is_among (Some w) process ≡ true → WaitsThere (Served class) process old new
-waits-written class process w old new ready watched variables idle opened updates keeps itself = record {
+pub waits-written : (class : Class) (process : ℕ) (old new : Waiters) → new.ready ≡ old.ready → new.watched ≡ old.watched → new.variables ≡ old.variables → new.idle ≡ old.idle → new.opened ≡ old.opened
+    → WaitsUnder same_class class process old.classes new.classes → WaitsThere (Served class) process old new
+waits-written class process old new ready watched variables idle opened under = record {
   ready = ready;
-  itself = ap (λ o. is_among o process) updates.1 ∙ itself;
+  itself = key-itself same_class same_parts old.classes new.classes class process under;
   others = more;
   closed = λ c other here. inl (closed-same old new idle c other here);
   less = turns-same old new ready opened;
@@ -105,16 +106,15 @@ waits-written class process w old new ready watched variables idle opened update
   where
     more : (k : Place) (other : ℕ) → waits old k other ≡ true → waits new k other ≡ true
     more Watched other here = ap (λ (s : BTreeSet ℕ). contains nat_cmp s other) watched ∙ here
-    more (Served c) other here = key-written same_class same_parts old.classes new.classes class w updates keeps c other here
+    more (Served c) other here = key-written same_class same_parts old.classes new.classes class process under c other here
     more (Stored v) other here = ap (λ m. is_among (get same_variable m v) other) variables ∙ here
     more (Idle c) other here = idle-same old new idle opened c other here
 
-pub variable-written : (variable : Variable) (process : ℕ) (w : Waiting) (old new : Waiters) → new.ready ≡ old.ready → new.watched ≡ old.watched → new.classes ≡ old.classes → new.idle ≡ old.idle → new.opened ≡ old.opened
-    → UpdatesBy same_variable (same_variable variable) old.variables new.variables (Some w) → ((p : ℕ) → is_among (get same_variable old.variables variable) p ≡ true → is_among (Some w) p ≡ true)
-    → is_among (Some w) process ≡ true → WaitsThere (Stored variable) process old new
-variable-written variable process w old new ready watched classes idle opened updates keeps itself = record {
+pub variable-written : (variable : Variable) (process : ℕ) (old new : Waiters) → new.ready ≡ old.ready → new.watched ≡ old.watched → new.classes ≡ old.classes → new.idle ≡ old.idle → new.opened ≡ old.opened
+    → WaitsUnder same_variable variable process old.variables new.variables → WaitsThere (Stored variable) process old new
+variable-written variable process old new ready watched classes idle opened under = record {
   ready = ready;
-  itself = ap (λ o. is_among o process) updates.1 ∙ itself;
+  itself = key-itself same_variable same-parts old.variables new.variables variable process under;
   others = more;
   closed = λ c other here. inl (closed-same old new idle c other here);
   less = turns-same old new ready opened;
@@ -123,7 +123,7 @@ variable-written variable process w old new ready watched classes idle opened up
     more : (k : Place) (other : ℕ) → waits old k other ≡ true → waits new k other ≡ true
     more Watched other here = ap (λ (s : BTreeSet ℕ). contains nat_cmp s other) watched ∙ here
     more (Served c) other here = ap (λ m. is_among (get same_class m c) other) classes ∙ here
-    more (Stored v) other here = key-written same_variable same-parts old.variables new.variables variable w updates keeps v other here
+    more (Stored v) other here = key-written same_variable same-parts old.variables new.variables variable process under v other here
     more (Idle c) other here = idle-same old new idle opened c other here
 
 or-left : (a b : Bool) → a ≡ true → (a || b) ≡ true
@@ -135,12 +135,11 @@ or-keeps true b a' keeps h = or-left a' b (keeps refl)
 or-keeps false b true keeps h = refl
 or-keeps false b false keeps h = h
 
-pub idle-written : (class : Class) (process : ℕ) (w : Waiting) (old new : Waiters) → new.ready ≡ old.ready → new.watched ≡ old.watched → new.classes ≡ old.classes → new.variables ≡ old.variables → new.opened ≡ old.opened
-    → UpdatesBy same_class (same_class class) old.idle new.idle (Some w) → ((p : ℕ) → is_among (get same_class old.idle class) p ≡ true → is_among (Some w) p ≡ true)
-    → is_among (Some w) process ≡ true → WaitsThere (Idle class) process old new
-idle-written class process w old new ready watched classes variables opened updates keeps itself = record {
+pub idle-written : (class : Class) (process : ℕ) (old new : Waiters) → new.ready ≡ old.ready → new.watched ≡ old.watched → new.classes ≡ old.classes → new.variables ≡ old.variables → new.opened ≡ old.opened
+    → WaitsUnder same_class class process old.idle new.idle → WaitsThere (Idle class) process old new
+idle-written class process old new ready watched classes variables opened under = record {
   ready = ready;
-  itself = or-left (is_closed new class process) (is_open_at new.opened class process) (ap (λ o. is_among o process) updates.1 ∙ itself);
+  itself = or-left (is_closed new class process) (is_open_at new.opened class process) (key-itself same_class same_parts old.idle new.idle class process under);
   others = more;
   closed = λ c other here. by c other (same_class class c) refl here;
   less = turns-same old new ready opened;
@@ -152,11 +151,11 @@ idle-written class process w old new ready watched classes variables opened upda
     more (Stored v) other here = ap (λ m. is_among (get same_variable m v) other) variables ∙ here
     more (Idle c) other here =
         ap (λ o. is_closed new c other || is_open_at o c other) opened
-        ∙ or-keeps (is_closed old c other) (is_open_at old.opened c other) (is_closed new c other) (key-written same_class same_parts old.idle new.idle class w updates keeps c other) here
+        ∙ or-keeps (is_closed old c other) (is_open_at old.opened c other) (is_closed new c other) (key-written same_class same_parts old.idle new.idle class process under c other) here
 
     by : (c : Class) (other : ℕ) (b : Bool) → same_class class c ≡ b → is_closed new c other ≡ true → (is_closed old c other ≡ true) ⊎ (Idle class ≡ Idle c)
     by c other true is here = inr (ap Idle (same_parts class c is))
-    by c other false is here = inl (sym (ap (λ o. is_among o other) (updates.2 c is)) ∙ here)
+    by c other false is here = inl (sym (ap (λ o. is_among o other) (under.updates.2 c is)) ∙ here)
 
 -- ---- those that are woken
 
@@ -173,63 +172,59 @@ woken-watched old new joined classes variables idle opened = record {
     stay (Stored v) p off here = ap (λ m. is_among (get same_variable m v) p) variables ∙ here
     stay (Idle c) p off here = idle-same old new idle opened c p here
 
-pub woken-class : (class : Class) (old new : Waiters) (o : Option Waiting) → o ≡ get same_class old.classes class → UpdatesBy same_class (same_class class) old.classes new.classes None
-    → new.watched ≡ old.watched → new.variables ≡ old.variables → new.idle ≡ old.idle → new.opened ≡ old.opened
-    → ((p : ℕ) → is_ready new p ≡ false → (is_ready old p ≡ false) × (is_among o p ≡ false)) → IsWokenAt (Served class) old new
-woken-class class old new o is updates watched variables idle opened each = record {
-  go_on = record { ready = λ p off. (each p off).0; waiting = stay };
+pub woken-class : (class : Class) (old new : Waiters) → AreWokenUnder same_class class old.classes new.classes old.ready new.ready
+    → new.watched ≡ old.watched → new.variables ≡ old.variables → new.idle ≡ old.idle → new.opened ≡ old.opened → IsWokenAt (Served class) old new
+woken-class class old new under watched variables idle opened = record {
+  go_on = record { ready = under.unready; waiting = stay };
   idle = idle;
-  woken = λ p off. ap (λ x. is_among x p) (sym is) ∙ (each p off).1;
+  woken = under.woken;
 }
   where
     stay : (k : Place) (p : ℕ) → is_ready new p ≡ false → waits old k p ≡ true → waits new k p ≡ true
     stay Watched p off here = ap (λ (s : BTreeSet ℕ). contains nat_cmp s p) watched ∙ here
-    stay (Served c) p off here = key-taken same_class same_parts old.classes new.classes class o is updates p (each p off).1 c here
+    stay (Served c) p off here = key-taken same_class same_parts old.classes new.classes class old.ready new.ready under p off c here
     stay (Stored v) p off here = ap (λ m. is_among (get same_variable m v) p) variables ∙ here
     stay (Idle c) p off here = idle-same old new idle opened c p here
 
-pub woken-variable : (variable : Variable) (old new : Waiters) (o : Option Waiting) → o ≡ get same_variable old.variables variable → UpdatesBy same_variable (same_variable variable) old.variables new.variables None
-    → new.watched ≡ old.watched → new.classes ≡ old.classes → new.idle ≡ old.idle → new.opened ≡ old.opened
-    → ((p : ℕ) → is_ready new p ≡ false → (is_ready old p ≡ false) × (is_among o p ≡ false)) → IsWokenAt (Stored variable) old new
-woken-variable variable old new o is updates watched classes idle opened each = record {
-  go_on = record { ready = λ p off. (each p off).0; waiting = stay };
+pub woken-variable : (variable : Variable) (old new : Waiters) → AreWokenUnder same_variable variable old.variables new.variables old.ready new.ready
+    → new.watched ≡ old.watched → new.classes ≡ old.classes → new.idle ≡ old.idle → new.opened ≡ old.opened → IsWokenAt (Stored variable) old new
+woken-variable variable old new under watched classes idle opened = record {
+  go_on = record { ready = under.unready; waiting = stay };
   idle = idle;
-  woken = λ p off. ap (λ x. is_among x p) (sym is) ∙ (each p off).1;
+  woken = under.woken;
 }
   where
     stay : (k : Place) (p : ℕ) → is_ready new p ≡ false → waits old k p ≡ true → waits new k p ≡ true
     stay Watched p off here = ap (λ (s : BTreeSet ℕ). contains nat_cmp s p) watched ∙ here
     stay (Served c) p off here = ap (λ m. is_among (get same_class m c) p) classes ∙ here
-    stay (Stored v) p off here = key-taken same_variable same-parts old.variables new.variables variable o is updates p (each p off).1 v here
+    stay (Stored v) p off here = key-taken same_variable same-parts old.variables new.variables variable old.ready new.ready under p off v here
     stay (Idle c) p off here = idle-same old new idle opened c p here
 
 nobody : {K X : Type 0} (test : K → Bool) (entries : List (K × X)) → length entries ≡ 0 → lookup test entries ≡ None
 nobody test [] none = refl
 nobody test (e ∷ es) none = absurd (cc)
 
--- where nobody waits for variables, or for more than invocations
-pub woken-nobody : (variable : Variable) (waiters : Waiters) → hash_map_len waiters.variables ≡ 0 → IsWokenAt (Stored variable) waiters waiters
-woken-nobody variable waiters none = record {
-  go_on = record { ready = λ p off. off; waiting = λ k p off here. here };
-  idle = refl;
-  woken = λ p off. ap (λ o. is_among o p) (nobody (same_variable variable) waiters.variables.entries none);
-}
+module _ {K S : Type 0} (eq : K → K → Bool) (m : HashMap K Waiting S) where
+  pub none-under : hash_map_len m ≡ 0 → (key : K) (p : ℕ) → is_among (get eq m key) p ≡ false
+  none-under none key p = ap (λ o. is_among o p) (nobody (eq key) m.entries none)
 
-pub woken-none : (class : Class) (waiters : Waiters) → hash_map_len waiters.classes ≡ 0 → IsWokenAt (Served class) waiters waiters
-woken-none class waiters none = record {
-  go_on = record { ready = λ p off. off; waiting = λ k p off here. here };
-  idle = refl;
-  woken = λ p off. ap (λ o. is_among o p) (nobody (same_class class) waiters.classes.entries none);
-}
+  -- those who waited under a key are taken out
+  pub taken-under : (key : K) (n : HashMap K Waiting S) (o : Option Waiting) (ready readied : BTreeSet ℕ) → o ≡ get eq m key → UpdatesBy eq (eq key) m n None
+      → ((p : ℕ) → contains nat_cmp readied p ≡ false → (contains nat_cmp ready p ≡ false) × (is_among o p ≡ false)) → AreWokenUnder eq key m n ready readied
+  taken-under key n o ready readied is updates each = record {
+    unready = λ p off. (each p off).0;
+    woken = λ p off. ap (λ x. is_among x p) (sym is) ∙ (each p off).1;
+    others = λ k apart. updates.2 k apart;
+  }
 
-pub closed-none : {S : Type 0} (idle : HashMap Class Waiting S) → hash_map_len idle ≡ 0 → (class : Class) (q : ℕ) → is_among (get same_class idle class) q ≡ false
-closed-none idle none class q = ap (λ o. is_among o q) (nobody (same_class class) idle.entries none)
+  pub nobody-under : (key : K) (ready : BTreeSet ℕ) → hash_map_len m ≡ 0 → AreWokenUnder eq key m m ready ready
+  nobody-under key ready none = record { unready = λ p off. off; woken = λ p off. none-under none key p; others = λ k apart. refl }
 
 -- where nobody waits for invocations alone
 pub opened-nobody : (class : Class) (waiters : Waiters) → hash_map_len waiters.idle ≡ 0 → IsOpenedAt class waiters waiters
 opened-nobody class waiters none = record {
   go_on = record { ready = λ p off. off; waiting = λ k p off here. here };
-  closed = λ c q here. absurd (true≢false (sym here ∙ closed-none waiters.idle none c q));
+  closed = λ c q here. absurd (true≢false (sym here ∙ none-under same_class waiters.idle none c q));
 }
 
 off-both : (a b : Bool) → a ≡ false → b ≡ false → (a || b) ≡ false

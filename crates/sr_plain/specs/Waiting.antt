@@ -1,7 +1,7 @@
 -- Who is asked in turn, and where the others wait.
 use Rattle.std.specs.Prelude.{◌≡◌, ◌+◌, ◌<◌, ◌≤◌, ◌==◌, ◌&&◌, ◌||◌, ◌⊎◌, ℕ, Bool, not, true, false, List, Option, Some, None, Result, Ok, Err, slice_get}
 use Rattle.std.specs.BTreeSet.{BTreeSet, btree_set_len, contains}
-use Rattle.std.specs.HashMap.{get}
+use Rattle.std.specs.HashMap.{HashMap, UpdatesBy, get}
 use Rattle.std.specs.List.{list_all, list_any, sum_by}
 use Rattle.std.specs.Ordering.{nat_cmp}
 use Rattle.sr_ask.specs.declared.request.Request.{Request}
@@ -194,6 +194,19 @@ pub record HaveJoined (waiting : Waiting) (old new : BTreeSet ℕ) : Type 0 wher
 pub record WaitsAlso (process : ℕ) (old new : Waiting) : Type 0 where
   pub itself : is_among (Some new) process ≡ true
   pub others : (other : ℕ) → is_among (Some old) other ≡ true → is_among (Some new) other ≡ true
+
+-- one more waits under a key
+pub record WaitsUnder {K S : Type 0} (eq : K → K → Bool) (key : K) (process : ℕ) (old new : HashMap K Waiting S) : Type 0 where
+  pub waiting : Waiting
+  pub updates : UpdatesBy eq (eq key) old new (Some waiting)
+  pub itself : is_among (Some waiting) process ≡ true
+  pub others : (other : ℕ) → is_among (get eq old key) other ≡ true → is_among (Some waiting) other ≡ true
+
+-- who waited under a key is ready
+pub record AreWokenUnder {K S : Type 0} (eq : K → K → Bool) (key : K) (old new : HashMap K Waiting S) (ready readied : BTreeSet ℕ) : Type 0 where
+  pub unready : (process : ℕ) → contains nat_cmp readied process ≡ false → contains nat_cmp ready process ≡ false
+  pub woken : (process : ℕ) → contains nat_cmp readied process ≡ false → is_among (get eq old key) process ≡ false
+  pub others : (other : K) → eq key other ≡ false → get eq new other ≡ get eq old other
 
 -- who waited there is ready
 pub record IsWokenAt (key : Place) (old new : Waiters) : Type 0 where

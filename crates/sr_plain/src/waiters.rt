@@ -1,7 +1,7 @@
 ghost use Rattle.std.specs.Prelude.{◌≡◌, ◌&&◌, ◌<◌, ℕ, [], IfOk, OnOk, false, nat_lt, true};
 ghost use Rattle.std.specs.BTreeSet.{contains};
 ghost use Rattle.std.specs.Ordering.{nat_cmp};
-ghost use Rattle.sr_plain.specs.Waiting.{HaveJoined, HaveOpened, HoldsProcess, IsFirst, IsJoined, IsMadeReady, IsNext, IsOpenedAt, IsPromoted, IsPutBack, IsShut, IsTakenOut, IsWokenAt, WaitsAlso, WaitsThere, is_closed, is_ready, may_go, turns_len};
+ghost use Rattle.sr_plain.specs.Waiting.{AreWokenUnder, HaveJoined, HaveOpened, HoldsProcess, IsFirst, IsJoined, IsMadeReady, IsNext, IsOpenedAt, IsPromoted, IsPutBack, IsShut, IsTakenOut, IsWokenAt, WaitsAlso, WaitsThere, WaitsUnder, is_closed, is_ready, may_go, turns_len};
 ghost use Rattle.sr_plain.specs.declared.waiters.Place.TheVariants.{Idle, Served, Stored, Watched};
 ghost use Rattle.sr_plain.specs.declared.waiters.Waiting.TheVariants.{Many};
 ghost use Rattle.sr_queue.specs.declared.class.Class as served;
@@ -15,6 +15,7 @@ use sr_queue::Class;
 use sr_value::{NoMemory, Row};
 use std::alloc::Global;
 use std::collections::{BTreeSet, HashMap};
+use std::hash::Hash;
 
 /// Where a process waits.
 #[derive(Clone, Copy)]
@@ -117,6 +118,42 @@ impl Waiting {
     }
 }
 
+/// Has one more wait under a key.
+fn wait_under<K: Copy + Eq + Hash>(
+    table: &mut HashMap<K, Waiting>,
+    alloc: Global,
+    key: K,
+    process: u32,
+) -> Result<(), NoMemory>
+    ensures { OnOk result (WaitsUnder K.eq key process table.old table.new) }
+{
+    match table.get_mut(&key) {
+        Some(waiting) => waiting.add(alloc, process),
+        None => {
+            table.insert(key, Waiting::One(process))?;
+            Ok(())
+        }
+    }
+}
+
+/// Makes ready who waits under a key. Where nobody waits at all, nothing is looked up.
+#[inline(always)]
+fn wake_under<K: Copy + Eq + Hash>(
+    ready: &mut BTreeSet<u32>,
+    table: &mut HashMap<K, Waiting>,
+    key: K,
+) -> Result<(), NoMemory>
+    ensures { OnOk result (AreWokenUnder K.eq key table.old table.new ready.old ready.new) }
+{
+    if table.is_empty() {
+        return Ok(());
+    }
+    match table.remove(&key) {
+        Some(waiting) => join_waiting(ready, waiting),
+        None => Ok(()),
+    }
+}
+
 impl Waiters {
     pub(crate) fn new(alloc: Global) -> Self {
         Waiters {
@@ -155,35 +192,11 @@ impl Waiters {
                 self.watched.insert(process)?;
                 Ok(())
             }
-            Place::Served(class) => self.wait_for(class, process),
-            Place::Stored(variable) => self.wait_for_variable(variable, process),
+            Place::Served(class) => wait_under(&mut self.classes, self.alloc, class, process),
+            Place::Stored(variable) => {
+                wait_under(&mut self.variables, self.alloc, variable, process)
+            }
             Place::Idle(class) => self.wait_idle(class, process),
-        }
-    }
-
-    /// Has a process wait for invocations.
-    fn wait_for(&mut self, class: Class, process: u32) -> Result<(), NoMemory>
-        ensures { OnOk result (WaitsThere (Served class) process self.old self.new) }
-    {
-        match self.classes.get_mut(&class) {
-            Some(waiting) => waiting.add(self.alloc, process),
-            None => {
-                self.classes.insert(class, Waiting::One(process))?;
-                Ok(())
-            }
-        }
-    }
-
-    /// Has a process wait for a shared variable.
-    fn wait_for_variable(&mut self, variable: Variable, process: u32) -> Result<(), NoMemory>
-        ensures { OnOk result (WaitsThere (Stored variable) process self.old self.new) }
-    {
-        match self.variables.get_mut(&variable) {
-            Some(waiting) => waiting.add(self.alloc, process),
-            None => {
-                self.variables.insert(variable, Waiting::One(process))?;
-                Ok(())
-            }
         }
     }
 
@@ -193,19 +206,7 @@ impl Waiters {
         ensures { OnOk result (WaitsThere (Idle class) process self.old self.new) }
     {
         self.shut(class)?;
-        self.add_idle(class, process)
-    }
-
-    fn add_idle(&mut self, class: Class, process: u32) -> Result<(), NoMemory>
-        ensures { OnOk result (WaitsThere (Idle class) process self.old self.new) }
-    {
-        match self.idle.get_mut(&class) {
-            Some(waiting) => waiting.add(self.alloc, process),
-            None => {
-                self.idle.insert(class, Waiting::One(process))?;
-                Ok(())
-            }
-        }
+        wait_under(&mut self.idle, self.alloc, class, process)
     }
 
     /// Has those asked no more that wait for invocations of an operation.
@@ -333,27 +334,15 @@ impl Waiters {
     pub(crate) fn wake_served(&mut self, class: Class) -> Result<(), NoMemory>
         ensures { OnOk result (IsWokenAt (Served class) self.old self.new) }
     {
-        if self.classes.is_empty() {
-            return Ok(());
-        }
-        match self.classes.remove(&class) {
-            Some(waiting) => join_waiting(&mut self.ready, waiting),
-            None => Ok(()),
-        }
+        wake_under(&mut self.ready, &mut self.classes, class)
     }
 
-    /// Makes ready who waits for a shared variable. Mostly there is no such process, and then nothing is looked up.
+    /// Makes ready who waits for a shared variable.
     #[inline(always)]
     pub(crate) fn wake_stored(&mut self, variable: Variable) -> Result<(), NoMemory>
         ensures { OnOk result (IsWokenAt (Stored variable) self.old self.new) }
     {
-        if self.variables.is_empty() {
-            return Ok(());
-        }
-        match self.variables.remove(&variable) {
-            Some(waiting) => join_waiting(&mut self.ready, waiting),
-            None => Ok(()),
-        }
+        wake_under(&mut self.ready, &mut self.variables, variable)
     }
 
     /// Who is asked next.
