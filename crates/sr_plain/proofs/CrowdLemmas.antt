@@ -20,18 +20,9 @@ use Rattle.sr_plain.specs.declared.waiters.Place.{Place}
 use Rattle.sr_plain.specs.declared.waiters.Place.TheVariants.{Watched, Served, Stored, Idle}
 use Rattle.sr_plain.specs.declared.waiters.Waiters.{Waiters}
 use Rattle.sr_plain.specs.declared.waiters.Waiting.{Waiting}
-use Rattle.sr_plain.specs.declared.waiters.Waiting.TheVariants.{One, Many}
+use Rattle.sr_plain.specs.declared.waiters.Waiting.TheVariants.{Many}
 
 -- ---- tests
-
-off-both : (a b : Bool) → a ≡ false → b ≡ false → (a || b) ≡ false
-off-both true b h k = absurd (true≢false h)
-off-both false true h k = absurd (true≢false k)
-off-both false false h k = refl
-
-both-off : (a b : Bool) → (a || b) ≡ false → (a ≡ false) × (b ≡ false)
-both-off true b h = absurd (true≢false h)
-both-off false b h = (refl, h)
 
 or-left : (a b : Bool) → a ≡ true → (a || b) ≡ true
 or-left true b h = refl
@@ -98,22 +89,6 @@ longer-set false m n is = omega arith
 pub first-same : (f g : ℕ → Bool) → ((q : ℕ) → f q ≡ g q) → (r : Option ℕ) → IsFirst f r → IsFirst g r
 first-same f g same None none = λ other. sym (same other) ∙ none other
 first-same f g same (Some p) first = (sym (same p) ∙ first.0, λ other below. sym (same other) ∙ first.1 other below)
-
-module _ (f g : ℕ → Bool) where
-  pub first-none : IsFirst f None → IsFirst g None → IsFirst (λ q. f q || g q) None
-  first-none a b other = off-both (f other) (g other) (a other) (b other)
-
-  pub first-one : (p : ℕ) → IsFirst f (Some p) → IsFirst g None → IsFirst (λ q. f q || g q) (Some p)
-  first-one p a b = (or-left (f p) (g p) a.0, λ other below. off-both (f other) (g other) (a.1 other below) (b other))
-
-  pub first-other : (p : ℕ) → IsFirst f None → IsFirst g (Some p) → IsFirst (λ q. f q || g q) (Some p)
-  first-other p a b = (or-right (f p) (g p) b.0, λ other below. off-both (f other) (g other) (a other) (b.1 other below))
-
-  pub first-left : (p q : ℕ) → p ≤ q → IsFirst f (Some p) → IsFirst g (Some q) → IsFirst (λ n. f n || g n) (Some p)
-  first-left p q le a b = (or-left (f p) (g p) a.0, λ other below. off-both (f other) (g other) (a.1 other below) (b.1 other (omega arith)))
-
-  pub first-right : (p q : ℕ) → q < p → IsFirst f (Some p) → IsFirst g (Some q) → IsFirst (λ n. f n || g n) (Some q)
-  first-right p q lt a b = (or-right (f q) (g q) b.0, λ other below. off-both (f other) (g other) (a.1 other (omega arith)) (b.1 other below))
 
 -- of those after a number
 pub first-later : (test : ℕ → Bool) (last : ℕ) (r : Option ℕ) → IfSome r (λ p. test p ≡ true) → IfSome r (λ p. last < p) → IfSome r (λ p. (other : ℕ) → last < other → other < p → test other ≡ false)
@@ -221,9 +196,6 @@ item-is (y ∷ ys) (suc k) x is = item-is ys k x is
 none-of : (keys : List ℕ) (q : ℕ) → length keys ≡ 0 → list_any (is_at (nat_cmp q)) keys ≡ false
 none-of [] q none = refl
 none-of (k ∷ ks) q none = absurd (cc)
-
-pub stays-same : (opened : List Opened) → StaysOpen opened opened
-stays-same opened = record { stays = λ c q here. here; less = omega arith }
 
 pub stays-without : (opened : List Opened) (place : ℕ) → HoldsNobody opened place → StaysOpen opened (remove opened place)
 stays-without opened place holds = record { stays = kept; less = fewer }
@@ -507,12 +479,3 @@ first-any last other = and-off (nat_lt last other)
 pub may-first : (waiters : Waiters) (last : ℕ) (r : Option ℕ) → IsFirst (λ q. (nat_lt last q && is_ready waiters q) || (nat_lt last q && is_open waiters.opened q)) r → IsFirst (λ q. nat_lt last q && may_go waiters q) r
 may-first waiters last =
     first-same (λ q. (nat_lt last q && is_ready waiters q) || (nat_lt last q && is_open waiters.opened q)) (λ q. nat_lt last q && may_go waiters q) (λ q. shared-and (nat_lt last q) (is_ready waiters q) (is_open waiters.opened q))
-
--- where none of the first ones holds a process, and the next doesn't, none of these holds it
-pub alone-more : (process : ℕ) (xs : List Opened) (i : ℕ) (x : Opened) → i < length xs → x ≡ get_or xs i x → is_open (take i xs) process ≡ false → contains nat_cmp x.processes process ≡ false → is_open (take (i + 1) xs) process ≡ false
-alone-more process xs i x within is before off =
-    list_any_more (λ (o : Opened). contains nat_cmp o.processes process) xs i x within
-    ∙ off-both (is_open (take i xs) process) (contains nat_cmp (get_or xs i x).processes process) before (ap (λ (o : Opened). contains nat_cmp o.processes process) (sym is) ∙ off)
-
-pub alone-all : (process : ℕ) (xs : List Opened) (i : ℕ) → length xs ≤ i → is_open (take i xs) process ≡ false → is_open xs process ≡ false
-alone-all process xs i over off = ap (λ ys. is_open ys process) (sym (take_all i xs over)) ∙ off

@@ -1,5 +1,5 @@
 -- Who waits for all that a statement lists waits for all that its guards name.
-use Rattle.std.proofs.Common.{◌≡◌, ◌⊎◌, ◌<◌, ◌+◌, inl, inr, suc, ◌&&◌, ◌||◌, ◌==◌, ℕ, Bool, true, false, List, [], ◌∷◌, Some, refl, ap, sym, ◌∙◌, subst, eqb-true, true≢false, arith}
+use Rattle.std.proofs.Common.{◌≡◌, ◌⊎◌, ◌<◌, ◌+◌, inl, inr, suc, ◌&&◌, ◌||◌, ◌==◌, ℕ, Bool, true, false, List, [], ◌∷◌, Some, refl, ap, sym, ◌∙◌, eqb-true, true≢false, arith}
 use Rattle.std.specs.List.{list_any}
 use Rattle.std.specs.Prelude.{Result, Ok, slice_get}
 use Rattle.sr_ask.specs.declared.request.Request.{Request}
@@ -22,10 +22,10 @@ use Rattle.sr_value.specs.declared.fault.Fault.{Fault}
 use Rattle.sr_value.specs.declared.value.Value.{Value}
 use Rattle.sr_plain.specs.Changes.{owner_at}
 use Rattle.sr_plain.specs.Noting.{IdlesAtArms, StillWait, WaitsAt, WaitsAtArms, WaitsForCount, WaitsForCounts, WaitsForRead, WaitsForReads}
-use Rattle.sr_plain.specs.Waiting.{IsWaiting, Selects, WaitsAtSite, WaitsFor, WaitsThere, at_block, at_operation, is_closed, is_simple, key_of, variable_of, waits, watching}
+use Rattle.sr_plain.specs.Waiting.{IsWaiting, Selects, WaitsThere, at_block, at_operation, is_closed, is_simple, key_of, variable_of, waits, watching}
 use Rattle.sr_plain.specs.declared.variable.Variable.{Variable}
 use Rattle.sr_plain.specs.declared.waiters.Place.{Place}
-use Rattle.sr_plain.specs.declared.waiters.Place.TheVariants.{Watched, Served, Stored, Idle}
+use Rattle.sr_plain.specs.declared.waiters.Place.TheVariants.{Served, Stored, Idle}
 use Rattle.sr_plain.specs.declared.waiters.Waiters.{Waiters}
 use Rattle.sr_plain.proofs.AsideLemmas.{block-more, operation-more}
 use Rattle.sr_plain.proofs.JoinLemmas.{one-more}
@@ -95,9 +95,6 @@ served-elsewhere class other is = absurd (cc)
 pub stored-elsewhere : (variable : Variable) (other : Class) → Stored variable ≡ Idle other → ⊥
 stored-elsewhere variable other is = absurd (cc)
 
-pub watched-elsewhere : (other : Class) → Watched ≡ Idle other → ⊥
-watched-elsewhere other is = absurd (cc)
-
 pub reads-there : (me : Me) (var block : ℕ) (old new : Waiters) → WaitsThere (variable_of block var) me.process old new → WaitsForRead me var (Ok block) old new
 reads-there me var block old new there = record { still = still-one (variable_of block var) me.process old new (stored-elsewhere (record { block = block; var = var })) there; itself = there.itself }
 
@@ -124,19 +121,6 @@ closed-more owner arms index arm key process old mid new found is before there c
 
 -- ---- what a process waits for
 
-pub waits-selecting : (core : Core) (me : Me) (asked : Request) (number : ℕ) (env : List Value) (site : Site) (old new : Waiters) → asked ≡ request.Select number env → slice_get core.sites number ≡ Some site
-    → WaitsAt core me env site old new → IsWaiting core me asked old new
-waits-selecting core me asked number env site old new is found waits_at = record {
-  ready = waits_at.still.ready;
-  itself = inl (subst (λ r. WaitsFor core me (λ key. waits new key me.process) r) (sym is) one);
-  others = waits_at.still.others;
-  closed = λ class other here. inl (waits_at.still.closed class other here);
-  less = waits_at.still.less;
-}
-  where
-    one : (s : Site) → slice_get core.sites number ≡ Some s → WaitsAtSite core me (λ key. waits new key me.process) env s
-    one s there = let same : site ≡ s = cc in subst (λ x. WaitsAtSite core me (λ key. waits new key me.process) env x) same waits_at.itself
-
 pub waits-idle : (core : Core) (me : Me) (asked : Request) (number : ℕ) (env : List Value) (site : Site) (old new : Waiters) → asked ≡ request.Select number env → slice_get core.sites number ≡ Some site
     → is_simple site ≡ true → IdlesAtArms me site old new → IsWaiting core me asked old new
 waits-idle core me asked number env site old new is found simple idles =
@@ -151,9 +135,6 @@ waits-idle core me asked number env site old new is found simple idles =
       ];
       less = idles.less;
     }
-
-pub waits-still : (core : Core) (me : Me) (asked : Request) (old new : Waiters) → StillWait old new → WaitsFor core me (λ key. waits new key me.process) asked → IsWaiting core me asked old new
-waits-still core me asked old new still waits_for = record { ready = still.ready; itself = inl waits_for; others = still.others; closed = λ class other here. inl (still.closed class other here); less = still.less }
 
 -- ---- one more that a process waits for
 

@@ -1,4 +1,4 @@
-use Rattle.std.proofs.Common.{ap, refl, sym, ◌∙◌}
+use Rattle.std.proofs.Common.{ap, sym, ◌∙◌}
 use Rattle.sr_plain.specs.Waiting.{at_operation, waits}
 use Rattle.sr_queue.specs.Classes.{class_of}
 use Rattle.sr_plain.proofs.BeginLemmas.{on_ok}
