@@ -11,7 +11,7 @@ use Rattle.sr_queue.specs.declared.class.Class.{Class}
 use Rattle.sr_value.specs.Operators.{owner_eq}
 use Rattle.sr_value.specs.declared.capability.Owner.{Owner}
 use Rattle.sr_world.specs.Worlds.{World}
-use Rattle.sr_plain.specs.Waiting.{AreWokenUnder, GoOn, IsJoined, IsOpenedAt, IsWokenAt, WaitsThere, WaitsUnder, is_among, is_closed, is_open_at, is_ready, key_of, opens, same_variable, turns_len, variable_of, waits, wakes}
+use Rattle.sr_plain.specs.Waiting.{AreWokenUnder, GoOn, IsJoined, IsOpenedAt, IsWokenAt, WaitsThere, WaitsUnder, is_among, is_closed, is_open_at, is_ready, key_of, same_variable, turns_len, variable_of, waits, wakes}
 use Rattle.sr_plain.specs.Waking.{LivingGoOn, ReadiesAll, ReadiesIfLives, WakesByChange, WakesUp}
 use Rattle.sr_plain.specs.declared.change.Change.TheVariants as change
 use Rattle.sr_plain.specs.declared.change.Woken.{Woken}
