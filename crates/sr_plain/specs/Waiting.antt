@@ -288,7 +288,7 @@ pub record IsTakenOut (process : ℕ) (old new : Waiters) : Type 0 where
   pub idle : new.idle ≡ old.idle
   pub opened : new.opened ≡ old.opened
 
--- some of those who wait stand at this place, with their operation, or with this process
+-- those who wait for this operation stand at this place; or among them this process; or nobody is left of them
 pub record HoldsClass (crowds : List Opened) (class : Served_class) (place : ℕ) : Type 0 where
   pub crowd : Opened
   pub here : slice_get crowds place ≡ Some crowd

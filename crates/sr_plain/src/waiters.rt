@@ -268,8 +268,8 @@ impl Waiters {
         }
     }
 
-    /// Has them asked in turn as many. If they are no more than the operations that are open, each is asked by itself, for
-    /// whoever looks for the next looks at each open operation.
+    /// Opens an operation for all of them. If they are no more than the operations that are open, they are made ready
+    /// instead, since a look for the next looks at each open operation.
     #[inline(never)]
     fn open_many(&mut self, class: Class, processes: BTreeSet<u32>) -> Result<(), NoMemory>
         ensures { OnOk result (HaveOpened class (Many processes) self.old self.new) }
