@@ -8,12 +8,13 @@ use Rattle.sr_ask.specs.declared.ask.Asks.{Asks}
 use Rattle.sr_ask.specs.declared.start.Start.{Start}
 use Rattle.sr_core.specs.declared.component.Core.{Core}
 use Rattle.sr_meaning.specs.Processes.{ask}
+use Rattle.sr_value.specs.declared.capability.Owner.{Owner}
 use Rattle.sr_world.specs.Runs.{Event, Gives, Closes, Goes, State, first, where_true, with_input, without_more}
 use Rattle.sr_world.specs.Worlds.{World, beginning, started}
 use Rattle.sr_plain.specs.Crew.{KeepsLiving, Looks, member_of}
 use Rattle.sr_plain.specs.Engine.{IsEngine, StandsFor}
 use Rattle.sr_plain.specs.Ready.{AreAside}
-use Rattle.sr_plain.specs.Waiting.{is_woken, waits, wakes}
+use Rattle.sr_plain.specs.Waiting.{is_opened, is_woken, opens, waits, wakes}
 use Rattle.sr_plain.specs.declared.change.Change.TheVariants.{Everything}
 use Rattle.sr_plain.specs.declared.change.Woken.{Woken}
 use Rattle.sr_plain.specs.declared.waiters.Waiters.{Waiters}
@@ -26,8 +27,11 @@ use Rattle.sr_plain.proofs.TurnLemmas.{kept-stands, looked-stands}
 
 -- where everyone is woken nobody is aside
 pub everyone : (core : Core) (limit : ℕ) (state : State) (waiters : Waiters) (woken : Option Woken) (w : Woken) → woken ≡ Some w → w.change ≡ Everything → AreAside core limit state waiters woken
-everyone core limit state waiters woken w is everything = record { aside = λ q s lives unready unwoken. absurd (true≢false (sym (woken-all q) ∙ unwoken)) }
+everyone core limit state waiters woken w is everything = record { aside = λ q s lives unready unwoken. absurd (true≢false (sym (woken-all q) ∙ unwoken)); closed = λ owner op q here off. absurd (true≢false (sym (open-all owner op) ∙ off)) }
   where
+    open-all : (owner : Owner) (op : ℕ) → is_opened woken owner op ≡ true
+    open-all owner op = ap (λ o. is_opened o owner op) is ∙ ap (λ c. opens c owner op) everything
+
     woken-all : (q : ℕ) → is_woken waiters woken q ≡ true
     woken-all q = ap (λ o. is_woken waiters o q) is ∙ ap (λ c. wakes c (λ k. waits waiters k q) || (w.caller == q || w.made == q)) everything
 

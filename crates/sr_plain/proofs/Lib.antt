@@ -3,7 +3,9 @@ pub mod AsideLemmas
 pub mod BeginLemmas
 pub mod ChangeLemmas
 pub mod CrewLemmas
+pub mod CrowdLemmas
 pub mod EngineLemmas
+pub mod IdleLemmas
 pub mod JoinLemmas
 pub mod LeaveLemmas
 pub mod LedLemmas

@@ -1,22 +1,31 @@
 -- Who waits for all that a statement lists waits for all that its guards name.
-use Rattle.std.proofs.Common.{◌≡◌, ◌<◌, ◌+◌, inr, suc, ◌&&◌, ◌||◌, ◌==◌, ℕ, Bool, true, false, List, [], ◌∷◌, Some, refl, ap, sym, ◌∙◌, eqb-true, true≢false}
+use Rattle.std.proofs.Common.{◌≡◌, ◌⊎◌, ◌<◌, ◌+◌, inl, inr, suc, ◌&&◌, ◌||◌, ◌==◌, ℕ, Bool, true, false, List, [], ◌∷◌, Some, refl, ap, sym, ◌∙◌, eqb-true, true≢false, arith}
 use Rattle.std.specs.List.{list_any}
-use Rattle.std.specs.Prelude.{Result, slice_get}
+use Rattle.std.specs.Prelude.{Result, Ok, slice_get}
+use Rattle.sr_ask.specs.declared.request.Request.{Request}
+use Rattle.sr_ask.specs.declared.request.Request.TheVariants as request
 use Rattle.sr_core.specs.declared.component.Core.{Core}
+use Rattle.sr_core.specs.declared.component.Operation.{Operation}
 use Rattle.sr_core.specs.declared.owner.Home.{Home}
 use Rattle.sr_core.specs.declared.owner.Home.TheVariants.{Mine, Imported}
 use Rattle.sr_core.specs.declared.owner.Me.{Me}
+use Rattle.sr_core.specs.declared.site.Arm.{Arm}
 use Rattle.sr_core.specs.declared.site.SharedRead.{SharedRead}
 use Rattle.sr_core.specs.declared.site.Site.{Site}
+use Rattle.sr_queue.specs.Classes.{class_of}
+use Rattle.sr_queue.specs.declared.class.Class.{Class}
 use Rattle.sr_select.proofs.MoreLemmas.{reads-more}
 use Rattle.sr_select.specs.Guards.{guard_block, home_seen}
 use Rattle.sr_select.specs.Worlds.{is_read, listed, reads_only, same_home}
+use Rattle.sr_value.specs.declared.capability.Owner.{Owner}
 use Rattle.sr_value.specs.declared.fault.Fault.{Fault}
 use Rattle.sr_value.specs.declared.value.Value.{Value}
 use Rattle.sr_plain.specs.Changes.{owner_at}
-use Rattle.sr_plain.specs.Noting.{StillWait, WaitsAt, WaitsAtArms, WaitsForCount, WaitsForCounts, WaitsForRead, WaitsForReads}
-use Rattle.sr_plain.specs.Waiting.{WaitsThere, at_block, at_operation, key_of, waits, watching}
+use Rattle.sr_plain.specs.Noting.{IdlesAtArms, StillWait, WaitsAt, WaitsAtArms, WaitsForCount, WaitsForCounts, WaitsForRead, WaitsForReads}
+use Rattle.sr_plain.specs.Waiting.{IsWaiting, Selects, WaitsThere, at_block, at_operation, is_closed, is_simple, key_of, variable_of, waits, watching}
+use Rattle.sr_plain.specs.declared.variable.Variable.{Variable}
 use Rattle.sr_plain.specs.declared.waiters.Place.{Place}
+use Rattle.sr_plain.specs.declared.waiters.Place.TheVariants.{Served, Stored, Idle}
 use Rattle.sr_plain.specs.declared.waiters.Waiters.{Waiters}
 use Rattle.sr_plain.proofs.AsideLemmas.{block-more, operation-more}
 use Rattle.sr_plain.proofs.JoinLemmas.{one-more}
@@ -62,13 +71,70 @@ module _ (core : Core) (me : Me) (at : Place → Bool) (env : List Value) (site 
   names-waited = reads-more (listed site) (watching core me at site.names env) variable-listed operation-listed site
 
 pub still-then : (old mid new : Waiters) → StillWait old mid → StillWait mid new → StillWait old new
-still-then old mid new first second = record { ready = second.ready ∙ first.ready; others = λ k other here. second.others k other (first.others k other here) }
+still-then old mid new first second = record {
+  ready = second.ready ∙ first.ready;
+  others = λ k other here. second.others k other (first.others k other here);
+  closed = λ class other here. first.closed class other (second.closed class other here);
+  less = let one = first.less in let two = second.less in omega arith;
+}
 
-pub still-one : (key : Place) (process : ℕ) (old new : Waiters) → WaitsThere key process old new → StillWait old new
-still-one key process old new there = record { ready = there.ready; others = there.others }
+-- whoever waits elsewhere than for invocations alone
+pub still-one : (key : Place) (process : ℕ) (old new : Waiters) → ((class : Class) → key ≡ Idle class → ⊥) → WaitsThere key process old new → StillWait old new
+still-one key process old new elsewhere there = record { ready = there.ready; others = there.others; closed = λ class other here. by class other (there.closed class other here); less = there.less }
+  where
+    by : (class : Class) (other : ℕ) → (is_closed old class other ≡ true) ⊎ (key ≡ Idle class) → is_closed old class other ≡ true
+    by class other (inl was) = was
+    by class other (inr same) = absurd (elsewhere class same)
 
 pub still-same : (waiters : Waiters) → StillWait waiters waiters
-still-same waiters = record { ready = refl; others = λ k other here. here }
+still-same waiters = record { ready = refl; others = λ k other here. here; closed = λ class other here. here; less = omega arith }
+
+pub served-elsewhere : (class other : Class) → Served class ≡ Idle other → ⊥
+served-elsewhere class other is = absurd (cc)
+
+pub stored-elsewhere : (variable : Variable) (other : Class) → Stored variable ≡ Idle other → ⊥
+stored-elsewhere variable other is = absurd (cc)
+
+pub reads-there : (me : Me) (var block : ℕ) (old new : Waiters) → WaitsThere (variable_of block var) me.process old new → WaitsForRead me var (Ok block) old new
+reads-there me var block old new there = record { still = still-one (variable_of block var) me.process old new (stored-elsewhere (record { block = block; var = var })) there; itself = there.itself }
+
+pub counts-there : (core : Core) (me : Me) (op : ℕ) (operation : Operation) (key : Class) (old new : Waiters) → slice_get core.operations op ≡ Some operation → key ≡ class_of (owner_at operation.scope me) op
+    → WaitsThere (Served key) me.process old new → WaitsForCount core me op old new
+counts-there core me op operation key old new found is there = record {
+  still = still-one (Served key) me.process old new (served-elsewhere key) there;
+  itself = ap (at_operation (λ k. waits new k me.process) me op) found ∙ ap (λ c. waits new (Served c) me.process) (sym is) ∙ there.itself;
+}
+
+-- ---- one more that waits for invocations alone
+
+abbrev pub ClosedAt : Owner → List Arm → Waiters → Waiters → Type 0
+ClosedAt owner arms old new = (class : Class) (other : ℕ) → is_closed new class other ≡ true
+    → (is_closed old class other ≡ true) ⊎ ((number : ℕ) × (arm : Arm) × (slice_get arms number ≡ Some arm) × (class ≡ class_of owner arm.op))
+
+pub closed-more : (owner : Owner) (arms : List Arm) (index : ℕ) (arm : Arm) (key : Class) (process : ℕ) (old mid new : Waiters) → slice_get arms index ≡ Some arm → key ≡ class_of owner arm.op
+    → ClosedAt owner arms old mid → WaitsThere (Idle key) process mid new → ClosedAt owner arms old new
+closed-more owner arms index arm key process old mid new found is before there class other here = by (there.closed class other here)
+  where
+    by : (is_closed mid class other ≡ true) ⊎ (Idle key ≡ Idle class) → (is_closed old class other ≡ true) ⊎ ((number : ℕ) × (a : Arm) × (slice_get arms number ≡ Some a) × (class ≡ class_of owner a.op))
+    by (inl was) = before class other was
+    by (inr same) = let one : key ≡ class = cc in inr (index, arm, found, sym one ∙ is)
+
+-- ---- what a process waits for
+
+pub waits-idle : (core : Core) (me : Me) (asked : Request) (number : ℕ) (env : List Value) (site : Site) (old new : Waiters) → asked ≡ request.Select number env → slice_get core.sites number ≡ Some site
+    → is_simple site ≡ true → IdlesAtArms me site old new → IsWaiting core me asked old new
+waits-idle core me asked number env site old new is found simple idles =
+    let selects : Selects core asked = record { number = number; env = env; site = site; is = is; found = found; simple = simple } in
+    record {
+      ready = idles.ready;
+      itself = inr (record { selects = selects; arms = idles.itself });
+      others = idles.others;
+      closed = λ class other here. elim (idles.closed class other here) [
+        | inl was ↦ inl was
+        | inr arm ↦ inr (record { selects = selects; number = arm.0; arm = arm.1; is_arm = arm.2; is_class = arm.3 })
+      ];
+      less = idles.less;
+    }
 
 -- ---- one more that a process waits for
 

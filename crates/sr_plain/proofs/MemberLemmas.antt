@@ -27,7 +27,7 @@ use Rattle.sr_plain.specs.Engine.{Comes, IfAsked, IfUnbegun, IsCarried, IsEngine
 use Rattle.sr_plain.specs.Noting.{NotesBy}
 use Rattle.sr_plain.specs.Ready.{AreAside, me_at}
 use Rattle.sr_plain.specs.Turns.{takes_turn, turn, turn_of}
-use Rattle.sr_plain.specs.Waiting.{IsNextAfter, IsTakenOut, is_ready}
+use Rattle.sr_plain.specs.Waiting.{IsNextAfter, IsPromoted, IsTakenOut, is_ready, may_go}
 use Rattle.sr_plain.specs.declared.change.Woken.{Woken}
 use Rattle.sr_plain.specs.declared.member.Member.{Member}
 use Rattle.sr_plain.specs.declared.plain.Plain.{Plain}
@@ -37,7 +37,7 @@ use Rattle.sr_plain.specs.declared.tried.Tried.{Tried}
 use Rattle.sr_plain.specs.declared.tried.Tried.TheVariants as attempt
 use Rattle.sr_plain.specs.declared.waiters.Waiters.{Waiters}
 use Rattle.sr_plain.proofs.AnswerLemmas.{answered_done, answered_ends, answered_not, answered_wants, is_over}
-use Rattle.sr_plain.proofs.AsideLemmas.{aside_out, noted_aside, noted_is}
+use Rattle.sr_plain.proofs.AsideLemmas.{aside_out, aside_promoted, noted_aside, noted_is}
 use Rattle.sr_plain.proofs.CrewLemmas.{answers-written, looks-written}
 use Rattle.sr_plain.proofs.EngineLemmas.{looked_engine}
 use Rattle.sr_plain.proofs.NextLemmas.{found-turn, no-turn-of, nobody-steps}
@@ -175,6 +175,17 @@ module _ {A : Type 0} (after : A → List Answer → Asks) (can_feed : A → Typ
     },
   )
 
+  -- one of many that is asked by itself
+  pub promoted_engine : (plain : Plain A) → IsEngine after can_feed core limit state events plain → plain.woken ≡ None → (p : ℕ) (waiters : Waiters) → IsPromoted p plain.waiters waiters
+      → IsEngine after can_feed core limit state events (record plain { waiters = waiters })
+  promoted_engine plain engine awake p waiters promoted = record {
+    world = engine.world;
+    ticks = engine.ticks;
+    last = engine.last;
+    stands = engine.stands;
+    aside = subst (λ w. AreAside core limit state waiters w) (sym awake) (aside_promoted core limit state p plain.waiters waiters promoted (subst (λ w. AreAside core limit state plain.waiters w) awake engine.aside));
+  }
+
   pub lives_tries : (p : ℕ) (s : Start) (r : Result (Option Plainly) NoMemory) (plain' : Plain A) → started state.world p ≡ Some s → Tries after can_feed core limit state events (find (takes_turn core limit state) (s ∷ [])) r plain'
       → Tries after can_feed core limit state events (turn_of core limit state (started state.world p)) r plain'
   lives_tries p s r plain' lives tries = subst (λ o. Tries after can_feed core limit state events (turn_of core limit state o) r plain') (sym lives) tries
@@ -204,13 +215,13 @@ module _ {A : Type 0} (after : A → List Answer → Asks) (can_feed : A → Typ
         by None ended h = absurd (true≢false (sym h.0))
         by (Some s) lives h = taken s lives (takes_turn core limit state s) refl h
 
-    pub nobody_ready : ((p : ℕ) → is_ready plain.waiters p ≡ false) → (r : Result Plainly NoMemory) (plain' : Plain A) → Steps after can_feed core limit state events None r plain'
+    pub nobody_ready : ((p : ℕ) → may_go plain.waiters p ≡ false) → (r : Result Plainly NoMemory) (plain' : Plain A) → Steps after can_feed core limit state events None r plain'
         → Steps after can_feed core limit state events (turn core limit state (last_in events)) r plain'
     nobody_ready nobody r plain' steps =
         subst (λ t. Steps after can_feed core limit state events t r plain')
         (sym (no-turn-of core limit events state engine.stands.leads engine.stands.next engine.stands.order plain.waiters aside-now (last_in events) nobody)) steps
 
-    pub nobody_can : ((p : ℕ) → is_ready plain.waiters p ≡ false) → no_step core limit state ≡ true
+    pub nobody_can : ((p : ℕ) → may_go plain.waiters p ≡ false) → no_step core limit state ≡ true
     nobody_can nobody = nobody-steps core limit events state engine.stands.leads engine.stands.next engine.stands.order plain.waiters aside-now (last_in events) nobody
 
 -- ---- a look at one that is ready

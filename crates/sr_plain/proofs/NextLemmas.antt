@@ -1,19 +1,29 @@
 -- Whose turn it is, among those that are ready.
-use Rattle.std.proofs.Common.{◌≡◌, ◌<◌, ◌≤◌, ◌==◌, ℕ, zero, suc, Bool, true, false, not, cond, List, [], ◌∷◌, ◌++◌, take, drop, length, None, Some, is_some, refl, ap, sym, ◌∙◌, subst, arith, eqb-true}
+use Rattle.std.proofs.Common.{◌≡◌, ◌<◌, ◌≤◌, ◌==◌, ℕ, inl, inr, zero, suc, ◌||◌, Bool, true, false, not, cond, List, [], ◌∷◌, ◌++◌, take, drop, length, Option, None, Some, is_some, refl, ap, sym, ◌∙◌, subst, arith, eqb-true, true≢false}
 use Rattle.std.proofs.lemmas.Bool.{ltb-false, ltb-true}
-use Rattle.std.specs.Prelude.{find, nat_lt, slice_get}
+use Rattle.std.specs.Prelude.{filter, find, nat_lt, option_map, slice_get, unwrap_or}
+use Rattle.sr_ask.specs.declared.ask.Ask.{Ask}
+use Rattle.sr_ask.specs.declared.ask.Asks.TheVariants.{Asked}
 use Rattle.sr_ask.specs.declared.start.Start.{Start}
 use Rattle.sr_core.specs.declared.component.Core.{Core}
+use Rattle.sr_core.specs.declared.owner.Me.{Me}
 use Rattle.sr_processes.specs.Living.{is_process}
-use Rattle.sr_world.specs.Does.{is_possible}
+use Rattle.sr_queue.specs.Classes.{class_of}
+use Rattle.sr_queue.specs.Queues.{is_of}
+use Rattle.sr_select.specs.Choices.{owner_in}
+use Rattle.sr_value.specs.declared.capability.Owner.{Owner}
+use Rattle.sr_world.specs.Does.{IsNot, comes_to, is_possible}
 use Rattle.sr_world.specs.Names.{made_after}
 use Rattle.sr_world.specs.Runs.{Event, Goes, State, asks_next, is_blocked, led, no_step}
+use Rattle.sr_world.specs.Selecting.{me_of}
+use Rattle.sr_world.specs.Steps.{does, done_by}
 use Rattle.sr_world.specs.Worlds.{World, started}
 use Rattle.sr_plain.specs.Order.{Ascend, IsOrdered, IsSplit}
-use Rattle.sr_plain.specs.Ready.{AreAside}
+use Rattle.sr_plain.specs.Ready.{AreAside, IsIdle, me_at}
 use Rattle.sr_plain.specs.Turns.{takes_turn, walk}
-use Rattle.sr_plain.specs.Waiting.{IsNextAfter, is_ready}
+use Rattle.sr_plain.specs.Waiting.{IsNextAfter, is_closed, is_open, is_open_at, is_ready, may_go}
 use Rattle.sr_plain.specs.declared.waiters.Waiters.{Waiters}
+use Rattle.sr_plain.proofs.IdleLemmas.{idle_cannot, open-at}
 use Rattle.sr_plain.proofs.LeaveLemmas.{within-ascend}
 use Rattle.sr_plain.proofs.LedLemmas.{place-started}
 use Rattle.sr_plain.proofs.OrderLemmas.{split-place}
@@ -182,15 +192,46 @@ cut-is world (suc n) next ordered cut = split-place world (suc n) next cut.at or
 
 -- ---- those that are aside
 
+both-off : (a b : Bool) → (a || b) ≡ false → (a ≡ false) × (b ≡ false)
+both-off true b h = absurd (true≢false h)
+both-off false b h = (refl, h)
+
+or-first : (a b : Bool) → b ≡ false → (a || b) ≡ true → a ≡ true
+or-first true b off h = refl
+or-first false b off h = absurd (true≢false (sym h ∙ off))
+
 module _ (core : Core) (limit : ℕ) (events : List Event) (state : State) (leads : led core limit events ≡ Goes state) (next : ℕ) (ordered : IsOrdered state.world next)
     (waiters : Waiters) (aside : AreAside core limit state waiters None) where
-  off : (s : Start) → started state.world s.process ≡ Some s → is_ready waiters s.process ≡ false → takes_turn core limit state s ≡ false
-  off s lives unready =
-      let a = aside.aside s.process s lives unready refl in
-      ap (λ x. not (is_blocked core state.world s.process x)) a.asked ∙ ap (λ o. not (not (is_possible o))) a.cannot
+  me-of : (s : Start) → started state.world s.process ≡ Some s → me_of state.world s.process ≡ me_at s
+  me-of s lives =
+      let f : Option Start → Me = λ o. record { process = s.process; instance = unwrap_or (option_map (λ (x : Start). x.instance) o) 0 } in
+      ap f lives
 
-  all-off : Each (λ s. is_ready waiters s.process ≡ false → takes_turn core limit state s ≡ false) state.world.live
-  all-off = each-place (λ s. is_ready waiters s.process ≡ false → takes_turn core limit state s ≡ false) state.world.live (λ k s is. off s (place-started core limit events state leads k s is))
+  -- who waits for invocations alone can't go on, where no operation of its statement is open
+  idle-cannot : (s : Start) → started state.world s.process ≡ Some s → is_open waiters.opened s.process ≡ false → (idle : IsIdle core limit state waiters s) → comes_to (does core state.world s.process idle.asks 0) ≡ IsNot
+  idle-cannot s lives shut idle =
+      let selects = idle.waiting.selects in
+      subst (λ r. comes_to (done_by core state.world s.process 0 idle.asks.place idle.asks.role r) ≡ IsNot) (sym selects.is)
+      (idle_cannot core state.world s.process idle.asks.place idle.asks.role selects.number selects.env selects.site selects.found selects.simple
+      (λ k arm is.
+      let owner : Owner = owner_in selects.site.scope (me_at s) in
+      subst (λ m. filter (is_of (owner_in selects.site.scope m) arm.op) state.world.pending ≡ []) (sym (me-of s lives))
+      (aside.closed owner arm.op s.process (or-first (is_closed waiters (class_of owner arm.op) s.process) (is_open_at waiters.opened (class_of owner arm.op) s.process) (open-at waiters.opened (class_of owner arm.op) s.process shut) (idle.waiting.arms k arm is)) refl)))
+
+  off : (s : Start) → started state.world s.process ≡ Some s → may_go waiters s.process ≡ false → takes_turn core limit state s ≡ false
+  off s lives unready = by (both-off (is_ready waiters s.process) (is_open waiters.opened s.process) unready)
+    where
+      blocked : (asks : Ask) → asks_next core limit state s ≡ Asked asks → comes_to (does core state.world s.process asks 0) ≡ IsNot → takes_turn core limit state s ≡ false
+      blocked asks asked cannot = ap (λ x. not (is_blocked core state.world s.process x)) asked ∙ ap (λ o. not (not (is_possible o))) cannot
+
+      by : (is_ready waiters s.process ≡ false) × (is_open waiters.opened s.process ≡ false) → takes_turn core limit state s ≡ false
+      by parts = elim (aside.aside s.process s lives parts.0 refl) [
+        | inl a ↦ blocked a.asks a.asked a.cannot
+        | inr a ↦ blocked a.asks a.asked (idle-cannot s lives parts.1 a)
+      ]
+
+  all-off : Each (λ s. may_go waiters s.process ≡ false → takes_turn core limit state s ≡ false) state.world.live
+  all-off = each-place (λ s. may_go waiters s.process ≡ false → takes_turn core limit state s ≡ false) state.world.live (λ k s is. off s (place-started core limit events state leads k s is))
 
   module _ (last : ℕ) where
     cut : Cut last state.world.live
@@ -206,32 +247,32 @@ module _ (core : Core) (limit : ℕ) (events : List Event) (state : State) (lead
         by true over =
             let later : last < p = ltb-true last p over in
             let here = least-found (takes_turn core limit state) p start t (ascend-drop cut.at 0 state.world.live next ordered.ascend).0 (drop cut.at state.world.live) next (ascend-drop cut.at 0 state.world.live next ordered.ascend).1
-            (each-map (λ s. (last < s.process) × (is_ready waiters s.process ≡ false → takes_turn core limit state s ≡ false)) (λ s. s.process < p → takes_turn core limit state s ≡ false) (drop cut.at state.world.live)
+            (each-map (λ s. (last < s.process) × (may_go waiters s.process ≡ false → takes_turn core limit state s ≡ false)) (λ s. s.process < p → takes_turn core limit state s ≡ false) (drop cut.at state.world.live)
             (λ s both less. both.1 (is.between s.process both.0 less))
-            (each-both (λ s. last < s.process) (λ s. is_ready waiters s.process ≡ false → takes_turn core limit state s ≡ false) (drop cut.at state.world.live) cut.after (each-drop (λ s. is_ready waiters s.process ≡ false → takes_turn core limit state s ≡ false) cut.at state.world.live all-off)))
+            (each-both (λ s. last < s.process) (λ s. may_go waiters s.process ≡ false → takes_turn core limit state s ≡ false) (drop cut.at state.world.live) cut.after (each-drop (λ s. may_go waiters s.process ≡ false → takes_turn core limit state s ≡ false) cut.at state.world.live all-off)))
             (found-later p last cut.at state.world.live start later cut.before lives) in
             found_first (takes_turn core limit state) (drop cut.at state.world.live) (take cut.at state.world.live) (ap is_some here) ∙ here
         by false under =
             let sooner : p ≤ last = ltb-false last p under in
             found_second (takes_turn core limit state) (drop cut.at state.world.live) (take cut.at state.world.live)
             (none-found (takes_turn core limit state) (drop cut.at state.world.live)
-            (each-map (λ s. (last < s.process) × (is_ready waiters s.process ≡ false → takes_turn core limit state s ≡ false)) (λ s. takes_turn core limit state s ≡ false) (drop cut.at state.world.live)
+            (each-map (λ s. (last < s.process) × (may_go waiters s.process ≡ false → takes_turn core limit state s ≡ false)) (λ s. takes_turn core limit state s ≡ false) (drop cut.at state.world.live)
             (λ s both. both.1 (is.later sooner s.process both.0))
-            (each-both (λ s. last < s.process) (λ s. is_ready waiters s.process ≡ false → takes_turn core limit state s ≡ false) (drop cut.at state.world.live) cut.after (each-drop (λ s. is_ready waiters s.process ≡ false → takes_turn core limit state s ≡ false) cut.at state.world.live all-off))))
+            (each-both (λ s. last < s.process) (λ s. may_go waiters s.process ≡ false → takes_turn core limit state s ≡ false) (drop cut.at state.world.live) cut.after (each-drop (λ s. may_go waiters s.process ≡ false → takes_turn core limit state s ≡ false) cut.at state.world.live all-off))))
             ∙ least-found (takes_turn core limit state) p start t 0 (take cut.at state.world.live) next (ascend-take cut.at 0 state.world.live next ordered.ascend)
-            (each-map (λ s. is_ready waiters s.process ≡ false → takes_turn core limit state s ≡ false) (λ s. s.process < p → takes_turn core limit state s ≡ false) (take cut.at state.world.live)
-            (λ s o less. o (is.sooner sooner s.process less)) (each-take (λ s. is_ready waiters s.process ≡ false → takes_turn core limit state s ≡ false) cut.at state.world.live all-off))
+            (each-map (λ s. may_go waiters s.process ≡ false → takes_turn core limit state s ≡ false) (λ s. s.process < p → takes_turn core limit state s ≡ false) (take cut.at state.world.live)
+            (λ s o less. o (is.sooner sooner s.process less)) (each-take (λ s. may_go waiters s.process ≡ false → takes_turn core limit state s ≡ false) cut.at state.world.live all-off))
             (found-sooner p last cut.at state.world.live start sooner cut.after lives)
 
-    module _ (nobody : (p : ℕ) → is_ready waiters p ≡ false) where
-      none-in : (xs : List Start) → Each (λ s. is_ready waiters s.process ≡ false → takes_turn core limit state s ≡ false) xs → find (takes_turn core limit state) xs ≡ None
-      none-in xs each = none-found (takes_turn core limit state) xs (each-map (λ s. is_ready waiters s.process ≡ false → takes_turn core limit state s ≡ false) (λ s. takes_turn core limit state s ≡ false) xs (λ s o. o (nobody s.process)) each)
+    module _ (nobody : (p : ℕ) → may_go waiters p ≡ false) where
+      none-in : (xs : List Start) → Each (λ s. may_go waiters s.process ≡ false → takes_turn core limit state s ≡ false) xs → find (takes_turn core limit state) xs ≡ None
+      none-in xs each = none-found (takes_turn core limit state) xs (each-map (λ s. may_go waiters s.process ≡ false → takes_turn core limit state s ≡ false) (λ s. takes_turn core limit state s ≡ false) xs (λ s o. o (nobody s.process)) each)
 
       none-after : find (takes_turn core limit state) (drop cut.at state.world.live) ≡ None
-      none-after = none-in (drop cut.at state.world.live) (each-drop (λ s. is_ready waiters s.process ≡ false → takes_turn core limit state s ≡ false) cut.at state.world.live all-off)
+      none-after = none-in (drop cut.at state.world.live) (each-drop (λ s. may_go waiters s.process ≡ false → takes_turn core limit state s ≡ false) cut.at state.world.live all-off)
 
       none-before : find (takes_turn core limit state) (take cut.at state.world.live) ≡ None
-      none-before = none-in (take cut.at state.world.live) (each-take (λ s. is_ready waiters s.process ≡ false → takes_turn core limit state s ≡ false) cut.at state.world.live all-off)
+      none-before = none-in (take cut.at state.world.live) (each-take (λ s. may_go waiters s.process ≡ false → takes_turn core limit state s ≡ false) cut.at state.world.live all-off)
 
       pub no-turn-of : find (takes_turn core limit state) (walk state.world last) ≡ None
       no-turn-of = ap (find (takes_turn core limit state)) walk-is ∙ found_second (takes_turn core limit state) (drop cut.at state.world.live) (take cut.at state.world.live) none-after ∙ none-before

@@ -1,19 +1,20 @@
 -- What is noted of a request that the machine has carried out.
-use Rattle.std.specs.Prelude.{◌≡◌, ◌<◌, ℕ, true, List, Option, Some, None, Result, slice_get}
-use Rattle.std.specs.BTreeSet.{btree_set_len}
+use Rattle.std.specs.Prelude.{◌≡◌, ◌⊎◌, ◌<◌, ◌≤◌, ℕ, true, List, Option, Some, None, Result, slice_get}
 use Rattle.sr_ask.specs.declared.ask.Ask.{Ask}
 use Rattle.sr_core.specs.declared.component.Core.{Core}
 use Rattle.sr_core.specs.declared.owner.Me.{Me}
 use Rattle.sr_core.specs.declared.site.Arm.{Arm}
 use Rattle.sr_core.specs.declared.site.SharedRead.{SharedRead}
 use Rattle.sr_core.specs.declared.site.Site.{Site}
+use Rattle.sr_queue.specs.Classes.{class_of}
+use Rattle.sr_queue.specs.declared.class.Class.{Class}
 use Rattle.sr_select.specs.Guards.{guard_block, home_seen}
 use Rattle.sr_value.specs.declared.fault.Fault.{Fault}
 use Rattle.sr_value.specs.declared.value.Value.{Value}
 use Rattle.sr_world.specs.declared.acted.Acted.{Acted}
 use Rattle.sr_world.specs.declared.acted.Acted.TheVariants.{Done, Cannot}
 use Rattle.sr_plain.specs.Changes.{change_of, owner_at}
-use Rattle.sr_plain.specs.Waiting.{IsTakenOut, IsWaiting, WaitsAtSite, at_block, at_operation, is_ready, key_of, waits}
+use Rattle.sr_plain.specs.Waiting.{IsTakenOut, IsWaiting, WaitsAtSite, at_block, at_operation, idle_of, is_closed, is_ready, key_of, turns_len, waits}
 use Rattle.sr_plain.specs.declared.carrying.Carried.{Carried}
 use Rattle.sr_plain.specs.declared.change.Woken.{Woken}
 use Rattle.sr_plain.specs.declared.waiters.Place.{Place}
@@ -23,6 +24,17 @@ use Rattle.sr_plain.specs.declared.waiters.Waiters.{Waiters}
 pub record StillWait (old new : Waiters) : Type 0 where
   pub ready : new.ready ≡ old.ready
   pub others : (k : Place) (other : ℕ) → waits old k other ≡ true → waits new k other ≡ true
+  pub closed : (class : Class) (other : ℕ) → is_closed new class other ≡ true → is_closed old class other ≡ true
+  pub less : turns_len new ≤ turns_len old
+
+-- a process waits at each arm of a statement, and for nothing else
+pub record IdlesAtArms (me : Me) (site : Site) (old new : Waiters) : Type 0 where
+  pub ready : new.ready ≡ old.ready
+  pub itself : (number : ℕ) (arm : Arm) → slice_get site.arms number ≡ Some arm → waits new (idle_of (owner_at site.scope me) arm.op) me.process ≡ true
+  pub others : (k : Place) (other : ℕ) → waits old k other ≡ true → waits new k other ≡ true
+  pub closed : (class : Class) (other : ℕ) → is_closed new class other ≡ true
+      → (is_closed old class other ≡ true) ⊎ ((number : ℕ) × (arm : Arm) × (slice_get site.arms number ≡ Some arm) × (class ≡ class_of (owner_at site.scope me) arm.op))
+  pub less : turns_len new ≤ turns_len old
 
 -- a process waits at each arm of a statement
 pub record WaitsAtArms (me : Me) (site : Site) (old new : Waiters) : Type 0 where
@@ -60,7 +72,7 @@ pub record IsSetAside (core : Core) (me : Me) (ask : Ask) (old new : Waiters) : 
   pub between : Waiters
   pub waiting : IsWaiting core me ask.request old between
   pub out : IsTakenOut me.process between new
-  pub less : is_ready old me.process ≡ true → btree_set_len new.ready < btree_set_len old.ready
+  pub less : is_ready old me.process ≡ true → turns_len new < turns_len old
 
 abbrev pub NotesBy : Core → Me → Ask → ℕ → ℕ → Acted → Waiters → Waiters → Option Woken → Type 0
 NotesBy core me ask caller name (Done answer) old new woken =

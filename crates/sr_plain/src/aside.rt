@@ -1,6 +1,8 @@
 ghost use Rattle.std.specs.Prelude.{◌≡◌, OnOk, IfOk, OnErr};
-ghost use Rattle.sr_plain.specs.Noting.{Notes, WaitsAt, WaitsAtArms, WaitsForCount, WaitsForCounts, WaitsForRead, WaitsForReads};
-ghost use Rattle.sr_plain.specs.Waiting.{IsWaiting};
+ghost use Rattle.std.specs.List.{list_all};
+ghost use Rattle.sr_select.specs.Laws.{is_plain};
+ghost use Rattle.sr_plain.specs.Noting.{IdlesAtArms, Notes, WaitsAt, WaitsAtArms, WaitsForCount, WaitsForCounts, WaitsForRead, WaitsForReads};
+ghost use Rattle.sr_plain.specs.Waiting.{IsWaiting, is_simple};
 ghost use Rattle.sr_world.specs.declared.acted.Acted.TheVariants.{Cannot};
 
 use crate::carrying::Carried;
@@ -8,11 +10,45 @@ use crate::change::{Woken, change_of, owner_of};
 use crate::variable::Variable;
 use crate::waiters::{Place, Waiters};
 use sr_ask::{Ask, Request};
-use sr_core::{Core, Me, Site};
+use sr_core::{Arm, Core, Me, Site};
 use sr_queue::class_of;
 use sr_select::{block_of, names_listed};
 use sr_value::{Fault, NoMemory, Value};
 use sr_world::Acted;
+
+fn is_plain(arm: &Arm) -> bool
+    ensures { result ≡ is_plain arm.now }
+{
+    arm.guard.is_none() && arm.by.is_none()
+}
+
+fn all_plain(arms: &[Arm]) -> bool
+    ensures { result ≡ list_all is_plain arms.now }
+{
+    for arm in arms {
+        if !is_plain(arm) {
+            return false;
+        }
+    }
+    true
+}
+
+fn is_simple(site: &Site) -> bool
+    ensures { result ≡ is_simple site.now }
+{
+    all_plain(site.arms.as_slice()) && !site.has_else
+}
+
+/// Has a process wait for invocations of each arm, and for nothing else.
+fn idle_at_arms(waiters: &mut Waiters, me: Me, site: &Site) -> Result<(), NoMemory>
+    ensures { OnOk result (IdlesAtArms me site.now waiters.old waiters.new) }
+{
+    let owner = owner_of(site.scope, me);
+    for arm in site.arms.as_slice() {
+        waiters.wait(Place::Idle(class_of(owner, arm.op)), me.process)?;
+    }
+    Ok(())
+}
 
 /// Has a process wait for invocations of each arm.
 fn wait_at_arms(waiters: &mut Waiters, me: Me, site: &Site) -> Result<(), NoMemory>
@@ -99,7 +135,12 @@ fn wait_for(waiters: &mut Waiters, core: &Core, me: Me, request: &Request) -> Re
     match request {
         Request::Take { .. } | Request::Wake { .. } => Ok(()),
         Request::Select { site, env } => match core.sites.get(*site as usize) {
-            Some(site) => wait_at(waiters, core, me, site, env.as_slice()),
+            Some(site) => {
+                if is_simple(site) {
+                    return idle_at_arms(waiters, me, site);
+                }
+                wait_at(waiters, core, me, site, env.as_slice())
+            }
             None => Ok(()),
         },
         _ => waiters.wait(Place::Watched, me.process),

@@ -5,6 +5,7 @@ mod aside;
 mod carrying;
 mod change;
 mod crew;
+mod crowd;
 pub mod laws;
 mod member;
 mod plain;

@@ -1,10 +1,9 @@
 ghost use Rattle.std.specs.Prelude.{◌≡◌, ◌<◌, ◌∷◌, ◌++◌, ℕ, [], List, IfNone, IfOk, IsSome, None, OnErr, OnOk, Some, false, find, true};
-ghost use Rattle.std.specs.BTreeSet.{btree_set_len};
 ghost use Rattle.sr_ask.specs.declared.start.Start as starts;
 ghost use Rattle.sr_plain.specs.Crew.{member_of};
 ghost use Rattle.sr_plain.specs.Ready.{me_at};
 ghost use Rattle.sr_plain.specs.Turns.{takes_turn, turn, turn_of};
-ghost use Rattle.sr_plain.specs.Waiting.{is_ready};
+ghost use Rattle.sr_plain.specs.Waiting.{is_ready, turns_len};
 ghost use Rattle.sr_world.specs.Runs.{State, Event, Closes, Gives, first, no_step, with_input, without_more};
 ghost use Rattle.sr_world.specs.Worlds.{started};
 
@@ -128,6 +127,7 @@ impl<A: Actor> Plain<A> {
         ensures { (limit : ℕ) (state : State) (events : List Event) → IsEngine (A.asks_after program.now) A.can_feed (A.core_of program.now) limit state events self.old → Steps (A.asks_after program.now) A.can_feed (A.core_of program.now) limit state events (turn (A.core_of program.now) limit state (last_in events)) result self.new }
     {
         while let Some(process) = self.waiters.next_after(self.last) {
+            self.waiters.promote(process)?;
             if let Some(plainly) = self.try_ready(program, process)? {
                 return Ok(plainly);
             }
@@ -141,7 +141,7 @@ impl<A: Actor> Plain<A> {
         requires ready { is_ready self.old.waiters process ≡ true }
         requires awake { self.old.woken ≡ None }
         ensures tries { (limit : ℕ) (state : State) (events : List Event) → IsEngine (A.asks_after program.now) A.can_feed (A.core_of program.now) limit state events self.old → Tries (A.asks_after program.now) A.can_feed (A.core_of program.now) limit state events (turn_of (A.core_of program.now) limit state (started state.world process)) result self.new }
-        ensures less { IfOk result (λ tried. IfNone tried (btree_set_len self.new.waiters.ready < btree_set_len self.old.waiters.ready)) }
+        ensures less { IfOk result (λ tried. IfNone tried (turns_len self.new.waiters < turns_len self.old.waiters)) }
         ensures awake { IfOk result (λ tried. IfNone tried (self.new.woken ≡ None)) }
     {
         match self.world.started(process) {
@@ -164,7 +164,7 @@ impl<A: Actor> Plain<A> {
     fn try_living(&mut self, program: &A::Program, me: Me) -> Result<Option<Plainly>, NoMemory>
         requires lives { IsSome (started self.old.world me.process) }
         ensures tries { (limit : ℕ) (state : State) (events : List Event) (start : starts.Start) → IsEngine (A.asks_after program.now) A.can_feed (A.core_of program.now) limit state events self.old → started state.world start.process ≡ Some start → me ≡ me_at start → is_ready self.old.waiters me.process ≡ true → self.old.woken ≡ None → Tries (A.asks_after program.now) A.can_feed (A.core_of program.now) limit state events (find (takes_turn (A.core_of program.now) limit state) (start ∷ [])) result self.new }
-        ensures less { is_ready self.old.waiters me.process ≡ true → IfOk result (λ tried. IfNone tried (btree_set_len self.new.waiters.ready < btree_set_len self.old.waiters.ready)) }
+        ensures less { is_ready self.old.waiters me.process ≡ true → IfOk result (λ tried. IfNone tried (turns_len self.new.waiters < turns_len self.old.waiters)) }
         ensures awake { IfOk result (λ tried. IfNone tried (self.new.woken ≡ None)) }
     {
         loop {
@@ -198,7 +198,7 @@ impl<A: Actor> Plain<A> {
     fn try_member(&mut self, program: &A::Program, me: Me) -> Result<Tried, NoMemory>
         ensures tries { (limit : ℕ) (state : State) (events : List Event) (start : starts.Start) → IsEngine (A.asks_after program.now) A.can_feed (A.core_of program.now) limit state events self.old → started state.world start.process ≡ Some start → me ≡ me_at start → is_ready self.old.waiters me.process ≡ true → self.old.woken ≡ None → TriesIfBegun (A.asks_after program.now) A.can_feed (A.core_of program.now) limit state events (find (takes_turn (A.core_of program.now) limit state) (start ∷ [])) result self.new }
         ensures unbegun { IfOk result (λ tried. IfUnbegun tried ((self.new ≡ self.old) × (member_of self.old.crew me.process ≡ None))) }
-        ensures less { is_ready self.old.waiters me.process ≡ true → IfOk result (λ tried. IfAsked tried (λ came. IfNone came (btree_set_len self.new.waiters.ready < btree_set_len self.old.waiters.ready))) }
+        ensures less { is_ready self.old.waiters me.process ≡ true → IfOk result (λ tried. IfAsked tried (λ came. IfNone came (turns_len self.new.waiters < turns_len self.old.waiters))) }
         ensures awake { IfOk result (λ tried. IfAsked tried (λ came. IfNone came (self.new.woken ≡ None))) }
     {
         match self.crew.get_mut(&me.process) {

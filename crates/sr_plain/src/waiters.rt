@@ -1,15 +1,21 @@
-ghost use Rattle.std.specs.Prelude.{◌≡◌, ◌<◌, ℕ, IfNone, IfOk, IfSome, IsTrue, OnOk, false, true};
-ghost use Rattle.std.specs.BTreeSet.{btree_set_len, contains};
+ghost use Rattle.std.specs.Prelude.{◌≡◌, ◌&&◌, ◌<◌, ℕ, [], IfOk, OnOk, false, nat_lt, true};
+ghost use Rattle.std.specs.BTreeSet.{contains};
 ghost use Rattle.std.specs.Ordering.{nat_cmp};
-ghost use Rattle.sr_plain.specs.Waiting.{HaveJoined, IsJoined, IsMadeReady, IsNext, IsTakenOut, IsWokenAt, WaitsAlso, WaitsThere, is_ready};
-ghost use Rattle.sr_plain.specs.declared.waiters.Place.TheVariants.{Served, Stored};
+ghost use Rattle.sr_plain.specs.Waiting.{AreWokenUnder, HaveJoined, HaveOpened, HoldsProcess, IsFirst, IsJoined, IsMadeReady, IsNext, IsOpenedAt, IsPromoted, IsPutBack, IsShut, IsTakenOut, IsWokenAt, WaitsAlso, WaitsThere, WaitsUnder, is_closed, is_ready, may_go, turns_len};
+ghost use Rattle.sr_plain.specs.declared.waiters.Place.TheVariants.{Idle, Served, Stored, Watched};
+ghost use Rattle.sr_plain.specs.declared.waiters.Waiting.TheVariants.{Many};
+ghost use Rattle.sr_queue.specs.declared.class.Class as served;
 
+use crate::crowd::{
+    Opened, first, first_after, first_open, first_open_after, place_of, place_with, sooner,
+    take_from,
+};
 use crate::variable::Variable;
 use sr_queue::Class;
-use sr_value::NoMemory;
+use sr_value::{NoMemory, Row};
 use std::alloc::Global;
 use std::collections::{BTreeSet, HashMap};
-use std::ops::Bound;
+use std::hash::Hash;
 
 /// Where a process waits.
 #[derive(Clone, Copy)]
@@ -20,6 +26,8 @@ pub enum Place {
     Served(Class),
     /// For what a shared variable holds.
     Stored(Variable),
+    /// For invocations of an operation, at a statement without guards and `else`.
+    Idle(Class),
 }
 
 /// Those that wait at one place.
@@ -41,6 +49,10 @@ pub struct Waiters {
     pub(crate) classes: HashMap<Class, Waiting>,
     /// Those that wait for shared variables.
     pub(crate) variables: HashMap<Variable, Waiting>,
+    /// Those that wait at statements without guards and `else`, for operations that have no invocations.
+    pub(crate) idle: HashMap<Class, Waiting>,
+    /// Those that wait so for operations that may have got some.
+    pub(crate) opened: Row<Opened>,
 }
 
 fn join(ready: &mut BTreeSet<u32>, processes: &mut BTreeSet<u32>) -> Result<(), NoMemory>
@@ -106,6 +118,42 @@ impl Waiting {
     }
 }
 
+/// Has one more wait under a key.
+fn wait_under<K: Copy + Eq + Hash>(
+    table: &mut HashMap<K, Waiting>,
+    alloc: Global,
+    key: K,
+    process: u32,
+) -> Result<(), NoMemory>
+    ensures { OnOk result (WaitsUnder K.eq key process table.old table.new) }
+{
+    match table.get_mut(&key) {
+        Some(waiting) => waiting.add(alloc, process),
+        None => {
+            table.insert(key, Waiting::One(process))?;
+            Ok(())
+        }
+    }
+}
+
+/// Makes ready who waits under a key. Where nobody waits at all, nothing is looked up.
+#[inline(always)]
+fn wake_under<K: Copy + Eq + Hash>(
+    ready: &mut BTreeSet<u32>,
+    table: &mut HashMap<K, Waiting>,
+    key: K,
+) -> Result<(), NoMemory>
+    ensures { OnOk result (AreWokenUnder K.eq key table.old table.new ready.old ready.new) }
+{
+    if table.is_empty() {
+        return Ok(());
+    }
+    match table.remove(&key) {
+        Some(waiting) => join_waiting(ready, waiting),
+        None => Ok(()),
+    }
+}
+
 impl Waiters {
     pub(crate) fn new(alloc: Global) -> Self {
         Waiters {
@@ -114,6 +162,8 @@ impl Waiters {
             watched: BTreeSet::new(alloc),
             classes: HashMap::new(alloc),
             variables: HashMap::new(alloc),
+            idle: HashMap::new(alloc),
+            opened: Row::new(alloc),
         }
     }
 
@@ -128,7 +178,7 @@ impl Waiters {
     /// Has a process be asked no more.
     pub(crate) fn take_out(&mut self, process: u32)
         ensures out { IsTakenOut process self.old self.new }
-        ensures less { is_ready self.old process ≡ true → btree_set_len self.new.ready < btree_set_len self.old.ready }
+        ensures less { is_ready self.old process ≡ true → turns_len self.new < turns_len self.old }
     {
         self.ready.remove(&process);
     }
@@ -142,68 +192,182 @@ impl Waiters {
                 self.watched.insert(process)?;
                 Ok(())
             }
-            Place::Served(class) => self.wait_for(class, process),
-            Place::Stored(variable) => self.wait_for_variable(variable, process),
-        }
-    }
-
-    /// Has a process wait for invocations.
-    fn wait_for(&mut self, class: Class, process: u32) -> Result<(), NoMemory>
-        ensures { OnOk result (WaitsThere (Served class) process self.old self.new) }
-    {
-        match self.classes.get_mut(&class) {
-            Some(waiting) => waiting.add(self.alloc, process),
-            None => {
-                self.classes.insert(class, Waiting::One(process))?;
-                Ok(())
+            Place::Served(class) => wait_under(&mut self.classes, self.alloc, class, process),
+            Place::Stored(variable) => {
+                wait_under(&mut self.variables, self.alloc, variable, process)
             }
+            Place::Idle(class) => self.wait_idle(class, process),
         }
     }
 
-    /// Has a process wait for a shared variable.
-    fn wait_for_variable(&mut self, variable: Variable, process: u32) -> Result<(), NoMemory>
-        ensures { OnOk result (WaitsThere (Stored variable) process self.old self.new) }
+    /// Has a process wait for invocations of an operation, and for nothing else. Those who wait so aren't asked until it
+    /// gets one.
+    fn wait_idle(&mut self, class: Class, process: u32) -> Result<(), NoMemory>
+        ensures { OnOk result (WaitsThere (Idle class) process self.old self.new) }
     {
-        match self.variables.get_mut(&variable) {
-            Some(waiting) => waiting.add(self.alloc, process),
-            None => {
-                self.variables.insert(variable, Waiting::One(process))?;
-                Ok(())
-            }
-        }
+        self.shut(class)?;
+        wait_under(&mut self.idle, self.alloc, class, process)
     }
 
-    /// Makes ready who waits there.
-    #[inline(always)]
-    pub(crate) fn wake(&mut self, place: Place) -> Result<(), NoMemory>
-        ensures { OnOk result (IsWokenAt place self.old self.new) }
+    /// Has those asked no more that wait for invocations of an operation.
+    fn shut(&mut self, class: Class) -> Result<(), NoMemory>
+        ensures { OnOk result (IsShut class self.old self.new) }
     {
-        match place {
-            Place::Watched => join(&mut self.ready, &mut self.watched),
-            Place::Served(class) => match self.classes.remove(&class) {
-                Some(waiting) => join_waiting(&mut self.ready, waiting),
-                None => Ok(()),
-            },
-            Place::Stored(variable) => self.wake_for_variable(variable),
-        }
-    }
-
-    /// Makes ready who waits for a shared variable. Mostly there is no such process, and then nothing is looked up.
-    #[inline(always)]
-    fn wake_for_variable(&mut self, variable: Variable) -> Result<(), NoMemory>
-        ensures { OnOk result (IsWokenAt (Stored variable) self.old self.new) }
-    {
-        if self.variables.is_empty() {
+        if self.opened.is_empty() {
             return Ok(());
         }
-        match self.variables.remove(&variable) {
-            Some(waiting) => join_waiting(&mut self.ready, waiting),
+        match place_of(self.opened.as_slice(), class) {
+            Some(place) => {
+                let Opened { processes, .. } = self.opened.remove(place);
+                self.put_back(class, processes)
+            }
             None => Ok(()),
         }
     }
 
+    fn put_back(&mut self, class: Class, processes: BTreeSet<u32>) -> Result<(), NoMemory>
+        ensures { OnOk result (IsPutBack class processes self.old self.new) }
+    {
+        match self.idle.remove(&class) {
+            Some(waiting) => {
+                let mut processes = processes;
+                join_waiting(&mut processes, waiting)?;
+                self.idle.insert(class, Waiting::Many(processes))?;
+                Ok(())
+            }
+            None => {
+                self.idle.insert(class, Waiting::Many(processes))?;
+                Ok(())
+            }
+        }
+    }
+
+    /// Has those asked in turn that wait for invocations of an operation, which may have got one.
+    #[inline(always)]
+    pub(crate) fn open(&mut self, class: Class) -> Result<(), NoMemory>
+        ensures { OnOk result (IsOpenedAt class self.old self.new) }
+    {
+        if self.idle.is_empty() {
+            return Ok(());
+        }
+        match self.idle.remove(&class) {
+            Some(waiting) => self.open_waiting(class, waiting),
+            None => Ok(()),
+        }
+    }
+
+    fn open_waiting(&mut self, class: Class, waiting: Waiting) -> Result<(), NoMemory>
+        ensures { OnOk result (HaveOpened class waiting self.old self.new) }
+    {
+        match waiting {
+            Waiting::One(process) => {
+                self.ready.insert(process)?;
+                Ok(())
+            }
+            Waiting::Many(processes) => self.open_many(class, processes),
+        }
+    }
+
+    /// Opens an operation for all of them. If they are no more than the operations that are open, they are made ready
+    /// instead, since a look for the next looks at each open operation.
+    #[inline(never)]
+    fn open_many(&mut self, class: Class, processes: BTreeSet<u32>) -> Result<(), NoMemory>
+        ensures { OnOk result (HaveOpened class (Many processes) self.old self.new) }
+    {
+        if processes.len() <= self.opened.len() {
+            let mut processes = processes;
+            return join(&mut self.ready, &mut processes);
+        }
+        self.opened.push(Opened { class, processes })
+    }
+
+    /// Nobody waits for invocations alone.
+    pub(crate) fn open_all(&mut self)
+        ensures { (class : served.Class) (process : ℕ) → is_closed self.new class process ≡ false }
+    {
+        self.idle = HashMap::new(self.alloc);
+        self.opened = Row::new(self.alloc);
+    }
+
+    /// Has a process be asked by itself, and not as one of many.
+    #[inline(always)]
+    pub(crate) fn promote(&mut self, process: u32) -> Result<(), NoMemory>
+        requires { may_go self.old process ≡ true }
+        ensures { OnOk result (IsPromoted process self.old self.new) }
+    {
+        if self.opened.is_empty() {
+            return Ok(());
+        }
+        self.promote_open(process)
+    }
+
+    #[inline(never)]
+    fn promote_open(&mut self, process: u32) -> Result<(), NoMemory>
+        requires { may_go self.old process ≡ true }
+        ensures { OnOk result (IsPromoted process self.old self.new) }
+    {
+        match place_with(self.opened.as_slice(), process) {
+            Some(place) => self.promote_from(place, process),
+            None => Ok(()),
+        }
+    }
+
+    fn promote_from(&mut self, place: usize, process: u32) -> Result<(), NoMemory>
+        requires { HoldsProcess self.old.opened process place }
+        ensures { OnOk result (IsPromoted process self.old self.new) }
+    {
+        take_from(&mut self.opened, place, process);
+        self.ready.insert(process)?;
+        Ok(())
+    }
+
+    /// Makes ready who waits for any change.
+    #[inline(always)]
+    pub(crate) fn wake_watched(&mut self) -> Result<(), NoMemory>
+        ensures { OnOk result (IsWokenAt Watched self.old self.new) }
+    {
+        join(&mut self.ready, &mut self.watched)
+    }
+
+    /// Makes ready who waits for invocations of an operation, and for more.
+    #[inline(always)]
+    pub(crate) fn wake_served(&mut self, class: Class) -> Result<(), NoMemory>
+        ensures { OnOk result (IsWokenAt (Served class) self.old self.new) }
+    {
+        wake_under(&mut self.ready, &mut self.classes, class)
+    }
+
+    /// Makes ready who waits for a shared variable.
+    #[inline(always)]
+    pub(crate) fn wake_stored(&mut self, variable: Variable) -> Result<(), NoMemory>
+        ensures { OnOk result (IsWokenAt (Stored variable) self.old self.new) }
+    {
+        wake_under(&mut self.ready, &mut self.variables, variable)
+    }
+
     /// Who is asked next.
     pub(crate) fn next_after(&self, last: u32) -> Option<u32>
+        ensures { IsNext self.now last result }
+    {
+        if self.opened.is_empty() {
+            return self.next_ready(last);
+        }
+        self.next_of_all(last)
+    }
+
+    /// Who is asked next, where no operation is open.
+    fn next_ready(&self, last: u32) -> Option<u32>
+        requires { self.now.opened ≡ [] }
+        ensures { IsNext self.now last result }
+    {
+        match first_after(&self.ready, last) {
+            Some(process) => Some(process),
+            None => first(&self.ready),
+        }
+    }
+
+    #[inline(never)]
+    fn next_of_all(&self, last: u32) -> Option<u32>
         ensures { IsNext self.now last result }
     {
         match self.first_after(last) {
@@ -213,35 +377,17 @@ impl Waiters {
     }
 
     fn first_after(&self, last: u32) -> Option<u32>
-        ensures ready { IfSome result (λ process. is_ready self.now process ≡ true) }
-        ensures later { IfSome result (λ process. last < process) }
-        ensures least { IfSome result (λ process. (other : ℕ) → last < other → other < process → is_ready self.now other ≡ false) }
-        ensures none { IfNone result ((other : ℕ) → last < other → is_ready self.now other ≡ false) }
+        ensures { IsFirst (λ q. nat_lt last q && may_go self.now q) result }
     {
-        if self.none_after(last) {
-            return None;
-        }
-        self.ready
-            .range((Bound::Excluded(last), Bound::Unbounded))
-            .next()
-            .copied()
-    }
-
-    /// Whether none is ready after it, which takes less time than to look for the first.
-    fn none_after(&self, last: u32) -> bool
-        ensures { IsTrue result → (other : ℕ) → last < other → is_ready self.now other ≡ false }
-    {
-        match self.ready.last() {
-            Some(greatest) => *greatest <= last,
-            None => true,
-        }
+        sooner(
+            first_after(&self.ready, last),
+            first_open_after(self.opened.as_slice(), last),
+        )
     }
 
     fn first(&self) -> Option<u32>
-        ensures ready { IfSome result (λ process. is_ready self.now process ≡ true) }
-        ensures least { IfSome result (λ process. (other : ℕ) → other < process → is_ready self.now other ≡ false) }
-        ensures none { IfNone result ((other : ℕ) → is_ready self.now other ≡ false) }
+        ensures { IsFirst (may_go self.now) result }
     {
-        self.ready.first().copied()
+        sooner(first(&self.ready), first_open(self.opened.as_slice()))
     }
 }

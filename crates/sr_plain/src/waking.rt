@@ -3,7 +3,7 @@ ghost use Rattle.sr_plain.specs.Waking.{ReadiesAll, ReadiesIfLives, WakesUp, Wak
 
 use crate::change::{Change, Woken};
 use crate::variable::Variable;
-use crate::waiters::{Place, Waiters};
+use crate::waiters::Waiters;
 use sr_queue::class_of;
 use sr_value::NoMemory;
 use sr_world::World;
@@ -11,8 +11,9 @@ use sr_world::World;
 #[cold]
 #[inline(never)]
 fn wake_all(waiters: &mut Waiters, world: &World) -> Result<(), NoMemory>
-    ensures { OnOk result (ReadiesAll world.now waiters.old waiters.new) }
+    ensures { OnOk result (ReadiesAll world.now waiters.new) }
 {
+    waiters.open_all();
     for place in 0..world.len() {
         if let Some(start) = world.live_at(place) {
             waiters.make_ready(start.process)?;
@@ -39,14 +40,16 @@ fn wake_by(waiters: &mut Waiters, world: &World, change: Change) -> Result<(), N
 {
     match change {
         Change::Nothing => Ok(()),
-        Change::Watched => waiters.wake(Place::Watched),
+        Change::Watched => waiters.wake_watched(),
         Change::Class { owner, op } => {
-            waiters.wake(Place::Watched)?;
-            waiters.wake(Place::Served(class_of(owner, op)))
+            let class = class_of(owner, op);
+            waiters.wake_watched()?;
+            waiters.wake_served(class)?;
+            waiters.open(class)
         }
         Change::Variable { block, var } => {
-            waiters.wake(Place::Watched)?;
-            waiters.wake(Place::Stored(Variable { block, var }))
+            waiters.wake_watched()?;
+            waiters.wake_stored(Variable { block, var })
         }
         Change::Everything => wake_all(waiters, world),
     }

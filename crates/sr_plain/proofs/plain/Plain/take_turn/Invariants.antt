@@ -1,6 +1,6 @@
 use Rattle.std.proofs.Common.{◌≡◌, ℕ, List, None}
-use Rattle.std.specs.BTreeSet.{btree_set_len}
 use Rattle.sr_plain.specs.Engine.{IsEngine}
+use Rattle.sr_plain.specs.Waiting.{turns_len}
 use Rattle.sr_world.specs.Runs.{Event, State}
 use Rattle.sr_plain.proofs.plain.Plain.take_turn.Given as goal
 
@@ -11,4 +11,4 @@ invariant-loop-process g l = (l.self.woken ≡ None) × ((limit : ℕ) (state : 
     → IsEngine (g.A.Actor.asks_after l.program) g.A.Actor.can_feed (g.A.Actor.core_of l.program) limit state events l.self)
 
 abbrev pub decreases-loop-process : goal.decreases-loop-process
-decreases-loop-process g l = btree_set_len l.self.waiters.ready
+decreases-loop-process g l = turns_len l.self.waiters

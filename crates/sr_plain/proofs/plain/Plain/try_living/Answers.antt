@@ -1,12 +1,11 @@
 use Rattle.std.proofs.Common.{◌≡◌, ◌<◌, [], ◌∷◌, ap, subst, sym, ◌∙◌, IsSome, true}
 use Rattle.std.proofs.lemmas.Result.{err_from_is_err_and}
-use Rattle.std.specs.BTreeSet.{btree_set_len}
 use Rattle.std.specs.Prelude.{IfNone, find}
 use Rattle.sr_world.specs.Worlds.{World, started}
 use Rattle.sr_plain.specs.Crew.{member_of}
 use Rattle.sr_plain.specs.Engine.{IsEngine}
 use Rattle.sr_plain.specs.Turns.{takes_turn}
-use Rattle.sr_plain.specs.Waiting.{is_ready}
+use Rattle.sr_plain.specs.Waiting.{is_ready, turns_len}
 use Rattle.sr_plain.specs.declared.plain.Plain.{Plain}
 use Rattle.sr_plain.specs.declared.waiters.Waiters.{Waiters}
 use Rattle.sr_plain.proofs.BeginLemmas.{begins-less}
@@ -63,7 +62,7 @@ loop-tried-smaller g c =
 pub returns-in-Asked-clause-less : goal.returns-in-Asked-clause-less
 returns-in-Asked-clause-less g c = λ ready.
     let inv = c.loop-tried.invariant in
-    subst (λ (w : Waiters). IfNone c.in-Asked.came (btree_set_len c.try_member.new.self.waiters.ready < btree_set_len w.ready)) inv.1
+    subst (λ (w : Waiters). IfNone c.in-Asked.came (turns_len c.try_member.new.self.waiters < turns_len w)) inv.1
     (at_asked c.in_ok-tried.tried c.in-Asked.came _ c.in-Asked.is (c.in_ok-tried.ensures.less (subst (λ (w : Waiters). is_ready w c.args.me.process ≡ true) (sym inv.1) ready)))
 
 pub returns-in-Asked-clause-awake : goal.returns-in-Asked-clause-awake

@@ -1,0 +1,18 @@
+use Rattle.std.proofs.Common.{refl, subst, sym}
+use Rattle.std.specs.Prelude.{OnOk}
+use Rattle.sr_plain.specs.Waiting.{HaveOpened}
+use Rattle.sr_plain.specs.declared.waiters.Waiters.{Waiters}
+use Rattle.sr_plain.specs.declared.waiters.Waiting.{Waiting}
+use Rattle.sr_plain.specs.declared.waiters.Waiting.TheVariants.{One}
+use Rattle.sr_plain.proofs.CrowdLemmas.{all-ready, one-ready}
+use Rattle.sr_plain.proofs.waiters.Waiters.open_waiting.Goals as goal
+
+pub returns-in_ok-insert-in-One : goal.returns-in_ok-insert-in-One
+returns-in_ok-insert-in-One c =
+    let old : Waiters = c.args.self.now in
+    let new : Waiters = record old { ready = c.insert.new.self } in
+    subst (λ (w : Waiting). HaveOpened c.args.class w old new) (sym c.in-One.is)
+    (all-ready c.args.class (One c.in-One.process) old new refl refl refl refl refl (one-ready c.in-One.process old.ready c.insert.new.self c.in_ok-insert-in-One.ensures.updates))
+
+pub returns-in-Many : goal.returns-in-Many
+returns-in-Many c = subst (λ (w : Waiting). OnOk c.open_many.result (HaveOpened c.args.class w c.args.self.now c.open_many.new.self)) (sym c.in-Many.is) c.open_many.ensures
