@@ -1,7 +1,7 @@
 -- Steps that make processes ready, and have them wait.
-use Rattle.std.proofs.Common.{◌≡◌, ◌⊎◌, inl, inr, get_or, ◌+◌, ◌≤◌, ◌<◌, ◌==◌, ℕ, zero, suc, Bool, true, false, cond, List, [], ◌∷◌, length, Some, ap, sym, ◌∙◌, subst, arith}
+use Rattle.std.proofs.Common.{◌≡◌, ◌⊎◌, inl, inr, get_or, ◌+◌, ◌≤◌, ◌<◌, ◌==◌, ℕ, zero, suc, Bool, true, false, cond, List, [], ◌∷◌, length, map, option_map, Some, ap, sym, ◌∙◌, subst, arith}
 use Rattle.std.proofs.lemmas.Bool.{cases_eq}
-use Rattle.std.proofs.lemmas.Option.{slice_get-get_or}
+use Rattle.std.proofs.lemmas.Option.{slice_get-get_or, slice_get-map}
 use Rattle.std.specs.Prelude.{find, slice_get}
 use Rattle.sr_ask.specs.declared.start.Start.{Start}
 use Rattle.sr_processes.specs.Living.{is_process}
@@ -32,13 +32,14 @@ one-more old new xs i x here stay itself before number y is below = by (cases_eq
         subst (λ z. new z ≡ true) one itself
     by (inr apart) = stay y (before number y is (omega arith))
 
--- where each place was passed, all who live are ready
-pub ready-all : (live : List Start) (i : ℕ) (new : Waiters) → length live ≤ i → ((k : ℕ) (s : Start) → slice_get live k ≡ Some s → k < i → is_ready new s.process ≡ false → ⊥)
+-- where all numbers of those who live are ready, all who live are
+pub ready-all : (live : List Start) (numbers : List ℕ) (new : Waiters) → numbers ≡ map (λ (s : Start). s.process) live
+    → ((place process : ℕ) → slice_get numbers place ≡ Some process → is_ready new process ≡ false → ⊥)
     → (q : ℕ) (s : Start) → find (is_process q) live ≡ Some s → is_ready new q ≡ false → ⊥
-ready-all live i new over each q s is off =
+ready-all live numbers new same each q s is off =
     let found = find-place live q s is in
-    let within = found.2 in
-    each found.0 s found.1 (omega arith) (subst (λ n. is_ready new n ≡ false) (find-number live q s is) off)
+    let here = ap (λ ns. slice_get ns found.0) same ∙ slice_get-map (λ (s : Start). s.process) live found.0 ∙ ap (option_map (λ (s : Start). s.process)) found.1 in
+    each found.0 s.process here (subst (λ n. is_ready new n ≡ false) (find-number live q s is) off)
 
 -- ---- over rows
 

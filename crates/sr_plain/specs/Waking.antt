@@ -1,5 +1,5 @@
 -- How those are made ready whom a step woke.
-use Rattle.std.specs.Prelude.{◌≡◌, ◌<◌, ◌==◌, ℕ, true, false, Some}
+use Rattle.std.specs.Prelude.{◌≡◌, ◌<◌, ◌==◌, ℕ, true, false, List, Some, slice_get}
 use Rattle.sr_ask.specs.declared.start.Start.{Start}
 use Rattle.sr_queue.specs.Classes.{class_of}
 use Rattle.sr_queue.specs.declared.class.Class.{Class}
@@ -10,6 +10,11 @@ use Rattle.sr_plain.specs.declared.change.Change.{Change}
 use Rattle.sr_plain.specs.declared.change.Woken.{Woken}
 use Rattle.sr_plain.specs.declared.waiters.Place.{Place}
 use Rattle.sr_plain.specs.declared.waiters.Waiters.{Waiters}
+
+-- each of these processes is ready, and who waits for invocations alone stays there
+pub record AreMadeReady (processes : List ℕ) (old new : Waiters) : Type 0 where
+  pub idle : new.idle ≡ old.idle
+  pub ready : (place process : ℕ) → slice_get processes place ≡ Some process → is_ready new process ≡ false → ⊥
 
 -- each living process is ready
 pub record ReadiesAll (world : World) (new : Waiters) : Type 0 where

@@ -1,5 +1,5 @@
 ghost use Rattle.std.specs.Prelude.{OnOk};
-ghost use Rattle.sr_plain.specs.Waking.{ReadiesAll, ReadiesIfLives, WakesUp, WakesByChange};
+ghost use Rattle.sr_plain.specs.Waking.{AreMadeReady, ReadiesAll, ReadiesIfLives, WakesUp, WakesByChange};
 
 use crate::change::{Change, Woken};
 use crate::variable::Variable;
@@ -8,18 +8,24 @@ use sr_queue::class_of;
 use sr_value::NoMemory;
 use sr_world::World;
 
+/// Makes all of them ready.
+fn make_all_ready(waiters: &mut Waiters, processes: &[u32]) -> Result<(), NoMemory>
+    ensures { OnOk result (AreMadeReady processes.now waiters.old waiters.new) }
+{
+    for process in processes {
+        waiters.make_ready(*process)?;
+    }
+    Ok(())
+}
+
 #[cold]
 #[inline(never)]
 fn wake_all(waiters: &mut Waiters, world: &World) -> Result<(), NoMemory>
     ensures { OnOk result (ReadiesAll world.now waiters.new) }
 {
     waiters.open_all();
-    for place in 0..world.len() {
-        if let Some(start) = world.live_at(place) {
-            waiters.make_ready(start.process)?;
-        }
-    }
-    Ok(())
+    let living = world.living()?;
+    make_all_ready(waiters, living.as_slice())
 }
 
 #[inline(always)]
