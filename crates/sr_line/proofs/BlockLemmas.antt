@@ -65,7 +65,7 @@ module _ {T : Type 0} where
   same-room l l' same = ap (λ (x : Lined T). x.room) same
 
   pub same-lined : (items items' : List T) (room room' : ℕ) → items ≡ items' → room ≡ room' → ◌≡◌ {A = Lined T} (record { items = items; room = room }) (record { items = items'; room = room' })
-  same-lined items items' room room' is as = ap (λ xs. record { items = xs; room = room }) is ∙ ap (λ n. record { items = items'; room = n }) as
+  same-lined items items' room room' is same = ap (λ xs. record { items = xs; room = room }) is ∙ ap (λ n. record { items = items'; room = n }) same
 
 pub ok_then : {T E P Q : Type 0} (r : Result T E) → (P → Q) → OnOk r P → OnOk r Q
 ok_then (Ok x) f p = f p

@@ -1,10 +1,10 @@
 -- Lists joined end to end: where an item stands, and what is left once it is out.
 use Rattle.std.proofs.Common.{◌≡◌, ℕ, zero, suc, ◌+◌, ◌-◌, ◌<◌, ◌≤◌, List, [], ◌∷◌, ◌++◌, Option, None, Some, OnSome, Bor, length, get_or, set, take, drop, refl, ap, sym, ◌∙◌, arith}
-use Rattle.std.specs.List.{AllPairs, flat_map, remove, slice_get}
+use Rattle.std.specs.List.{flat_map, remove, slice_get}
 use Rattle.std.specs.Slice.{IsItemAt}
 use Rattle.std.specs.Option.{option_copied}
-use Rattle.std.proofs.lemmas.List.{append-nil, append_assoc, get_or-append-add, get_or_append_left, length-append, take-append-drop, take_more}
-use Rattle.std.proofs.lemmas.List.Concat.{flat_map-append, get_or-flat_map}
+use Rattle.std.proofs.lemmas.List.{append-nil, length-append, take-append-drop, take_more}
+use Rattle.std.proofs.lemmas.List.Concat.{flat_map-append}
 use Rattle.std.proofs.lemmas.List.Edits.{remove-append_left, remove-append_right}
 use Rattle.std.proofs.lemmas.Option.{slice_get-get_or, slice_get_past}
 
@@ -49,11 +49,6 @@ module _ {X A : Type 0} (f : X → List A) where
   length-front bs i =
       let whole = ap length (ap (flat_map f) (sym (take-append-drop i bs)) ∙ flat_map-append f (take i bs) (drop i bs)) in
       omega (arith, whole, length-append (flat_map f (take i bs)) (flat_map f (drop i bs)))
-
-  pub pushed : (bs : List X) (b : X) (ys : List A) → ys ≡ [] → flat_map f (bs ++ b ∷ []) ++ ys ≡ flat_map f bs ++ f b
-  pushed bs b ys none =
-      ap (λ us. flat_map f (bs ++ b ∷ []) ++ us) none ∙ append-nil (flat_map f (bs ++ b ∷ []))
-      ∙ flat_map-append f bs (b ∷ []) ∙ ap (λ us. flat_map f bs ++ us) (append-nil (f b))
 
   pub in-block : (bs : List X) (i k place : ℕ) (d : X) → i < length bs → k < length (f (get_or bs i d)) → length (flat_map f (take i bs)) + k ≡ place → slice_get (flat_map f bs) place ≡ slice_get (f (get_or bs i d)) k
   in-block [] i k place d low at sum = absurd (omega arith)

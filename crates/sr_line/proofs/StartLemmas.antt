@@ -8,7 +8,7 @@ use Rattle.std.proofs.lemmas.List.{get_or-append-add, get_or_append_left, get_or
 use Rattle.std.proofs.lemmas.List.Concat.{get_or-flat_map}
 use Rattle.std.proofs.lemmas.Option.{get_or_from_slice_get, slice_get-get_or, slice_get_within}
 use Rattle.sr_line.specs.Lines.{AllLesser, IsStart, Reaches, joined}
-use Rattle.sr_line.proofs.JoinedLemmas.{length-front}
+use Rattle.sr_line.proofs.JoinedLemmas.{in-front, length-front}
 use Rattle.sr_line.proofs.BlockLemmas.{items_of, joined-more}
 
 -- a part of a list stands after this many items
@@ -115,38 +115,67 @@ module _ {A : Type 0} (number_of : A → ℕ) (bs : List (VecDeque A Global)) (n
         (omega (arith, joined-more bs i b low is),
         subst (λ n. AllLesser number_of (joined bs) (before + n) number) (sym long) (lesser-more number_of (joined bs) up before b.items (block-part bs i before b low is sum) number lesser ends))
 
--- ---- where the item is found, in the blocks or in a last one
+-- ---- where the item is found
 
-module _ {A : Type 0} (number_of : A → ℕ) (bs : List (VecDeque A Global)) (last : List A) (up : AllPairs (λ x y. number_of x < number_of y) (joined bs ++ last)) where
-  pub front-ascends : AllPairs (λ x y. number_of x < number_of y) (joined bs)
-  front-ascends = part-ascends number_of (joined bs ++ last) up 0 (joined bs) (front-part (joined bs) last)
+module _ {A : Type 0} (number_of : A → ℕ) (bs : List (VecDeque A Global)) (up : AllPairs (λ x y. number_of x < number_of y) (joined bs)) (number i before : ℕ) (start : IsStart number_of bs number i before) where
+  module _ (b : VecDeque A Global) (low : i < length bs) (is : b ≡ get_or bs i b) where
+    start-part : IsPart (joined bs) before b.items
+    start-part = block-part bs i before b low is start.sum
 
-  pub last-ascends : AllPairs (λ x y. number_of x < number_of y) last
-  last-ascends = part-ascends number_of (joined bs ++ last) up (length (joined bs)) last (last-part (joined bs) last)
+    pub block-fits : before + length b.items ≤ length (joined bs)
+    block-fits = start-part.within
 
-  module _ (number i before : ℕ) (start : IsStart number_of bs number i before) where
-    module _ (b : VecDeque A Global) (low : i < length bs) (is : b ≡ get_or bs i b) where
-      pub start-part : IsPart (joined bs ++ last) before b.items
-      start-part = part-in-front (joined bs) last b.items before (block-part bs i before b low is start.sum)
+    pub block-ascends : AllPairs (λ x y. number_of x < number_of y) b.items
+    block-ascends = part-ascends number_of (joined bs) up before b.items start-part
 
-      pub block-ascends : AllPairs (λ x y. number_of x < number_of y) b.items
-      block-ascends = part-ascends number_of (joined bs ++ last) up before b.items start-part
+    pub block-found : (place : ℕ) (x : A) → slice_get (joined bs) place ≡ Some x → number_of x ≡ number → (slice_get b.items (place - before) ≡ Some x) × (before + (place - before) ≡ place)
+    block-found place x at found =
+        let reaches : Reaches number_of b.items number = subst (λ (y : VecDeque A Global). Reaches number_of y.items number) (sym is) (start.reached low b) in
+        let from : before ≤ place = found-from number_of (joined bs) up before b.items start-part number start.lesser place x at found in
+        let upto : place < before + length b.items = found-upto number_of (joined bs) up before b.items start-part number start.lesser reaches place x at found in
+        (found-in number_of (joined bs) up before b.items start-part place x at from upto, omega arith)
 
-      pub block-found : (place : ℕ) (x : A) → slice_get (joined bs ++ last) place ≡ Some x → number_of x ≡ number → (slice_get b.items (place - before) ≡ Some x) × (before + (place - before) ≡ place)
-      block-found place x at found =
-          let few : before ≤ length (joined bs) = omega (arith, (block-part bs i before b low is start.sum).within) in
-          let lesser = lesser-in-front number_of (joined bs) last before number few start.lesser in
-          let reaches = subst (λ (y : VecDeque A Global). Reaches number_of y.items number) (sym is) (start.reached low b) in
-          let from = found-from number_of (joined bs ++ last) up before b.items start-part number lesser place x at found in
-          let upto = found-upto number_of (joined bs ++ last) up before b.items start-part number lesser reaches place x at found in
-          (found-in number_of (joined bs ++ last) up before b.items start-part place x at from upto, omega arith)
+  pub none-found : length bs ≤ i → (place : ℕ) (x : A) → slice_get (joined bs) place ≡ Some x → number_of x ≡ number → ⊥
+  none-found past place x at found =
+      let all : before ≡ length (joined bs) = sym start.sum ∙ ap (counted number_of bs number) (take_all i bs past) in
+      let within : place < length (joined bs) = slice_get_within (joined bs) place x at in
+      let here = ap number_of (get_or_from_slice_get (joined bs) place x x at) in
+      omega (arith, start.lesser place x (omega arith), here)
 
-    pub last-found : length bs ≤ i → (place : ℕ) (x : A) → slice_get (joined bs ++ last) place ≡ Some x → number_of x ≡ number → (slice_get last (place - length (joined bs)) ≡ Some x) × (length (joined bs) + (place - length (joined bs)) ≡ place)
-    last-found past place x at found =
-        let p : IsPart (joined bs ++ last) (length (joined bs)) last = last-part (joined bs) last in
-        let all : before ≡ length (joined bs) = sym start.sum ∙ ap (counted number_of bs number) (take_all i bs past) in
-        let lesser : AllLesser number_of (joined bs) (length (joined bs)) number = subst (λ n. AllLesser number_of (joined bs) n number) all start.lesser in
-        let from : length (joined bs) ≤ place = found-from number_of (joined bs ++ last) up (length (joined bs)) last p number (lesser-in-front number_of (joined bs) last (length (joined bs)) number (omega arith) lesser) place x at found in
-        let within : place < length (joined bs ++ last) = slice_get_within (joined bs ++ last) place x at in
-        let upto : place < length (joined bs) + length last = omega (arith, within, length-append (joined bs) last) in
-        (found-in number_of (joined bs ++ last) up (length (joined bs)) last p place x at from upto, omega arith)
+-- the items of two lists ascend, one list after the other
+module _ {A : Type 0} (number_of : A → ℕ) (xs ys : List A) (up : AllPairs (λ x y. number_of x < number_of y) (xs ++ ys)) where
+  pub front-ascends : AllPairs (λ x y. number_of x < number_of y) xs
+  front-ascends = part-ascends number_of (xs ++ ys) up 0 xs (front-part xs ys)
+
+  pub last-ascends : AllPairs (λ x y. number_of x < number_of y) ys
+  last-ascends = part-ascends number_of (xs ++ ys) up (length xs) ys (last-part xs ys)
+
+  pub last-found : (number : ℕ) → (0 < length ys) × ((other : A) → number_of (get_or ys 0 other) ≤ number) → (place : ℕ) (x : A) → slice_get (xs ++ ys) place ≡ Some x → number_of x ≡ number
+      → (slice_get ys (place - length xs) ≡ Some x) × (length xs + (place - length xs) ≡ place)
+  last-found number first place x at found =
+      let here = ap number_of (get_or_from_slice_get (xs ++ ys) place x x at) in
+      let some : 0 < length ys = first.0 in
+      let least = ap number_of ((last-part xs ys).same 0 x some) in
+      let within : place < length (xs ++ ys) = slice_get_within (xs ++ ys) place x at in
+      let upto : place < length xs + length ys = omega (arith, within, length-append xs ys) in
+      let from : length xs ≤ place = ⊎_elim
+        (λ less. absurd (omega (arith, up place (length xs + 0) x (omega arith) (omega (arith, length-append xs ys)), here, least, first.1 x)))
+        (λ past. past) (cases_lt place (length xs)) in
+      (found-in number_of (xs ++ ys) up (length xs) ys (last-part xs ys) place x at from upto, omega arith)
+
+  pub front-found : (number : ℕ) → (0 < length ys → (other : A) → number < number_of (get_or ys 0 other)) → (place : ℕ) (x : A) → slice_get (xs ++ ys) place ≡ Some x → number_of x ≡ number → slice_get xs place ≡ Some x
+  front-found number later place x at found =
+      let here = ap number_of (get_or_from_slice_get (xs ++ ys) place x x at) in
+      let within : place < length (xs ++ ys) = slice_get_within (xs ++ ys) place x at in
+      let upto : place < length xs + length ys = omega (arith, within, length-append xs ys) in
+      ⊎_elim (λ less. sym (in-front xs ys place less) ∙ at) (λ past. absurd (outside here upto past)) (cases_lt place (length xs))
+    where
+      outside : number_of (get_or (xs ++ ys) place x) ≡ number_of x → place < length xs + length ys → length xs ≤ place → ⊥
+      outside here upto past =
+          let some : 0 < length ys = omega arith in
+          let least = ap number_of ((last-part xs ys).same 0 x some) in
+          let more = later some x in
+          ⊎_elim
+          (λ before. omega (arith, up (length xs + 0) place x before (omega (arith, length-append xs ys)), here, least, more))
+          (λ same. let is : place ≡ length xs + 0 = omega arith in omega (arith, ap (λ n. number_of (get_or (xs ++ ys) n x)) is, here, least, more))
+          (cases_lt (length xs + 0) place)

@@ -1,11 +1,14 @@
 ghost use Rattle.std.specs.Prelude.{◌≡◌, ◌==◌, ◌<◌, ◌≤◌, ℕ, [], ◌∷◌, ◌++◌, length, remove, slice_get, AllPairs, IsOk, OnErr, OnOk, OnSome, option_copied};
 
 use crate::blocks::{get_in, make_room, take_in};
-use crate::search::{HasNumber, block_of, place_after};
+use crate::search::{HasNumber, place_after, place_in_blocks, starts_by};
 use crate::taking::take_at;
 use std::alloc::{AllocError, Global};
 use std::collections::VecDeque;
 use std::marker::Model;
+
+/// The greatest number of items that a list has.
+const MOST_ITEMS: usize = usize::MAX;
 
 /// A list whose items can leave anywhere at little cost. It is kept in blocks.
 #[derive(Drop)]
@@ -102,7 +105,8 @@ impl<T: Drop> Line<T> {
         ensures succeeds { 0 < self.old.room → IsOk result }
         ensures err { OnErr result (self.new ≡ self.old) }
     {
-        if self.len == usize::MAX {
+        let len = self.len;
+        if len == MOST_ITEMS {
             return Err(AllocError);
         }
         make_room(self.alloc, &mut self.blocks, &mut self.last)
@@ -115,12 +119,13 @@ impl<T: Drop> Line<T> {
         ensures none { result ≡ None → self.new ≡ self.old }
         ensures room { self.old.room ≤ self.new.room }
     {
-        if place >= self.len {
+        let len = self.len;
+        if place >= len {
             return None;
         }
         let last = self.last.len();
-        let before = self.len - last;
-        self.len -= 1;
+        let before = len - last;
+        self.len = len - 1;
         if place >= before {
             return take_at(&mut self.last, place - before);
         }
@@ -136,10 +141,9 @@ impl<T: HasNumber> Line<T> {
     {
         let last = self.last.len();
         let before = self.len - last;
-        let spot = block_of(&self.blocks, number);
-        match self.blocks.get(spot.block) {
-            Some(items) => place_after(spot.place, items, number),
-            None => place_after(before, &self.last, number),
+        if starts_by(&self.last, number) {
+            return place_after(before, &self.last, number);
         }
+        place_in_blocks(&self.blocks, number)
     }
 }

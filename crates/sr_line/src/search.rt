@@ -12,8 +12,22 @@ pub trait HasNumber {
         ensures { result ≡ number_of self.now };
 }
 
+/// The place of the item of a number among those of the blocks.
+pub fn place_in_blocks<T: HasNumber>(
+    blocks: &VecDeque<VecDeque<T>>,
+    number: u64,
+) -> Option<usize>
+    requires small { length (joined blocks.now.items) < 2 ^ 64 }
+    requires up { AllPairs (λ a b. T.number_of a < T.number_of b) (joined blocks.now.items) }
+    ensures { (place : ℕ) (item : T) → slice_get (joined blocks.now.items) place ≡ Some item → T.number_of item ≡ number → result ≡ Some place }
+{
+    let spot = block_of(blocks, number);
+    let items = blocks.get(spot.block)?;
+    place_after(spot.place, items, number)
+}
+
 /// The first block that ends at a number or after it, and how many items stand before that block.
-pub fn block_of<T: HasNumber>(blocks: &VecDeque<VecDeque<T>>, number: u64) -> Spot
+fn block_of<T: HasNumber>(blocks: &VecDeque<VecDeque<T>>, number: u64) -> Spot
     requires small { length (joined blocks.now.items) < 2 ^ 64 }
     requires up { AllPairs (λ a b. T.number_of a < T.number_of b) (joined blocks.now.items) }
     ensures { IsStart T.number_of blocks.now.items number result.block result.place }
@@ -44,6 +58,17 @@ fn reaches<T: HasNumber>(items: &VecDeque<T>, number: u64) -> bool
 {
     match items.back() {
         Some(last) => last.number() >= number,
+        None => false,
+    }
+}
+
+/// Whether the first item has this number or a lesser one.
+pub fn starts_by<T: HasNumber>(items: &VecDeque<T>, number: u64) -> bool
+    ensures yes { IsTrue result → (0 < length items.now.items) × ((other : T) → T.number_of (slice_index_or items.now.items 0 other) ≤ number) }
+    ensures no { result ≡ false → 0 < length items.now.items → (other : T) → number < T.number_of (slice_index_or items.now.items 0 other) }
+{
+    match items.front() {
+        Some(first) => first.number() <= number,
         None => false,
     }
 }
