@@ -39,8 +39,8 @@ module _ {A : Type 0} where
   block-part bs i before b low is sum = record {
     within = omega (arith, joined-more bs i b low is, length-front items_of bs (i + 1));
     same = λ k d inside.
-      let here : k < length (get_or bs i b).items = omega (arith, ap (λ (x : VecDeque A Global). length x.items) is) in
-      ap (λ n. get_or (joined bs) (n + k) d) (sym sum) ∙ get_or-flat_map items_of bs i k b d low here ∙ ap (λ (x : VecDeque A Global). get_or x.items k d) (sym is);
+        let here : k < length (get_or bs i b).items = omega (arith, ap (λ (x : VecDeque A Global). length x.items) is) in
+        ap (λ n. get_or (joined bs) (n + k) d) (sym sum) ∙ get_or-flat_map items_of bs i k b d low here ∙ ap (λ (x : VecDeque A Global). get_or x.items k d) (sym is);
   }
 
   module _ (number_of : A → ℕ) where
@@ -111,9 +111,10 @@ module _ {A : Type 0} (number_of : A → ℕ) (bs : List (VecDeque A Global)) (n
 
     pub start-more : (len : ℕ) → len ≡ length b.items → AllPairs (λ x y. number_of x < number_of y) (joined bs) → AllLesser number_of (joined bs) before number
         → (0 < length b.items → (other : A) → number_of (get_or b.items (length b.items - 1) other) < number) → (length (joined (take (i + 1) bs)) ≡ before + len) × AllLesser number_of (joined bs) (before + len) number
-    start-more len long up lesser ends =
-        (omega (arith, joined-more bs i b low is),
-        subst (λ n. AllLesser number_of (joined bs) (before + n) number) (sym long) (lesser-more number_of (joined bs) up before b.items (block-part bs i before b low is sum) number lesser ends))
+    start-more len long up lesser ends = (
+      omega (arith, joined-more bs i b low is),
+      subst (λ n. AllLesser number_of (joined bs) (before + n) number) (sym long) (lesser-more number_of (joined bs) up before b.items (block-part bs i before b low is sum) number lesser ends),
+    )
 
 -- ---- where the item is found
 
@@ -159,8 +160,8 @@ module _ {A : Type 0} (number_of : A → ℕ) (xs ys : List A) (up : AllPairs (�
       let within : place < length (xs ++ ys) = slice_get_within (xs ++ ys) place x at in
       let upto : place < length xs + length ys = omega (arith, within, length-append xs ys) in
       let from : length xs ≤ place = ⊎_elim
-        (λ less. absurd (omega (arith, up place (length xs + 0) x (omega arith) (omega (arith, length-append xs ys)), here, least, first.1 x)))
-        (λ past. past) (cases_lt place (length xs)) in
+      (λ less. absurd (omega (arith, up place (length xs + 0) x (omega arith) (omega (arith, length-append xs ys)), here, least, first.1 x)))
+      (λ past. past) (cases_lt place (length xs)) in
       (found-in number_of (xs ++ ys) up (length xs) ys (last-part xs ys) place x at from upto, omega arith)
 
   pub front-found : (number : ℕ) → (0 < length ys → (other : A) → number < number_of (get_or ys 0 other)) → (place : ℕ) (x : A) → slice_get (xs ++ ys) place ≡ Some x → number_of x ≡ number → slice_get xs place ≡ Some x

@@ -13,10 +13,7 @@ pub trait HasNumber {
 }
 
 /// The place of the item of a number among those of the blocks.
-pub fn place_in_blocks<T: HasNumber>(
-    blocks: &VecDeque<VecDeque<T>>,
-    number: u64,
-) -> Option<usize>
+pub fn place_in_blocks<T: HasNumber>(blocks: &VecDeque<VecDeque<T>>, number: u64) -> Option<usize>
     requires small { length (joined blocks.now.items) < 2 ^ 64 }
     requires up { AllPairs (λ a b. T.number_of a < T.number_of b) (joined blocks.now.items) }
     ensures { (place : ℕ) (item : T) → slice_get (joined blocks.now.items) place ≡ Some item → T.number_of item ≡ number → result ≡ Some place }

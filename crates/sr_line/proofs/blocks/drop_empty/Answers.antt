@@ -1,4 +1,5 @@
-use Rattle.std.proofs.Common.{◌≡◌, ◌<◌, [], ◌∙◌, length, sym, eqb-true}
+use Rattle.std.proofs.Common.{◌≡◌, ◌<◌, [], ◌∙◌, length, sym}
+use Rattle.std.proofs.lemmas.Bool.{eqb-true}
 use Rattle.std.proofs.lemmas.List.{nil_from_length}
 use Rattle.sr_line.proofs.BlockLemmas.{dropped, taken-rest}
 use Rattle.sr_line.proofs.blocks.drop_empty.Goals as goal

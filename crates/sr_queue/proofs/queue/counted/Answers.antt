@@ -20,8 +20,8 @@ loop-place-preserved c =
     let low : place < length items = omega (arith, c.loop-place-test.true, c.len-place-end.ensures) in
     let here : is (get_or items place p) ≡ c.is_of.result = ap is (get_or_from_slice_get items place p p c.at.ensures) ∙ sym c.is_of.ensures in
     elim c.if-is_of.branch [
-      then-is_of w ↦ let more = count_by_more_yes is items place p low (here ∙ w.if-is_of.true) in omega (arith, more, c.loop-place.invariant)
-    | else-is_of w ↦ let more = count_by_more_no is items place p low (here ∙ w.if-is_of.false) in omega (arith, more, c.loop-place.invariant)
+      | then-is_of w ↦ let more = count_by_more_yes is items place p low (here ∙ w.if-is_of.true) in omega (arith, more, c.loop-place.invariant)
+      | else-is_of w ↦ let more = count_by_more_no is items place p low (here ∙ w.if-is_of.false) in omega (arith, more, c.loop-place.invariant)
     ]
 
 pub returns : goal.returns
