@@ -34,5 +34,5 @@ returns-clause-err g c =
     let room : room_in new.last old.len ≡ room_in old.last old.len = omega (arith, same) in
     same-lined (joined new.blocks.items ++ new.last.items) (joined old.blocks.items ++ old.last.items) (room_in new.last old.len) (room_in old.last old.len) c.make_room.ensures.items room ∙ c.self.view_is) c.make_room.ensures.err
 
-pub returns-then-len-eq-MOST_ITEMS-clause-succeeds : goal.returns-then-len-eq-MOST_ITEMS-clause-succeeds
-returns-then-len-eq-MOST_ITEMS-clause-succeeds g c = λ some. let room = same-room _ _ c.self.view_is in absurd (omega (arith, room, c.if-len-eq-MOST_ITEMS.true, some))
+pub returns-then-len-clause-succeeds : goal.returns-then-len-clause-succeeds
+returns-then-len-clause-succeeds g c = λ some. let room = same-room _ _ c.self.view_is in absurd (omega (arith, room, c.if-len.true, some))
