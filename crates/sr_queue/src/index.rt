@@ -6,8 +6,8 @@ ghost use Rattle.sr_queue.specs.declared.class.Class.{Class};
 ghost use Rattle.sr_queue.specs.declared.index.Numbered.{Numbered};
 
 use crate::class::Class;
-use crate::taking::take_at;
 use indexmap::IndexMap;
+use sr_line::{HasNumber, Line, take_at};
 use sr_value::NoMemory;
 use std::alloc::Global;
 use std::collections::VecDeque;
@@ -24,11 +24,19 @@ pub struct Numbered {
     pub class: Class,
 }
 
+impl HasNumber for Numbered {
+    ghost number_of = { λ entry. entry.number };
+
+    fn number(&self) -> u64 {
+        self.number
+    }
+}
+
 /// The operations of pending invocations in the order of their arrival, and where those of each operation stand.
 #[derive(Drop)]
 pub struct Index {
     alloc: Global,
-    entries: VecDeque<Numbered>,
+    entries: Line<Numbered>,
     /// The number of the next that arrives.
     next: u64,
     /// The numbers of each operation that has any, and of some that had.
@@ -55,7 +63,7 @@ impl Index {
     {
         Index {
             alloc,
-            entries: VecDeque::new(alloc),
+            entries: Line::new(alloc),
             next: 0,
             lines: IndexMap::new(alloc),
         }
@@ -111,9 +119,9 @@ impl Index {
         if number == u64::MAX {
             return Err(NoMemory);
         }
-        self.entries.reserve(1)?;
+        self.entries.reserve()?;
         note(self.alloc, &mut self.lines, class, number)?;
-        self.entries.push_back_reserved(Numbered { number, class });
+        self.entries.push_reserved(Numbered { number, class });
         self.next = number + 1;
         Ok(())
     }
@@ -123,7 +131,7 @@ impl Index {
         requires { place < length self.old }
         ensures { self.new ≡ remove self.old place }
     {
-        if let Some(Numbered { number, class }) = take_at(&mut self.entries, place) {
+        if let Some(Numbered { number, class }) = self.entries.remove(place) {
             forget(&mut self.lines, class, number);
         }
     }
@@ -193,18 +201,18 @@ fn first_from(line: &VecDeque<u64>, least: u64) -> Option<u64>
 }
 
 /// The place of a number.
-fn place_of(entries: &VecDeque<Numbered>, number: u64) -> Option<usize>
+fn place_of(entries: &Line<Numbered>, number: u64) -> Option<usize>
     requires { IsAscending entries.now.items }
     ensures { (place : ℕ) (e : Numbered) → slice_get entries.now.items place ≡ Some e → e.number ≡ number → result ≡ Some place }
 {
     match place_by_distance(entries, number) {
         Some(place) => Some(place),
-        None => place_by_halves(entries, number),
+        None => entries.place_of(number),
     }
 }
 
 /// The place of a number that stands as far from the first as it is greater: none between them has left.
-fn place_by_distance(entries: &VecDeque<Numbered>, number: u64) -> Option<usize>
+fn place_by_distance(entries: &Line<Numbered>, number: u64) -> Option<usize>
     ensures { IfSome result (λ place. (e : Numbered) × (slice_get entries.now.items place ≡ Some e) × (e.number ≡ number)) }
 {
     let first = entries.get(0)?.number;
@@ -214,14 +222,4 @@ fn place_by_distance(entries: &VecDeque<Numbered>, number: u64) -> Option<usize>
     } else {
         None
     }
-}
-
-/// The place of a number, found by halves.
-fn place_by_halves(entries: &VecDeque<Numbered>, number: u64) -> Option<usize>
-    requires { IsAscending entries.now.items }
-    ensures { (place : ℕ) (e : Numbered) → slice_get entries.now.items place ≡ Some e → e.number ≡ number → result ≡ Some place }
-{
-    entries
-        .binary_search_by_key(&number, |entry| entry.number)
-        .ok()
 }

@@ -6,7 +6,6 @@ mod index;
 mod laws;
 mod pending;
 mod queue;
-mod taking;
 
 pub use class::{Class, class_of};
 pub use laws::{arrival_adds_one, departure_takes_one};

@@ -1,6 +1,5 @@
 ghost use Rattle.std.specs.Prelude.{◌≡◌, ◌^◌, ◌<◌, ◌≤◌, [], ◌∷◌, ◌++◌, length, remove, slice_get, IfErr, IfOk, IfSome, IsOk, List, OnErr, OnOk};
 ghost use Rattle.std.specs.Option.{option_map};
-ghost use Rattle.std.specs.VecDeque.{deque_capacity};
 ghost use Rattle.sr_queue.specs.Queues.{waiting};
 ghost use Rattle.sr_queue.specs.Classes.{class_in, next_waiting};
 ghost use Rattle.sr_queue.specs.Indexed.{IsIndexed};
@@ -9,30 +8,25 @@ ghost use Rattle.sr_queue.specs.declared.pending.Pending.{Pending};
 use crate::class::{Class, class_of};
 use crate::index::Index;
 use crate::pending::Pending;
-use crate::taking::take_at;
+use sr_line::Line;
 use sr_value::{Duplicate, NoMemory, Owner};
 use std::alloc::Global;
-use std::collections::VecDeque;
 use std::marker::Model;
 
 /// The greatest number of invocations that a queue holds.
 pub const MOST_PENDING: usize = 2_100_000_000;
 
-/// How many invocations the first room is for.
-const LEAST_ROOM: usize = 4;
-
 /// Pending invocations in the order in which they arrived.
 #[derive(Drop)]
 pub struct Queue {
     alloc: Global,
-    pending: VecDeque<Pending>,
+    pending: Line<Pending>,
     /// Where those of each operation stand. There is none from when memory for it ran out until the queue is empty.
     index: Option<Index>,
 }
 
 impl Model for Queue {
-    ghost use Rattle.std.specs.Prelude.{◌-◌, ◌≤◌, length};
-    ghost use Rattle.std.specs.VecDeque.{deque_capacity};
+    ghost use Rattle.std.specs.Prelude.{◌≤◌, length};
     ghost use Rattle.std.specs.Coded.{codes};
     ghost use Rattle.sr_value.specs.contracts.value.Value as value;
     ghost use Rattle.sr_queue.specs.declared.queue.TheConstants.{MOST_PENDING};
@@ -43,7 +37,7 @@ impl Model for Queue {
 
     ghost coded = { Prim.hlevel (codes, value.the_row.coded) };
 
-    ghost view = { λ queue. record { items = queue.pending.items; room = deque_capacity queue.pending - length queue.pending.items } };
+    ghost view = { λ queue. record { items = queue.pending.items; room = queue.pending.room } };
 
     ghost invariant = { λ queue. (length queue.pending.items ≤ MOST_PENDING) × IsIndexed queue.pending.items queue.index };
 }
@@ -55,7 +49,7 @@ impl Queue {
     {
         Queue {
             alloc,
-            pending: VecDeque::new(alloc),
+            pending: Line::new(alloc),
             index: Some(Index::new(alloc)),
         }
     }
@@ -101,7 +95,7 @@ impl Queue {
         requires { i < length self.now.items }
         ensures { slice_get self.now.items i ≡ Some result.now }
     {
-        &self.pending[i as usize]
+        self.pending.at(i as usize)
     }
 
     /// Makes room for one more invocation.
@@ -114,17 +108,14 @@ impl Queue {
         self.make_room()
     }
 
-    /// Makes room for one more invocation. The room doubles where there is none.
+    /// Makes room for one more invocation.
     fn make_room(&mut self) -> Result<(), NoMemory>
         ensures items { self.new.items ≡ self.old.items }
         ensures room { OnOk result (0 < self.new.room) }
         ensures succeeds { 0 < self.old.room → IsOk result }
         ensures err { OnErr result (self.new ≡ self.old) }
     {
-        if self.pending.len() == self.pending.capacity() {
-            let more = self.pending.len().max(LEAST_ROOM);
-            self.pending.reserve_exact(more)?;
-        }
+        self.pending.reserve()?;
         Ok(())
     }
 
@@ -141,7 +132,7 @@ impl Queue {
         match self.make_room() {
             Ok(()) => {
                 let class = class_of(pending.owner, pending.op);
-                self.pending.push_back_reserved(pending);
+                self.pending.push_reserved(pending);
                 note(&mut self.index, class);
                 Ok(())
             }
@@ -166,9 +157,11 @@ impl Queue {
     pub fn copy(&self, alloc: Global) -> Result<Queue, NoMemory>
         ensures { IfOk result (λ c. c.items ≡ self.now.items) }
     {
-        let mut pending = VecDeque::with_capacity(alloc, self.pending.len())?;
+        let mut pending = Line::new(alloc);
         for place in 0..self.pending.len() {
-            pending.push_back(self.pending[place].copy(alloc)?)?;
+            let invocation = self.pending.at(place);
+            let copy = invocation.copy(alloc)?;
+            add(&mut pending, copy)?;
         }
         let index = index_of(alloc, &pending);
         Ok(Queue {
@@ -179,22 +172,34 @@ impl Queue {
     }
 }
 
+/// Puts an invocation after all others.
+fn add(pending: &mut Line<Pending>, invocation: Pending) -> Result<(), NoMemory>
+    ensures { OnOk result (pending.new.items ≡ pending.old.items ++ invocation ∷ []) }
+{
+    pending.reserve()?;
+    pending.push_reserved(invocation);
+    Ok(())
+}
+
 /// How many invocations of an operation there are.
-fn counted(pending: &VecDeque<Pending>, owner: Owner, op: u32) -> usize
+fn counted(pending: &Line<Pending>, owner: Owner, op: u32) -> usize
     ensures { result ≡ waiting owner op pending.now.items }
 {
-    pending
-        .iter()
-        .filter(|pending| pending.is_of(owner, op))
-        .count()
+    let mut count = 0;
+    for place in 0..pending.len() {
+        if pending.at(place).is_of(owner, op) {
+            count += 1;
+        }
+    }
+    count
 }
 
 /// The place of the first invocation of an operation at or after a place.
-fn found(pending: &VecDeque<Pending>, owner: Owner, op: u32, from: usize) -> Option<usize>
+fn found(pending: &Line<Pending>, owner: Owner, op: u32, from: usize) -> Option<usize>
     ensures { result ≡ next_waiting owner op from pending.now.items }
 {
     for place in from..pending.len() {
-        if pending[place].is_of(owner, op) {
+        if pending.at(place).is_of(owner, op) {
             return Some(place);
         }
     }
@@ -213,12 +218,12 @@ fn note(index: &mut Option<Index>, class: Class)
 }
 
 /// The index of all that is pending, unless memory for it runs out.
-fn index_of(alloc: Global, pending: &VecDeque<Pending>) -> Option<Index>
+fn index_of(alloc: Global, pending: &Line<Pending>) -> Option<Index>
     ensures { IsIndexed pending.now.items result }
 {
     let mut index = Some(Index::new(alloc));
     for place in 0..pending.len() {
-        let invocation = &pending[place];
+        let invocation = pending.at(place);
         note(&mut index, class_of(invocation.owner, invocation.op));
     }
     index
@@ -244,13 +249,13 @@ fn renew(alloc: Global, index: &mut Option<Index>, left: usize)
 }
 
 /// Takes the invocation at a place out of a list.
-fn take_out(pending: &mut VecDeque<Pending>, i: u32) -> Pending
+fn take_out(pending: &mut Line<Pending>, i: u32) -> Pending
     requires { i < length pending.old.items }
     ensures item { slice_get pending.old.items i ≡ Some result }
     ensures others { pending.new.items ≡ remove pending.old.items i }
-    ensures room { deque_capacity pending.new ≡ deque_capacity pending.old }
+    ensures room { pending.old.room ≤ pending.new.room }
 {
-    match take_at(pending, i as usize) {
+    match pending.remove(i as usize) {
         Some(taken) => taken,
         None => unreachable!(),
     }

@@ -1,6 +1,8 @@
 use Rattle.std.proofs.Common.{rules, ltb, ◌≤◌, length, ◌∙◌, arith}
 use Rattle.std.proofs.lemmas.List.Sorted.{IsPartitionPoint-from_clause, IsPartitionedBy-ltb}
-use Rattle.sr_queue.proofs.SearchLemmas.{copied_item, first_at, non_decreasing}
+use Rattle.sr_line.proofs.JoinedLemmas.{copied_item}
+use Rattle.sr_line.proofs.SearchLemmas.{non_decreasing}
+use Rattle.sr_queue.proofs.SearchLemmas.{first_at}
 use Rattle.sr_queue.proofs.index.first_from.Goals as goal
 
 pub returns : goal.returns

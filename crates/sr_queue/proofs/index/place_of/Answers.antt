@@ -1,6 +1,6 @@
 use Rattle.std.proofs.Common.{ℕ, Some, ap, sym, ◌∙◌}
 use Rattle.sr_queue.specs.declared.index.Numbered.{Numbered}
-use Rattle.sr_queue.proofs.SearchLemmas.{one_place}
+use Rattle.sr_line.proofs.SearchLemmas.{one_place}
 use Rattle.sr_queue.proofs.index.place_of.Goals as goal
 
 pub returns-in-Some : goal.returns-in-Some

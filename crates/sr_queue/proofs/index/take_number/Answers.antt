@@ -1,7 +1,7 @@
 use Rattle.std.proofs.Common.{◌≡◌, Ok, length, ap, subst, refl, ◌∙◌}
 use Rattle.std.specs.List.{remove}
 use Rattle.std.specs.List.Sorted.{IsSearchInRange}
-use Rattle.sr_queue.proofs.SearchLemmas.{on_some, searched_at}
+use Rattle.sr_line.proofs.SearchLemmas.{on_some, searched_at}
 use Rattle.sr_queue.proofs.index.take_number.Goals as goal
 
 pub returns-in-Ok : goal.returns-in-Ok

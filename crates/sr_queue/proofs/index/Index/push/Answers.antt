@@ -10,6 +10,6 @@ invariant_of-self-2 c =
     let entries = c.self.inside.entries.items in
     let next = c.self.inside.next in
     let e : Numbered = record { number = next; class = c.args.class } in
-    let items : c.push_back_reserved.new.self.items ≡ entries ++ e ∷ [] = c.push_back_reserved.ensures.items ∙ ap (λ es. es ++ e ∷ []) c.in_ok-reserve.ensures.items in
+    let items : c.push_reserved.new.self.items ≡ entries ++ e ∷ [] = c.push_reserved.ensures ∙ ap (λ es. es ++ e ∷ []) c.in_ok-reserve.ensures.items in
     subst (λ es. IsIndex es (next + 1) (line_in c.note.new.lines.entries)) (sym items)
     (index-pushed entries next c.self.inside.lines.entries c.note.new.lines.entries c.self.invariant c.args.class (next + 1) (omega arith) c.in_ok-note.ensures.ok)

@@ -1,0 +1,4 @@
+pub mod BlockLemmas
+pub mod JoinedLemmas
+pub mod SearchLemmas
+pub mod StartLemmas
