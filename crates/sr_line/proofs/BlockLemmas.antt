@@ -8,7 +8,7 @@ use Rattle.std.specs.declared.alloc.Global.{Global}
 use Rattle.std.proofs.lemmas.List.{get_or_default, take_all}
 use Rattle.std.proofs.lemmas.Option.{none-some, slice_get-get_or}
 use Rattle.sr_line.specs.Lines.{IsSpot, Lined, joined}
-use Rattle.sr_line.proofs.JoinedLemmas.{after-front, copied_item, emptied, in-block, length-more, removed-after, removed-front, taken}
+use Rattle.sr_line.proofs.JoinedLemmas.{after-front, copied_item, emptied, in-block, length-more, taken}
 use Rattle.sr_line.proofs.SearchLemmas.{on_some}
 
 module _ {T : Type 0} where

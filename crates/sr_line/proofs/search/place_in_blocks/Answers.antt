@@ -1,4 +1,4 @@
-use Rattle.std.proofs.Common.{◌<◌, ◌≤◌, ◌-◌, Some, length, ap, ◌∙◌, arith}
+use Rattle.std.proofs.Common.{◌-◌, Some, ap, ◌∙◌, arith}
 use Rattle.sr_line.proofs.StartLemmas.{block-ascends, block-fits, block-found, none-found}
 use Rattle.sr_line.proofs.search.place_in_blocks.Goals as goal
 
