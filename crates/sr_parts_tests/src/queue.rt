@@ -50,3 +50,26 @@ fn pending_invocations(rt: HostRuntime) {
     drop(queue);
     assert!(rt; is_kept);
 }
+
+/// Whether an operation is found far from the front, after an invocation before it went out.
+fn finds_over_blocks(alloc: Global, queue: &mut Queue) -> bool {
+    for id in 0..600 {
+        let op = if id == 500 { 8 } else { 7 };
+        if !is_added(alloc, queue, id, op) {
+            return false;
+        }
+    }
+    queue.len() > 300
+        && queue.remove_at(300).id == 300
+        && queue.next_of(OWNER, 8, 0) == Some(499)
+        && queue.next_of(OWNER, 7, 499) == Some(500)
+        && queue.count(OWNER, 7) == 598
+}
+
+#[test]
+fn many_pending_invocations(rt: HostRuntime) {
+    let mut queue = Queue::new(rt.alloc());
+    let is_found = finds_over_blocks(rt.alloc(), &mut queue);
+    drop(queue);
+    assert!(rt; is_found);
+}
