@@ -1,9 +1,9 @@
 -- A queue against its index.
-use Rattle.std.proofs.Common.{◌≡◌, ℕ, ◌+◌, ◌<◌, ◌≤◌, Bool, true, false, ◌&&◌, ◌==◌, cond, List, [], ◌∷◌, ◌++◌, Option, None, Some, IfSome, length, get_or, take, drop, map, refl, ap, sym, subst, ◌∙◌, arith}
+use Rattle.std.proofs.Common.{◌≡◌, ℕ, ◌+◌, ◌<◌, ◌≤◌, Bool, true, false, ◌&&◌, ◌==◌, cond, List, [], ◌∷◌, ◌++◌, Option, None, Some, IfSome, length, get_or, take, drop, map, refl, ap, sym, subst, ◌∙◌, is_some, true≢false, arith}
 use Rattle.std.specs.List.{position_from, remove}
 use Rattle.std.specs.Option.{option_map}
 use Rattle.std.specs.Cmp.{nat_eq_equiv}
-use Rattle.std.proofs.lemmas.List.{drop-map, drop_all, drop_more, length-drop, nil_from_length, take_more}
+use Rattle.std.proofs.lemmas.List.{drop-map, drop_all, drop_more, length-drop, take_more}
 use Rattle.std.proofs.lemmas.Option.{none-some, same_Some}
 use Rattle.sr_value.specs.declared.capability.Owner.{Owner}
 use Rattle.sr_value.specs.declared.capability.Owner.TheVariants.{Inst, Proc as of_process}
@@ -77,8 +77,10 @@ pub indexed-removed : (items : List Pending) (index index' : Option (List Class)
 indexed-removed items None index' place is same = subst (IsIndexed (remove items place)) (sym same) tt
 indexed-removed items (Some classes) index' place is same = subst (IsIndexed (remove items place)) (sym same) (ap (λ cs. remove cs place) is ∙ sym (map-remove class_in items place))
 
-pub indexed-nothing : (items : List Pending) → length items ≡ 0 → IsIndexed items (Some [])
-indexed-nothing items none = sym (ap (map class_in) (nil_from_length items none))
+-- what has no index needs none
+pub unindexed : (items : List Pending) (index : Option (List Class)) → is_some index ≡ false → IsIndexed items index
+unindexed items None none = tt
+unindexed items (Some classes) none = absurd (true≢false none)
 
 pub indexed-more : (items : List Pending) (index : Option (List Class)) (i : ℕ) (p : Pending) → i < length items → p ≡ get_or items i p → IsIndexed (take i items ++ p ∷ []) index → IsIndexed (take (i + 1) items) index
 indexed-more items index i p low is more = subst (λ ps. IsIndexed ps index) (ap (λ x. take i items ++ x ∷ []) is ∙ sym (take_more items i p low)) more

@@ -16,12 +16,16 @@ use std::marker::Model;
 /// The greatest number of invocations that a queue holds.
 pub const MOST_PENDING: usize = 2_100_000_000;
 
+/// How many invocations get an index. Fewer are looked at one after the other.
+const LEAST_INDEXED: usize = 16;
+
 /// Pending invocations in the order in which they arrived.
 #[derive(Drop)]
 pub struct Queue {
     alloc: Global,
     pending: Line<Pending>,
-    /// Where those of each operation stand. There is none from when memory for it ran out until the queue is empty.
+    /// Where those of each operation stand. It begins when `LEAST_INDEXED` are pending and ends when none is left.
+    /// Where memory for it runs out, it ends too, and the next power of two that are pending begins another.
     index: Option<Index>,
 }
 
@@ -50,7 +54,7 @@ impl Queue {
         Queue {
             alloc,
             pending: Line::new(alloc),
-            index: Some(Index::new(alloc)),
+            index: None,
         }
     }
 
@@ -133,7 +137,7 @@ impl Queue {
             Ok(()) => {
                 let class = class_of(pending.owner, pending.op);
                 self.pending.push_reserved(pending);
-                note(&mut self.index, class);
+                note_last(self.alloc, &mut self.index, &self.pending, class);
                 Ok(())
             }
             Err(no_memory) => Err((no_memory, pending)),
@@ -149,11 +153,11 @@ impl Queue {
     {
         let taken = take_out(&mut self.pending, i);
         forget(&mut self.index, i as usize);
-        renew(self.alloc, &mut self.index, self.pending.len());
+        end_empty(&mut self.index, self.pending.len());
         taken
     }
 
-    /// A queue of equal invocations in the same order.
+    /// A queue of equal invocations in the same order. It has its index at once, unless memory for that runs out.
     pub fn copy(&self, alloc: Global) -> Result<Queue, NoMemory>
         ensures { IfOk result (λ c. c.items ≡ self.now.items) }
     {
@@ -206,6 +210,22 @@ fn found(pending: &Line<Pending>, owner: Owner, op: u32, from: usize) -> Option<
     None
 }
 
+/// Notes the last of all that is pending where there is an index. Otherwise it may begin one.
+fn note_last(alloc: Global, index: &mut Option<Index>, pending: &Line<Pending>, class: Class)
+    ensures { (items : List Pending) (p : Pending) → pending.now.items ≡ items ++ p ∷ [] → class_in p ≡ class → IsIndexed items index.old → IsIndexed pending.now.items index.new }
+{
+    if index.is_some() {
+        note(index, class);
+    } else if begins_index(pending.len()) {
+        *index = index_of(alloc, pending);
+    }
+}
+
+/// Whether an index begins at so many. By powers of two, all tries together cost each invocation the same.
+fn begins_index(count: usize) -> bool {
+    count >= LEAST_INDEXED && count.is_power_of_two()
+}
+
 /// Adds one to an index, or gives the index up.
 fn note(index: &mut Option<Index>, class: Class)
     ensures { (items : List Pending) (p : Pending) → class_in p ≡ class → IsIndexed items index.old → IsIndexed (items ++ p ∷ []) index.new }
@@ -239,12 +259,12 @@ fn forget(index: &mut Option<Index>, place: usize)
     }
 }
 
-/// Begins a new index where there is none and nothing is left to be in it.
-fn renew(alloc: Global, index: &mut Option<Index>, left: usize)
-    ensures { (items : List Pending) → length items ≡ left → IsIndexed items index.old → IsIndexed items index.new }
+/// Ends an index where nothing is left to be in it.
+fn end_empty(index: &mut Option<Index>, left: usize)
+    ensures { (items : List Pending) → IsIndexed items index.old → IsIndexed items index.new }
 {
-    if left == 0 && index.is_none() {
-        *index = Some(Index::new(alloc));
+    if left == 0 && index.is_some() {
+        let _ = index.take();
     }
 }
 

@@ -17,4 +17,4 @@ invariant_of-self c =
     let few : length left.items ≤ MOST_PENDING = omega (arith, ap length others, length-remove items c.args.i within, c.self.invariant.0) in
     let indexed : IsIndexed left.items c.forget.new.index =
     subst (λ ps. IsIndexed ps c.forget.new.index) (sym others) (indexed-removed items c.self.inside.index c.forget.new.index c.args.i c.self.invariant.1 c.forget.ensures) in
-    (few, c.renew.ensures left.items (sym c.len.ensures) indexed)
+    (few, c.end_empty.ensures left.items indexed)
