@@ -15,6 +15,7 @@ pub mod NextLemmas
 pub mod OrderLemmas
 pub mod RestLemmas
 pub mod RotationLemmas
+pub mod StayLemmas
 pub mod StoreLemmas
 pub mod TurnLemmas
 pub mod WaitLemmas

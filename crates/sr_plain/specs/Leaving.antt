@@ -41,6 +41,6 @@ pub record LiveOn (change : Change) (gone : Option ℕ) (old new : World) : Type
   pub ended : HasEnded new gone
 
 abbrev pub LiveOnIf : Change → Option ℕ → World → Does → Type 0
-LiveOnIf change gone old (Did new answer) = LiveOn change gone old new
-LiveOnIf change gone old (Makes new answer) = LiveOn change gone old new
-LiveOnIf change gone old _ = Unit {0}
+LiveOnIf change ending old (Did new answer) = LiveOn change ending old new
+LiveOnIf change ending old (Makes new answer) = LiveOn change ending old new
+LiveOnIf change ending old _ = Unit {0}
