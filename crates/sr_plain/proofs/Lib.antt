@@ -10,6 +10,7 @@ pub mod JoinLemmas
 pub mod LeaveLemmas
 pub mod LedLemmas
 pub mod ListedLemmas
+pub mod LivingLemmas
 pub mod MemberLemmas
 pub mod NextLemmas
 pub mod OrderLemmas

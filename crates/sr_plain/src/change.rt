@@ -1,4 +1,4 @@
-ghost use Rattle.std.specs.Prelude.{◌≡◌, Some};
+ghost use Rattle.std.specs.Prelude.{◌≡◌, None, Some};
 ghost use Rattle.sr_plain.specs.declared.change.Change.TheVariants.{Everything};
 ghost use Rattle.sr_plain.specs.Changes.{change_of as change_in, change_of_call, change_of_choice, change_of_end, change_of_reply, class_of, gone_by as gone_in, is_everything, owner_at};
 
@@ -41,7 +41,8 @@ pub struct Woken {
 
 impl Woken {
     pub fn everyone() -> Self
-        ensures { result.change ≡ Everything }
+        ensures change { result.change ≡ Everything }
+        ensures gone { result.gone ≡ None }
     {
         Woken {
             change: Change::Everything,
