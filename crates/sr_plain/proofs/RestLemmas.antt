@@ -141,12 +141,14 @@ module _ {A : Type 0} (after : A → List Answer → Asks) (can_feed : A → Typ
         → (woken : Woken) → woken.change ≡ Everything → woken.gone ≡ None → Comes after can_feed core limit state events None (plainly.Ended (Quiesce 0) ending) (record plain { world = w'; woken = Some woken })
     rest_ends w' ending acts woken all nobody =
         let acts' : Acts (quiesce core name state.world) state.world w' (Ok (acted.Ends ending)) = subst (λ v. Acts (quiesce core name v) v w' (Ok (acted.Ends ending))) engine.world acts in
-        let f = ends w' ending (quiesce core name state.world) refl (at-rest core name state.world) acts' in
-        (record { ends = f.1; turn_of = tt }, record {
-          world = f.0;
-          ticks = engine.ticks;
-          last = engine.last;
-          stands = engine.stands;
-          living = living-everyone state.world plain.crew (Some woken) woken refl all nobody engine.living.named;
-          aside = everyone core limit state plain.waiters (Some woken) woken refl all;
-        })
+        let f = ends w' ending (quiesce core name state.world) refl (at-rest core name state.world) acts' in (
+          record { ends = f.1; turn_of = tt },
+          record {
+            world = f.0;
+            ticks = engine.ticks;
+            last = engine.last;
+            stands = engine.stands;
+            living = living-everyone state.world plain.crew (Some woken) woken refl all nobody engine.living.named;
+            aside = everyone core limit state plain.waiters (Some woken) woken refl all;
+          },
+        )

@@ -135,7 +135,8 @@ impl<A: Actor> Plain<A> {
             match tried {
                 Tried::Asked(came) => return Ok(came),
                 Tried::Unbegun => {
-                    if !self.begin_process(process)? {
+                    let lives = self.begin_process(process)?;
+                    if !lives {
                         self.waiters.take_out(process);
                         return Ok(None);
                     }
