@@ -221,7 +221,7 @@ module _ {A : Type 0} (after : A → List Answer → Asks) (can_feed : A → Typ
 
         living : AreLiving plain.world (Some change) plain'.crew
         living =
-            living-at plain.world (Some change) start.process plain.crew plain'.crew c.member fed.fed c.here fed.itself fed.is_fed.me fed.others
+            living-at plain.world (Some change) start.process plain.crew plain'.crew c.member fed.fed c.here fed.itself fed.is_fed.instance fed.others
             (living-after state.world plain.world plain.crew c.stands.unborn name (written_by c.asks.request) f.left f.new c.living change f.live)
 
         order : (n : ℕ) × IsOrdered later.world n

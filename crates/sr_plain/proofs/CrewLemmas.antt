@@ -34,7 +34,7 @@ module _ {A S : Type 0} (p : ℕ) where
         where
           by : (o : Option (Member A)) → LooksAt after meant o o
           by None = tt
-          by (Some m) = record { me = refl; actor = λ more. refl }
+          by (Some m) = record { instance = refl; actor = λ more. refl }
 
       pub looks-written : (old new : HashMap ℕ (Member A) S) (m m' : Member A) → Some m ≡ member_of old p → WritesThrough nat_eq (nat_eq p) old m' new → IsSame after m m'
           → Looks after meant p old new

@@ -13,7 +13,7 @@ use Rattle.sr_world.specs.Runs.{Event, Gives, Closes, Goes, State, first, where_
 use Rattle.sr_world.specs.Worlds.{World, beginning, started}
 use Rattle.sr_plain.specs.Crew.{AreLiving, LetsGo, Looks, member_of}
 use Rattle.sr_plain.specs.Engine.{IsEngine, StandsFor}
-use Rattle.sr_plain.specs.Ready.{AreAside, me_at}
+use Rattle.sr_plain.specs.Ready.{AreAside}
 use Rattle.sr_plain.specs.Waiting.{is_opened, is_woken, opens, waits, wakes}
 use Rattle.sr_plain.specs.declared.change.Change.TheVariants.{Everything}
 use Rattle.sr_plain.specs.declared.change.Woken.{Woken}
@@ -86,7 +86,7 @@ module _ {A : Type 0} (after : A → List Answer → Asks) (can_feed : A → Typ
     aside = everyone core limit first plain.waiters plain.woken woken woken_is everything;
   }
     where
-      unnamed : (q : ℕ) (s : Start) (x : Member A) → started first.world q ≡ Some s → member_of plain.crew q ≡ Some x → x.me ≡ me_at s
+      unnamed : (q : ℕ) (s : Start) (x : Member A) → started first.world q ≡ Some s → member_of plain.crew q ≡ Some x → x.instance ≡ s.instance
       unnamed q s x lives at = let none : member_of plain.crew q ≡ None = nobody plain.crew empty q in absurd (cc)
 
   module _ (state : State) (events : List Event) (plain : Plain A) (engine : IsEngine after can_feed core limit state events plain) (open_input : state.world.ended ≡ false) where

@@ -12,7 +12,6 @@ use Rattle.sr_world.specs.Worlds.{World, started}
 use Rattle.sr_plain.specs.Changes.{is_everything}
 use Rattle.sr_plain.specs.Crew.{AreLiving, Begins, HasEnded, KeepsLiving, KeepsOthers, LetsGo, is_gone, may_leave, member_of}
 use Rattle.sr_plain.specs.Leaving.{Leaves, LiveOn}
-use Rattle.sr_plain.specs.Ready.{me_at}
 use Rattle.sr_plain.specs.declared.change.Change.TheVariants.{Everything}
 use Rattle.sr_plain.specs.declared.change.Woken.{Woken}
 use Rattle.sr_plain.specs.declared.member.Member.{Member}
@@ -30,7 +29,7 @@ module _ {A S : Type 0} where
 
   module _ (world : World) (woken : Option Woken) where
     -- one that has begun is as it was named
-    pub living-at : (p : ℕ) (old new : HashMap ℕ (Member A) S) (m m' : Member A) → member_of old p ≡ Some m → member_of new p ≡ Some m' → m'.me ≡ m.me → KeepsOthers p old new
+    pub living-at : (p : ℕ) (old new : HashMap ℕ (Member A) S) (m m' : Member A) → member_of old p ≡ Some m → member_of new p ≡ Some m' → m'.instance ≡ m.instance → KeepsOthers p old new
         → AreLiving world woken old → AreLiving world woken new
     living-at p old new m m' here there same others are = record { live = λ q x at off. live q x (p == q) refl at off; named = λ q s x lives at. named q s x (p == q) refl lives at; gone = are.gone }
       where
@@ -38,12 +37,12 @@ module _ {A S : Type 0} where
         live q x true is at off = are.live q m (subst (λ n. member_of old n ≡ Some m) (eqb-true p q is) here) off
         live q x false is at off = are.live q x (sym (others q is) ∙ at) off
 
-        named : (q : ℕ) (s : Start) (x : Member A) (b : Bool) → (p == q) ≡ b → started world q ≡ Some s → member_of new q ≡ Some x → x.me ≡ me_at s
+        named : (q : ℕ) (s : Start) (x : Member A) (b : Bool) → (p == q) ≡ b → started world q ≡ Some s → member_of new q ≡ Some x → x.instance ≡ s.instance
         named q s x true is lives at =
             let number : p ≡ q = eqb-true p q is in
             let itself : member_of new q ≡ Some m' = subst (λ n. member_of new n ≡ Some m') number there in
             let x-is : x ≡ m' = cc in
-            ap (λ (y : Member A). y.me) x-is ∙ same ∙ are.named q s m lives (subst (λ n. member_of old n ≡ Some m) number here)
+            ap (λ (y : Member A). y.instance) x-is ∙ same ∙ are.named q s m lives (subst (λ n. member_of old n ≡ Some m) number here)
         named q s x false is lives at = are.named q s x lives (sym (others q is) ∙ at)
 
     -- one that lives has begun
@@ -60,14 +59,14 @@ module _ {A S : Type 0} where
         live q x true is at off = subst (λ n. IsSome (started world n)) (eqb-true start.process q is) (ap is_some lives)
         live q x false is at off = are.live q x (sym (begun.others q is) ∙ at) off
 
-        named : (q : ℕ) (s : Start) (x : Member A) (b : Bool) → (start.process == q) ≡ b → started world q ≡ Some s → member_of new q ≡ Some x → x.me ≡ me_at s
+        named : (q : ℕ) (s : Start) (x : Member A) (b : Bool) → (start.process == q) ≡ b → started world q ≡ Some s → member_of new q ≡ Some x → x.instance ≡ s.instance
         named q s x true is found at =
             let number : start.process ≡ q = eqb-true start.process q is in
             let found' : started world start.process ≡ Some s = subst (λ n. started world n ≡ Some s) (sym number) found in
             let s-is : start ≡ s = cc in
             let itself : member_of new q ≡ Some begun.member = subst (λ n. member_of new n ≡ Some begun.member) number begun.itself in
             let x-is : x ≡ begun.member = cc in
-            ap (λ (y : Member A). y.me) x-is ∙ begun.me ∙ ap me_at s-is
+            ap (λ (y : Member A). y.instance) x-is ∙ begun.instance ∙ ap (λ (y : Start). y.instance) s-is
         named q s x false is found at = are.named q s x found (sym (begun.others q is) ∙ at)
 
   -- who ended has left
@@ -86,7 +85,7 @@ module _ {A S : Type 0} where
 
   -- who is aside of a step in which anything may have changed
   pub living-everyone : (world : World) (crew : HashMap ℕ (Member A) S) (woken : Option Woken) (w : Woken) → woken ≡ Some w → w.change ≡ Everything → w.gone ≡ None
-      → ((q : ℕ) (s : Start) (x : Member A) → started world q ≡ Some s → member_of crew q ≡ Some x → x.me ≡ me_at s) → AreLiving world woken crew
+      → ((q : ℕ) (s : Start) (x : Member A) → started world q ≡ Some s → member_of crew q ≡ Some x → x.instance ≡ s.instance) → AreLiving world woken crew
   living-everyone world crew woken w is everything nobody named = record { live = λ q x at off. absurd (true≢false (sym (leaves-all q) ∙ off)); named = named; gone = gone }
     where
       leaves-all : (q : ℕ) → may_leave woken q ≡ true
@@ -109,10 +108,10 @@ module _ {A S : Type 0} where
 
   module _ (old new : World) (crew : HashMap ℕ (Member A) S) (unborn : (q : ℕ) → times_used old q ≡ 0 → member_of crew q ≡ None) (name : ℕ) (text : List ℕ) (left : Leaves name text old new) (unused : times_used old name ≡ 0) where
     -- who began with the step's number hasn't begun to run
-    pub named-after : (woken : Option Woken) → AreLiving old woken crew → (q : ℕ) (s : Start) (x : Member A) → started new q ≡ Some s → member_of crew q ≡ Some x → x.me ≡ me_at s
+    pub named-after : (woken : Option Woken) → AreLiving old woken crew → (q : ℕ) (s : Start) (x : Member A) → started new q ≡ Some s → member_of crew q ≡ Some x → x.instance ≡ s.instance
     named-after woken are q s x lives at = by (left.lives q s lives)
       where
-        by : (started old q ≡ Some s) ⊎ (q ≡ name) → x.me ≡ me_at s
+        by : (started old q ≡ Some s) ⊎ (q ≡ name) → x.instance ≡ s.instance
         by (inl was) = are.named q s x was at
         by (inr is) = let nobody : member_of crew q ≡ None = unborn q (subst (λ n. times_used old n ≡ 0) (sym is) unused) in absurd (cc)
 

@@ -242,7 +242,7 @@ module _ {A : Type 0} (after : A → List Answer → Asks) (can_feed : A → Typ
       pub found : started state.world p ≡ Some start
       pub lives : started state.world start.process ≡ Some start
       pub process_is : p ≡ start.process
-      pub me_is : m.me ≡ me_at start
+      pub me_is : record { process = p; instance = m.instance } ≡ me_at start
 
     pub begun_lives : IsBegun
     begun_lives = by (started state.world p) refl (engine.living.live p m (sym here) (ap (λ w. may_leave w p) awake))
@@ -254,7 +254,7 @@ module _ {A : Type 0} (after : A → List Answer → Asks) (can_feed : A → Typ
           found = is;
           lives = subst (λ n. started state.world n ≡ Some s) number is;
           process_is = number;
-          me_is = engine.living.named p s m is (sym here);
+          me_is = ap (λ n. record { process = n; instance = m.instance }) number ∙ ap (λ n. record { process = s.process; instance = n }) (engine.living.named p s m is (sym here));
         }
 
   module _ (plain looked : Plain A) (engine : IsEngine after can_feed core limit state events plain) (start : Start) (lives : started state.world start.process ≡ Some start) (p : ℕ) (process-is : p ≡ start.process)
@@ -263,7 +263,7 @@ module _ {A : Type 0} (after : A → List Answer → Asks) (can_feed : A → Typ
     looked_member same =
         looked_now plain engine start lives looked
         (subst (λ q. Looks after (ask core start plain.ticks) q plain.crew looked.crew) process-is (looks-written p after can_feed (ask core start plain.ticks) plain.crew looked.crew m m' here looks same))
-        (living-at state.world plain.woken p plain.crew looked.crew m m' (sym here) (written-itself p plain.crew looked.crew m m' here looks) same.me (written-others p plain.crew looked.crew m m' here looks) engine.living)
+        (living-at state.world plain.woken p plain.crew looked.crew m m' (sym here) (written-itself p plain.crew looked.crew m m' here looks) same.instance (written-others p plain.crew looked.crew m m' here looks) engine.living)
 
     pub answers_member : (heard : Plain A) (m'' : Member A) → WritesThrough nat_eq (nat_eq p) plain.crew m'' heard.crew → (a : Answer) → IsFed after can_feed a m' m''
         → (member : Member A) → member_of looked.crew start.process ≡ Some member → Answers after can_feed start.process a member looked.crew heard.crew

@@ -8,7 +8,6 @@ use Rattle.sr_core.specs.declared.component.Core.{Core}
 use Rattle.sr_meaning.specs.Processes.{ask}
 use Rattle.sr_world.specs.Worlds.{World, started}
 use Rattle.sr_plain.specs.Changes.{is_everything}
-use Rattle.sr_plain.specs.Ready.{me_at}
 use Rattle.sr_plain.specs.declared.change.Woken.{Woken}
 use Rattle.sr_plain.specs.declared.member.Member.{Member}
 
@@ -24,12 +23,12 @@ pub record Plays {A : Type 0} (after : A → List Answer → Asks) (meant : List
 
 -- a process goes on as it would have
 pub record IsSame {A : Type 0} (after : A → List Answer → Asks) (old new : Member A) : Type 0 where
-  pub me : new.me ≡ old.me
+  pub instance : new.instance ≡ old.instance
   pub actor : (more : List Answer) → after new.actor more ≡ after old.actor more
 
 -- a process has got an answer, where it had asked
 pub record IsFed {A : Type 0} (after : A → List Answer → Asks) (can_feed : A → Type 0) (answer : Answer) (old new : Member A) : Type 0 where
-  pub me : new.me ≡ old.me
+  pub instance : new.instance ≡ old.instance
   pub actor : can_feed old.actor → (more : List Answer) → after new.actor more ≡ after old.actor (answer ∷ more)
 
 -- ---- one process of many
@@ -43,7 +42,7 @@ pub record HasBegun {A P S : Type 0} (after : P → A → List Answer → Asks) 
   pub member : Member A
   pub itself : member_of new start.process ≡ Some member
   pub others : KeepsOthers start.process old new
-  pub me : member.me ≡ me_at start
+  pub instance : member.instance ≡ start.instance
   pub actor : (program : P) (more : List Answer) → after program member.actor more ≡ ask (core_of program) start limit more
 
 -- it has begun already, or it begins
@@ -103,8 +102,8 @@ pub record LetsGo {A S : Type 0} (world : World) (woken : Woken) (old new : Hash
   pub keeps : HasEnded world woken.gone → KeepsLiving world old new
   pub live : (process : ℕ) (member : Member A) → member_of new process ≡ Some member → (may_leave (Some woken) process ≡ false) ⊎ IsSome (started world process)
 
--- Each that has begun lives, unless it may have ended by the last step; and each that lives has its own number and instance.
+-- Each that has begun lives, unless it may have ended by the last step; and each that lives runs in its own instance.
 pub record AreLiving {A S : Type 0} (world : World) (woken : Option Woken) (members : HashMap ℕ (Member A) S) : Type 0 where
   pub live : (process : ℕ) (member : Member A) → member_of members process ≡ Some member → may_leave woken process ≡ false → IsSome (started world process)
-  pub named : (process : ℕ) (start : Start) (member : Member A) → started world process ≡ Some start → member_of members process ≡ Some member → member.me ≡ me_at start
+  pub named : (process : ℕ) (start : Start) (member : Member A) → started world process ≡ Some start → member_of members process ≡ Some member → member.instance ≡ start.instance
   pub gone : (last : Woken) → woken ≡ Some last → HasEnded world last.gone

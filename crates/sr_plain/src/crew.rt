@@ -6,7 +6,6 @@ use crate::change::Woken;
 use crate::member::Member;
 use sr_actor::Actor;
 use sr_ask::Start;
-use sr_core::Me;
 use sr_value::NoMemory;
 use sr_world::World;
 use std::alloc::Global;
@@ -23,11 +22,8 @@ fn begin<A: Actor>(
     ensures { OnOk result (HasBegun A.asks_after A.core_of start.now ticks crew.old crew.new) }
 {
     let actor = A::start(alloc, start, ticks)?;
-    let me = Me {
-        process: start.process,
-        instance: start.instance,
-    };
-    crew.insert(start.process, Member { me, actor })?;
+    let instance = start.instance;
+    crew.insert(start.process, Member { instance, actor })?;
     Ok(())
 }
 
@@ -56,7 +52,7 @@ fn drop_ended<A: Actor>(crew: &mut HashMap<u32, Member<A>>, world: &World)
 {
     crew.retain(
         |process: &u32, member: &mut Member<A>| -> bool
-            ensures { (result ≡ is_some (started world.now process.now)) × (member.new ≡ member.old) }
+            ensures { (result ≡ is_some (started world.entry.now process.now)) × (member.new ≡ member.old) }
         { world.started(*process).is_some() },
     );
 }

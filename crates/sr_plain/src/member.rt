@@ -7,14 +7,14 @@ use crate::carrying::Carried;
 use crate::plainly::Plainly;
 use sr_actor::Actor;
 use sr_ask::{Answer, Item};
-use sr_core::Me;
 use sr_value::NoMemory;
 use sr_world::Acted;
 
 /// A process that has begun.
 #[derive(Drop)]
 pub struct Member<A> {
-    pub(crate) me: Me,
+    /// The instance whose code it runs.
+    pub(crate) instance: u32,
     pub(crate) actor: A,
 }
 

@@ -16,6 +16,7 @@ use crate::waiters::Waiters;
 use crate::waking::wake_up;
 use sr_actor::Actor;
 use sr_ask::{Asks, Item};
+use sr_core::Me;
 use sr_value::{NoMemory, Text};
 use sr_world::{Acted, World};
 use std::alloc::Global;
@@ -175,7 +176,10 @@ impl<A: Actor> Plain<A> {
     {
         match self.crew.get_mut(&process) {
             Some(member) => {
-                let me = member.me;
+                let me = Me {
+                    process,
+                    instance: member.instance,
+                };
                 member.look(program)?;
                 match member.actor.asked() {
                     Asks::Asked(ask) => {

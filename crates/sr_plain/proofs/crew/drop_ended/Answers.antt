@@ -1,14 +1,15 @@
-use Rattle.std.proofs.Common.{◌≡◌, filter, is_some, rules}
+use Rattle.std.proofs.Common.{is_some, rules}
 use Rattle.std.proofs.lemmas.Map.Made.{filter_same_pairs}
 use Rattle.sr_world.specs.Worlds.{started}
 use Rattle.sr_plain.proofs.CrewLemmas.{keeps-living, keeps-none}
 use Rattle.sr_plain.proofs.crew.drop_ended.Goals as goal
 
-kept : (g : goal.Generics) (c : goal.After-retain g) → c.retain.new.self.entries ≡ filter (λ e. is_some (started c.args.world.now e.0)) c.args.crew.now.entries
-kept g c = filter_same_pairs _ (λ e. is_some (started c.args.world.now e.0)) _ (λ k v b w f call. search rules) _ _ c.retain.ensures.filtered
-
 pub returns-clause-keeps : goal.returns-clause-keeps
-returns-clause-keeps g c = keeps-living c.args.world.now c.args.crew.now c.retain.new.self (kept g c)
+returns-clause-keeps g c =
+    keeps-living c.args.world.now c.args.crew.now c.retain.new.self
+    (filter_same_pairs _ (λ e. is_some (started c.args.world.now e.0)) _ (λ k v b w f call. search rules) _ _ c.retain.ensures.filtered)
 
 pub returns-clause-live : goal.returns-clause-live
-returns-clause-live g c = keeps-none c.args.world.now c.args.crew.now c.retain.new.self (kept g c)
+returns-clause-live g c =
+    keeps-none c.args.world.now c.args.crew.now c.retain.new.self
+    (filter_same_pairs _ (λ e. is_some (started c.args.world.now e.0)) _ (λ k v b w f call. search rules) _ _ c.retain.ensures.filtered)

@@ -40,6 +40,7 @@ returns-in-OverTicks-clause-tries g c = λ limit state events engine ready awake
     let old = c.args.self.now in
     let process = c.args.process in
     let m = c.in-Some.member.now in
+    let me : Me = record { process = process; instance = m.instance } in
     let m' = c.look.new.self in
     let looked : Plain _ = record old { crew = c.get_mut.follows.lender m' } in
     let here : Some m ≡ member_of old.crew process = c.in-Some.ensures.value in
@@ -47,7 +48,7 @@ returns-in-OverTicks-clause-tries g c = λ limit state events engine ready awake
     let begun = begun_lives after g.A.Actor.can_feed core limit state events old engine awake process m here in
     let engine1 = looked_member after g.A.Actor.can_feed core limit state events old looked engine begun.start begun.lives process begun.process_is m m' here (c.get_mut.follows.holds m') c.in_ok-look-in-Some.ensures.same in
     lives_tries after g.A.Actor.can_feed core limit state events process begun.start (Ok (Some (plainly.Over process))) looked begun.found
-    (over_of after g.A.Actor.can_feed core limit state events begun.start looked engine1 begun.lives process begun.process_is m.me begun.me_is m'
+    (over_of after g.A.Actor.can_feed core limit state events begun.start looked engine1 begun.lives process begun.process_is me begun.me_is m'
     (sym (written-itself process old.crew looked.crew m m' here (c.get_mut.follows.holds m'))) known)
 
 pub returns-in_ok-self-in-Asked-clause-tries : goal.returns-in_ok-self-in-Asked-clause-tries
@@ -57,6 +58,7 @@ returns-in_ok-self-in-Asked-clause-tries g c = λ limit state events engine read
     let old = c.args.self.now in
     let process = c.args.process in
     let m = c.in-Some.member.now in
+    let me : Me = record { process = process; instance = m.instance } in
     let m' = c.look.new.self in
     let m'' = c.hear.new.self in
     let asks : Ask = c.in-Asked.ask in
@@ -68,7 +70,7 @@ returns-in_ok-self-in-Asked-clause-tries g c = λ limit state events engine read
     let known : Asked asks ≡ after m'.actor [] = cc (c.in-Asked.is, c.asked.ensures c.args.program.now) in
     let acts = subst (λ (k : Core). Acts (does k old.world process asks carried.name) old.world c.carry_out.new.world (Ok carried.acted)) c.core-core.ensures c.in_ok-carried-in-Asked.ensures.acts in
     let names = subst (λ (k : Core). Names (does k old.world process asks carried.name) old.world carried.name) c.core-core.ensures c.in_ok-carried-in-Asked.ensures.names in
-    let notes = subst (λ (k : Core). NotesBy k m.me asks carried.caller carried.name carried.acted old.waiters c.note.new.waiters woken) c.core-core.ensures c.in_ok-self-in-Asked.ensures.ok in
+    let notes = subst (λ (k : Core). NotesBy k me asks carried.caller carried.name carried.acted old.waiters c.note.new.waiters woken) c.core-core.ensures c.in_ok-self-in-Asked.ensures.ok in
     let begun = begun_lives after g.A.Actor.can_feed core limit state events old engine awake process m here in
     let engine1 = looked_member after g.A.Actor.can_feed core limit state events old looked engine begun.start begun.lives process begun.process_is m m' here (c.get_mut.follows.holds m') c.in_ok-look-in-Some.ensures.same in
     let there = sym (written-itself process old.crew looked.crew m m' here (c.get_mut.follows.holds m')) in
@@ -77,9 +79,9 @@ returns-in_ok-self-in-Asked-clause-tries g c = λ limit state events engine read
     (record { world = λ x l. refl; ticks = λ x l. refl; last = λ x l. refl; waiters = λ x l. refl; woken = λ x l. refl })
     (answers_member after g.A.Actor.can_feed core limit state events old looked engine begun.start begun.lives process begun.process_is m m' here (c.get_mut.follows.holds m') (plain_of m'' c.hear.new.last) m'' (c.get_mut.follows.holds m''))
     carried.acted
-    (carried_of after g.A.Actor.can_feed core limit state events begun.start looked engine1 begun.lives process begun.process_is m.me begun.me_is m' there asks known c.in_ok-look-in-Some.ensures.asked
+    (carried_of after g.A.Actor.can_feed core limit state events begun.start looked engine1 begun.lives process begun.process_is me begun.me_is m' there asks known c.in_ok-look-in-Some.ensures.asked
     c.carry_out.new.world carried.name carried.acted acts names c.note.new.waiters woken carried.caller c.in_ok-carried-in-Asked.ensures.caller notes ready awake)
-    (carried_wrote after g.A.Actor.can_feed core limit state events begun.start looked engine1 begun.lives process begun.process_is m.me begun.me_is m' there asks known c.in_ok-look-in-Some.ensures.asked
+    (carried_wrote after g.A.Actor.can_feed core limit state events begun.start looked engine1 begun.lives process begun.process_is me begun.me_is m' there asks known c.in_ok-look-in-Some.ensures.asked
     c.carry_out.new.world carried.name carried.acted acts names c.note.new.waiters woken carried.caller c.in_ok-carried-in-Asked.ensures.caller notes ready awake
     carried.output c.in_ok-carried-in-Asked.ensures.output)
     (c.hear.ensures.answered c.args.program.now))

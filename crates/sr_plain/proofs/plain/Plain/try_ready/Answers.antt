@@ -45,8 +45,8 @@ returns-in_err-lives-in-Unbegun-clause-tries g c = λ limit state events engine.
     tries_err (g.A.Actor.asks_after c.args.program.now) g.A.Actor.can_feed core limit state events (turn_of core limit state (started state.world c.args.process)) c.from_residual-in_err-lives-in-Unbegun.result failed.0
     c.begin_process.new.self failed.1 (c.begin_process.ensures.world ∙ ap (λ (p : Plain _). p.world) unbegun ∙ inv.0 ∙ engine.world)
 
-pub returns-then-lives-clause-tries : goal.returns-then-lives-clause-tries
-returns-then-lives-clause-tries g c = λ limit state events engine.
+pub returns-then-not-lives-clause-tries : goal.returns-then-not-lives-clause-tries
+returns-then-not-lives-clause-tries g c = λ limit state events engine.
     let after = g.A.Actor.asks_after c.args.program.now in
     let inv = c.loop-tried.invariant in
     let core = g.A.Actor.core_of c.args.program.now in
@@ -54,17 +54,17 @@ returns-then-lives-clause-tries g c = λ limit state events engine.
     let now = subst (λ (p : Plain _). IsEngine after g.A.Actor.can_feed core limit state events p) (sym unbegun) (inv.3 limit state events engine) in
     ended_tries after g.A.Actor.can_feed core limit state events c.begin_process.new.self (c.in_ok-lives-in-Unbegun.ensures.engine c.args.program.now limit state events now)
     (c.begin_process.ensures.woken ∙ ap (λ (p : Plain _). p.woken) unbegun ∙ inv.2 ∙ c.requires.awake) c.args.process
-    (ap (λ (w : World). started w c.args.process) (sym now.world) ∙ absent-here (started c.try_member.new.self.world c.args.process) (sym c.in_ok-lives-in-Unbegun.ensures.lives ∙ c.if-lives.true)) c.take_out.new.self c.take_out.ensures.out
+    (ap (λ (w : World). started w c.args.process) (sym now.world) ∙ absent-here (started c.try_member.new.self.world c.args.process) (sym c.in_ok-lives-in-Unbegun.ensures.lives ∙ c.if-not-lives.true)) c.take_out.new.self c.take_out.ensures.out
 
-pub returns-then-lives-clause-less : goal.returns-then-lives-clause-less
-returns-then-lives-clause-less g c =
+pub returns-then-not-lives-clause-less : goal.returns-then-not-lives-clause-less
+returns-then-not-lives-clause-less g c =
     let inv = c.loop-tried.invariant in
     let unbegun = (at_unbegun c.in_ok-tried.tried _ c.in-Unbegun.is c.in_ok-tried.ensures.unbegun).0 in
     let same = c.begin_process.ensures.waiters ∙ ap (λ (p : Plain _). p.waiters) unbegun ∙ inv.1 in
     subst (λ (w : Waiters). turns_len c.take_out.new.self < turns_len w) same (c.take_out.ensures.less (subst (λ (w : Waiters). is_ready w c.args.process ≡ true) (sym same) c.requires.ready))
 
-pub returns-then-lives-clause-awake : goal.returns-then-lives-clause-awake
-returns-then-lives-clause-awake g c =
+pub returns-then-not-lives-clause-awake : goal.returns-then-not-lives-clause-awake
+returns-then-not-lives-clause-awake g c =
     let unbegun = (at_unbegun c.in_ok-tried.tried _ c.in-Unbegun.is c.in_ok-tried.ensures.unbegun).0 in
     c.begin_process.ensures.woken ∙ ap (λ (p : Plain _). p.woken) unbegun ∙ c.loop-tried.invariant.2 ∙ c.requires.awake
 
@@ -84,4 +84,4 @@ loop-tried-preserved g c =
 pub loop-tried-smaller : goal.loop-tried-smaller
 loop-tried-smaller g c =
     let unbegun = at_unbegun c.in_ok-tried.tried _ c.in-Unbegun.is c.in_ok-tried.ensures.unbegun in
-    begins-less (member_of c.begin_process.new.self.crew c.args.process) (member_of c.loop-tried.self.crew c.args.process) (c.in_ok-lives-in-Unbegun.ensures.begun c.if-lives.false) unbegun.1
+    begins-less (member_of c.begin_process.new.self.crew c.args.process) (member_of c.loop-tried.self.crew c.args.process) (c.in_ok-lives-in-Unbegun.ensures.begun c.if-not-lives.false) unbegun.1
