@@ -106,7 +106,7 @@ pub record Loses (w w' : World) : Type 0 where
 pub loses-same : (w w' : World) → w'.live ≡ w.live → w'.output ≡ w.output → Loses w w'
 loses-same w w' live output = record { lives = λ q s is. sym (ap (find (is_process q)) live) ∙ is; output = output; ascend = λ low high is. subst (λ xs. Ascend low xs high) (sym live) is }
 
-pub loses-then : (w w1 w2 : World) → Loses w w1 → Loses w1 w2 → Loses w w2
+loses-then : (w w1 w2 : World) → Loses w w1 → Loses w1 w2 → Loses w w2
 loses-then w w1 w2 first second = record { lives = λ q s is. first.lives q s (second.lives q s is); output = second.output ∙ first.output; ascend = λ low high is. second.ascend low high (first.ascend low high is) }
 
 pub answered-loses : (duty : Duty) (results : Option (List Value)) (w : World) → Loses w (answered duty results w)

@@ -1,4 +1,4 @@
-use Rattle.std.proofs.Common.{◌≡◌, IsSome, Some, ap, is_some, refl, subst, sym}
+use Rattle.std.proofs.Common.{◌≡◌, IsSome, Some, subst, sym}
 use Rattle.sr_ask.specs.declared.start.Start.{Start}
 use Rattle.sr_world.specs.Worlds.{started}
 use Rattle.sr_plain.specs.Crew.{member_of}
