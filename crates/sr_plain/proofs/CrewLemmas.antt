@@ -1,7 +1,7 @@
 -- What changes one process of a crew.
 use Rattle.std.proofs.Common.{◌≡◌, ◌⊎◌, inl, inr, ◌==◌, ◌||◌, ℕ, Bool, true, false, List, Option, Some, None, IsSome, is_some, refl, ap, sym, ◌∙◌, subst, cond, eqb-true, true≢false}
-use Rattle.std.specs.HashMap.{HashMap, UpdatesBy, WritesThrough}
 use Rattle.std.proofs.lemmas.Map.Entries.{lookup-filter-keys}
+use Rattle.std.specs.HashMap.{HashMap, UpdatesBy, WritesThrough}
 use Rattle.std.specs.Map.{lookup}
 use Rattle.std.specs.Prelude.{filter, nat_eq}
 use Rattle.sr_ask.specs.declared.answer.Answer.{Answer}
