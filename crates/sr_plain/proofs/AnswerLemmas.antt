@@ -19,13 +19,16 @@ use Rattle.sr_world.specs.Worlds.{World, started}
 use Rattle.sr_world.specs.declared.acted.Acted.{Acted}
 use Rattle.sr_world.specs.declared.acted.Acted.TheVariants as acted
 use Rattle.sr_world.specs.declared.ends.End.{End}
+use Rattle.sr_world.specs.Callers.{caller_in}
 use Rattle.sr_plain.specs.Carrying.{Names}
-use Rattle.sr_plain.specs.Crew.{Answers, member_of}
+use Rattle.sr_plain.specs.Changes.{change_of, gone_by}
+use Rattle.sr_plain.specs.Crew.{Answers, AreLiving, member_of}
 use Rattle.sr_plain.specs.Engine.{Comes, IsCarried, IsEngine, Tries, WaitsForInput}
-use Rattle.sr_plain.specs.Leaving.{Leaves, LeavesIf, written_by}
+use Rattle.sr_plain.specs.Leaving.{Leaves, LeavesIf, LiveOn, LiveOnIf, written_by}
 use Rattle.sr_plain.specs.Order.{IsOrdered}
-use Rattle.sr_plain.specs.Ready.{AreAside}
+use Rattle.sr_plain.specs.Ready.{AreAside, me_at}
 use Rattle.sr_plain.specs.Turns.{IsName, takes_turn}
+use Rattle.sr_plain.specs.declared.change.Woken.{Woken}
 use Rattle.sr_plain.specs.declared.member.Member.{Member}
 use Rattle.sr_plain.specs.declared.plain.Plain.{Plain}
 use Rattle.sr_plain.specs.declared.plainly.Plainly.{Plainly}
@@ -33,7 +36,9 @@ use Rattle.sr_plain.specs.declared.plainly.Plainly.TheVariants as plainly
 use Rattle.sr_plain.proofs.AsideLemmas.{aside_step}
 use Rattle.sr_plain.proofs.LeaveLemmas.{leaves}
 use Rattle.sr_plain.proofs.LedLemmas.{last-more, least-new, least-unused, led-more, sound}
+use Rattle.sr_plain.proofs.LivingLemmas.{living-after, living-at}
 use Rattle.sr_plain.proofs.OrderLemmas.{ordered-after}
+use Rattle.sr_plain.proofs.StayLemmas.{live_on}
 use Rattle.sr_plain.proofs.TurnLemmas.{answered-stands, kept-is}
 
 pub least-name : (w : World) (name : ℕ) → IsLeastUnused w.used name → IsName w name
@@ -65,6 +70,7 @@ module _ {A : Type 0} (after : A → List Answer → Asks) (can_feed : A → Typ
       goes : next core limit state (Step start.process name) ≡ Goes (record { world = w'; given = with_answer start.process a state.given })
       named : IsName state.world name
       left : Leaves name (written_by asks.request) state.world w'
+      live : LiveOn (change_of core (me_at start) asks a) (gone_by asks.request start.process) state.world w'
       new : times_used state.world name ≡ 0
       turn : takes_turn core limit state start ≡ true
 
@@ -77,12 +83,17 @@ module _ {A : Type 0} (after : A → List Answer → Asks) (can_feed : A → Typ
     left-by : (d : Does) → does core state.world start.process asks name ≡ d → LeavesIf name (written_by asks.request) state.world d
     left-by d e = subst (LeavesIf name (written_by asks.request) state.world) e (leaves name state.world core start.process asks.place asks.role asks.request)
 
+    on-by : (a : Answer) (d : Does) → does core state.world start.process asks name ≡ d → LiveOnIf (change_of core (me_at start) asks a) (gone_by asks.request start.process) state.world d
+    on-by a d e =
+        subst (LiveOnIf (change_of core (me_at start) asks a) (gone_by asks.request start.process) state.world) e (live_on name state.world core start.process asks.place asks.role (me_at start) a asks.request)
+
     finished : (zero_unused : times_used state.world 0 ≡ 0) (w' : World) (a : Answer) (d : Does) → does core state.world start.process asks name ≡ d → Acts d state.world w' (Ok (acted.Done a)) → Names d state.world name → Finished w' a
     finished zero_unused w' a (Did w g) e acts none = record {
       goes = goes-to w w' g a acts.0 acts.1
           (next-is (Did w g) e ∙ ap (λ b. where_true b (Goes (record { world = w; given = with_answer start.process g state.given }))) (eq-eqb name 0 none));
       named = subst (IsName state.world) (sym none) tt;
       left = subst (λ v. Leaves name (written_by asks.request) state.world v) (sym acts.0) (left-by (Did w g) e);
+      live = subst (λ v. LiveOn (change_of core (me_at start) asks a) (gone_by asks.request start.process) state.world v) (sym acts.0) (on-by a (Did w g) e);
       new = subst (λ n. times_used state.world n ≡ 0) (sym none) zero_unused;
       turn = takes-is (Did w g) e;
     }
@@ -91,6 +102,7 @@ module _ {A : Type 0} (after : A → List Answer → Asks) (can_feed : A → Typ
           (next-is (Makes w g) e ∙ ap (λ b. where_true b (Goes (record { world = w; given = with_answer start.process g state.given }))) (least-new state.world name least));
       named = least-name state.world name least;
       left = subst (λ v. Leaves name (written_by asks.request) state.world v) (sym acts.0) (left-by (Makes w g) e);
+      live = subst (λ v. LiveOn (change_of core (me_at start) asks a) (gone_by asks.request start.process) state.world v) (sym acts.0) (on-by a (Makes w g) e);
       new = least-unused state.world name least;
       turn = takes-is (Makes w g) e;
     }
@@ -150,7 +162,7 @@ module _ {A : Type 0} (after : A → List Answer → Asks) (can_feed : A → Typ
 
   module _ (name : ℕ) (plain : Plain A) where
     engine-of : (a : Acted) → IsCarried after can_feed core limit state events start name a plain → plain.woken ≡ None → plain.world ≡ state.world → IsEngine after can_feed core limit state events plain
-    engine-of a c none same = record { world = same; ticks = c.ticks; last = c.last; stands = c.stands; aside = subst (λ w. AreAside core limit state plain.waiters w) (sym none) c.aside }
+    engine-of a c none same = record { world = same; ticks = c.ticks; last = c.last; stands = c.stands; living = subst (λ w. AreLiving state.world w plain.crew) (sym none) c.living; aside = subst (λ w. AreAside core limit state plain.waiters w) (sym none) c.aside }
 
     asked-is : (a : Acted) (c : IsCarried after can_feed core limit state events start name a plain) → Asked c.asks ≡ asks_next core limit state start
     asked-is a c = kept-is after can_feed core limit state events start plain.crew c.member c.stands c.lives c.here (Asked c.asks) c.asked
@@ -189,6 +201,7 @@ module _ {A : Type 0} (after : A → List Answer → Asks) (can_feed : A → Typ
             ticks = ticks ∙ c.ticks;
             last = last ∙ sym (last-more events (Makes_item (Step start.process name)));
             stands = answered-stands after can_feed core limit state events start plain.crew c.member c.stands c.lives c.here c.can_hear a plain'.crew (answers c.member c.here) later name (written_by c.asks.request) (Step start.process name) refl f.left f.new f.goes order.0 order.1;
+            living = subst (λ w. AreLiving plain.world w plain'.crew) (sym (woken ∙ c.noted.0)) living;
             aside = subst (λ ws. AreAside core limit later ws plain'.woken) (sym waiters) (subst (λ w. AreAside core limit later plain.waiters w) (sym (woken ∙ c.noted.0))
                 (aside_step core limit state start c.asks name c.lives plain.world a plain.waiters c.acts f.left.lives c.noted.1 c.aside));
           };
@@ -199,6 +212,17 @@ module _ {A : Type 0} (after : A → List Answer → Asks) (can_feed : A → Typ
 
         f : Finished c.asks name (asked-is (acted.Done a) c) c.lives plain.world a
         f = finished c.asks name (asked-is (acted.Done a) c) c.lives (sound core limit events state c.stands.leads).numbers.zero_never plain.world a (does core state.world start.process c.asks name) refl c.acts c.names
+
+        change : Woken
+        change = record { change = change_of core (me_at start) c.asks a; caller = caller_in state.world start.process c.asks.request; made = name; gone = gone_by c.asks.request start.process }
+
+        fed : Answers after can_feed start.process a c.member plain.crew plain'.crew
+        fed = answers c.member c.here
+
+        living : AreLiving plain.world (Some change) plain'.crew
+        living =
+            living-at plain.world (Some change) start.process plain.crew plain'.crew c.member fed.fed c.here fed.itself fed.is_fed.instance fed.others
+            (living-after state.world plain.world plain.crew c.stands.unborn name (written_by c.asks.request) f.left f.new c.living change f.live)
 
         order : (n : ℕ) × IsOrdered later.world n
         order =

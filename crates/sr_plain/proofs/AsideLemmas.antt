@@ -36,7 +36,7 @@ use Rattle.sr_world.specs.Worlds.{World, started}
 use Rattle.sr_world.specs.declared.acted.Acted.{Acted}
 use Rattle.sr_world.specs.declared.acted.Acted.TheVariants as acted
 use Rattle.sr_world.specs.Callers.{caller_in}
-use Rattle.sr_plain.specs.Changes.{change_of}
+use Rattle.sr_plain.specs.Changes.{change_of, gone_by}
 use Rattle.sr_plain.specs.Noting.{IsSetAside, NotesBy}
 use Rattle.sr_plain.specs.Ready.{AreAside, IsAside, IsIdle, IsNoted, me_at}
 use Rattle.sr_plain.specs.Order.{Ascend}
@@ -310,7 +310,7 @@ module _ (core : Core) (limit : ℕ) (state : State) where
     pub aside_step : (new : World) (a : Answer) (waiters : Waiters) → Acts (does core state.world start.process asks name) state.world new (Ok (acted.Done a))
         → ((q : ℕ) (s : Start) → started new q ≡ Some s → (started state.world q ≡ Some s) ⊎ (q ≡ name)) → is_ready waiters start.process ≡ true → AreAside core limit state waiters None
         → AreAside core limit (record { world = new; given = with_answer start.process a state.given }) waiters
-        (Some (record { change = change_of core (me_at start) asks a; caller = caller_in state.world start.process asks.request; made = name }))
+        (Some (record { change = change_of core (me_at start) asks a; caller = caller_in state.world start.process asks.request; made = name; gone = gone_by asks.request start.process }))
     aside_step new a waiters acts left ready are = record {
       aside = λ q s is unready unwoken.
           stays q s is unready (three-off (wakes (change_of core (me_at start) asks a) (λ k. waits waiters k q)) (caller_in state.world start.process asks.request == q) (name == q) unwoken);
@@ -368,7 +368,7 @@ module _ (core : Core) (limit : ℕ) (state : State) where
 
       pub noted_is : (a : Acted) → NotesBy core (me_at start) asks caller name a old waiters woken → is_ready old start.process ≡ true → IsNoted core state.world start asks name a waiters woken
       noted_is (acted.Done answer) notes ready =
-          (notes.1 ∙ ap (λ n. Some (record { change = change_of core (me_at start) asks answer; caller = n; made = name })) caller_is, ap (λ (ws : Waiters). is_ready ws start.process) notes.0 ∙ ready)
+          (notes.1 ∙ ap (λ n. Some (record { change = change_of core (me_at start) asks answer; caller = n; made = name; gone = gone_by asks.request start.process })) caller_is, ap (λ (ws : Waiters). is_ready ws start.process) notes.0 ∙ ready)
       noted_is acted.Cannot notes ready = notes.1
       noted_is (acted.Ends ending) notes ready = notes.1
       noted_is acted.Undecided notes ready = notes.1

@@ -19,7 +19,7 @@ module _ {A : Type 0} (after : A → List Answer → Asks) (can_feed : A → Typ
   at-then (Some m) None c first second = absurd first
   at-then (Some m) (Some m') None first second = absurd second
   at-then (Some m) (Some m') (Some m'') first second =
-      record { actor = λ more. second.actor more ∙ first.actor more }
+      record { instance = second.instance ∙ first.instance; actor = λ more. second.actor more ∙ first.actor more }
 
   pub looks-then : {S : Type 0} (p : ℕ) (a b c : HashMap ℕ (Member A) S) → Looks after meant p a b → Looks after meant p b c → Looks after meant p a c
   looks-then p a b c first second = record {

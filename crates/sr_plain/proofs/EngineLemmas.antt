@@ -11,7 +11,7 @@ use Rattle.sr_meaning.specs.Processes.{ask}
 use Rattle.sr_value.specs.declared.capability.Owner.{Owner}
 use Rattle.sr_world.specs.Runs.{Event, Gives, Closes, Goes, State, first, where_true, with_input, without_more}
 use Rattle.sr_world.specs.Worlds.{World, beginning, started}
-use Rattle.sr_plain.specs.Crew.{KeepsLiving, Looks, member_of}
+use Rattle.sr_plain.specs.Crew.{AreLiving, LetsGo, Looks, member_of}
 use Rattle.sr_plain.specs.Engine.{IsEngine, StandsFor}
 use Rattle.sr_plain.specs.Ready.{AreAside}
 use Rattle.sr_plain.specs.Waiting.{is_opened, is_woken, opens, waits, wakes}
@@ -23,6 +23,7 @@ use Rattle.sr_plain.proofs.AsideLemmas.{aside_input, aside_woken}
 use Rattle.sr_plain.specs.declared.member.Member.{Member}
 use Rattle.sr_plain.specs.declared.plain.Plain.{Plain}
 use Rattle.sr_plain.proofs.LedLemmas.{last-more, led-more}
+use Rattle.sr_plain.proofs.LivingLemmas.{living-everyone, living-left, living-same}
 use Rattle.sr_plain.proofs.TurnLemmas.{kept-stands, looked-stands}
 
 -- where everyone is woken nobody is aside
@@ -37,45 +38,40 @@ everyone core limit state waiters woken w is everything = record { aside = λ q 
 
 module _ {A : Type 0} (after : A → List Answer → Asks) (can_feed : A → Type 0) (core : Core) (limit : ℕ) where
   pub looked_engine : (state : State) (events : List Event) (start : Start) (plain looked : Plain A) → IsEngine after can_feed core limit state events plain
-      → started state.world start.process ≡ Some start → Looks after (ask core start limit) start.process plain.crew looked.crew
+      → started state.world start.process ≡ Some start → Looks after (ask core start limit) start.process plain.crew looked.crew → AreLiving state.world plain.woken looked.crew
       → IsEngine after can_feed core limit state events (record plain { crew = looked.crew })
-  looked_engine state events start plain looked engine lives looks = record {
+  looked_engine state events start plain looked engine lives looks living = record {
     world = engine.world;
     ticks = engine.ticks;
     last = engine.last;
     stands = looked-stands after can_feed core limit state events start plain.crew looked.crew engine.stands lives looks;
+    living = living;
     aside = engine.aside;
   }
 
-  -- after some that have ended left it stands as before
-  pub kept_engine : (state : State) (events : List Event) (plain kept : Plain A) → IsEngine after can_feed core limit state events plain
-      → KeepsLiving plain.world plain.crew kept.crew → IsEngine after can_feed core limit state events (record plain { crew = kept.crew })
-  kept_engine state events plain kept engine keeps = record {
+  -- those whom the last step woke are ready, and those whom it ended have left
+  pub woken_engine : (state : State) (events : List Event) (plain : Plain A) → IsEngine after can_feed core limit state events plain → (woken : Woken) → plain.woken ≡ Some woken
+      → (kept : Plain A) → LetsGo plain.world woken plain.crew kept.crew → (waiters : Waiters) → WakesUp plain.world woken plain.waiters waiters
+      → IsEngine after can_feed core limit state events (record plain { crew = kept.crew; waiters = waiters; woken = None })
+  woken_engine state events plain engine woken is kept lets waiters wakes_up = record {
     world = engine.world;
     ticks = engine.ticks;
     last = engine.last;
-    stands = kept-stands after can_feed core limit state events plain.crew kept.crew engine.stands (subst (λ w. KeepsLiving w plain.crew kept.crew) engine.world keeps);
-    aside = engine.aside;
-  }
-
-  -- those whom the last step woke are ready
-  pub woken_engine : (state : State) (events : List Event) (plain : Plain A) → IsEngine after can_feed core limit state events plain → (woken : Woken) → plain.woken ≡ Some woken → (waiters : Waiters)
-      → WakesUp plain.world woken plain.waiters waiters → IsEngine after can_feed core limit state events (record plain { waiters = waiters; woken = None })
-  woken_engine state events plain engine woken is waiters wakes_up = record {
-    world = engine.world;
-    ticks = engine.ticks;
-    last = engine.last;
-    stands = engine.stands;
+    stands = kept-stands after can_feed core limit state events plain.crew kept.crew engine.stands (goes.keeps (engine.living.gone woken is));
+    living = living-left state.world woken plain.crew kept.crew goes (subst (λ w. AreLiving state.world w plain.crew) is engine.living);
     aside = aside_woken core limit state engine.stands.next engine.stands.order.ascend plain.waiters waiters woken (subst (λ w. AreAside core limit state plain.waiters w) is engine.aside) (subst (λ v. WakesUp v woken plain.waiters waiters) engine.world wakes_up);
   }
+    where
+      goes : LetsGo state.world woken plain.crew kept.crew
+      goes = subst (λ w. LetsGo w woken plain.crew kept.crew) engine.world lets
 
   nobody : {S : Type 0} (crew : HashMap ℕ (Member A) S) → crew.entries ≡ [] → (q : ℕ) → member_of crew q ≡ None
   nobody crew empty q = ap (lookup (nat_eq q)) empty
 
   -- an engine that has just begun stands for the first state
-  pub first_engine : (plain : Plain A) → plain.world ≡ beginning → plain.ticks ≡ limit → plain.last ≡ 0 → plain.crew.entries ≡ [] → (woken : Woken) → plain.woken ≡ Some woken → woken.change ≡ Everything
+  pub first_engine : (plain : Plain A) → plain.world ≡ beginning → plain.ticks ≡ limit → plain.last ≡ 0 → plain.crew.entries ≡ [] → (woken : Woken) → plain.woken ≡ Some woken → woken.change ≡ Everything → woken.gone ≡ None
       → IsEngine after can_feed core limit first [] plain
-  first_engine plain world ticks last empty woken woken_is everything = record {
+  first_engine plain world ticks last empty woken woken_is everything none_gone = record {
     world = world;
     ticks = ticks;
     last = last;
@@ -86,8 +82,12 @@ module _ {A : Type 0} (after : A → List Answer → Asks) (can_feed : A → Typ
       next = 2;
       order = record { counted = (refl, refl); ascend = (omega arith, omega arith) };
     };
+    living = living-everyone first.world plain.crew plain.woken woken woken_is everything none_gone unnamed;
     aside = everyone core limit first plain.waiters plain.woken woken woken_is everything;
   }
+    where
+      unnamed : (q : ℕ) (s : Start) (x : Member A) → started first.world q ≡ Some s → member_of plain.crew q ≡ Some x → x.instance ≡ s.instance
+      unnamed q s x lives at = let none : member_of plain.crew q ≡ None = nobody plain.crew empty q in absurd (cc)
 
   module _ (state : State) (events : List Event) (plain : Plain A) (engine : IsEngine after can_feed core limit state events plain) (open_input : state.world.ended ≡ false) where
     pub given_engine : (bytes : List ℕ) (w' : World) → w' ≡ with_input bytes plain.world
@@ -104,6 +104,7 @@ module _ {A : Type 0} (after : A → List Answer → Asks) (can_feed : A → Typ
         next = engine.stands.next;
         order = record { counted = engine.stands.order.counted; ascend = engine.stands.order.ascend };
       };
+      living = living-same state.world (with_input bytes state.world) plain.woken plain.crew refl engine.living;
       aside = aside_input core limit state (state.world.rest ++ bytes) state.world.ended plain.waiters plain.woken engine.aside;
     }
 
@@ -121,5 +122,6 @@ module _ {A : Type 0} (after : A → List Answer → Asks) (can_feed : A → Typ
         next = engine.stands.next;
         order = record { counted = engine.stands.order.counted; ascend = engine.stands.order.ascend };
       };
+      living = living-same state.world (without_more state.world) plain.woken plain.crew refl engine.living;
       aside = aside_input core limit state state.world.rest true plain.waiters plain.woken engine.aside;
     }

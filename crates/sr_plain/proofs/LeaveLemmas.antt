@@ -42,7 +42,7 @@ use Rattle.sr_plain.specs.Order.{Ascend}
 -- ---- who is found
 
 -- the one that ended isn't
-none-without : (live : List Start) (p q : ℕ) → p ≡ q → find (is_process q) (without_process live p) ≡ None
+pub none-without : (live : List Start) (p q : ℕ) → p ≡ q → find (is_process q) (without_process live p) ≡ None
 none-without [] p q same = refl
 none-without (x ∷ xs) p q same = by (p == x.process) refl (none-without xs p q same)
   where
@@ -98,25 +98,25 @@ ascend-without (x ∷ xs) p low high is = by (p == x.process) (ascend-without xs
 
 -- ---- what makes no process
 
-record Loses (w w' : World) : Type 0 where
-  lives : (q : ℕ) (s : Start) → started w' q ≡ Some s → started w q ≡ Some s
-  output : w'.output ≡ w.output
-  ascend : (low high : ℕ) → Ascend low w.live high → Ascend low w'.live high
+pub record Loses (w w' : World) : Type 0 where
+  pub lives : (q : ℕ) (s : Start) → started w' q ≡ Some s → started w q ≡ Some s
+  pub output : w'.output ≡ w.output
+  pub ascend : (low high : ℕ) → Ascend low w.live high → Ascend low w'.live high
 
-loses-same : (w w' : World) → w'.live ≡ w.live → w'.output ≡ w.output → Loses w w'
+pub loses-same : (w w' : World) → w'.live ≡ w.live → w'.output ≡ w.output → Loses w w'
 loses-same w w' live output = record { lives = λ q s is. sym (ap (find (is_process q)) live) ∙ is; output = output; ascend = λ low high is. subst (λ xs. Ascend low xs high) (sym live) is }
 
 loses-then : (w w1 w2 : World) → Loses w w1 → Loses w1 w2 → Loses w w2
 loses-then w w1 w2 first second = record { lives = λ q s is. first.lives q s (second.lives q s is); output = second.output ∙ first.output; ascend = λ low high is. second.ascend low high (first.ascend low high is) }
 
-answered-loses : (duty : Duty) (results : Option (List Value)) (w : World) → Loses w (answered duty results w)
+pub answered-loses : (duty : Duty) (results : Option (List Value)) (w : World) → Loses w (answered duty results w)
 answered-loses duty results w = by (is_live w duty.back)
   where
     by : (b : Bool) → Loses w (cond b (add_reply duty.back (record { id = duty.back_id; results = results }) w) w)
     by true = loses-same w (add_reply duty.back (record { id = duty.back_id; results = results }) w) refl refl
     by false = loses-same w w refl refl
 
-make_ready-loses : (instance : ℕ) (w : World) → Loses w (make_ready instance w)
+pub make_ready-loses : (instance : ℕ) (w : World) → Loses w (make_ready instance w)
 make_ready-loses instance w = by (state_of w.places instance)
   where
     by : (s : Option InstanceState) → Loses w (ready_from s instance w)
@@ -133,7 +133,7 @@ end_processes-loses : (ps : List ℕ) (w : World) → Loses w (end_processes ps 
 end_processes-loses [] w = loses-same w w refl refl
 end_processes-loses (p ∷ ps) w = loses-then w (end_process p w) (end_processes ps (end_process p w)) (end_process-loses p w) (end_processes-loses ps (end_process p w))
 
-end_instance-loses : (instance : ℕ) (w : World) → Loses w (end_instance instance w)
+pub end_instance-loses : (instance : ℕ) (w : World) → Loses w (end_instance instance w)
 end_instance-loses instance w =
     let gone : World = set_state instance Gone w in
     loses-then w gone (end_instance instance w) (loses-same w gone refl refl) (end_processes-loses (processes_of instance w) gone)

@@ -10,11 +10,13 @@ pub mod JoinLemmas
 pub mod LeaveLemmas
 pub mod LedLemmas
 pub mod ListedLemmas
+pub mod LivingLemmas
 pub mod MemberLemmas
 pub mod NextLemmas
 pub mod OrderLemmas
 pub mod RestLemmas
 pub mod RotationLemmas
+pub mod StayLemmas
 pub mod StoreLemmas
 pub mod TurnLemmas
 pub mod WaitLemmas

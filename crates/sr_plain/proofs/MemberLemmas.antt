@@ -21,7 +21,7 @@ use Rattle.sr_world.specs.declared.acted.Acted.TheVariants as acted
 use Rattle.sr_world.specs.Callers.{caller_in}
 use Rattle.sr_plain.specs.Answering.{AnsweredBy}
 use Rattle.sr_plain.specs.Carrying.{Names}
-use Rattle.sr_plain.specs.Crew.{Answers, IsFed, IsSame, Looks, member_of}
+use Rattle.sr_plain.specs.Crew.{Answers, AreLiving, IsFed, IsSame, Looks, may_leave, member_of}
 use Rattle.sr_plain.specs.Leaving.{written_by}
 use Rattle.sr_plain.specs.Engine.{Comes, IfAsked, IfUnbegun, IsCarried, IsEngine, Steps, Tries, TriesIfBegun, last_in}
 use Rattle.sr_plain.specs.Noting.{NotesBy}
@@ -37,9 +37,10 @@ use Rattle.sr_plain.specs.declared.tried.Tried.{Tried}
 use Rattle.sr_plain.specs.declared.tried.Tried.TheVariants as attempt
 use Rattle.sr_plain.specs.declared.waiters.Waiters.{Waiters}
 use Rattle.sr_plain.proofs.AnswerLemmas.{answered_done, answered_ends, answered_not, answered_wants, is_over}
-use Rattle.sr_plain.proofs.AsideLemmas.{aside_out, aside_promoted, noted_aside, noted_is}
-use Rattle.sr_plain.proofs.CrewLemmas.{answers-written, looks-written}
+use Rattle.sr_plain.proofs.AsideLemmas.{aside_out, aside_promoted, find-number, noted_aside, noted_is}
+use Rattle.sr_plain.proofs.CrewLemmas.{answers-written, looks-written, written-itself, written-others}
 use Rattle.sr_plain.proofs.EngineLemmas.{looked_engine}
+use Rattle.sr_plain.proofs.LivingLemmas.{living-at}
 use Rattle.sr_plain.proofs.NextLemmas.{found-turn, no-turn-of, nobody-steps}
 use Rattle.sr_plain.proofs.TurnLemmas.{kept-is}
 
@@ -66,17 +67,14 @@ module _ {A : Type 0} (after : A → List Answer → Asks) (can_feed : A → Typ
 
   -- ---- a member
 
-  module _ (start : Start) (plain : Plain A) (engine : IsEngine after can_feed core limit state events plain) (lives : started state.world start.process ≡ Some start) (me : Me) (me_is : me ≡ me_at start) where
-    process-is : me.process ≡ start.process
-    process-is = ap (λ (m : Me). m.process) me_is
-
-    here-is : (m : Member A) → Some m ≡ member_of plain.crew me.process → member_of plain.crew start.process ≡ Some m
+  module _ (start : Start) (plain : Plain A) (engine : IsEngine after can_feed core limit state events plain) (lives : started state.world start.process ≡ Some start) (p : ℕ) (process-is : p ≡ start.process) (me : Me) (me_is : me ≡ me_at start) where
+    here-is : (m : Member A) → Some m ≡ member_of plain.crew p → member_of plain.crew start.process ≡ Some m
     here-is m here = subst (λ q. member_of plain.crew q ≡ Some m) process-is (sym here)
 
-    module _ (m : Member A) (here : Some m ≡ member_of plain.crew me.process) (asks : Ask) (known : Asked asks ≡ after m.actor []) (may : can_feed m.actor) (w' : World) (name : ℕ) (acted : Acted)
-        (acts : Acts (does core plain.world me.process asks name) plain.world w' (Ok acted)) (names : Names (does core plain.world me.process asks name) plain.world name)
-        (waiters : Waiters) (woken : Option Woken) (caller : ℕ) (caller_is : caller ≡ caller_in plain.world me.process asks.request)
-        (notes : NotesBy core me asks caller name acted plain.waiters waiters woken) (ready : is_ready plain.waiters me.process ≡ true) (awake : plain.woken ≡ None) where
+    module _ (m : Member A) (here : Some m ≡ member_of plain.crew p) (asks : Ask) (known : Asked asks ≡ after m.actor []) (may : can_feed m.actor) (w' : World) (name : ℕ) (acted : Acted)
+        (acts : Acts (does core plain.world p asks name) plain.world w' (Ok acted)) (names : Names (does core plain.world p asks name) plain.world name)
+        (waiters : Waiters) (woken : Option Woken) (caller : ℕ) (caller_is : caller ≡ caller_in plain.world p asks.request)
+        (notes : NotesBy core me asks caller name acted plain.waiters waiters woken) (ready : is_ready plain.waiters p ≡ true) (awake : plain.woken ≡ None) where
       acts-is : Acts (does core state.world start.process asks name) state.world w' (Ok acted)
       acts-is =
           subst (λ (v : World). Acts (does core v start.process asks name) v w' (Ok acted)) engine.world
@@ -105,6 +103,7 @@ module _ {A : Type 0} (after : A → List Answer → Asks) (can_feed : A → Typ
         ticks = engine.ticks;
         last = engine.last;
         stands = engine.stands;
+        living = subst (λ w. AreLiving state.world w plain.crew) awake engine.living;
         aside = noted_aside core limit state start asks name lives caller caller-is plain.waiters waiters woken w' acted asked-is notes-is acts-is
             (subst (λ w. AreAside core limit state plain.waiters w) awake engine.aside);
         noted = noted_is core limit state start asks name lives caller caller-is plain.waiters waiters woken w' acted notes-is (subst (λ q. is_ready plain.waiters q ≡ true) process-is ready);
@@ -115,8 +114,8 @@ module _ {A : Type 0} (after : A → List Answer → Asks) (can_feed : A → Typ
       unfolding carried_of
       carried_wrote output wrote = wrote
 
-    pub over_of : (m : Member A) → Some m ≡ member_of plain.crew me.process → OverTicks ≡ after m.actor []
-        → Tries after can_feed core limit state events (find (takes_turn core limit state) (start ∷ [])) (Ok (Some (plainly.Over me.process))) plain
+    pub over_of : (m : Member A) → Some m ≡ member_of plain.crew p → OverTicks ≡ after m.actor []
+        → Tries after can_feed core limit state events (find (takes_turn core limit state) (start ∷ [])) (Ok (Some (plainly.Over p))) plain
     over_of m here known =
         subst (λ q. Tries after can_feed core limit state events (find (takes_turn core limit state) (start ∷ [])) (Ok (Some (plainly.Over q))) plain) (sym process-is)
         (is_over after can_feed core limit state events start plain m engine lives (here-is m here) known)
@@ -171,6 +170,7 @@ module _ {A : Type 0} (after : A → List Answer → Asks) (can_feed : A → Typ
       ticks = engine.ticks;
       last = engine.last;
       stands = engine.stands;
+      living = engine.living;
       aside = subst (λ w. AreAside core limit state waiters w) (sym awake) (aside_out core limit state p plain.waiters waiters ended out (subst (λ w. AreAside core limit state plain.waiters w) awake engine.aside));
     },
   )
@@ -183,6 +183,7 @@ module _ {A : Type 0} (after : A → List Answer → Asks) (can_feed : A → Typ
     ticks = engine.ticks;
     last = engine.last;
     stands = engine.stands;
+    living = engine.living;
     aside = subst (λ w. AreAside core limit state waiters w) (sym awake) (aside_promoted core limit state p plain.waiters waiters promoted (subst (λ w. AreAside core limit state plain.waiters w) awake engine.aside));
   }
 
@@ -228,26 +229,47 @@ module _ {A : Type 0} (after : A → List Answer → Asks) (can_feed : A → Typ
 
 module _ {A : Type 0} (after : A → List Answer → Asks) (can_feed : A → Type 0) (core : Core) (limit : ℕ) (state : State) (events : List Event) where
   pub looked_now : (plain : Plain A) → IsEngine after can_feed core limit state events plain → (s : Start) → started state.world s.process ≡ Some s → (looked : Plain A)
-      → Looks after (ask core s plain.ticks) s.process plain.crew looked.crew → IsEngine after can_feed core limit state events (record plain { crew = looked.crew })
-  looked_now plain engine s lives looked looks =
-      looked_engine after can_feed core limit state events s plain looked engine lives (subst (λ t. Looks after (ask core s t) s.process plain.crew looked.crew) engine.ticks looks)
+      → Looks after (ask core s plain.ticks) s.process plain.crew looked.crew → AreLiving state.world plain.woken looked.crew → IsEngine after can_feed core limit state events (record plain { crew = looked.crew })
+  looked_now plain engine s lives looked looks living =
+      looked_engine after can_feed core limit state events s plain looked engine lives (subst (λ t. Looks after (ask core s t) s.process plain.crew looked.crew) engine.ticks looks) living
 
   -- ---- one that has begun
 
-  module _ (plain looked : Plain A) (engine : IsEngine after can_feed core limit state events plain) (start : Start) (lives : started state.world start.process ≡ Some start) (me : Me) (me_is : me ≡ me_at start)
-      (m m' : Member A) (here : Some m ≡ member_of plain.crew me.process) (looks : WritesThrough nat_eq (nat_eq me.process) plain.crew m' looked.crew) where
+  module _ (plain : Plain A) (engine : IsEngine after can_feed core limit state events plain) (awake : plain.woken ≡ None) (p : ℕ) (m : Member A) (here : Some m ≡ member_of plain.crew p) where
+    -- it lives, and has the number and the instance that it was started with
+    pub record IsBegun : Type 0 where
+      pub start : Start
+      pub found : started state.world p ≡ Some start
+      pub lives : started state.world start.process ≡ Some start
+      pub process_is : p ≡ start.process
+      pub me_is : record { process = p; instance = m.instance } ≡ me_at start
+
+    pub begun_lives : IsBegun
+    begun_lives = by (started state.world p) refl (engine.living.live p m (sym here) (ap (λ w. may_leave w p) awake))
+      where
+        by : (o : Option Start) → started state.world p ≡ o → IsSome o → IsBegun
+        by None is some = absurd (true≢false (sym some))
+        by (Some s) is some = let number : p ≡ s.process = find-number state.world.live p s is in record {
+          start = s;
+          found = is;
+          lives = subst (λ n. started state.world n ≡ Some s) number is;
+          process_is = number;
+          me_is = ap (λ n. record { process = n; instance = m.instance }) number ∙ ap (λ n. record { process = s.process; instance = n }) (engine.living.named p s m is (sym here));
+        }
+
+  module _ (plain looked : Plain A) (engine : IsEngine after can_feed core limit state events plain) (start : Start) (lives : started state.world start.process ≡ Some start) (p : ℕ) (process-is : p ≡ start.process)
+      (m m' : Member A) (here : Some m ≡ member_of plain.crew p) (looks : WritesThrough nat_eq (nat_eq p) plain.crew m' looked.crew) where
     pub looked_member : IsSame after m m' → IsEngine after can_feed core limit state events (record plain { crew = looked.crew })
     looked_member same =
         looked_now plain engine start lives looked
-        (subst (λ q. Looks after (ask core start plain.ticks) q plain.crew looked.crew) (ap (λ (x : Me). x.process) me_is)
-        (looks-written me.process after can_feed (ask core start plain.ticks) plain.crew looked.crew m m' here looks same))
+        (subst (λ q. Looks after (ask core start plain.ticks) q plain.crew looked.crew) process-is (looks-written p after can_feed (ask core start plain.ticks) plain.crew looked.crew m m' here looks same))
+        (living-at state.world plain.woken p plain.crew looked.crew m m' (sym here) (written-itself p plain.crew looked.crew m m' here looks) same.instance (written-others p plain.crew looked.crew m m' here looks) engine.living)
 
-    pub answers_member : (heard : Plain A) (m'' : Member A) → WritesThrough nat_eq (nat_eq me.process) plain.crew m'' heard.crew → (a : Answer) → IsFed after can_feed a m' m''
+    pub answers_member : (heard : Plain A) (m'' : Member A) → WritesThrough nat_eq (nat_eq p) plain.crew m'' heard.crew → (a : Answer) → IsFed after can_feed a m' m''
         → (member : Member A) → member_of looked.crew start.process ≡ Some member → Answers after can_feed start.process a member looked.crew heard.crew
     answers_member heard m'' written a fed member there =
-        let number : me.process ≡ start.process = ap (λ (x : Me). x.process) me_is in
-        subst (λ q. Answers after can_feed q a member looked.crew heard.crew) number
-        (answers-written me.process after can_feed a plain.crew looked.crew heard.crew m m' m'' here looks written fed member (subst (λ q. member_of looked.crew q ≡ Some member) (sym number) there))
+        subst (λ q. Answers after can_feed q a member looked.crew heard.crew) process-is
+        (answers-written p after can_feed a plain.crew looked.crew heard.crew m m' m'' here looks written fed member (subst (λ q. member_of looked.crew q ≡ Some member) (sym process-is) there))
 
 pub if_none : {X : Type 0} {P : Type 0} (o : Option X) → o ≡ None → IfNone o P → P
 if_none None is h = h

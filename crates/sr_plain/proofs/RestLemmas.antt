@@ -25,6 +25,7 @@ use Rattle.sr_plain.proofs.AnswerLemmas.{least-name}
 use Rattle.sr_plain.proofs.EngineLemmas.{everyone}
 use Rattle.sr_plain.proofs.LeaveLemmas.{leaves_at_rest}
 use Rattle.sr_plain.proofs.LedLemmas.{last-more, least-new, least-unused, led-more}
+use Rattle.sr_plain.proofs.LivingLemmas.{living-everyone, named-after}
 use Rattle.sr_plain.proofs.OrderLemmas.{ordered-after}
 use Rattle.sr_plain.proofs.TurnLemmas.{rested-stands}
 
@@ -103,8 +104,8 @@ module _ {A : Type 0} (after : A → List Answer → Asks) (can_feed : A → Typ
     begins w' a Undecided e rest acts least = absurd rest
 
     pub rest_begins : (w' : World) (a : Answer) → Acts (quiesce core name plain.world) plain.world w' (Ok (acted.Done a)) → IsLeastUnused plain.world.used name
-        → (woken : Woken) → woken.change ≡ Everything → Comes after can_feed core limit state events None (plainly.Stepped (Quiesce name) []) (record plain { world = w'; woken = Some woken })
-    rest_begins w' a acts least woken all =
+        → (woken : Woken) → woken.change ≡ Everything → woken.gone ≡ None → Comes after can_feed core limit state events None (plainly.Stepped (Quiesce name) []) (record plain { world = w'; woken = Some woken })
+    rest_begins w' a acts least woken all nobody =
         let acts' : Acts (quiesce core name state.world) state.world w' (Ok (acted.Done a)) = subst (λ v. Acts (quiesce core name v) v w' (Ok (acted.Done a))) engine.world acts in
         let least' : IsLeastUnused state.world.used name = subst (λ (v : World). IsLeastUnused v.used name) engine.world least in
         let b = begins w' a (quiesce core name state.world) refl (at-rest core name state.world) acts' least' in
@@ -121,6 +122,7 @@ module _ {A : Type 0} (after : A → List Answer → Asks) (can_feed : A → Typ
             ticks = engine.ticks;
             last = engine.last ∙ sym (last-more events (Makes_item (Quiesce name)));
             stands = rested-stands after can_feed core limit state events plain.crew engine.stands (record state { world = w' }) name [] (Quiesce name) refl b.1 (least-unused state.world name least') b.0 order.0 order.1;
+            living = living-everyone w' plain.crew (Some woken) woken refl all nobody (named-after state.world w' plain.crew engine.stands.unborn name [] b.1 (least-unused state.world name least') plain.woken engine.living);
             aside = everyone core limit rested_state plain.waiters (Some woken) woken refl all;
           };
         }
@@ -136,12 +138,17 @@ module _ {A : Type 0} (after : A → List Answer → Asks) (can_feed : A → Typ
     ends w' given Undecided e rest acts = absurd rest
 
     pub rest_ends : (w' : World) (ending : End) → Acts (quiesce core name plain.world) plain.world w' (Ok (acted.Ends ending))
-        → (woken : Woken) → woken.change ≡ Everything → Comes after can_feed core limit state events None (plainly.Ended (Quiesce 0) ending) (record plain { world = w'; woken = Some woken })
-    rest_ends w' ending acts woken all =
+        → (woken : Woken) → woken.change ≡ Everything → woken.gone ≡ None → Comes after can_feed core limit state events None (plainly.Ended (Quiesce 0) ending) (record plain { world = w'; woken = Some woken })
+    rest_ends w' ending acts woken all nobody =
         let acts' : Acts (quiesce core name state.world) state.world w' (Ok (acted.Ends ending)) = subst (λ v. Acts (quiesce core name v) v w' (Ok (acted.Ends ending))) engine.world acts in
-        let f = ends w' ending (quiesce core name state.world) refl (at-rest core name state.world) acts' in
-        (record { ends = f.1; turn_of = tt }, record { world = f.0; ticks = engine.ticks; last = engine.last; stands = engine.stands; aside = everyone core limit state plain.waiters (Some woken) woken refl all })
-
-    -- after want of memory, or where the machine answers what it never does
-    pub same_engine : (w' : World) → w' ≡ plain.world → IsEngine after can_feed core limit state events (record plain { world = w' })
-    same_engine w' same = record { world = same ∙ engine.world; ticks = engine.ticks; last = engine.last; stands = engine.stands; aside = engine.aside }
+        let f = ends w' ending (quiesce core name state.world) refl (at-rest core name state.world) acts' in (
+          record { ends = f.1; turn_of = tt },
+          record {
+            world = f.0;
+            ticks = engine.ticks;
+            last = engine.last;
+            stands = engine.stands;
+            living = living-everyone state.world plain.crew (Some woken) woken refl all nobody engine.living.named;
+            aside = everyone core limit state plain.waiters (Some woken) woken refl all;
+          },
+        )

@@ -61,10 +61,14 @@ module _ {A : Type 0} (after : A → List Answer → Asks) (can_feed : A → Typ
   kept-stands crew crew' stands keeps = record {
     leads = stands.leads;
     living = λ q s is. subst (StandsFor after (ask core s limit) (state.given q)) (sym (keeps.living q (ap is_some is))) (stands.living q s is);
-    unborn = λ q none. keeps.unborn q (stands.unborn q none);
+    unborn = λ q none. still q (stands.unborn q none) (member_of crew' q) refl;
     next = stands.next;
     order = stands.order;
   }
+    where
+      still : (q : ℕ) → member_of crew q ≡ None → (o : Option (Member A)) → member_of crew' q ≡ o → o ≡ None
+      still q none None is = refl
+      still q none (Some m) is = let was : member_of crew q ≡ Some m = keeps.stays q m is in absurd (cc)
 
   -- ---- a step of a process
 

@@ -1,5 +1,5 @@
 -- What a step changes that processes may wait for, besides replies.
-use Rattle.std.specs.Prelude.{ℕ, suc, ◌==◌, Bool, true, Option, Some, None, slice_get}
+use Rattle.std.specs.Prelude.{ℕ, suc, ◌==◌, Bool, true, false, Option, Some, None, slice_get}
 use Rattle.sr_ask.specs.declared.answer.Answer.{Answer}
 use Rattle.sr_ask.specs.declared.answer.Answer.TheVariants.{Picked}
 use Rattle.sr_ask.specs.declared.ask.Ask.{Ask}
@@ -80,3 +80,13 @@ change_by core me role _ answer = Nothing
 -- what the step of a request changes that was answered so
 abbrev pub change_of : Core → Me → Ask → Answer → Change
 change_of core me ask answer = change_by core me ask.role ask.request answer
+
+-- anything may have changed, and any process ended
+abbrev pub is_everything : Change → Bool
+is_everything Everything = true
+is_everything _ = false
+
+-- who ends itself by a request: the one that asks, where it finishes
+abbrev pub gone_by : Request → ℕ → Option ℕ
+gone_by (request.Finish answered back results) process = Some process
+gone_by _ process = None

@@ -1,5 +1,5 @@
 -- The processes that have begun.
-use Rattle.std.specs.Prelude.{◌≡◌, ◌⊎◌, ◌==◌, ℕ, false, List, ◌∷◌, Option, Some, None, IsSome, nat_eq}
+use Rattle.std.specs.Prelude.{◌≡◌, ◌⊎◌, ◌==◌, ◌||◌, ℕ, Bool, false, List, ◌∷◌, Option, Some, None, IsSome, nat_eq}
 use Rattle.std.specs.HashMap.{HashMap, get}
 use Rattle.sr_ask.specs.declared.answer.Answer.{Answer}
 use Rattle.sr_ask.specs.declared.ask.Asks.{Asks}
@@ -7,6 +7,8 @@ use Rattle.sr_ask.specs.declared.start.Start.{Start}
 use Rattle.sr_core.specs.declared.component.Core.{Core}
 use Rattle.sr_meaning.specs.Processes.{ask}
 use Rattle.sr_world.specs.Worlds.{World, started}
+use Rattle.sr_plain.specs.Changes.{is_everything}
+use Rattle.sr_plain.specs.declared.change.Woken.{Woken}
 use Rattle.sr_plain.specs.declared.member.Member.{Member}
 
 -- a process, where it has begun
@@ -21,10 +23,12 @@ pub record Plays {A : Type 0} (after : A → List Answer → Asks) (meant : List
 
 -- a process goes on as it would have
 pub record IsSame {A : Type 0} (after : A → List Answer → Asks) (old new : Member A) : Type 0 where
+  pub instance : new.instance ≡ old.instance
   pub actor : (more : List Answer) → after new.actor more ≡ after old.actor more
 
 -- a process has got an answer, where it had asked
 pub record IsFed {A : Type 0} (after : A → List Answer → Asks) (can_feed : A → Type 0) (answer : Answer) (old new : Member A) : Type 0 where
+  pub instance : new.instance ≡ old.instance
   pub actor : can_feed old.actor → (more : List Answer) → after new.actor more ≡ after old.actor (answer ∷ more)
 
 -- ---- one process of many
@@ -38,6 +42,7 @@ pub record HasBegun {A P S : Type 0} (after : P → A → List Answer → Asks) 
   pub member : Member A
   pub itself : member_of new start.process ≡ Some member
   pub others : KeepsOthers start.process old new
+  pub instance : member.instance ≡ start.instance
   pub actor : (program : P) (more : List Answer) → after program member.actor more ≡ ask (core_of program) start limit more
 
 -- it has begun already, or it begins
@@ -70,4 +75,35 @@ pub record Answers {A S : Type 0} (after : A → List Answer → Asks) (can_feed
 -- who lives stays as it is, and nobody begins
 pub record KeepsLiving {A S : Type 0} (world : World) (old new : HashMap ℕ (Member A) S) : Type 0 where
   pub living : (process : ℕ) → IsSome (started world process) → member_of new process ≡ member_of old process
-  pub unborn : (process : ℕ) → member_of old process ≡ None → member_of new process ≡ None
+  pub stays : (process : ℕ) (member : Member A) → member_of new process ≡ Some member → member_of old process ≡ Some member
+
+-- ---- who leaves
+
+abbrev pub is_gone : Option ℕ → ℕ → Bool
+is_gone None process = false
+is_gone (Some gone) process = gone == process
+
+-- who may have ended by the last step
+abbrev pub may_leave : Option Woken → ℕ → Bool
+may_leave None process = false
+may_leave (Some woken) process = is_everything woken.change || is_gone woken.gone process
+
+-- who ended itself by a step lives no more
+abbrev pub HasEnded : World → Option ℕ → Type 0
+HasEnded world None = Unit {0}
+HasEnded world (Some gone) = started world gone ≡ None
+
+-- each of them lives
+abbrev pub AllLive : {A S : Type 0} → World → HashMap ℕ (Member A) S → Type 0
+AllLive world members = (process : ℕ) (member : Member _) → member_of members process ≡ Some member → IsSome (started world process)
+
+-- who may have ended by a step leaves, unless it lives
+pub record LetsGo {A S : Type 0} (world : World) (woken : Woken) (old new : HashMap ℕ (Member A) S) : Type 0 where
+  pub keeps : HasEnded world woken.gone → KeepsLiving world old new
+  pub live : (process : ℕ) (member : Member A) → member_of new process ≡ Some member → (may_leave (Some woken) process ≡ false) ⊎ IsSome (started world process)
+
+-- Each that has begun lives, unless it may have ended by the last step; and each that lives runs in its own instance.
+pub record AreLiving {A S : Type 0} (world : World) (woken : Option Woken) (members : HashMap ℕ (Member A) S) : Type 0 where
+  pub live : (process : ℕ) (member : Member A) → member_of members process ≡ Some member → may_leave woken process ≡ false → IsSome (started world process)
+  pub named : (process : ℕ) (start : Start) (member : Member A) → started world process ≡ Some start → member_of members process ≡ Some member → member.instance ≡ start.instance
+  pub gone : (last : Woken) → woken ≡ Some last → HasEnded world last.gone

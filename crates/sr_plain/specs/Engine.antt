@@ -19,7 +19,7 @@ use Rattle.sr_world.specs.Worlds.{started}
 use Rattle.sr_world.specs.declared.acted.Acted.{Acted}
 use Rattle.sr_world.specs.declared.ends.End.{End}
 use Rattle.sr_plain.specs.Carrying.{Names}
-use Rattle.sr_plain.specs.Crew.{Plays, member_of}
+use Rattle.sr_plain.specs.Crew.{AreLiving, Plays, member_of}
 use Rattle.sr_plain.specs.Order.{IsOrdered}
 use Rattle.sr_plain.specs.Ready.{AreAside, IsNoted}
 use Rattle.sr_plain.specs.Turns.{IsTurn, last_after}
@@ -61,6 +61,7 @@ pub record IsEngine {A : Type 0} (after : A → List Answer → Asks) (can_feed 
   pub ticks : plain.ticks ≡ limit
   pub last : plain.last ≡ last_in events
   pub stands : Stands after core limit state events plain.crew
+  pub living : AreLiving state.world plain.woken plain.crew
   pub aside : AreAside core limit state plain.waiters plain.woken
 
 -- the machine has carried out what a process asks, and it isn't answered yet
@@ -77,6 +78,7 @@ pub record IsCarried {A : Type 0} (after : A → List Answer → Asks) (can_feed
   pub ticks : plain.ticks ≡ limit
   pub last : plain.last ≡ last_in events
   pub stands : Stands after core limit state events plain.crew
+  pub living : AreLiving state.world None plain.crew
   pub aside : AreAside core limit state plain.waiters None
   pub noted : IsNoted core state.world start asks name acted plain.waiters plain.woken
 

@@ -1,11 +1,14 @@
 -- What a step leaves of who lives and of what was written.
-use Rattle.std.specs.Prelude.{◌≡◌, ◌⊎◌, ◌++◌, ℕ, List, [], ◌∷◌, Some}
+use Rattle.std.specs.Prelude.{◌≡◌, ◌⊎◌, ◌++◌, ℕ, List, [], ◌∷◌, Option, Some, false}
 use Rattle.sr_ask.specs.declared.request.Request.{Request}
 use Rattle.sr_ask.specs.declared.request.Request.TheVariants.{Write}
 use Rattle.sr_ask.specs.declared.start.Start.{Start}
 use Rattle.sr_world.specs.Does.{Does, Did, Makes}
 use Rattle.sr_world.specs.Worlds.{World, started}
+use Rattle.sr_plain.specs.Changes.{is_everything}
+use Rattle.sr_plain.specs.Crew.{HasEnded, is_gone}
 use Rattle.sr_plain.specs.Order.{Ascend}
+use Rattle.sr_plain.specs.declared.change.Change.{Change}
 
 -- only a write writes
 abbrev pub written_by : Request → List ℕ
@@ -31,3 +34,13 @@ abbrev pub LeavesIf : ℕ → List ℕ → World → Does → Type 0
 LeavesIf name text old (Did new answer) = Leaves name text old new
 LeavesIf name text old (Makes new answer) = Leaves name text old new
 LeavesIf name text old _ = Unit {0}
+
+-- Who lived lives, as it was started, unless it ended itself, or anything may have changed.
+pub record LiveOn (change : Change) (gone : Option ℕ) (old new : World) : Type 0 where
+  pub stay : is_everything change ≡ false → (process : ℕ) (start : Start) → started old process ≡ Some start → is_gone gone process ≡ false → started new process ≡ Some start
+  pub ended : HasEnded new gone
+
+abbrev pub LiveOnIf : Change → Option ℕ → World → Does → Type 0
+LiveOnIf change ending old (Did new answer) = LiveOn change ending old new
+LiveOnIf change ending old (Makes new answer) = LiveOn change ending old new
+LiveOnIf change ending old _ = Unit {0}

@@ -13,7 +13,7 @@ use Rattle.sr_value.specs.declared.fault.Fault.{Fault}
 use Rattle.sr_value.specs.declared.value.Value.{Value}
 use Rattle.sr_world.specs.declared.acted.Acted.{Acted}
 use Rattle.sr_world.specs.declared.acted.Acted.TheVariants.{Done, Cannot}
-use Rattle.sr_plain.specs.Changes.{change_of, owner_at}
+use Rattle.sr_plain.specs.Changes.{change_of, gone_by, owner_at}
 use Rattle.sr_plain.specs.Waiting.{IsTakenOut, IsWaiting, WaitsAtSite, at_block, at_operation, idle_of, is_closed, is_ready, key_of, turns_len, waits}
 use Rattle.sr_plain.specs.declared.carrying.Carried.{Carried}
 use Rattle.sr_plain.specs.declared.change.Woken.{Woken}
@@ -76,7 +76,7 @@ pub record IsSetAside (core : Core) (me : Me) (ask : Ask) (old new : Waiters) : 
 
 abbrev pub NotesBy : Core → Me → Ask → ℕ → ℕ → Acted → Waiters → Waiters → Option Woken → Type 0
 NotesBy core me ask caller name (Done answer) old new woken =
-    (new ≡ old) × (woken ≡ Some (record { change = change_of core me ask answer; caller = caller; made = name }))
+    (new ≡ old) × (woken ≡ Some (record { change = change_of core me ask answer; caller = caller; made = name; gone = gone_by ask.request me.process }))
 NotesBy core me ask caller name Cannot old new woken = IsSetAside core me ask old new × (woken ≡ None)
 NotesBy core me ask caller name _ old new woken = (new ≡ old) × (woken ≡ None)
 

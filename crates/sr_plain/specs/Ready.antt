@@ -15,7 +15,7 @@ use Rattle.sr_world.specs.Steps.{does}
 use Rattle.sr_world.specs.Worlds.{World, started}
 use Rattle.sr_world.specs.declared.acted.Acted.{Acted}
 use Rattle.sr_world.specs.declared.acted.Acted.TheVariants.{Done}
-use Rattle.sr_plain.specs.Changes.{change_of}
+use Rattle.sr_plain.specs.Changes.{change_of, gone_by}
 use Rattle.sr_plain.specs.Waiting.{WaitsFor, WaitsIdle, is_closed, is_opened, is_ready, is_woken, waits}
 use Rattle.sr_plain.specs.declared.change.Woken.{Woken}
 use Rattle.sr_plain.specs.declared.waiters.Waiters.{Waiters}
@@ -46,6 +46,6 @@ pub record AreAside (core : Core) (limit : ℕ) (state : State) (waiters : Waite
 -- what is noted of a request that was carried out; who made a step stays ready
 abbrev pub IsNoted : Core → World → Start → Ask → ℕ → Acted → Waiters → Option Woken → Type 0
 IsNoted core world start asks name (Done answer) waiters woken =
-    (woken ≡ Some (record { change = change_of core (me_at start) asks answer; caller = caller_in world start.process asks.request; made = name }))
+    (woken ≡ Some (record { change = change_of core (me_at start) asks answer; caller = caller_in world start.process asks.request; made = name; gone = gone_by asks.request start.process }))
     × (is_ready waiters start.process ≡ true)
 IsNoted core world start asks name _ waiters woken = woken ≡ None

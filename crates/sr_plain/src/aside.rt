@@ -6,7 +6,7 @@ ghost use Rattle.sr_plain.specs.Waiting.{IsWaiting, is_simple};
 ghost use Rattle.sr_world.specs.declared.acted.Acted.TheVariants.{Cannot};
 
 use crate::carrying::Carried;
-use crate::change::{Woken, change_of, owner_of};
+use crate::change::{Woken, change_of, gone_by, owner_of};
 use crate::variable::Variable;
 use crate::waiters::{Place, Waiters};
 use sr_ask::{Ask, Request};
@@ -163,6 +163,7 @@ pub(crate) fn note(
             change: change_of(core, me, ask, answer),
             caller: carried.caller,
             made: carried.name,
+            gone: gone_by(&ask.request, me.process),
         })),
         Acted::Cannot => {
             wait_for(waiters, core, me, &ask.request)?;

@@ -1,6 +1,6 @@
-ghost use Rattle.std.specs.Prelude.{◌≡◌, Some};
+ghost use Rattle.std.specs.Prelude.{◌≡◌, None, Some};
 ghost use Rattle.sr_plain.specs.declared.change.Change.TheVariants.{Everything};
-ghost use Rattle.sr_plain.specs.Changes.{change_of as change_in, change_of_call, change_of_choice, change_of_end, change_of_reply, class_of, owner_at};
+ghost use Rattle.sr_plain.specs.Changes.{change_of as change_in, change_of_call, change_of_choice, change_of_end, change_of_reply, class_of, gone_by as gone_in, is_everything, owner_at};
 
 use sr_ask::{Answer, Ask, Request, Role};
 use sr_core::{Core, Me, Scope, Site};
@@ -19,6 +19,14 @@ pub enum Change {
     Everything,
 }
 
+impl Change {
+    pub(crate) fn is_everything(self) -> bool
+        ensures { result ≡ is_everything self }
+    {
+        matches!(self, Change::Everything)
+    }
+}
+
 /// Who may be able to go on after a step.
 #[derive(Clone, Copy)]
 pub struct Woken {
@@ -27,16 +35,20 @@ pub struct Woken {
     pub caller: u32,
     /// The number of the step.
     pub made: u32,
+    /// The process that ended itself.
+    pub gone: Option<u32>,
 }
 
 impl Woken {
     pub fn everyone() -> Self
-        ensures { result.change ≡ Everything }
+        ensures change { result.change ≡ Everything }
+        ensures gone { result.gone ≡ None }
     {
         Woken {
             change: Change::Everything,
             caller: 0,
             made: 0,
+            gone: None,
         }
     }
 }
@@ -145,5 +157,15 @@ pub fn change_of(core: &Core, me: Me, ask: &Ask, answer: &Answer) -> Change
         Request::Finish { back, .. } => of_end(ask.role, *back),
         Request::Destroy { .. } | Request::Stop { .. } => Change::Everything,
         _ => Change::Nothing,
+    }
+}
+
+/// The process that a request ends by itself.
+pub fn gone_by(request: &Request, process: u32) -> Option<u32>
+    ensures { result ≡ gone_in request.now process }
+{
+    match request {
+        Request::Finish { .. } => Some(process),
+        _ => None,
     }
 }

@@ -1,10 +1,12 @@
-ghost use Rattle.std.specs.Prelude.{IsSome, OnOk};
-ghost use Rattle.sr_plain.specs.Crew.{Begins, HasBegun, KeepsLiving, member_of};
+ghost use Rattle.std.specs.Prelude.{◌≡◌, IsSome, OnOk, is_some};
+ghost use Rattle.sr_plain.specs.Crew.{AllLive, Begins, HasBegun, KeepsLiving, LetsGo, member_of};
+ghost use Rattle.sr_world.specs.Worlds.{started};
 
+use crate::change::Woken;
 use crate::member::Member;
 use sr_actor::Actor;
 use sr_ask::Start;
-use sr_value::{NoMemory, Row};
+use sr_value::NoMemory;
 use sr_world::World;
 use std::alloc::Global;
 use std::collections::HashMap;
@@ -20,7 +22,8 @@ fn begin<A: Actor>(
     ensures { OnOk result (HasBegun A.asks_after A.core_of start.now ticks crew.old crew.new) }
 {
     let actor = A::start(alloc, start, ticks)?;
-    crew.insert(start.process, Member { actor })?;
+    let instance = start.instance;
+    crew.insert(start.process, Member { instance, actor })?;
     Ok(())
 }
 
@@ -40,45 +43,32 @@ pub(crate) fn begin_once<A: Actor>(
     begin(crew, alloc, start, ticks)
 }
 
-/// The numbers of those that have begun.
-fn numbers<A: Actor>(crew: &HashMap<u32, Member<A>>, alloc: Global) -> Result<Row<u32>, NoMemory> {
-    let mut numbers = Row::new(alloc);
-    for process in crew.keys() {
-        numbers.push(*process)?;
-    }
-    Ok(numbers)
-}
-
-fn drop_if_ended<A: Actor>(crew: &mut HashMap<u32, Member<A>>, world: &World, process: u32)
-    ensures { KeepsLiving world.now crew.old crew.new }
-{
-    match world.started(process) {
-        Some(_) => {}
-        None => {
-            crew.remove(&process);
-        }
-    }
-}
-
-fn drop_ended<A: Actor>(crew: &mut HashMap<u32, Member<A>>, world: &World, numbers: &[u32])
-    ensures { KeepsLiving world.now crew.old crew.new }
-{
-    for process in numbers {
-        drop_if_ended(crew, world, *process);
-    }
-}
-
 /// Drops those whose processes have ended.
 #[cold]
 #[inline(never)]
-pub(crate) fn let_go<A: Actor>(
-    crew: &mut HashMap<u32, Member<A>>,
-    alloc: Global,
-    world: &World,
-) -> Result<(), NoMemory>
-    ensures { KeepsLiving world.now crew.old crew.new }
+fn drop_ended<A: Actor>(crew: &mut HashMap<u32, Member<A>>, world: &World)
+    ensures keeps { KeepsLiving world.now crew.old crew.new }
+    ensures live { AllLive world.now crew.new }
 {
-    let numbers = numbers(crew, alloc)?;
-    drop_ended(crew, world, numbers.as_slice());
-    Ok(())
+    crew.retain(
+        |process: &u32, member: &mut Member<A>| -> bool
+            ensures { (result ≡ is_some (started world.entry.now process.now)) × (member.new ≡ member.old) }
+        { world.started(*process).is_some() },
+    );
+}
+
+/// Drops those whose processes a step ended.
+#[inline(always)]
+pub(crate) fn let_go<A: Actor>(crew: &mut HashMap<u32, Member<A>>, world: &World, woken: Woken)
+    ensures { LetsGo world.now woken crew.old crew.new }
+{
+    if woken.change.is_everything() {
+        return drop_ended(crew, world);
+    }
+    match woken.gone {
+        Some(process) => {
+            crew.remove(&process);
+        }
+        None => {}
+    }
 }

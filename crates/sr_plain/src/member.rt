@@ -13,6 +13,8 @@ use sr_world::Acted;
 /// A process that has begun.
 #[derive(Drop)]
 pub struct Member<A> {
+    /// The instance whose code it runs.
+    pub(crate) instance: u32,
     pub(crate) actor: A,
 }
 

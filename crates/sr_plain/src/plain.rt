@@ -1,8 +1,6 @@
-ghost use Rattle.std.specs.Prelude.{◌≡◌, ◌<◌, ◌∷◌, ◌++◌, ℕ, [], List, IfNone, IfOk, IsSome, None, OnErr, OnOk, Some, false, find, true};
-ghost use Rattle.sr_ask.specs.declared.start.Start as starts;
+ghost use Rattle.std.specs.Prelude.{◌≡◌, ◌<◌, ◌∷◌, ◌++◌, ℕ, [], List, IfNone, IfOk, IsSome, IsTrue, None, OnErr, OnOk, false, is_some, true};
 ghost use Rattle.sr_plain.specs.Crew.{member_of};
-ghost use Rattle.sr_plain.specs.Ready.{me_at};
-ghost use Rattle.sr_plain.specs.Turns.{takes_turn, turn, turn_of};
+ghost use Rattle.sr_plain.specs.Turns.{turn, turn_of};
 ghost use Rattle.sr_plain.specs.Waiting.{is_ready, turns_len};
 ghost use Rattle.sr_world.specs.Runs.{State, Event, Closes, Gives, first, no_step, with_input, without_more};
 ghost use Rattle.sr_world.specs.Worlds.{started};
@@ -88,23 +86,11 @@ impl<A: Actor> Plain<A> {
     pub fn step(&mut self, program: &A::Program) -> Result<Plainly, NoMemory>
         ensures { (limit : ℕ) (state : State) (events : List Event) → IsEngine (A.asks_after program.now) A.can_feed (A.core_of program.now) limit state events self.old → Steps (A.asks_after program.now) A.can_feed (A.core_of program.now) limit state events (turn (A.core_of program.now) limit state (last_in events)) result self.new }
     {
-        self.let_go()?;
         self.wake_up()?;
         self.take_turn(program)
     }
 
-    /// Lets go of the processes that have ended, where more than half of all that have begun must have.
-    fn let_go(&mut self) -> Result<(), NoMemory>
-        ensures engine { (program : A.Program) (limit : ℕ) (state : State) (events : List Event) → IsEngine (A.asks_after program) A.can_feed (A.core_of program) limit state events self.old → IsEngine (A.asks_after program) A.can_feed (A.core_of program) limit state events self.new }
-        ensures world { self.new.world ≡ self.old.world }
-    {
-        if self.crew.len() / 2 <= self.world.len() {
-            return Ok(());
-        }
-        let_go(&mut self.crew, self.alloc, &self.world)
-    }
-
-    /// Makes ready whom the last step woke.
+    /// Makes ready whom the last step woke, and lets go of those whom it ended.
     fn wake_up(&mut self) -> Result<(), NoMemory>
         ensures engine { OnOk result ((program : A.Program) (limit : ℕ) (state : State) (events : List Event) → IsEngine (A.asks_after program) A.can_feed (A.core_of program) limit state events self.old → IsEngine (A.asks_after program) A.can_feed (A.core_of program) limit state events self.new) }
         ensures awake { OnOk result (self.new.woken ≡ None) }
@@ -112,6 +98,7 @@ impl<A: Actor> Plain<A> {
     {
         match self.woken {
             Some(woken) => {
+                let_go(&mut self.crew, &self.world, woken);
                 wake_up(&mut self.waiters, &self.world, woken)?;
                 self.woken = None;
                 Ok(())
@@ -135,7 +122,7 @@ impl<A: Actor> Plain<A> {
         self.come_to_rest(program)
     }
 
-    /// Asks a process that is ready. It is ready no more where it makes no step.
+    /// Asks a process that is ready. It begins first, where it hasn't. It is ready no more where it makes no step.
     #[inline(always)]
     fn try_ready(&mut self, program: &A::Program, process: u32) -> Result<Option<Plainly>, NoMemory>
         requires ready { is_ready self.old.waiters process ≡ true }
@@ -144,80 +131,64 @@ impl<A: Actor> Plain<A> {
         ensures less { IfOk result (λ tried. IfNone tried (turns_len self.new.waiters < turns_len self.old.waiters)) }
         ensures awake { IfOk result (λ tried. IfNone tried (self.new.woken ≡ None)) }
     {
-        match self.world.started(process) {
-            Some(start) => {
-                let me = Me {
-                    process: start.process,
-                    instance: start.instance,
-                };
-                self.try_living(program, me)
-            }
-            None => {
-                self.waiters.take_out(process);
-                Ok(None)
-            }
-        }
-    }
-
-    /// Asks a process that lives. It begins first, where it hasn't.
-    #[inline(always)]
-    fn try_living(&mut self, program: &A::Program, me: Me) -> Result<Option<Plainly>, NoMemory>
-        requires lives { IsSome (started self.old.world me.process) }
-        ensures tries { (limit : ℕ) (state : State) (events : List Event) (start : starts.Start) → IsEngine (A.asks_after program.now) A.can_feed (A.core_of program.now) limit state events self.old → started state.world start.process ≡ Some start → me ≡ me_at start → is_ready self.old.waiters me.process ≡ true → self.old.woken ≡ None → Tries (A.asks_after program.now) A.can_feed (A.core_of program.now) limit state events (find (takes_turn (A.core_of program.now) limit state) (start ∷ [])) result self.new }
-        ensures less { is_ready self.old.waiters me.process ≡ true → IfOk result (λ tried. IfNone tried (turns_len self.new.waiters < turns_len self.old.waiters)) }
-        ensures awake { IfOk result (λ tried. IfNone tried (self.new.woken ≡ None)) }
-    {
         loop {
-            let tried = self.try_member(program, me)?;
+            let tried = self.try_member(program, process)?;
             match tried {
                 Tried::Asked(came) => return Ok(came),
-                Tried::Unbegun => self.begin_process(me.process)?,
+                Tried::Unbegun => {
+                    let lives = self.begin_process(process)?;
+                    if !lives {
+                        self.waiters.take_out(process);
+                        return Ok(None);
+                    }
+                }
             }
         }
     }
 
-    /// Has a process begin that lives.
+    /// Has a process begin, where it lives, and says whether it does.
     #[cold]
     #[inline(never)]
-    fn begin_process(&mut self, process: u32) -> Result<(), NoMemory>
-        requires lives { IsSome (started self.old.world process) }
-        ensures begun { OnOk result (IsSome (member_of self.new.crew process)) }
+    fn begin_process(&mut self, process: u32) -> Result<bool, NoMemory>
+        ensures lives { IfOk result (λ lives. lives ≡ is_some (started self.old.world process)) }
+        ensures begun { IfOk result (λ lives. IsTrue lives → IsSome (member_of self.new.crew process)) }
         ensures engine { OnOk result ((program : A.Program) (limit : ℕ) (state : State) (events : List Event) → IsEngine (A.asks_after program) A.can_feed (A.core_of program) limit state events self.old → IsEngine (A.asks_after program) A.can_feed (A.core_of program) limit state events self.new) }
         ensures world { self.new.world ≡ self.old.world }
         ensures waiters { self.new.waiters ≡ self.old.waiters }
         ensures woken { self.new.woken ≡ self.old.woken }
     {
         match self.world.started(process) {
-            Some(start) => begin_once(&mut self.crew, self.alloc, start, self.ticks),
-            None => unreachable!(),
+            Some(start) => {
+                begin_once(&mut self.crew, self.alloc, start, self.ticks)?;
+                Ok(true)
+            }
+            None => Ok(false),
         }
     }
 
     /// Has the machine carry out what a process asks, where it has begun.
     #[inline(always)]
-    fn try_member(&mut self, program: &A::Program, me: Me) -> Result<Tried, NoMemory>
-        ensures tries { (limit : ℕ) (state : State) (events : List Event) (start : starts.Start) → IsEngine (A.asks_after program.now) A.can_feed (A.core_of program.now) limit state events self.old → started state.world start.process ≡ Some start → me ≡ me_at start → is_ready self.old.waiters me.process ≡ true → self.old.woken ≡ None → TriesIfBegun (A.asks_after program.now) A.can_feed (A.core_of program.now) limit state events (find (takes_turn (A.core_of program.now) limit state) (start ∷ [])) result self.new }
-        ensures unbegun { IfOk result (λ tried. IfUnbegun tried ((self.new ≡ self.old) × (member_of self.old.crew me.process ≡ None))) }
-        ensures less { is_ready self.old.waiters me.process ≡ true → IfOk result (λ tried. IfAsked tried (λ came. IfNone came (turns_len self.new.waiters < turns_len self.old.waiters))) }
+    fn try_member(&mut self, program: &A::Program, process: u32) -> Result<Tried, NoMemory>
+        ensures tries { (limit : ℕ) (state : State) (events : List Event) → IsEngine (A.asks_after program.now) A.can_feed (A.core_of program.now) limit state events self.old → is_ready self.old.waiters process ≡ true → self.old.woken ≡ None → TriesIfBegun (A.asks_after program.now) A.can_feed (A.core_of program.now) limit state events (turn_of (A.core_of program.now) limit state (started state.world process)) result self.new }
+        ensures unbegun { IfOk result (λ tried. IfUnbegun tried ((self.new ≡ self.old) × (member_of self.old.crew process ≡ None))) }
+        ensures less { is_ready self.old.waiters process ≡ true → IfOk result (λ tried. IfAsked tried (λ came. IfNone came (turns_len self.new.waiters < turns_len self.old.waiters))) }
         ensures awake { IfOk result (λ tried. IfAsked tried (λ came. IfNone came (self.new.woken ≡ None))) }
     {
-        match self.crew.get_mut(&me.process) {
+        match self.crew.get_mut(&process) {
             Some(member) => {
+                let me = Me {
+                    process,
+                    instance: member.instance,
+                };
                 member.look(program)?;
                 match member.actor.asked() {
                     Asks::Asked(ask) => {
                         let core = A::core(program);
-                        let carried = carry_out(
-                            self.alloc,
-                            &mut self.world,
-                            core,
-                            me.process,
-                            ask,
-                        )?;
+                        let carried = carry_out(self.alloc, &mut self.world, core, process, ask)?;
                         self.woken = note(&mut self.waiters, core, me, ask, &carried)?;
-                        Ok(Tried::Asked(member.hear(me.process, carried, &mut self.last)))
+                        Ok(Tried::Asked(member.hear(process, carried, &mut self.last)))
                     }
-                    Asks::OverTicks => Ok(Tried::Asked(Some(Plainly::Over(me.process)))),
+                    Asks::OverTicks => Ok(Tried::Asked(Some(Plainly::Over(process)))),
                 }
             }
             None => Ok(Tried::Unbegun),

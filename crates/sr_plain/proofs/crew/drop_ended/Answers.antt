@@ -1,10 +1,15 @@
-use Rattle.std.proofs.Common.{refl}
-use Rattle.sr_plain.proofs.CrewLemmas.{keeps-same, keeps-then}
+use Rattle.std.proofs.Common.{is_some, rules}
+use Rattle.std.proofs.lemmas.Map.Made.{filter_same_pairs}
+use Rattle.sr_world.specs.Worlds.{started}
+use Rattle.sr_plain.proofs.CrewLemmas.{keeps-living, keeps-none}
 use Rattle.sr_plain.proofs.crew.drop_ended.Goals as goal
 
-pub loop-process-init : goal.loop-process-init
-loop-process-init g c = keeps-same c.args.world.now c.args.crew.now c.args.crew.now refl
+pub returns-clause-keeps : goal.returns-clause-keeps
+returns-clause-keeps g c =
+    keeps-living c.args.world.now c.args.crew.now c.retain.new.self
+    (filter_same_pairs _ (λ e. is_some (started c.args.world.now e.0)) _ (λ k v b w f call. search rules) _ _ c.retain.ensures.filtered)
 
-pub loop-process-preserved : goal.loop-process-preserved
-loop-process-preserved g c =
-    keeps-then c.args.world.now c.args.crew.now c.loop-process.crew c.drop_if_ended.new.crew c.loop-process.invariant c.drop_if_ended.ensures
+pub returns-clause-live : goal.returns-clause-live
+returns-clause-live g c =
+    keeps-none c.args.world.now c.args.crew.now c.retain.new.self
+    (filter_same_pairs _ (λ e. is_some (started c.args.world.now e.0)) _ (λ k v b w f call. search rules) _ _ c.retain.ensures.filtered)

@@ -3,7 +3,7 @@ use Rattle.sr_plain.specs.Crew.{member_of}
 use Rattle.sr_plain.specs.Engine.{IsEngine}
 use Rattle.sr_world.specs.Runs.{Event, State}
 use Rattle.sr_plain.proofs.BeginLemmas.{to_begin}
-use Rattle.sr_plain.proofs.plain.Plain.try_living.Given as goal
+use Rattle.sr_plain.proofs.plain.Plain.try_ready.Given as goal
 
 -- it stands for the same state, and the process may have begun
 abbrev pub invariant-loop-tried : goal.invariant-loop-tried
@@ -12,4 +12,4 @@ invariant-loop-tried g l = (l.self.world ≡ l.fn.self.world) × (l.self.waiters
     → IsEngine (g.A.Actor.asks_after l.program) g.A.Actor.can_feed (g.A.Actor.core_of l.program) limit state events l.self)
 
 abbrev pub decreases-loop-tried : goal.decreases-loop-tried
-decreases-loop-tried g l = to_begin (member_of l.self.crew l.me.process)
+decreases-loop-tried g l = to_begin (member_of l.self.crew l.process)
