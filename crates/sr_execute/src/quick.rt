@@ -1,7 +1,7 @@
-ghost use Rattle.std.specs.Prelude.{◌≡◌, ◌∷◌, IfSome, List, Ok};
+ghost use Rattle.std.specs.Prelude.{◌≡◌, IfSome, Ok, Some};
 ghost use Rattle.sr_value.specs.Operators.{Answers, int_result, value_of};
-ghost use Rattle.sr_value.specs.declared.value.Value.{Value as a_value};
 ghost use Rattle.sr_code.specs.Operands.{drop_value, put_place, put_value};
+ghost use Rattle.sr_code.specs.Stacks.{below, first};
 ghost use Rattle.sr_frame.specs.Scenes.{here_of};
 ghost use Rattle.sr_frame.specs.Variables.{own_value};
 ghost use Rattle.sr_execute.specs.Executes.{begun, ticking, went};
@@ -282,7 +282,8 @@ fn as_int(exact: i64) -> Option<i32>
 
 /// The two numbers on top, where they are numbers, the last put last.
 fn numbers_on(values: &Stack<Value>) -> Option<(i32, i32)>
-    ensures { IfSome result (λ numbers. (rest : List a_value) × (values.now ≡ Value.Int numbers.1 ∷ Value.Int numbers.0 ∷ rest)) }
+    ensures last { IfSome result (λ numbers. first values.now ≡ Some (Value.Int numbers.1)) }
+    ensures before { IfSome result (λ numbers. first (below values.now) ≡ Some (Value.Int numbers.0)) }
 {
     match values.as_slice() {
         [.., Value::Int(x), Value::Int(y)] => Some((*x, *y)),
@@ -304,7 +305,8 @@ fn quick_operate(
     {
         let _ = frame.operands.values.pop();
         let _ = frame.operands.values.pop();
-        return quick_value(frame, value, next);
+        frame.operands.values.push(value)?;
+        return Ok(Carried::Goes(next));
     }
     quick_operate_any(scene, frame, op, next)
 }
