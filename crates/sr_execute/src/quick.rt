@@ -1,5 +1,7 @@
-ghost use Rattle.sr_value.specs.Operators.{Answers};
+ghost use Rattle.std.specs.Prelude.{◌≡◌, IfSome, Ok, Some};
+ghost use Rattle.sr_value.specs.Operators.{Answers, int_result, value_of};
 ghost use Rattle.sr_code.specs.Operands.{drop_value, put_place, put_value};
+ghost use Rattle.sr_code.specs.Stacks.{below, first};
 ghost use Rattle.sr_frame.specs.Scenes.{here_of};
 ghost use Rattle.sr_frame.specs.Variables.{own_value};
 ghost use Rattle.sr_execute.specs.Executes.{begun, ticking, went};
@@ -17,11 +19,12 @@ use crate::quick_variables::{
 };
 use crate::tops::{take_value, top_or};
 use sr_ask::{Located, Own, Spot};
-use sr_code::Instruction;
+use sr_code::{Instruction, Stack};
 use sr_core::{OperationOwner, Scope, number, truth};
 use sr_frame::{Scene, own_stored, own_value, whole};
 use sr_value::{
-    Cap, Duplicate, Fault, NoMemory, Operator, Row, Sel, Shape, Value, ValueFail, arith,
+    Cap, Duplicate, Fault, NoMemory, Operator, Row, Sel, Shape, Value, ValueFail, arith, modulo,
+    remainder,
 };
 use std::alloc::Global;
 
@@ -246,8 +249,72 @@ fn quick_store(scene: &Scene, frame: &mut Frame, next: usize) -> Result<Carried,
     }
 }
 
-/// Two values become the result of an operator.
+/// The value of an operator between two numbers, where it is one that loops often use and no fault.
+#[inline(always)]
+fn value_of_numbers(op: Operator, x: i32, y: i32) -> Option<Value>
+    ensures { IfSome result (λ value. value_of op (Value.Int x) (Value.Int y) ≡ Ok value) }
+{
+    match op {
+        Operator::Add => Some(Value::Int(as_int(i64::from(x) + i64::from(y))?)),
+        Operator::Sub => Some(Value::Int(as_int(i64::from(x) - i64::from(y))?)),
+        Operator::Mul => Some(Value::Int(as_int(i64::from(x) * i64::from(y))?)),
+        Operator::Mod if y != 0 => Some(Value::Int(modulo(x, y))),
+        Operator::Rem if y != 0 => Some(Value::Int(remainder(x, y))),
+        Operator::Eq => Some(Value::Bool(x == y)),
+        Operator::Ne => Some(Value::Bool(x != y)),
+        Operator::Lt => Some(Value::Bool(x < y)),
+        Operator::Le => Some(Value::Bool(x <= y)),
+        Operator::Gt => Some(Value::Bool(x > y)),
+        Operator::Ge => Some(Value::Bool(x >= y)),
+        _ => None,
+    }
+}
+
+/// A whole number, where it is an `int`.
+fn as_int(exact: i64) -> Option<i32>
+    ensures { IfSome result (λ number. int_result exact ≡ Ok (Value.Int number)) }
+{
+    match i32::try_from(exact) {
+        Ok(number) => Some(number),
+        Err(_) => None,
+    }
+}
+
+/// The two numbers on top, where they are numbers, the last put last.
+fn numbers_on(values: &Stack<Value>) -> Option<(i32, i32)>
+    ensures last { IfSome result (λ numbers. first values.now ≡ Some (Value.Int numbers.1)) }
+    ensures before { IfSome result (λ numbers. first (below values.now) ≡ Some (Value.Int numbers.0)) }
+{
+    match values.as_slice() {
+        [.., Value::Int(x), Value::Int(y)] => Some((*x, *y)),
+        _ => None,
+    }
+}
+
+/// Two values become the result of an operator. Two numbers are looked at first.
 fn quick_operate(
+    scene: &Scene,
+    frame: &mut Frame,
+    op: Operator,
+    next: usize,
+) -> Result<Carried, NoMemory>
+    ensures { DoesOrLeaves result frame.old frame.new (begun scene.now.names.now (instruction.Operate op) (here_of scene.now) next frame.old.operands frame.old) }
+{
+    if let Some((x, y)) = numbers_on(&frame.operands.values)
+        && let Some(value) = value_of_numbers(op, x, y)
+    {
+        let _ = frame.operands.values.pop();
+        let _ = frame.operands.values.pop();
+        frame.operands.values.push(value)?;
+        return Ok(Carried::Goes(next));
+    }
+    quick_operate_any(scene, frame, op, next)
+}
+
+/// Two values of any types become the result of an operator.
+// In `quick_operate` its temporaries would be filled for numbers too.
+#[inline(never)]
+fn quick_operate_any(
     scene: &Scene,
     frame: &mut Frame,
     op: Operator,
