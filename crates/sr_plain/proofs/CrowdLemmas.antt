@@ -3,18 +3,21 @@ use Rattle.std.proofs.Common.{◌≡◌, ◌⊎◌, inl, inr, ◌<◌, ◌≤◌
 use Rattle.std.proofs.lemmas.Bool.{lt-ltb, ltb-true}
 use Rattle.std.proofs.lemmas.List.{take_all}
 use Rattle.std.proofs.lemmas.List.Folds.{list_any_more}
+use Rattle.std.proofs.lemmas.List.Quantifiers.{position-Some}
 use Rattle.std.proofs.lemmas.List.Sums.{sum_by-remove, sum_by-set}
+use Rattle.std.proofs.lemmas.Option.{slice_get_cases}
 use Rattle.std.specs.BTreeMap.{is_at}
 use Rattle.std.specs.BTreeSet.{BTreeSet, Updates, btree_set_len, contains}
 use Rattle.std.specs.HashMap.{UpdatesBy, get}
 use Rattle.std.specs.List.{list_any, sum_by}
 use Rattle.std.specs.Ordering.{nat_cmp}
-use Rattle.std.specs.Prelude.{IfNone, IfSome, nat_lt, remove, slice_get, slice_set}
+use Rattle.std.specs.Prelude.{IfNone, IfSome, find, nat_lt, position, remove, slice_get, slice_set}
+use Rattle.sr_calls.proofs.FirstLemmas.{none-found, place-within}
 use Rattle.sr_queue.proofs.ClassLemmas.{same_class-itself, same_parts}
 use Rattle.sr_queue.specs.Classes.{same_class}
 use Rattle.sr_queue.specs.declared.class.Class.{Class}
 use Rattle.sr_store.proofs.BlockLemmas.{same-test}
-use Rattle.sr_plain.specs.Waiting.{HasLeft, HaveOpened, HoldsNobody, HoldsProcess, IsFirst, IsNext, IsOpenedAt, IsPromoted, IsPutBack, IsShut, LeavesCrowd, StaysOpen, WaitsThere, crowds_len, is_among, is_closed, is_open, is_open_at, is_ready, may_go, same_variable, turns_len, waits}
+use Rattle.sr_plain.specs.Waiting.{HasLeft, HaveOpened, HoldsClass, HoldsNobody, HoldsProcess, IsFirst, IsNext, IsOpenedAt, IsPromoted, IsPutBack, IsShut, LeavesCrowd, StaysOpen, WaitsThere, crowds_len, is_among, is_closed, is_open, is_open_at, is_ready, may_go, same_variable, turns_len, waits}
 use Rattle.sr_plain.specs.declared.crowd.Opened.{Opened}
 use Rattle.sr_plain.specs.declared.waiters.Place.{Place}
 use Rattle.sr_plain.specs.declared.waiters.Place.TheVariants.{Watched, Served, Stored, Idle}
@@ -479,3 +482,39 @@ first-any last other = and-off (nat_lt last other)
 pub may-first : (waiters : Waiters) (last : ℕ) (r : Option ℕ) → IsFirst (λ q. (nat_lt last q && is_ready waiters q) || (nat_lt last q && is_open waiters.opened q)) r → IsFirst (λ q. nat_lt last q && may_go waiters q) r
 may-first waiters last =
     first-same (λ q. (nat_lt last q && is_ready waiters q) || (nat_lt last q && is_open waiters.opened q)) (λ q. nat_lt last q && may_go waiters q) (λ q. shared-and (nat_lt last q) (is_ready waiters q) (is_open waiters.opened q))
+
+-- ---- where a crowd stands
+
+module _ {X : Type 0} (test : X → Bool) where
+  record IsAt (xs : List X) (place : ℕ) : Type 0 where
+    item : X
+    here : slice_get xs place ≡ Some item
+    passes : test item ≡ true
+
+  is-at : (xs : List X) (place : ℕ) → position test xs ≡ Some place → IsAt xs place
+  is-at xs place at = by (slice_get_cases xs place).1
+    where
+      by : ((x : X) × (place < length xs) × (slice_get xs place ≡ Some x) × (get_or xs place x ≡ x)) ⊎ ((length xs ≤ place) × (slice_get xs place ≡ None)) → IsAt xs place
+      by (inl (x, within, here, is)) = record { item = x; here = here; passes = subst (λ y. test y ≡ true) is (position-Some test xs place x at).1 }
+      by (inr (past, none)) = let within : place < length xs = place-within test xs place at in absurd (omega (arith, past, within))
+
+  none-passes : (xs : List X) → find test xs ≡ None → list_any test xs ≡ false
+  none-passes [] none = refl
+  none-passes (x ∷ xs) none = by (test x) none (none-passes xs)
+    where
+      by : (b : Bool) → cond b (Some x) (find test xs) ≡ None → (find test xs ≡ None → list_any test xs ≡ false) → (b || list_any test xs) ≡ false
+      by true h more = absurd (cc)
+      by false h more = more h
+
+pub holds-class : (crowds : List Opened) (class : Class) (r : Option ℕ) → r ≡ position (λ (o : Opened). same_class o.class class) crowds → IfSome r (HoldsClass crowds class)
+holds-class crowds class None is = tt
+holds-class crowds class (Some place) is = let at = is-at (λ (o : Opened). same_class o.class class) crowds place (sym is) in record { crowd = at.item; here = at.here; same = at.passes }
+
+pub holds-process : (crowds : List Opened) (process : ℕ) (r : Option ℕ) → r ≡ position (λ (o : Opened). contains nat_cmp o.processes process) crowds → IfSome r (HoldsProcess crowds process)
+holds-process crowds process None is = tt
+holds-process crowds process (Some place) is = let at = is-at (λ (o : Opened). contains nat_cmp o.processes process) crowds place (sym is) in record { crowd = at.item; here = at.here; holds = at.passes }
+
+pub holds-nobody : (crowds : List Opened) (process : ℕ) (r : Option ℕ) → r ≡ position (λ (o : Opened). contains nat_cmp o.processes process) crowds → IfNone r (is_open crowds process ≡ false)
+holds-nobody crowds process None is =
+    none-passes (λ (o : Opened). contains nat_cmp o.processes process) crowds (none-found (λ (o : Opened). contains nat_cmp o.processes process) crowds (sym is))
+holds-nobody crowds process (Some place) is = tt

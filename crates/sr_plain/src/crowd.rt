@@ -120,12 +120,7 @@ pub(crate) fn take_from(crowds: &mut Row<Opened>, place: usize, process: u32)
 pub(crate) fn place_of(crowds: &[Opened], class: Class) -> Option<usize>
     ensures { IfSome result (HoldsClass crowds.now class) }
 {
-    for place in 0..crowds.len() {
-        if crowds[place].class == class {
-            return Some(place);
-        }
-    }
-    None
+    crowds.iter().position(|crowd| crowd.class == class)
 }
 
 /// Where a process stands.
@@ -133,10 +128,7 @@ pub(crate) fn place_with(crowds: &[Opened], process: u32) -> Option<usize>
     ensures some { IfSome result (HoldsProcess crowds.now process) }
     ensures none { IfNone result (is_open crowds.now process ≡ false) }
 {
-    for place in 0..crowds.len() {
-        if crowds[place].processes.contains(&process) {
-            return Some(place);
-        }
-    }
-    None
+    crowds
+        .iter()
+        .position(|crowd| crowd.processes.contains(&process))
 }
