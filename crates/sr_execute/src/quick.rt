@@ -40,7 +40,7 @@ pub enum Carried {
 }
 
 /// Carries out an instruction that loops or rendezvous often use, where it asks nothing.
-// The arms from `quick_constant` on are one call each, which isn't inlined: their temporaries would be filled for each
+// Of the arms from `quick_constant` on those are calls that aren't inlined whose temporaries would be filled for each
 // instruction.
 pub fn execute_quickly(
     scene: &Scene,
@@ -138,7 +138,7 @@ fn quick_constant(
 }
 
 /// A shape that is fixed goes on the operands.
-#[inline(never)]
+#[inline(always)]
 fn quick_fixed_shape(
     scene: &Scene,
     frame: &mut Frame,
@@ -153,7 +153,7 @@ fn quick_fixed_shape(
 }
 
 /// The capability of an operation goes on the operands.
-#[inline(never)]
+#[inline(always)]
 fn quick_operation(
     scene: &Scene,
     frame: &mut Frame,

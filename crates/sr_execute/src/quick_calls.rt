@@ -23,7 +23,7 @@ pub fn quick_arguments(scene: &Scene, frame: &mut Frame, next: usize) -> Result<
 }
 
 /// A list without values goes on the operands.
-#[inline(never)]
+#[inline(always)]
 pub fn quick_no_values(scene: &Scene, frame: &mut Frame, next: usize) -> Result<Carried, NoMemory>
     ensures { DoesOrLeaves result frame.old frame.new (begun scene.now.names.now instruction.NoValues (here_of scene.now) next frame.old.operands frame.old) }
 {
@@ -31,7 +31,7 @@ pub fn quick_no_values(scene: &Scene, frame: &mut Frame, next: usize) -> Result<
 }
 
 /// The list on top goes.
-#[inline(never)]
+#[inline(always)]
 pub fn quick_drop_list(frame: &mut Frame, next: usize) -> Result<Carried, NoMemory>
     ensures { DoesOrLeaves result frame.old frame.new (went next (drop_list frame.old.operands) frame.old) }
 {
@@ -40,6 +40,7 @@ pub fn quick_drop_list(frame: &mut Frame, next: usize) -> Result<Carried, NoMemo
 }
 
 /// A list goes on the operands.
+#[inline(always)]
 fn quick_list(frame: &mut Frame, list: Row<Value>, next: usize) -> Result<Carried, NoMemory>
     ensures { DoesOrLeaves result frame.old frame.new (went next (put_list list frame.old.operands) frame.old) }
 {
@@ -156,7 +157,7 @@ pub fn quick_end_service(scene: &Scene, frame: &mut Frame, next: usize) -> Resul
 }
 
 /// Goes on where the results were given.
-#[inline(never)]
+#[inline(always)]
 pub fn quick_reply(scene: &Scene, frame: &Frame, next: usize) -> Result<Carried, NoMemory>
     ensures { DoesOrLeaves result frame.now frame.now (begun scene.now.names.now instruction.Reply (here_of scene.now) next frame.now.operands frame.now) }
 {

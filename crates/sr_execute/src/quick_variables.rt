@@ -60,7 +60,7 @@ fn quick_made_of(
 }
 
 /// Makes an own variable of a shape.
-#[inline(never)]
+#[inline(always)]
 pub fn quick_make(
     scene: &Scene,
     frame: &mut Frame,
@@ -91,7 +91,7 @@ pub fn quick_store_in(
 }
 
 /// Makes a formal that is an own variable.
-#[inline(never)]
+#[inline(always)]
 pub fn quick_make_formal(
     scene: &Scene,
     frame: &mut Frame,
@@ -110,7 +110,7 @@ pub fn quick_make_formal(
 }
 
 /// Stores the next argument of the list in its formal, which is an own variable.
-#[inline(never)]
+#[inline(always)]
 pub fn quick_store_formal(
     scene: &Scene,
     frame: &mut Frame,

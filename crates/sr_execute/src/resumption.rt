@@ -19,6 +19,7 @@ use sr_value::{Cap, NoMemory, Row, Value};
 use std::alloc::Global;
 
 /// Goes on after `Done`.
+#[inline(always)]
 fn after_done(frame: &Frame, answer: Answer, to: usize) -> Result<Option<usize>, NoMemory>
     ensures { Leads result frame.now frame.now (led (done answer) (λ _. moved to frame.now.operands frame.now)) }
 {
@@ -115,6 +116,7 @@ fn put_age(frame: &mut Frame, answer: Answer, next: usize) -> Result<Option<usiz
 }
 
 /// The number of an invocation goes on the operands.
+#[inline(always)]
 fn put_made(frame: &mut Frame, answer: Answer, next: usize) -> Result<Option<usize>, NoMemory>
     ensures { Leads result frame.old frame.new (led (made answer) (λ name. moved next (put_name name frame.old.operands) frame.old)) }
 {
@@ -141,6 +143,7 @@ fn mark_made(frame: &mut Frame, answer: Answer, next: usize) -> Result<Option<us
 }
 
 /// The service has answered.
+#[inline(always)]
 fn mark_done(frame: &mut Frame, answer: Answer, next: usize) -> Result<Option<usize>, NoMemory>
     ensures { Leads result frame.old frame.new (led (done answer) (λ _. moved next frame.old.operands (marked frame.old))) }
 {
@@ -173,6 +176,7 @@ fn pass_got(
 }
 
 /// The results of a reply become a list.
+#[inline(always)]
 fn take_results(
     alloc: Global,
     frame: &mut Frame,
@@ -251,6 +255,7 @@ struct Ways<'a> {
 }
 
 /// An invocation that was chosen, or `else`.
+#[inline(always)]
 fn choose(
     frame: &mut Frame,
     selection: Option<Selection>,

@@ -86,6 +86,7 @@ fn load_place(
 }
 
 /// A place becomes what it holds.
+#[inline(always)]
 pub fn load(scene: &Scene, frame: &mut Frame, next: usize) -> Result<Step, NoMemory>
     ensures { Does result frame.new (begun scene.now.names.now instruction.Load (here_of scene.now) next frame.old.operands frame.old) }
 {
@@ -102,6 +103,7 @@ pub fn load_again(scene: &Scene, frame: &mut Frame, next: usize) -> Result<Step,
 }
 
 /// A value goes to the place on top.
+#[inline(always)]
 pub fn store(scene: &Scene, frame: &mut Frame, next: usize) -> Result<Step, NoMemory>
     ensures { Does result frame.new (begun scene.now.names.now instruction.Store (here_of scene.now) next frame.old.operands frame.old) }
 {

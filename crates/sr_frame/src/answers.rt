@@ -88,6 +88,7 @@ pub fn read_item(answer: Answer) -> Option<InputItem>
 }
 
 /// `Took`, of one invocation.
+#[inline(always)]
 pub fn took(wanted: u32, answer: Answer) -> Option<Taken>
     ensures { result ≡ took (wanted ∷ []) answer }
 {

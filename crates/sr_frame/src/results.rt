@@ -18,6 +18,7 @@ pub fn take_first<T: Drop>(row: &mut Row<T>) -> Option<T>
 }
 
 /// The value of a call, whose other results were stored.
+#[inline(always)]
 pub fn value_after(values: Row<Value>) -> Value
     ensures { result ≡ value_after values }
 {

@@ -72,6 +72,7 @@ impl Processes {
     }
 
     /// What a process was started with, where it lives.
+    #[inline(always)]
     pub fn start(&self, process: u32) -> Option<&Start>
         ensures { option_copied result ≡ start_of self.now.starts process }
     {
