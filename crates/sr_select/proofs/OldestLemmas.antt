@@ -1,6 +1,6 @@
 -- A statement of one arm without `and` and `by` services the first invocation of the arm's operation.
-use Rattle.std.proofs.Common.{◌≡◌, ℕ, ◌+◌, Bool, true, false, List, [], ◌∷◌, ◌++◌, refl, ap, sym, ◌∙◌, cond}
-use Rattle.std.specs.Prelude.{Option, Some, None, is_none, option_map, ◌&&◌}
+use Rattle.std.proofs.Common.{◌≡◌, ℕ, ◌+◌, ◌<◌, ◌≤◌, length, get_or, Bool, true, false, List, [], ◌∷◌, ◌++◌, refl, ap, sym, ◌∙◌, cond, true≢false, arith}
+use Rattle.std.specs.Prelude.{Option, Some, None, is_none, is_some, option_map, ◌&&◌}
 use Rattle.std.specs.List.{cons_option, enumerate_from, list_all, position_from}
 use Rattle.sr_value.specs.declared.capability.Owner.{Owner}
 use Rattle.sr_value.specs.declared.value.Value.{Value}
@@ -40,16 +40,45 @@ module _ (owner : Owner) (arm : Arm) where
       by true more = refl
       by false more = more
 
-plain-of-none : (guard order : Option Expr) → guard ≡ None → order ≡ None → (is_none guard && is_none order) ≡ true
-plain-of-none guard order without_guard without_order = ap (λ (g : Option Expr). is_none g && is_none order) without_guard ∙ ap (λ (o : Option Expr). is_none o) without_order
+none-of : (o : Option Expr) → is_some o ≡ false → is_none o ≡ true
+none-of None h = refl
+none-of (Some expr) h = absurd (true≢false h)
 
-module _ (reading : Reading) (site : Site) (me : Me) (env : List Value) (items : List Pending) (arm : Arm) (one : site.arms ≡ arm ∷ []) (no_guard : arm.guard ≡ None) (no_order : arm.by ≡ None) where
+plain-of : (guard order : Option Expr) → is_some guard ≡ false → is_some order ≡ false → (is_none guard && is_none order) ≡ true
+plain-of guard order no_guard no_order = ap (λ (b : Bool). b && is_none order) (none-of guard no_guard) ∙ none-of order no_order
+
+one-of : (arms : List Arm) (arm : Arm) → 1 ≤ length arms → length arms < 2 → arm ≡ get_or arms 0 arm → arms ≡ arm ∷ []
+one-of [] arm some few is = absurd (omega (arith, some))
+one-of (first ∷ []) arm some few is = ap (λ (a : Arm). a ∷ []) (sym is)
+one-of (first ∷ other ∷ more) arm some few is = absurd (omega (arith, few))
+
+-- the arm of a statement that has one, without `and` and `by`
+pub record OnePlain (arms : List Arm) (arm : Arm) : Type 0 where
+  pub some : 1 ≤ length arms
+  pub few : length arms < 2
+  pub is : arm ≡ get_or arms 0 arm
+  pub no_guard : is_some arm.guard ≡ false
+  pub no_order : is_some arm.by ≡ false
+
+module _ (reading : Reading) (site : Site) (me : Me) (env : List Value) (items : List Pending) (arm : Arm) (arms : List Arm) (same : arms ≡ site.arms) (one : OnePlain arms arm) where
+  abbrev Next : Option ℕ
+  Next = next_waiting (owner_in site.scope me) arm.op 0 items
+
+  alone : site.arms ≡ arm ∷ []
+  alone = sym same ∙ one-of arms arm one.some one.few one.is
+
   all-plain : list_all is_plain site.arms ≡ true
-  all-plain = ap (λ (arms : List Arm). list_all is_plain arms) one ∙ ap (λ (b : Bool). b && true) (plain-of-none arm.guard arm.by no_guard no_order)
+  all-plain = ap (λ (list : List Arm). list_all is_plain list) alone ∙ ap (λ (b : Bool). b && true) (plain-of arm.guard arm.by one.no_guard one.no_order)
 
   -- the choice by the first invocation of the arm's operation
-  pub one-plain : choice reading site me env items ≡ otherwise site.has_else (by_place (next_waiting (owner_in site.scope me) arm.op 0 items))
-  one-plain =
+  by-next : choice reading site me env items ≡ otherwise site.has_else (by_place Next)
+  by-next =
       oldest-first reading site me env items all-plain
-      ∙ ap (λ (arms : List Arm). otherwise site.has_else (by_pair (first_of (pairs (owner_in site.scope me) (enumerate_from 0 arms) (enumerate_from 0 items))))) one
+      ∙ ap (λ (list : List Arm). otherwise site.has_else (by_pair (first_of (pairs (owner_in site.scope me) (enumerate_from 0 list) (enumerate_from 0 items))))) alone
       ∙ ap (otherwise site.has_else) (first-pair (owner_in site.scope me) arm 0 items)
+
+  pub serves-next : (place : ℕ) → Next ≡ Some place → Service place 0 ≡ choice reading site me env items
+  serves-next place at = sym (by-next ∙ ap (λ (next : Option ℕ). otherwise site.has_else (by_place next)) at)
+
+  pub serves-none : Next ≡ None → otherwise site.has_else None ≡ choice reading site me env items
+  serves-none none = sym (by-next ∙ ap (λ (next : Option ℕ). otherwise site.has_else (by_place next)) none)
