@@ -2,7 +2,7 @@
 use Rattle.std.proofs.Common.{ap, sym, ◌∙◌}
 use Rattle.sr_queue.specs.Classes.{next_waiting}
 use Rattle.sr_value.specs.declared.capability.Owner.{Owner}
-use Rattle.sr_select.proofs.OldestLemmas.{OnePlain, serves-next, serves-none}
+use Rattle.sr_select.proofs.OldestLemmas.{serves-next, serves-none}
 use Rattle.sr_select.proofs.choosing.choose_plainly.Goals as goal
 
 pub returns-in-Some : goal.returns-in-Some
