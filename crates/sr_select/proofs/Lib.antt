@@ -7,6 +7,7 @@ pub mod LeastLemmas
 pub mod MoreLemmas
 pub mod NameLemmas
 pub mod NamedLemmas
+pub mod OldestLemmas
 pub mod PlaceLemmas
 pub mod TwinLemmas
 pub mod WatchedLemmas

@@ -1,8 +1,10 @@
-ghost use Rattle.std.specs.Prelude.{◌≡◌, ℕ, ◌++◌, false, slice_get, IfOk, None, OnOk, Some};
+ghost use Rattle.std.specs.Prelude.{◌≡◌, ℕ, ◌++◌, false, slice_get, IfOk, IfSome, List, None, OnOk, Some};
 ghost use Rattle.sr_value.specs.Operators.{Answers};
+ghost use Rattle.sr_value.specs.declared.value.Value.{Value};
 ghost use Rattle.sr_select.specs.Choices.{choice, choice_seen, otherwise, owner_in};
 ghost use Rattle.sr_select.specs.Closing.{AreClosed, closes, is_closed};
 ghost use Rattle.sr_select.specs.Looks.{Adds, result_of};
+ghost use Rattle.sr_select.specs.Readings.{Reading};
 ghost use Rattle.sr_select.specs.Selections.{choice_from, pairs_at, pairs_in, seen_by, seen_from, serviced_by};
 ghost use Rattle.sr_select.specs.Sights.{seeing};
 ghost use Rattle.sr_select.specs.Steps.{passes_one};
@@ -235,9 +237,25 @@ pub fn choose_and_see<R: Reads>(
     choose_among(alloc, queue, site, me, env, reads, Closed::Never)
 }
 
-/// What an `in` statement of a process does: it services an invocation, runs its `else`, waits, or faults.
-/// Where a guard that names no formal of its arm is false, it isn't evaluated for other invocations.
-pub fn choose<R: Reads>(
+/// What an `in` statement of a process does that has one arm, without `and` and `by`: it services the oldest invocation.
+fn choose_plainly(queue: &Queue, site: &Site, me: Me) -> Option<Choice>
+    ensures { (reading : Reading) (env : List Value) → IfSome result (λ chosen. chosen ≡ choice reading site.now me env queue.now.items) }
+{
+    let [arm] = site.arms.as_slice() else {
+        return None;
+    };
+    if arm.guard.is_some() || arm.by.is_some() {
+        return None;
+    }
+    Some(match queue.next_of(owner_in(site.scope, me), arm.op, 0) {
+        Some(place) => Choice::Service { place, arm: 0 },
+        None => unserviced(site),
+    })
+}
+
+/// What an `in` statement of a process does, whatever arms it has.
+#[inline(never)]
+fn choose_closing<R: Reads>(
     alloc: Global,
     queue: &Queue,
     site: &Site,
@@ -250,4 +268,22 @@ pub fn choose<R: Reads>(
     let closed = Closed::Arms(Row::new(alloc));
     let chosen = choose_among(alloc, queue, site, me, env, reads, closed)?;
     Ok(chosen.choice)
+}
+
+/// What an `in` statement of a process does: it services an invocation, runs its `else`, waits, or faults.
+/// Where a guard that names no formal of its arm is false, it isn't evaluated for other invocations.
+pub fn choose<R: Reads>(
+    alloc: Global,
+    queue: &Queue,
+    site: &Site,
+    me: Me,
+    env: &Row<Value>,
+    reads: &R,
+) -> Result<Choice, NoMemory>
+    ensures { IfOk result (λ chosen. chosen ≡ choice (R.reading reads.now) site.now me env.now queue.now.items) }
+{
+    match choose_plainly(queue, site, me) {
+        Some(choice) => Ok(choice),
+        None => choose_closing(alloc, queue, site, me, env, reads),
+    }
 }

@@ -8,16 +8,7 @@ use sr_core::{Arm, Home, Leaf, Root, SharedRead, Site};
 fn same_home(home: Home, other: Home) -> bool
     ensures { result ≡ same_home home other }
 {
-    match home {
-        Home::Mine => match other {
-            Home::Mine => true,
-            Home::Imported(_) => false,
-        },
-        Home::Imported(import) => match other {
-            Home::Mine => false,
-            Home::Imported(other) => import == other,
-        },
-    }
+    home == other
 }
 
 /// Whether it is this variable.
