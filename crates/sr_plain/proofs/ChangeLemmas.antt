@@ -16,10 +16,10 @@ use Rattle.sr_core.specs.declared.site.Site.{Site}
 use Rattle.sr_instances.specs.Instances.{global_in, state_of}
 use Rattle.sr_instances.specs.declared.state.State.{State as InstanceState}
 use Rattle.sr_instances.specs.declared.state.State.TheVariants.{Starting, Ready, Closing, Gone}
+use Rattle.sr_queue.specs.Queues.{is_of}
 use Rattle.sr_queue.specs.declared.pending.Pending.{Pending}
 use Rattle.sr_select.proofs.LawProofs.{serves-pending}
 use Rattle.sr_select.specs.Choices.{owner_in}
-use Rattle.sr_queue.specs.Queues.{is_of}
 use Rattle.sr_select.specs.Laws.{Services, is_in_class}
 use Rattle.sr_select.specs.declared.choice.Choice.{Choice}
 use Rattle.sr_select.specs.declared.choice.Choice.TheVariants as chosen
