@@ -47,7 +47,7 @@ use Rattle.sr_plain.specs.declared.waiters.Place.{Place}
 use Rattle.sr_plain.specs.declared.waiters.Place.TheVariants.{Watched, Served, Stored, Idle}
 use Rattle.sr_plain.specs.declared.waiters.Waiters.{Waiters}
 use Rattle.sr_plain.proofs.ChangeLemmas.{Keeps, KeepsIf, keeps}
-use Rattle.sr_plain.proofs.IdleLemmas.{cannot_none, pending-kept, same-operation}
+use Rattle.sr_plain.proofs.IdleLemmas.{cannot_none, none-pending-still, same-operation}
 use Rattle.sr_plain.proofs.WakeLemmas.{as-before, still_waits}
 
 -- ---- who is found
@@ -315,7 +315,7 @@ module _ (core : Core) (limit : ℕ) (state : State) where
       aside = λ q s is unready unwoken.
           stays q s is unready (three-off (wakes (change_of core (me_at start) asks a) (λ k. waits waiters k q)) (caller_in state.world start.process asks.request == q) (name == q) unwoken);
       closed = λ owner op q here off.
-          sym (pending-kept start.process (caller_in state.world start.process asks.request) (change_of core (me_at start) asks a) state.world new kept owner op off) ∙ are.closed owner op q here refl;
+          none-pending-still start.process (caller_in state.world start.process asks.request) (change_of core (me_at start) asks a) state.world new kept owner op off (are.closed owner op q here refl);
     }
       where
         kept : Keeps start.process (caller_in state.world start.process asks.request) (change_of core (me_at start) asks a) state.world new

@@ -16,6 +16,7 @@ use Rattle.sr_core.specs.declared.site.Site.{Site}
 use Rattle.sr_instances.specs.Instances.{global_in, state_of}
 use Rattle.sr_instances.specs.declared.state.State.{State as InstanceState}
 use Rattle.sr_instances.specs.declared.state.State.TheVariants.{Starting, Ready, Closing, Gone}
+use Rattle.sr_queue.specs.Queues.{is_of}
 use Rattle.sr_queue.specs.declared.pending.Pending.{Pending}
 use Rattle.sr_select.proofs.LawProofs.{serves-pending}
 use Rattle.sr_select.specs.Choices.{owner_in}
@@ -46,7 +47,7 @@ use Rattle.sr_world.specs.declared.duty.Duty.{Duty}
 use Rattle.sr_world.specs.Callers.{caller_in}
 use Rattle.sr_plain.specs.Changes.{arrival, call_of, change_by, change_of_call, change_of_end, change_of_reply, chosen_at, goes_at}
 use Rattle.sr_plain.specs.declared.change.Change.{Change}
-use Rattle.sr_plain.specs.declared.change.Change.TheVariants.{Nothing, Watched, Variable, Class, Everything}
+use Rattle.sr_plain.specs.declared.change.Change.TheVariants.{Nothing, Watched, Variable, Class, Gone, Everything}
 use Rattle.sr_plain.proofs.StoreLemmas.{declared-apart, stored-apart}
 
 -- ---- what a step keeps
@@ -80,11 +81,17 @@ module _ (actor caller : ℕ) where
     pub pending : (other : Owner) (class : ℕ → Bool) → (class op && owner_eq owner other) ≡ false → filter (is_in_class other class) old.pending ≡ filter (is_in_class other class) new.pending
     pub variables : old.variables ≡ new.variables
 
+  -- of no operation more invocations wait, and of others the same
+  pub record Fewer (owner : Owner) (op : ℕ) (old new : World) : Type 0 where
+    pub apart : Apart owner op old new
+    pub none : (other : Owner) (n : ℕ) → filter (is_of other n) old.pending ≡ [] → filter (is_of other n) new.pending ≡ []
+
   abbrev pub Keeps : Change → World → World → Type 0
   Keeps Nothing old new = Still old new
   Keeps Watched old new = Waits old new
   Keeps (Variable block var) old new = Stores block var old new
   Keeps (Class owner op) old new = Apart owner op old new
+  Keeps (Gone owner op) old new = Fewer owner op old new
   Keeps Everything old new = Unit {0}
 
   abbrev pub KeepsIf : (Answer → Change) → World → Does → Type 0
@@ -223,6 +230,21 @@ filter-removed test [] (suc place) p is off = refl
 filter-removed test (x ∷ xs) zero p is off = let same : x ≡ p = cc in ap (λ b. cond b (x ∷ filter test xs) (filter test xs)) (ap test same ∙ off)
 filter-removed test (x ∷ xs) (suc place) p is off = ap (λ ys. cond (test x) (x ∷ ys) ys) (filter-removed test xs place p is off)
 
+-- the first doesn't pass a test that none passes
+pub off-first : {X : Type 0} (test : X → Bool) (x : X) (xs : List X) → filter test (x ∷ xs) ≡ [] → (test x ≡ false) × (filter test xs ≡ [])
+off-first test x xs none = by (test x) refl none
+  where
+    by : (b : Bool) → test x ≡ b → cond b (x ∷ filter test xs) (filter test xs) ≡ [] → (test x ≡ false) × (filter test xs ≡ [])
+    by true is h = absurd (cc)
+    by false is h = (is, h)
+
+none-removed : (test : Pending → Bool) (xs : List Pending) (place : ℕ) → filter test xs ≡ [] → filter test (remove xs place) ≡ []
+none-removed test [] zero none = refl
+none-removed test [] (suc place) none = refl
+none-removed test (x ∷ xs) zero none = (off-first test x xs none).1
+none-removed test (x ∷ xs) (suc place) none =
+    let first = off-first test x xs none in ap (λ b. cond b (x ∷ filter test (remove xs place)) (filter test (remove xs place))) first.0 ∙ none-removed test xs place first.1
+
 pub same-owner : (a b : Owner) → owner_eq a b ≡ true → a ≡ b
 same-owner (Inst x) (Inst y) is = ap Inst (eqb-true x y is)
 same-owner (Inst x) (Proc y) is = absurd (true≢false (sym is))
@@ -236,12 +258,7 @@ both-true false b is = absurd (true≢false (sym is))
 module _ (core : Core) (w : World) (actor : ℕ) (me : Me) (me_is : me_of w actor ≡ me) where
   serviced : (s : Site) (env : List Value) (place arm : ℕ) (p : Pending) → choice_of core w actor env s ≡ chosen.Service place arm → slice_get w.pending place ≡ Some p
       → KeepsIf actor 0 (chosen_at me (Some s)) w (service w actor place arm p)
-  serviced s env place arm p is here = subst (λ o. Keeps actor 0 (goes_at (owner_in s.scope me) o) w there) (sym served.is_arm) (record {
-    heard = heard-same actor 0 w there refl refl;
-    pending = λ other class off. filter-removed (is_in_class other class) w.pending place p here
-        (ap (λ n. class n && owner_eq p.owner other) named.0 ∙ ap (λ o. class served.arm.op && owner_eq o other) (named.1 ∙ ap (λ (m : Me). owner_in s.scope m) me_is) ∙ off);
-    variables = refl;
-  })
+  serviced s env place arm p is here = subst (λ o. Keeps actor 0 (goes_at (owner_in s.scope me) o) w there) (sym served.is_arm) (record { apart = apart; none = λ other n none. none-removed (is_of other n) w.pending place none })
     where
       served : Services s (me_of w actor) w.pending place arm
       served = serves-pending (reading_of core w actor) s (me_of w actor) env w.pending place arm is
@@ -256,6 +273,14 @@ module _ (core : Core) (w : World) (actor : ℕ) (me : Me) (me_is : me_of w acto
             sym (ap (λ (x : Pending). x.op) same) ∙ eqb-true served.invocation.op served.arm.op of.0,
             sym (ap (λ (x : Pending). x.owner) same) ∙ same-owner served.invocation.owner (owner_in s.scope (me_of w actor)) of.1,
           )
+
+      apart : Apart actor 0 (owner_in s.scope me) served.arm.op w there
+      apart = record {
+        heard = heard-same actor 0 w there refl refl;
+        pending = λ other class off. filter-removed (is_in_class other class) w.pending place p here
+            (ap (λ n. class n && owner_eq p.owner other) named.0 ∙ ap (λ o. class served.arm.op && owner_eq o other) (named.1 ∙ ap (λ (m : Me). owner_in s.scope m) me_is) ∙ off);
+        variables = refl;
+      }
 
   chooses : (s : Site) (env : List Value) (c : Choice) → choice_of core w actor env s ≡ c → KeepsIf actor 0 (chosen_at me (Some s)) w (by_choice w actor s c)
   chooses s env (chosen.Service place arm) is = by (slice_get w.pending place) refl

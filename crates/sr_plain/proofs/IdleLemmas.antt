@@ -30,18 +30,19 @@ use Rattle.sr_plain.specs.Waiting.{is_open, is_open_at, is_simple, opens}
 use Rattle.sr_plain.specs.declared.change.Change.{Change}
 use Rattle.sr_plain.specs.declared.change.Change.TheVariants as change
 use Rattle.sr_plain.specs.declared.crowd.Opened.{Opened}
-use Rattle.sr_plain.proofs.ChangeLemmas.{Keeps}
+use Rattle.sr_plain.proofs.ChangeLemmas.{Keeps, off-first}
 
 -- ---- what stays pending
 
--- of an operation that isn't opened the same are pending
-pub pending-kept : (actor caller : ℕ) (change : Change) (old new : World) → Keeps actor caller change old new → (owner : Owner) (op : ℕ) → opens change owner op ≡ false
-    → filter (is_of owner op) old.pending ≡ filter (is_of owner op) new.pending
-pending-kept actor caller change.Nothing old new keeps owner op off = ap (filter (is_of owner op)) keeps.pending
-pending-kept actor caller change.Watched old new keeps owner op off = ap (filter (is_of owner op)) keeps.pending
-pending-kept actor caller (change.Variable block var) old new keeps owner op off = ap (filter (is_of owner op)) keeps.pending
-pending-kept actor caller (change.Class whose n) old new keeps owner op off = keeps.pending owner (λ m. m == op) off
-pending-kept actor caller change.Everything old new keeps owner op off = absurd (true≢false off)
+-- of an operation that isn't opened none is pending where none was
+pub none-pending-still : (actor caller : ℕ) (change : Change) (old new : World) → Keeps actor caller change old new → (owner : Owner) (op : ℕ) → opens change owner op ≡ false
+    → filter (is_of owner op) old.pending ≡ [] → filter (is_of owner op) new.pending ≡ []
+none-pending-still actor caller change.Nothing old new keeps owner op off none = ap (filter (is_of owner op)) (sym keeps.pending) ∙ none
+none-pending-still actor caller change.Watched old new keeps owner op off none = ap (filter (is_of owner op)) (sym keeps.pending) ∙ none
+none-pending-still actor caller (change.Variable block var) old new keeps owner op off none = ap (filter (is_of owner op)) (sym keeps.pending) ∙ none
+none-pending-still actor caller (change.Class whose n) old new keeps owner op off none = sym (keeps.pending owner (λ m. m == op) off) ∙ none
+none-pending-still actor caller (change.Gone whose n) old new keeps owner op off none = keeps.none owner op none
+none-pending-still actor caller change.Everything old new keeps owner op off none = absurd (true≢false off)
 
 -- ---- open operations
 
@@ -65,14 +66,6 @@ same-operation (Proc a) (Inst b) n op is = absurd (true≢false (ap (λ (c : Cla
 append-none : {X : Type 0} (xs ys : List X) → xs ++ ys ≡ [] → (xs ≡ []) × (ys ≡ [])
 append-none [] ys none = (refl, none)
 append-none (x ∷ xs) ys none = absurd (cc)
-
--- the first doesn't pass a test that none passes
-off-first : {X : Type 0} (test : X → Bool) (x : X) (xs : List X) → filter test (x ∷ xs) ≡ [] → (test x ≡ false) × (filter test xs ≡ [])
-off-first test x xs none = by (test x) refl none
-  where
-    by : (b : Bool) → test x ≡ b → cond b (x ∷ filter test xs) (filter test xs) ≡ [] → (test x ≡ false) × (filter test xs ≡ [])
-    by true is h = absurd (cc)
-    by false is h = (is, h)
 
 module _ (owner : Owner) where
   no-pairs-of : (place : ℕ) (p : Pending) (arms : List Arm) (n : ℕ) → ((k : ℕ) (arm : Arm) → slice_get arms k ≡ Some arm → is_of owner arm.op p ≡ false) → pairs_of owner (enumerate_from n arms) (place, p) ≡ []

@@ -275,7 +275,18 @@ woken-by-watched world old new woken = record {
   woken = λ p s lives off. woken.woken p off;
 }
 
--- an invocation that comes or goes
+-- an invocation that goes
+pub woken-by-gone : (world : World) (owner : Owner) (op : ℕ) (class : Class) (old mid new : Waiters) → class ≡ class_of owner op → IsWokenAt Watched old mid → IsWokenAt (Served class) mid new
+    → WakesByChange world (change.Gone owner op) old new
+woken-by-gone world owner op class old mid new is first second =
+    let there : IsWokenAt (key_of owner op) mid new = subst (λ c. IsWokenAt (Served c) mid new) is second in
+    record {
+      go_on = living world old new (both-go-on (key_of owner op) old mid new first there);
+      opens = λ whose n p here. (closed-same old mid first.idle (class_of whose n) p (closed-same mid new second.idle (class_of whose n) p here), refl);
+      woken = λ p s lives off. both-woken (key_of owner op) old mid new first there p off;
+    }
+
+-- an invocation that comes
 pub woken-by-class : (world : World) (owner : Owner) (op : ℕ) (class : Class) (old mid after new : Waiters) → class ≡ class_of owner op → IsWokenAt Watched old mid → IsWokenAt (Served class) mid after → IsOpenedAt class after new
     → WakesByChange world (change.Class owner op) old new
 woken-by-class world owner op class old mid after new is first second third =

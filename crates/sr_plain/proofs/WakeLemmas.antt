@@ -45,10 +45,10 @@ use Rattle.sr_world.specs.Worlds.{World, started}
 use Rattle.sr_plain.specs.Ready.{me_at}
 use Rattle.sr_plain.specs.Waiting.{WaitsAtSite, WaitsFor, WaitsForAll, at_block, at_operation, key_of, variable_of, wakes, watching}
 use Rattle.sr_plain.specs.declared.change.Change.{Change}
-use Rattle.sr_plain.specs.declared.change.Change.TheVariants.{Nothing, Watched, Variable, Class, Everything}
+use Rattle.sr_plain.specs.declared.change.Change.TheVariants.{Nothing, Watched, Variable, Class, Gone, Everything}
 use Rattle.sr_plain.specs.declared.waiters.Place.{Place as Spot}
 use Rattle.sr_plain.specs.declared.waiters.Place.TheVariants as places
-use Rattle.sr_plain.proofs.ChangeLemmas.{Heard, Keeps, Still, same-owner}
+use Rattle.sr_plain.proofs.ChangeLemmas.{Apart, Heard, Keeps, Still, same-owner}
 
 -- ---- what is possible
 
@@ -289,6 +289,13 @@ module _ (core : Core) (old new : World) (q : Start) (was : started old q.proces
               count-by other operation.scope
               (counted-class counted_of other old.pending new.pending (same counted_of (λ n. n == other) (ap (λ b. b && owner_eq whose counted_of) (nat_eq_equiv.symm op other) ∙ apart-keys at whose op off counted_of other here)))
 
+    -- who waits for no invocation of an operation still cannot
+    waits-apart : (owner : Owner) (op : ℕ) (at : Spot → Bool) → (at places.Watched || at (key_of owner op)) ≡ false → Apart a c owner op old new → (ask : Ask) → WaitsFor core (me_at q) at ask.request
+        → comes_to (done_by core old q.process 0 ask.place ask.role ask.request) ≡ IsNot → comes_to (done_by core new q.process 0 ask.place ask.role ask.request) ≡ IsNot
+    waits-apart owner op at off keeps ask waits cannot =
+        let apart = both-off (at places.Watched) (at (key_of owner op)) off in
+        still_not core old new q.process ask 0 0 (same-for at apart.0 keeps.heard (λ env site all. site-apart at env site all owner op apart.1 keeps.pending keeps.variables) ask.request waits) cannot
+
     -- who isn't woken still cannot
     pub still_waits : (change : Change) (at : Spot → Bool) → wakes change at ≡ false → Keeps a c change old new → (ask : Ask) → WaitsFor core (me_at q) at ask.request
         → comes_to (done_by core old q.process 0 ask.place ask.role ask.request) ≡ IsNot → comes_to (done_by core new q.process 0 ask.place ask.role ask.request) ≡ IsNot
@@ -298,7 +305,6 @@ module _ (core : Core) (old new : World) (q : Start) (was : started old q.proces
     still_waits (Variable block var) at off keeps ask waits cannot =
         let apart = both-off (at places.Watched) (at (variable_of block var)) off in
         still_not core old new q.process ask 0 0 (same-for at apart.0 keeps.heard (λ env site all. site-stored at env site all block var apart.1 keeps.pending keeps.cells) ask.request waits) cannot
-    still_waits (Class owner op) at off keeps ask waits cannot =
-        let apart = both-off (at places.Watched) (at (key_of owner op)) off in
-        still_not core old new q.process ask 0 0 (same-for at apart.0 keeps.heard (λ env site all. site-apart at env site all owner op apart.1 keeps.pending keeps.variables) ask.request waits) cannot
+    still_waits (Class owner op) at off keeps ask waits cannot = waits-apart owner op at off keeps ask waits cannot
+    still_waits (Gone owner op) at off keeps ask waits cannot = waits-apart owner op at off keeps.apart ask waits cannot
     still_waits Everything at off keeps ask waits cannot = absurd (true≢false off)

@@ -18,7 +18,7 @@ use Rattle.sr_value.specs.declared.capability.Cap.{Cap}
 use Rattle.sr_value.specs.declared.capability.Cap.TheVariants as cap
 use Rattle.sr_value.specs.declared.capability.Owner.{Owner}
 use Rattle.sr_plain.specs.declared.change.Change.{Change}
-use Rattle.sr_plain.specs.declared.change.Change.TheVariants.{Nothing, Watched, Variable, Class, Everything}
+use Rattle.sr_plain.specs.declared.change.Change.TheVariants.{Nothing, Watched, Variable, Class, Gone, Everything}
 
 abbrev pub owner_at : Scope → Me → Owner
 owner_at scope me = owner_in scope me
@@ -39,7 +39,7 @@ change_of_call core _ = Nothing
 -- an invocation of the operation of an arm goes
 abbrev pub goes_at : Owner → Option Arm → Change
 goes_at owner None = Nothing
-goes_at owner (Some arm) = Class owner arm.op
+goes_at owner (Some arm) = Gone owner arm.op
 
 abbrev pub class_of : Me → ℕ → Option Site → Change
 class_of me arm None = Nothing

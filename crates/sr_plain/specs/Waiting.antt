@@ -23,7 +23,7 @@ use Rattle.sr_value.specs.declared.fault.Fault.{Fault}
 use Rattle.sr_value.specs.declared.value.Value.{Value}
 use Rattle.sr_plain.specs.Changes.{owner_at}
 use Rattle.sr_plain.specs.declared.change.Change.{Change}
-use Rattle.sr_plain.specs.declared.change.Change.TheVariants.{Nothing, Watched, Variable, Class, Everything}
+use Rattle.sr_plain.specs.declared.change.Change.TheVariants.{Nothing, Watched, Variable, Class, Gone, Everything}
 use Rattle.sr_plain.specs.declared.change.Woken.{Woken}
 use Rattle.sr_plain.specs.declared.variable.Variable.{Variable as Cell}
 use Rattle.sr_plain.specs.declared.crowd.Opened.{Opened}
@@ -154,6 +154,7 @@ wakes Nothing at = false
 wakes Watched at = at places.Watched
 wakes (Variable block var) at = at places.Watched || at (variable_of block var)
 wakes (Class owner op) at = at places.Watched || at (key_of owner op)
+wakes (Gone owner op) at = at places.Watched || at (key_of owner op)
 wakes Everything at = true
 
 -- which operations may have got an invocation

@@ -14,8 +14,10 @@ pub enum Change {
     Watched,
     /// A shared variable.
     Variable { block: u32, var: u32 },
-    /// An invocation of an operation comes or goes.
+    /// An invocation of an operation comes.
     Class { owner: Owner, op: u32 },
+    /// An invocation of an operation goes.
+    Gone { owner: Owner, op: u32 },
     Everything,
 }
 
@@ -84,7 +86,7 @@ fn of_arm(site: &Site, me: Me, number: u32) -> Change
     ensures { result ≡ class_of me number (Some site.now) }
 {
     match site.arms.get(number as usize) {
-        Some(arm) => Change::Class {
+        Some(arm) => Change::Gone {
             owner: owner_of(site.scope, me),
             op: arm.op,
         },

@@ -53,6 +53,10 @@ fn wake_by(waiters: &mut Waiters, world: &World, change: Change) -> Result<(), N
             waiters.wake_served(class)?;
             waiters.open(class)
         }
+        Change::Gone { owner, op } => {
+            waiters.wake_watched()?;
+            waiters.wake_served(class_of(owner, op))
+        }
         Change::Variable { block, var } => {
             waiters.wake_watched()?;
             waiters.wake_stored(Variable { block, var })

@@ -3,7 +3,7 @@ use Rattle.std.specs.Prelude.{OnOk}
 use Rattle.sr_plain.specs.Waking.{WakesByChange}
 use Rattle.sr_plain.specs.declared.change.Change.{Change}
 use Rattle.sr_plain.proofs.BeginLemmas.{on_ok}
-use Rattle.sr_plain.proofs.WaitLemmas.{woken-by-all, woken-by-class, woken-by-variable, woken-by-watched, woken-nothing}
+use Rattle.sr_plain.proofs.WaitLemmas.{woken-by-all, woken-by-class, woken-by-gone, woken-by-variable, woken-by-watched, woken-nothing}
 use Rattle.sr_plain.proofs.waking.wake_by.Goals as goal
 
 pub returns-in-Nothing : goal.returns-in-Nothing
@@ -20,6 +20,13 @@ returns-in_ok-wake_served-in-Class c =
     (on_ok c.open.result
     (λ third. woken-by-class c.args.world.now c.in-Class.owner c.in-Class.op c.class_of-class.result c.args.waiters.now c.wake_watched-in-Class.new.self c.wake_served.new.self c.open.new.self c.class_of-class.ensures c.in_ok-wake_watched-in-Class.ensures c.in_ok-wake_served-in-Class.ensures third)
     c.open.ensures)
+
+pub returns-in_ok-wake_watched-in-Gone : goal.returns-in_ok-wake_watched-in-Gone
+returns-in_ok-wake_watched-in-Gone c =
+    subst (λ (change : Change). OnOk c.wake_served-in-Gone.result (WakesByChange c.args.world.now change c.args.waiters.now c.wake_served-in-Gone.new.self)) (sym c.in-Gone.is)
+    (on_ok c.wake_served-in-Gone.result
+    (λ second. woken-by-gone c.args.world.now c.in-Gone.owner c.in-Gone.op c.class_of.result c.args.waiters.now c.wake_watched-in-Gone.new.self c.wake_served-in-Gone.new.self c.class_of.ensures c.in_ok-wake_watched-in-Gone.ensures second)
+    c.wake_served-in-Gone.ensures)
 
 pub returns-in_ok-wake_watched-in-Variable : goal.returns-in_ok-wake_watched-in-Variable
 returns-in_ok-wake_watched-in-Variable c =
