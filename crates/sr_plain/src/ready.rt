@@ -1,7 +1,8 @@
 ghost use Rattle.std.specs.Prelude.{◌≡◌, ◌&&◌, ◌<◌, ℕ, IfSome, OnOk, Some, false, nat_lt, true};
 ghost use Rattle.std.specs.BTreeSet.{contains};
 ghost use Rattle.std.specs.Ordering.{nat_cmp};
-ghost use Rattle.sr_plain.specs.Waiting.{ArePutIn, IsFirst, IsPutIn, IsPutOut, IsSole, holds, is_among, ready_len, rests};
+ghost use Rattle.sr_plain.specs.Readiness.{ArePutIn, IsPutIn, IsPutOut, IsSole, holds, ready_len, rests};
+ghost use Rattle.sr_plain.specs.Waiting.{IsFirst, is_among};
 
 use crate::crowd::{first, first_after};
 use crate::waiters::Waiting;
@@ -46,10 +47,21 @@ impl Ready {
         ensures { OnOk result (IsPutIn process self.old self.new) }
     {
         if self.rests(process) {
-            self.resting = None;
-            if self.processes.contains(&process) {
-                return Ok(());
-            }
+            return self.call_back(process);
+        }
+        self.processes.insert(process)?;
+        Ok(())
+    }
+
+    /// Puts the process in that rests.
+    #[inline(always)]
+    fn call_back(&mut self, process: u32) -> Result<(), NoMemory>
+        requires { rests self.old process ≡ true }
+        ensures { OnOk result (IsPutIn process self.old self.new) }
+    {
+        self.resting = None;
+        if self.processes.contains(&process) {
+            return Ok(());
         }
         self.processes.insert(process)?;
         Ok(())
@@ -60,14 +72,17 @@ impl Ready {
         ensures out { IsPutOut process self.old self.new }
         ensures less { holds self.old process ≡ true → ready_len self.new < ready_len self.old }
     {
-        let passes_over = match self.resting {
-            Some(resting) => self.processes.remove(&resting),
-            None => true,
-        };
-        if passes_over {
-            self.resting = Some(process);
-        } else {
-            self.processes.remove(&process);
+        match self.resting {
+            Some(resting) => {
+                if self.processes.remove(&resting) {
+                    self.resting = Some(process);
+                } else {
+                    self.processes.remove(&process);
+                }
+            }
+            None => {
+                self.resting = Some(process);
+            }
         }
     }
 
@@ -104,10 +119,12 @@ impl Ready {
         }
         let first = *self.processes.first()?;
         let last = *self.processes.last()?;
-        match (self.rests(first), self.rests(last)) {
-            (true, false) => Some(last),
-            (false, true) => Some(first),
-            _ => None,
+        if self.rests(first) {
+            if self.rests(last) { None } else { Some(last) }
+        } else if self.rests(last) {
+            Some(first)
+        } else {
+            None
         }
     }
 
@@ -115,19 +132,21 @@ impl Ready {
     pub(crate) fn first_after(&self, last: u32) -> Option<u32>
         ensures { IsFirst (λ q. nat_lt last q && holds self.now q) result }
     {
-        match first_after(&self.processes, last) {
-            Some(process) if self.rests(process) => first_after(&self.processes, process),
-            found => found,
+        let process = first_after(&self.processes, last)?;
+        if self.rests(process) {
+            return first_after(&self.processes, process);
         }
+        Some(process)
     }
 
     /// The first of all.
     pub(crate) fn first(&self) -> Option<u32>
         ensures { IsFirst (holds self.now) result }
     {
-        match first(&self.processes) {
-            Some(process) if self.rests(process) => first_after(&self.processes, process),
-            found => found,
+        let process = first(&self.processes)?;
+        if self.rests(process) {
+            return first_after(&self.processes, process);
         }
+        Some(process)
     }
 }

@@ -1,14 +1,12 @@
 ghost use Rattle.std.specs.Prelude.{◌≡◌, ◌&&◌, ◌<◌, ℕ, [], IfOk, OnOk, false, nat_lt, true};
 ghost use Rattle.std.specs.BTreeSet.{contains};
 ghost use Rattle.std.specs.Ordering.{nat_cmp};
-ghost use Rattle.sr_plain.specs.Waiting.{AreWokenUnder, HaveJoined, HaveOpened, HoldsProcess, IsFirst, IsJoined, IsMadeReady, IsNext, IsOpenedAt, IsPromoted, IsPutBack, IsShut, IsTakenOut, IsWokenAt, WaitsAlso, WaitsThere, WaitsUnder, is_closed, is_ready, may_go, turns_len};
+ghost use Rattle.sr_plain.specs.Waiting.{AreTakenUnder, AreWokenUnder, HaveJoined, HaveOpened, HoldsProcess, IsFirst, IsJoined, IsMadeReady, IsNext, IsOpenedAt, IsPromoted, IsPutBack, IsShut, IsTakenOut, IsWokenAt, WaitsAlso, WaitsThere, WaitsUnder, is_closed, is_ready, may_go, turns_len};
 ghost use Rattle.sr_plain.specs.declared.waiters.Place.TheVariants.{Idle, Served, Stored, Watched};
 ghost use Rattle.sr_plain.specs.declared.waiters.Waiting.TheVariants.{Many};
 ghost use Rattle.sr_queue.specs.declared.class.Class as served;
 
-use crate::crowd::{
-    Opened, first_open, first_open_after, place_of, place_with, sooner, take_from,
-};
+use crate::crowd::{Opened, first_open, first_open_after, place_of, place_with, sooner, take_from};
 use crate::ready::Ready;
 use crate::variable::Variable;
 use sr_queue::Class;
