@@ -66,7 +66,7 @@ fn join(ready: &mut BTreeSet<u32>, processes: &mut BTreeSet<u32>) -> Result<(), 
     Ok(())
 }
 
-/// Makes ready who waited.
+/// Puts those in who waited.
 fn join_waiting(ready: &mut BTreeSet<u32>, waiting: Waiting) -> Result<(), NoMemory>
     ensures { OnOk result (HaveJoined waiting ready.old ready.new) }
 {
