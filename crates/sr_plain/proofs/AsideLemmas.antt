@@ -40,6 +40,7 @@ use Rattle.sr_plain.specs.Changes.{change_of, gone_by}
 use Rattle.sr_plain.specs.Noting.{IsSetAside, NotesBy}
 use Rattle.sr_plain.specs.Ready.{AreAside, IsAside, IsIdle, IsNoted, me_at}
 use Rattle.sr_plain.specs.Order.{Ascend}
+use Rattle.sr_plain.specs.Readiness.{holds}
 use Rattle.sr_plain.specs.Waiting.{HasArm, IsPromoted, IsTakenOut, WaitsAtSite, WaitsFor, WaitsIdle, at_block, at_operation, is_among, is_closed, is_open_at, is_ready, same_variable, variable_of, waits, wakes, watching}
 use Rattle.sr_plain.specs.Waking.{WakesUp}
 use Rattle.sr_plain.specs.declared.change.Woken.{Woken}
@@ -242,7 +243,7 @@ module _ (core : Core) (limit : ℕ) (state : State) where
           let one : start ≡ s = cc in
           subst (λ x. Stays new x) one itself
       by q s is unready false off =
-          let was : is_ready old q ≡ false = sym (ap (λ (r : BTreeSet ℕ). contains nat_cmp r q) set.waiting.ready) ∙ sym (set.out.others q off) ∙ unready in
+          let was : is_ready old q ≡ false = sym (ap (λ r. holds r q) set.waiting.ready) ∙ sym (set.out.others q off) ∙ unready in
           waits-on old new s (λ k here. same-places start.process s.process set.between new set.out k (set.waiting.others k s.process here)) (are.aside q s is was refl)
 
   -- ---- input

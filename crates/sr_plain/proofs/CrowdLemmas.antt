@@ -8,7 +8,7 @@ use Rattle.std.proofs.lemmas.List.Sums.{sum_by-remove, sum_by-set}
 use Rattle.std.proofs.lemmas.Option.{slice_get_cases}
 use Rattle.std.specs.BTreeMap.{is_at}
 use Rattle.std.specs.BTreeSet.{BTreeSet, Updates, btree_set_len, contains}
-use Rattle.std.specs.HashMap.{UpdatesBy, get}
+use Rattle.std.specs.HashMap.{get}
 use Rattle.std.specs.List.{list_any, sum_by}
 use Rattle.std.specs.Ordering.{nat_cmp}
 use Rattle.std.specs.Prelude.{IfNone, IfSome, find, nat_lt, position, remove, slice_get, slice_set}
@@ -17,8 +17,10 @@ use Rattle.sr_queue.proofs.ClassLemmas.{same_class-itself, same_parts}
 use Rattle.sr_queue.specs.Classes.{same_class}
 use Rattle.sr_queue.specs.declared.class.Class.{Class}
 use Rattle.sr_store.proofs.BlockLemmas.{same-test}
-use Rattle.sr_plain.specs.Waiting.{HasLeft, HaveOpened, HoldsClass, HoldsNobody, HoldsProcess, IsFirst, IsNext, IsOpenedAt, IsPromoted, IsPutBack, IsShut, LeavesCrowd, StaysOpen, WaitsThere, crowds_len, is_among, is_closed, is_open, is_open_at, is_ready, may_go, same_variable, turns_len, waits}
+use Rattle.sr_plain.specs.Readiness.{IsPutIn, IsSole, holds, ready_len}
+use Rattle.sr_plain.specs.Waiting.{AreTakenUnder, HasLeft, HaveOpened, HoldsClass, HoldsNobody, HoldsProcess, IsFirst, IsNext, IsOpenedAt, IsPromoted, IsPutBack, IsShut, LeavesCrowd, StaysOpen, WaitsThere, crowds_len, is_among, is_closed, is_open, is_open_at, is_ready, may_go, same_variable, turns_len, waits}
 use Rattle.sr_plain.specs.declared.crowd.Opened.{Opened}
+use Rattle.sr_plain.specs.declared.ready.Ready.{Ready}
 use Rattle.sr_plain.specs.declared.waiters.Place.{Place}
 use Rattle.sr_plain.specs.declared.waiters.Place.TheVariants.{Watched, Served, Stored, Idle}
 use Rattle.sr_plain.specs.declared.waiters.Waiters.{Waiters}
@@ -72,8 +74,16 @@ set-more k s n updates q here = updates.0 q ∙ by (is_at (nat_cmp k) q)
 pub set-less : (k : ℕ) (s n : BTreeSet ℕ) → Updates nat_cmp s n k true → (q : ℕ) → contains nat_cmp n q ≡ false → contains nat_cmp s q ≡ false
 set-less k s n updates q off = not-false (contains nat_cmp s q) (λ none. none) (λ here. absurd (true≢false (sym (set-more k s n updates q here) ∙ off)))
 
-set-apart : (k : ℕ) (b : Bool) (s n : BTreeSet ℕ) → Updates nat_cmp s n k b → (q : ℕ) → (k == q) ≡ false → contains nat_cmp n q ≡ contains nat_cmp s q
+pub set-apart : (k : ℕ) (b : Bool) (s n : BTreeSet ℕ) → Updates nat_cmp s n k b → (q : ℕ) → (k == q) ≡ false → contains nat_cmp n q ≡ contains nat_cmp s q
 set-apart k b s n updates q off = updates.2 q (sym (same-test k q) ∙ off)
+
+-- one that is put in alone is new
+pub one-in : (process : ℕ) (old new : Ready) → IsPutIn process old new → (q : ℕ) → holds new q ≡ false → (holds old q ≡ false) × ((process == q) ≡ false)
+one-in process old new put q off = by (process == q) refl
+  where
+    by : (b : Bool) → (process == q) ≡ b → (holds old q ≡ false) × ((process == q) ≡ false)
+    by false apart = (sym (put.others q apart) ∙ off, apart)
+    by true same = absurd (true≢false (sym (subst (λ n. holds new n ≡ true) (eqb-true process q same) put.itself) ∙ off))
 
 pub crowd-left : (process : ℕ) (crowd : Opened) (n : BTreeSet ℕ) (there : Bool) → Updates nat_cmp crowd.processes n process false → there ≡ contains nat_cmp crowd.processes process → contains nat_cmp crowd.processes process ≡ true
     → btree_set_len n + cond there 1 0 ≡ btree_set_len crowd.processes → LeavesCrowd process crowd (record crowd { processes = n })
@@ -140,6 +150,22 @@ module _ (waiters : Waiters) (last : ℕ) where
   next-nobody None none first = first
   next-nobody (Some p) none first = next-round p none first
 
+-- where one alone is asked
+pub sole-next : (waiters : Waiters) (last process : ℕ) → waiters.opened ≡ [] → IsSole waiters.ready process → IsNext waiters last (Some process)
+sole-next waiters last process none sole = record {
+  goes = ap (λ b. b || is_open waiters.opened process) sole.goes;
+  between = λ other over under. off other (λ same. absurd (omega (arith, same, under)));
+  later = λ within other over. off other (λ same. absurd (omega (arith, same, within, over)));
+  sooner = λ within other under. off other (λ same. absurd (omega (arith, same, under)));
+}
+  where
+    off : (other : ℕ) → (other ≡ process → ⊥) → may_go waiters other ≡ false
+    off other not-it = ap (λ o. holds waiters.ready other || is_open o other) none ∙ by (holds waiters.ready other) refl
+      where
+        by : (b : Bool) → holds waiters.ready other ≡ b → (holds waiters.ready other || false) ≡ false
+        by true held = absurd (not-it (sole.only other held))
+        by false held = ap (λ b. b || false) held
+
 -- ---- rows of crowds
 
 any-set : {X : Type 0} (test : X → Bool) (xs : List X) (k : ℕ) (x y : X) → slice_get xs k ≡ Some x → (test x ≡ true → test y ≡ true) → list_any test xs ≡ true → list_any test (slice_set xs k y) ≡ true
@@ -200,6 +226,9 @@ none-of : (keys : List ℕ) (q : ℕ) → length keys ≡ 0 → list_any (is_at 
 none-of [] q none = refl
 none-of (k ∷ ks) q none = absurd (cc)
 
+pub nobody-there : (s : BTreeSet ℕ) (q : ℕ) → btree_set_len s ≡ 0 → contains nat_cmp s q ≡ false
+nobody-there s q none = none-of s.keys q none
+
 pub stays-without : (opened : List Opened) (place : ℕ) → HoldsNobody opened place → StaysOpen opened (remove opened place)
 stays-without opened place holds = record { stays = kept; less = fewer }
   where
@@ -237,7 +266,7 @@ has-left process place old new holds crowd leaves stays = record { others = othe
         omega (arith, sums, was, one, rest)
 
 module _ (process : ℕ) (old new : Waiters) (left : HasLeft process old.opened new.opened) (watched : new.watched ≡ old.watched) (classes : new.classes ≡ old.classes) (variables : new.variables ≡ old.variables) (idle : new.idle ≡ old.idle)
-    (ready : contains nat_cmp new.ready process ≡ true) (unready : (q : ℕ) → contains nat_cmp new.ready q ≡ false → contains nat_cmp old.ready q ≡ false) (longer : btree_set_len new.ready ≤ btree_set_len old.ready + 1) where
+    (put : IsPutIn process old.ready new.ready) where
   others-wait : (key : Place) (q : ℕ) → (process == q) ≡ false → waits old key q ≡ true → waits new key q ≡ true
   others-wait Watched q apart here = ap (λ (s : BTreeSet ℕ). contains nat_cmp s q) watched ∙ here
   others-wait (Served c) q apart here = ap (λ m. is_among (get same_class m c) q) classes ∙ here
@@ -252,10 +281,11 @@ module _ (process : ℕ) (old new : Waiters) (left : HasLeft process old.opened 
   fewer : turns_len new ≤ turns_len old
   fewer =
       let one : crowds_len new.opened + 1 ≤ crowds_len old.opened = left.less in
+      let longer = put.more in
       omega (arith, one, longer)
 
   pub promoted : IsPromoted process old new
-  promoted = record { ready = ready; unready = unready; others = others-wait; idle = idle; less = fewer }
+  promoted = record { ready = put.itself; unready = λ q off. (one-in process old.ready new.ready put q off).0; others = others-wait; idle = idle; less = fewer }
 
 pub promoted-same : (process : ℕ) (waiters : Waiters) → may_go waiters process ≡ true → is_open waiters.opened process ≡ false → IsPromoted process waiters waiters
 promoted-same process waiters goes alone = record {
@@ -286,10 +316,10 @@ ready-first waiters r none = first-same (is_ready waiters) (may_go waiters) (λ 
 
 -- ---- operations that are opened
 
-module _ (class : Class) (w : Option Waiting) (old new : Waiters) (is : w ≡ get same_class old.idle class) (updates : UpdatesBy same_class (same_class class) old.idle new.idle None)
+module _ (class : Class) (w : Waiting) (old new : Waiters) (taken : AreTakenUnder same_class class old.idle new.idle w)
     (watched : new.watched ≡ old.watched) (classes : new.classes ≡ old.classes) (variables : new.variables ≡ old.variables) (unready : (q : ℕ) → is_ready new q ≡ false → is_ready old q ≡ false)
     (open_more : (c : Class) (q : ℕ) → is_open_at old.opened c q ≡ true → is_open_at new.opened c q ≡ true)
-    (covers : (q : ℕ) → is_ready new q ≡ false → is_among w q ≡ true → is_open_at new.opened class q ≡ true) where
+    (covers : (q : ℕ) → is_ready new q ≡ false → is_among (Some w) q ≡ true → is_open_at new.opened class q ≡ true) where
   still : (key : Place) (q : ℕ) → is_ready new q ≡ false → waits old key q ≡ true → waits new key q ≡ true
   still Watched q off here = ap (λ (s : BTreeSet ℕ). contains nat_cmp s q) watched ∙ here
   still (Served c) q off here = ap (λ m. is_among (get same_class m c) q) classes ∙ here
@@ -300,8 +330,8 @@ module _ (class : Class) (w : Option Waiting) (old new : Waiters) (is : w ≡ ge
       at true same was =
           let one : class ≡ c = same_parts class c same in
           or-right (is_closed new c q) (is_open_at new.opened c q)
-          (subst (λ k. is_open_at new.opened k q ≡ true) one (covers q off (ap (λ o. is_among o q) (is ∙ ap (get same_class old.idle) one) ∙ was)))
-      at false apart was = or-left (is_closed new c q) (is_open_at new.opened c q) (ap (λ o. is_among o q) (updates.2 c apart) ∙ was)
+          (subst (λ k. is_open_at new.opened k q ≡ true) one (covers q off (taken.waiting q ∙ ap (λ k. is_among (get same_class old.idle k) q) one ∙ was)))
+      at false apart was = or-left (is_closed new c q) (is_open_at new.opened c q) (ap (λ o. is_among o q) (taken.others c apart) ∙ was)
 
       by : (is_closed old c q ≡ true) ⊎ (is_open_at old.opened c q ≡ true) → (is_closed new c q || is_open_at new.opened c q) ≡ true
       by (inl was) = at (same_class class c) refl was
@@ -311,8 +341,8 @@ module _ (class : Class) (w : Option Waiting) (old new : Waiters) (is : w ≡ ge
   closed-then c q here = by (same_class class c) refl
     where
       by : (b : Bool) → same_class class c ≡ b → (is_closed old c q ≡ true) × (same_class class c ≡ false)
-      by true same = absurd (true≢false (sym here ∙ ap (λ o. is_among o q) (updates.0 c ∙ ap (λ b. cond b None (get same_class old.idle c)) same)))
-      by false apart = (sym (ap (λ o. is_among o q) (updates.2 c apart)) ∙ here, apart)
+      by true same = absurd (true≢false (sym here ∙ ap (λ k. is_among (get same_class new.idle k) q) (sym (same_parts class c same)) ∙ taken.nobody q))
+      by false apart = (sym (ap (λ o. is_among o q) (taken.others c apart)) ∙ here, apart)
 
   pub opened-at : IsOpenedAt class old new
   opened-at = record { go_on = record { ready = unready; waiting = still }; closed = closed-then }
@@ -328,7 +358,7 @@ open-more opened crowd c q = any-pushed (λ (o : Opened). same_class o.class c &
 pub pushed-many : (class : Class) (processes : BTreeSet ℕ) (old new : Waiters) → new.ready ≡ old.ready → new.watched ≡ old.watched → new.classes ≡ old.classes → new.variables ≡ old.variables → new.idle ≡ old.idle
     → new.opened ≡ old.opened ++ record { class = class; processes = processes } ∷ [] → HaveOpened class (Many processes) old new
 pushed-many class processes old new ready watched classes variables idle opened = record {
-  unready = λ q off. sym (ap (λ (s : BTreeSet ℕ). contains nat_cmp s q) ready) ∙ off;
+  unready = λ q off. sym (ap (λ r. holds r q) ready) ∙ off;
   watched = watched;
   classes = classes;
   variables = variables;
@@ -350,19 +380,11 @@ module _ (class : Class) (w : Waiting) (old new : Waiters) (watched : new.watche
     covers = λ q off there. absurd (true≢false (sym there ∙ (each q off).1));
   }
 
--- one that waits alone is ready
-pub one-ready : (first : ℕ) (old new : BTreeSet ℕ) → Updates nat_cmp old new first true → (q : ℕ) → contains nat_cmp new q ≡ false → (contains nat_cmp old q ≡ false) × ((first == q) ≡ false)
-one-ready first old new updates q off = (set-less first old new updates q off, by (first == q) refl)
-  where
-    by : (b : Bool) → (first == q) ≡ b → (first == q) ≡ false
-    by false apart = apart
-    by true same = absurd (true≢false (sym (subst (λ n. contains nat_cmp new n ≡ true) (eqb-true first q same) updates.1) ∙ off))
-
-pub opened-by : (class : Class) (w : Waiting) (old mid new : Waiters) → Some w ≡ get same_class old.idle class → UpdatesBy same_class (same_class class) old.idle mid.idle None
+pub opened-by : (class : Class) (w : Waiting) (old mid new : Waiters) → AreTakenUnder same_class class old.idle mid.idle w
     → mid.ready ≡ old.ready → mid.watched ≡ old.watched → mid.classes ≡ old.classes → mid.variables ≡ old.variables → mid.opened ≡ old.opened → HaveOpened class w mid new → IsOpenedAt class old new
-opened-by class w old mid new is updates ready watched classes variables opened have =
-    opened-at class (Some w) old new is (subst (λ m. UpdatesBy same_class (same_class class) old.idle m None) (sym have.idle) updates) (have.watched ∙ watched) (have.classes ∙ classes) (have.variables ∙ variables)
-    (λ q off. sym (ap (λ (s : BTreeSet ℕ). contains nat_cmp s q) ready) ∙ have.unready q off)
+opened-by class w old mid new taken ready watched classes variables opened have =
+    opened-at class w old new (subst (λ m. AreTakenUnder same_class class old.idle m w) (sym have.idle) taken) (have.watched ∙ watched) (have.classes ∙ classes) (have.variables ∙ variables)
+    (λ q off. sym (ap (λ r. holds r q) ready) ∙ have.unready q off)
     (λ c q here. have.stays c q (ap (λ o. is_open_at o c q) opened ∙ here)) have.covers
 
 -- ---- operations that are shut
@@ -428,7 +450,7 @@ module _ (class : Class) (place : ℕ) (holds-crowd : Opened) (old mid new : Wai
       let within : place < length old.opened = within-row old.opened place holds-crowd there in
       let sums : sum_by size (remove old.opened place) + size (get_or old.opened place holds-crowd) ≡ sum_by size old.opened = sum_by-remove size old.opened place holds-crowd within in
       let now : sum_by size new.opened ≡ sum_by size (remove old.opened place) = ap (sum_by size) (back.idle.opened ∙ opened) in
-      let same-ready : btree_set_len new.ready ≡ btree_set_len old.ready = ap (λ (r : BTreeSet ℕ). btree_set_len r) (back.idle.ready ∙ ready) in
+      let same-ready : ready_len new.ready ≡ ready_len old.ready = ap (λ r. ready_len r) (back.idle.ready ∙ ready) in
       omega (arith, sums, now, same-ready)
 
   pub shut-crowd : IsShut class old new

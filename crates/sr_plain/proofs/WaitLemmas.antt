@@ -1,5 +1,5 @@
 -- Those that wait, and those that are woken.
-use Rattle.std.proofs.Common.{◌≡◌, ◌≤◌, ◌+◌, inl, inr, ◌⊎◌, ◌&&◌, ◌||◌, ◌==◌, ℕ, Bool, true, false, cond, List, [], ◌∷◌, length, Option, Some, None, refl, ap, sym, ◌∙◌, subst, eqb-true, true≢false, arith}
+use Rattle.std.proofs.Common.{◌≡◌, ◌≤◌, ◌+◌, inl, inr, ◌⊎◌, ◌&&◌, ◌||◌, ◌==◌, ℕ, Bool, true, false, cond, List, [], ◌∷◌, length, Some, None, refl, ap, sym, ◌∙◌, subst, eqb-true, true≢false, arith}
 use Rattle.std.specs.BTreeSet.{BTreeSet, Updates, btree_set_len, contains}
 use Rattle.std.specs.HashMap.{HashMap, UpdatesBy, get, hash_map_len}
 use Rattle.std.specs.List.{sum_by}
@@ -11,18 +11,21 @@ use Rattle.sr_queue.specs.declared.class.Class.{Class}
 use Rattle.sr_value.specs.Operators.{owner_eq}
 use Rattle.sr_value.specs.declared.capability.Owner.{Owner}
 use Rattle.sr_world.specs.Worlds.{World}
-use Rattle.sr_plain.specs.Waiting.{AreWokenUnder, GoOn, IsJoined, IsOpenedAt, IsWokenAt, WaitsThere, WaitsUnder, is_among, is_closed, is_open_at, is_ready, key_of, same_variable, turns_len, variable_of, waits, wakes}
+use Rattle.sr_plain.specs.Readiness.{ArePutIn, IsPutIn, holds, ready_len}
+use Rattle.sr_plain.specs.Waiting.{AreTakenUnder, AreWokenUnder, GoOn, IsMadeReady, IsOpenedAt, IsWokenAt, WaitsThere, WaitsUnder, is_among, is_closed, is_open_at, is_ready, key_of, same_variable, turns_len, variable_of, waits, wakes}
 use Rattle.sr_plain.specs.Waking.{LivingGoOn, ReadiesAll, ReadiesIfLives, WakesByChange, WakesUp}
 use Rattle.sr_plain.specs.declared.change.Change.TheVariants as change
 use Rattle.sr_plain.specs.declared.change.Woken.{Woken}
 use Rattle.sr_plain.specs.declared.crowd.Opened.{Opened}
+use Rattle.sr_plain.specs.declared.ready.Ready.{Ready}
 use Rattle.sr_plain.specs.declared.variable.Variable.{Variable}
 use Rattle.sr_plain.specs.declared.waiters.Place.{Place}
 use Rattle.sr_plain.specs.declared.waiters.Place.TheVariants.{Watched, Served, Stored, Idle}
 use Rattle.sr_plain.specs.declared.waiters.Waiters.{Waiters}
 use Rattle.sr_plain.specs.declared.waiters.Waiting.{Waiting}
+use Rattle.sr_plain.specs.declared.waiters.Waiting.TheVariants.{Nobody}
 use Rattle.sr_plain.proofs.ChangeLemmas.{same-owner}
-use Rattle.sr_plain.proofs.CrowdLemmas.{set-more}
+use Rattle.sr_plain.proofs.CrowdLemmas.{nobody-there, one-in, set-more}
 
 -- ---- keys
 
@@ -49,7 +52,7 @@ module _ {K S : Type 0} (eq : K → K → Bool) (parts : (a b : K) → eq a b �
   key-itself process under = ap (λ o. is_among o process) under.updates.1 ∙ under.itself
 
   -- those who waited there are ready
-  key-taken : (ready readied : BTreeSet ℕ) → AreWokenUnder eq key m n ready readied → (p : ℕ) → contains nat_cmp readied p ≡ false → (k : K) → is_among (get eq m k) p ≡ true → is_among (get eq n k) p ≡ true
+  key-taken : (ready readied : Ready) → AreWokenUnder eq key m n ready readied → (p : ℕ) → holds readied p ≡ false → (k : K) → is_among (get eq m k) p ≡ true → is_among (get eq n k) p ≡ true
   key-taken ready readied under p off k here = by (eq key k) refl
     where
       by : (b : Bool) → eq key k ≡ b → is_among (get eq n k) p ≡ true
@@ -68,7 +71,7 @@ closed-same old new idle class q here = sym (ap (λ m. is_among (get same_class 
 turns-same : (old new : Waiters) → new.ready ≡ old.ready → new.opened ≡ old.opened → turns_len new ≤ turns_len old
 turns-same old new ready opened =
     let crowd : List Opened → ℕ = sum_by (λ (o : Opened). btree_set_len o.processes) in
-    let same : turns_len new ≡ turns_len old = ap (λ (r : BTreeSet ℕ). btree_set_len r + crowd new.opened) ready ∙ ap (λ o. btree_set_len old.ready + crowd o) opened in
+    let same : turns_len new ≡ turns_len old = ap (λ r. ready_len r + crowd new.opened) ready ∙ ap (λ o. ready_len old.ready + crowd o) opened in
     omega (arith, same)
 
 -- ---- one more that waits
@@ -159,7 +162,7 @@ idle-written class process old new ready watched classes variables opened under 
 
 -- ---- those that are woken
 
-pub woken-watched : (old new : Waiters) → IsJoined old.watched old.ready new.ready → new.classes ≡ old.classes → new.variables ≡ old.variables → new.idle ≡ old.idle → new.opened ≡ old.opened → IsWokenAt Watched old new
+pub woken-watched : (old new : Waiters) → ArePutIn (contains nat_cmp old.watched) old.ready new.ready → new.classes ≡ old.classes → new.variables ≡ old.variables → new.idle ≡ old.idle → new.opened ≡ old.opened → IsWokenAt Watched old new
 woken-watched old new joined classes variables idle opened = record {
   go_on = record { ready = joined.ready; waiting = stay };
   idle = idle;
@@ -208,17 +211,42 @@ module _ {K S : Type 0} (eq : K → K → Bool) (m : HashMap K Waiting S) where
   pub none-under : hash_map_len m ≡ 0 → (key : K) (p : ℕ) → is_among (get eq m key) p ≡ false
   none-under none key p = ap (λ o. is_among o p) (nobody (eq key) m.entries none)
 
-  -- those who waited under a key are taken out
-  pub taken-under : (key : K) (n : HashMap K Waiting S) (o : Option Waiting) (ready readied : BTreeSet ℕ) → o ≡ get eq m key → UpdatesBy eq (eq key) m n None
-      → ((p : ℕ) → contains nat_cmp readied p ≡ false → (contains nat_cmp ready p ≡ false) × (is_among o p ≡ false)) → AreWokenUnder eq key m n ready readied
-  taken-under key n o ready readied is updates each = record {
-    unready = λ p off. (each p off).0;
-    woken = λ p off. ap (λ x. is_among x p) (sym is) ∙ (each p off).1;
-    others = λ k apart. updates.2 k apart;
+  -- those who waited under a key are taken out, and ready
+  pub taken-under : (key : K) (n : HashMap K Waiting S) (taken : Waiting) (ready readied : Ready) → AreTakenUnder eq key m n taken → ArePutIn (is_among (Some taken)) ready readied → AreWokenUnder eq key m n ready readied
+  taken-under key n taken ready readied under put = record {
+    unready = put.ready;
+    woken = λ p off. sym (under.waiting p) ∙ put.joined p off;
+    others = under.others;
   }
 
-  pub nobody-under : (key : K) (ready : BTreeSet ℕ) → hash_map_len m ≡ 0 → AreWokenUnder eq key m m ready ready
+  pub removed-under : (key : K) (n : HashMap K Waiting S) (taken : Waiting) → ((p : ℕ) → is_among (Some taken) p ≡ is_among (get eq m key) p) → UpdatesBy eq (eq key) m n None → AreTakenUnder eq key m n taken
+  removed-under key n taken is updates = record { waiting = is; nobody = λ p. ap (λ o. is_among o p) updates.1; others = λ k apart. updates.2 k apart }
+
+  pub emptied-under : (key : K) (n : HashMap K Waiting S) (taken : Waiting) → Some taken ≡ get eq m key → UpdatesBy eq (eq key) m n (Some Nobody) → AreTakenUnder eq key m n taken
+  emptied-under key n taken is updates = record { waiting = λ p. ap (λ o. is_among o p) is; nobody = λ p. ap (λ o. is_among o p) updates.1; others = λ k apart. updates.2 k apart }
+
+  pub absent-under : (key : K) → None ≡ get eq m key → AreTakenUnder eq key m m Nobody
+  absent-under key is = record { waiting = λ p. ap (λ o. is_among o p) is; nobody = λ p. ap (λ o. is_among o p) (sym is); others = λ k apart. refl }
+
+  pub nobody-under : (key : K) (ready : Ready) → hash_map_len m ≡ 0 → AreWokenUnder eq key m m ready ready
   nobody-under key ready none = record { unready = λ p off. off; woken = λ p off. none-under none key p; others = λ k apart. refl }
+
+-- where nobody waits for any change
+pub watched-nobody : (waiters : Waiters) → btree_set_len waiters.watched ≡ 0 → IsWokenAt Watched waiters waiters
+watched-nobody waiters none = record { go_on = record { ready = λ p off. off; waiting = λ k p off here. here }; idle = refl; woken = λ p off. nobody-there waiters.watched p none }
+
+pub made-ready : (process : ℕ) (old new : Waiters) → IsPutIn process old.ready new.ready → new.watched ≡ old.watched → new.classes ≡ old.classes → new.variables ≡ old.variables → new.idle ≡ old.idle → new.opened ≡ old.opened → IsMadeReady process old new
+made-ready process old new put watched classes variables idle opened = record {
+  go_on = record { ready = λ p off. (one-in process old.ready new.ready put p off).0; waiting = stay };
+  idle = idle;
+  apart = λ p off. (one-in process old.ready new.ready put p off).1;
+}
+  where
+    stay : (k : Place) (p : ℕ) → is_ready new p ≡ false → waits old k p ≡ true → waits new k p ≡ true
+    stay Watched p off here = ap (λ (s : BTreeSet ℕ). contains nat_cmp s p) watched ∙ here
+    stay (Served c) p off here = ap (λ m. is_among (get same_class m c) p) classes ∙ here
+    stay (Stored v) p off here = ap (λ m. is_among (get same_variable m v) p) variables ∙ here
+    stay (Idle c) p off here = idle-same old new idle opened c p here
 
 -- where nobody waits for invocations alone
 pub opened-nobody : (class : Class) (waiters : Waiters) → hash_map_len waiters.idle ≡ 0 → IsOpenedAt class waiters waiters

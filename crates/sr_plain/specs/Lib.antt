@@ -6,6 +6,7 @@ pub mod Engine
 pub mod Leaving
 pub mod Noting
 pub mod Order
+pub mod Readiness
 pub mod Ready
 pub mod Rotation
 pub mod Turns

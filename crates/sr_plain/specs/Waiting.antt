@@ -22,16 +22,18 @@ use Rattle.sr_value.specs.declared.capability.Owner.{Owner}
 use Rattle.sr_value.specs.declared.fault.Fault.{Fault}
 use Rattle.sr_value.specs.declared.value.Value.{Value}
 use Rattle.sr_plain.specs.Changes.{owner_at}
+use Rattle.sr_plain.specs.Readiness.{holds, ready_len}
 use Rattle.sr_plain.specs.declared.change.Change.{Change}
 use Rattle.sr_plain.specs.declared.change.Change.TheVariants.{Nothing, Watched, Variable, Class, Gone, Everything}
 use Rattle.sr_plain.specs.declared.change.Woken.{Woken}
 use Rattle.sr_plain.specs.declared.variable.Variable.{Variable as Cell}
 use Rattle.sr_plain.specs.declared.crowd.Opened.{Opened}
+use Rattle.sr_plain.specs.declared.ready.Ready.{Ready}
 use Rattle.sr_plain.specs.declared.waiters.Place.{Place}
 use Rattle.sr_plain.specs.declared.waiters.Place.TheVariants as places
 use Rattle.sr_plain.specs.declared.waiters.Waiters.{Waiters}
 use Rattle.sr_plain.specs.declared.waiters.Waiting.{Waiting}
-use Rattle.sr_plain.specs.declared.waiters.Waiting.TheVariants.{One, Many}
+use Rattle.sr_plain.specs.declared.waiters.Waiting.TheVariants.{Nobody, One, Many}
 
 -- ---- places
 
@@ -51,10 +53,11 @@ abbrev pub same_variable : Cell → Cell → Bool
 same_variable a b = (a.block == b.block) && (a.var == b.var)
 
 abbrev pub is_ready : Waiters → ℕ → Bool
-is_ready waiters process = contains nat_cmp waiters.ready process
+is_ready waiters process = holds waiters.ready process
 
 abbrev pub is_among : Option Waiting → ℕ → Bool
 is_among None process = false
+is_among (Some Nobody) process = false
 is_among (Some (One first)) process = first == process
 is_among (Some (Many processes)) process = contains nat_cmp processes process
 
@@ -82,9 +85,9 @@ may_go waiters process = is_ready waiters process || is_open waiters.opened proc
 abbrev pub crowds_len : List Opened → ℕ
 crowds_len opened = sum_by (λ (o : Opened). btree_set_len o.processes) opened
 
--- how many are asked in turn
+-- one more than are asked in turn
 abbrev pub turns_len : Waiters → ℕ
-turns_len waiters = btree_set_len waiters.ready + crowds_len waiters.opened
+turns_len waiters = ready_len waiters.ready + crowds_len waiters.opened
 
 -- ---- where a process waits, by what it asks
 
@@ -181,12 +184,12 @@ pub record GoOn (old new : Waiters) : Type 0 where
   pub ready : (process : ℕ) → is_ready new process ≡ false → is_ready old process ≡ false
   pub waiting : (key : Place) (process : ℕ) → is_ready new process ≡ false → waits old key process ≡ true → waits new key process ≡ true
 
--- some more are ready
+-- some more are in a set
 pub record IsJoined (processes old new : BTreeSet ℕ) : Type 0 where
   pub ready : (process : ℕ) → contains nat_cmp new process ≡ false → contains nat_cmp old process ≡ false
   pub joined : (process : ℕ) → contains nat_cmp new process ≡ false → contains nat_cmp processes process ≡ false
 
--- who waited is ready
+-- who waited is in a set
 pub record HaveJoined (waiting : Waiting) (old new : BTreeSet ℕ) : Type 0 where
   pub ready : (process : ℕ) → contains nat_cmp new process ≡ false → contains nat_cmp old process ≡ false
   pub joined : (process : ℕ) → contains nat_cmp new process ≡ false → is_among (Some waiting) process ≡ false
@@ -203,10 +206,16 @@ pub record WaitsUnder {K S : Type 0} (eq : K → K → Bool) (key : K) (process 
   pub itself : is_among (Some waiting) process ≡ true
   pub others : (other : ℕ) → is_among (get eq old key) other ≡ true → is_among (Some waiting) other ≡ true
 
+-- who waited under a key waits there no more
+pub record AreTakenUnder {K S : Type 0} (eq : K → K → Bool) (key : K) (old new : HashMap K Waiting S) (taken : Waiting) : Type 0 where
+  pub waiting : (process : ℕ) → is_among (Some taken) process ≡ is_among (get eq old key) process
+  pub nobody : (process : ℕ) → is_among (get eq new key) process ≡ false
+  pub others : (other : K) → eq key other ≡ false → get eq new other ≡ get eq old other
+
 -- who waited under a key is ready
-pub record AreWokenUnder {K S : Type 0} (eq : K → K → Bool) (key : K) (old new : HashMap K Waiting S) (ready readied : BTreeSet ℕ) : Type 0 where
-  pub unready : (process : ℕ) → contains nat_cmp readied process ≡ false → contains nat_cmp ready process ≡ false
-  pub woken : (process : ℕ) → contains nat_cmp readied process ≡ false → is_among (get eq old key) process ≡ false
+pub record AreWokenUnder {K S : Type 0} (eq : K → K → Bool) (key : K) (old new : HashMap K Waiting S) (ready readied : Ready) : Type 0 where
+  pub unready : (process : ℕ) → holds readied process ≡ false → holds ready process ≡ false
+  pub woken : (process : ℕ) → holds readied process ≡ false → is_among (get eq old key) process ≡ false
   pub others : (other : K) → eq key other ≡ false → get eq new other ≡ get eq old other
 
 -- who waited there is ready

@@ -10,6 +10,7 @@ pub mod laws;
 mod member;
 mod plain;
 mod plainly;
+mod ready;
 mod tried;
 mod variable;
 mod waiters;

@@ -1,15 +1,13 @@
 ghost use Rattle.std.specs.Prelude.{◌≡◌, ◌&&◌, ◌<◌, ℕ, [], IfOk, OnOk, false, nat_lt, true};
 ghost use Rattle.std.specs.BTreeSet.{contains};
 ghost use Rattle.std.specs.Ordering.{nat_cmp};
-ghost use Rattle.sr_plain.specs.Waiting.{AreWokenUnder, HaveJoined, HaveOpened, HoldsProcess, IsFirst, IsJoined, IsMadeReady, IsNext, IsOpenedAt, IsPromoted, IsPutBack, IsShut, IsTakenOut, IsWokenAt, WaitsAlso, WaitsThere, WaitsUnder, is_closed, is_ready, may_go, turns_len};
+ghost use Rattle.sr_plain.specs.Waiting.{AreTakenUnder, AreWokenUnder, HaveJoined, HaveOpened, HoldsProcess, IsFirst, IsJoined, IsMadeReady, IsNext, IsOpenedAt, IsPromoted, IsPutBack, IsShut, IsTakenOut, IsWokenAt, WaitsAlso, WaitsThere, WaitsUnder, is_closed, is_ready, may_go, turns_len};
 ghost use Rattle.sr_plain.specs.declared.waiters.Place.TheVariants.{Idle, Served, Stored, Watched};
 ghost use Rattle.sr_plain.specs.declared.waiters.Waiting.TheVariants.{Many};
 ghost use Rattle.sr_queue.specs.declared.class.Class as served;
 
-use crate::crowd::{
-    Opened, first, first_after, first_open, first_open_after, place_of, place_with, sooner,
-    take_from,
-};
+use crate::crowd::{Opened, first_open, first_open_after, place_of, place_with, sooner, take_from};
+use crate::ready::Ready;
 use crate::variable::Variable;
 use sr_queue::Class;
 use sr_value::{NoMemory, Row};
@@ -33,16 +31,20 @@ pub enum Place {
 /// Those that wait at one place.
 #[derive(Drop)]
 pub(crate) enum Waiting {
+    Nobody,
     One(u32),
     Many(BTreeSet<u32>),
 }
+
+/// How many places are kept though nobody may wait there: whoever waits there next needs no new entry.
+const PLACES_KEPT: usize = 64;
 
 /// The processes that are asked in turn, and where those wait that aren't.
 #[derive(Drop)]
 pub struct Waiters {
     pub(crate) alloc: Global,
     /// The processes that may be able to make a step.
-    pub(crate) ready: BTreeSet<u32>,
+    pub(crate) ready: Ready,
     /// Those that wait for any change.
     pub(crate) watched: BTreeSet<u32>,
     /// Those that wait for invocations.
@@ -64,11 +66,12 @@ fn join(ready: &mut BTreeSet<u32>, processes: &mut BTreeSet<u32>) -> Result<(), 
     Ok(())
 }
 
-/// Makes ready who waited.
+/// Puts those in who waited.
 fn join_waiting(ready: &mut BTreeSet<u32>, waiting: Waiting) -> Result<(), NoMemory>
     ensures { OnOk result (HaveJoined waiting ready.old ready.new) }
 {
     match waiting {
+        Waiting::Nobody => Ok(()),
         Waiting::One(process) => {
             ready.insert(process)?;
             Ok(())
@@ -104,6 +107,10 @@ impl Waiting {
         ensures { OnOk result (WaitsAlso process self.old self.new) }
     {
         match self {
+            Waiting::Nobody => {
+                *self = Waiting::One(process);
+                Ok(())
+            }
             Waiting::One(first) => {
                 if *first != process {
                     *self = Waiting::Many(both(alloc, *first, process)?);
@@ -136,10 +143,35 @@ fn wait_under<K: Copy + Eq + Hash>(
     }
 }
 
+/// Takes out who waits under a key.
+#[inline(always)]
+fn take_under<K: Copy + Eq + Hash>(table: &mut HashMap<K, Waiting>, key: K) -> Waiting
+    ensures { AreTakenUnder K.eq key table.old table.new result }
+{
+    if table.len() > PLACES_KEPT {
+        return remove_under(table, key);
+    }
+    match table.get_mut(&key) {
+        Some(waiting) => std::mem::replace(waiting, Waiting::Nobody),
+        None => Waiting::Nobody,
+    }
+}
+
+/// The same, and the key goes.
+#[inline(never)]
+fn remove_under<K: Copy + Eq + Hash>(table: &mut HashMap<K, Waiting>, key: K) -> Waiting
+    ensures { AreTakenUnder K.eq key table.old table.new result }
+{
+    match table.remove(&key) {
+        Some(waiting) => waiting,
+        None => Waiting::Nobody,
+    }
+}
+
 /// Makes ready who waits under a key. Where nobody waits at all, nothing is looked up.
 #[inline(always)]
 fn wake_under<K: Copy + Eq + Hash>(
-    ready: &mut BTreeSet<u32>,
+    ready: &mut Ready,
     table: &mut HashMap<K, Waiting>,
     key: K,
 ) -> Result<(), NoMemory>
@@ -148,17 +180,15 @@ fn wake_under<K: Copy + Eq + Hash>(
     if table.is_empty() {
         return Ok(());
     }
-    match table.remove(&key) {
-        Some(waiting) => join_waiting(ready, waiting),
-        None => Ok(()),
-    }
+    let waiting = take_under(table, key);
+    ready.join_waiting(waiting)
 }
 
 impl Waiters {
     pub(crate) fn new(alloc: Global) -> Self {
         Waiters {
             alloc,
-            ready: BTreeSet::new(alloc),
+            ready: Ready::new(alloc),
             watched: BTreeSet::new(alloc),
             classes: HashMap::new(alloc),
             variables: HashMap::new(alloc),
@@ -171,8 +201,7 @@ impl Waiters {
     pub(crate) fn make_ready(&mut self, process: u32) -> Result<(), NoMemory>
         ensures { OnOk result (IsMadeReady process self.old self.new) }
     {
-        self.ready.insert(process)?;
-        Ok(())
+        self.ready.insert(process)
     }
 
     /// Has a process be asked no more.
@@ -180,7 +209,7 @@ impl Waiters {
         ensures out { IsTakenOut process self.old self.new }
         ensures less { is_ready self.old process ≡ true → turns_len self.new < turns_len self.old }
     {
-        self.ready.remove(&process);
+        self.ready.take_out(process);
     }
 
     /// Has a process wait there.
@@ -250,20 +279,16 @@ impl Waiters {
         if self.idle.is_empty() {
             return Ok(());
         }
-        match self.idle.remove(&class) {
-            Some(waiting) => self.open_waiting(class, waiting),
-            None => Ok(()),
-        }
+        let waiting = take_under(&mut self.idle, class);
+        self.open_waiting(class, waiting)
     }
 
     fn open_waiting(&mut self, class: Class, waiting: Waiting) -> Result<(), NoMemory>
         ensures { OnOk result (HaveOpened class waiting self.old self.new) }
     {
         match waiting {
-            Waiting::One(process) => {
-                self.ready.insert(process)?;
-                Ok(())
-            }
+            Waiting::Nobody => Ok(()),
+            Waiting::One(process) => self.ready.insert(process),
             Waiting::Many(processes) => self.open_many(class, processes),
         }
     }
@@ -276,7 +301,7 @@ impl Waiters {
     {
         if processes.len() <= self.opened.len() {
             let mut processes = processes;
-            return join(&mut self.ready, &mut processes);
+            return self.ready.join(&mut processes);
         }
         self.opened.push(Opened { class, processes })
     }
@@ -317,8 +342,7 @@ impl Waiters {
         ensures { OnOk result (IsPromoted process self.old self.new) }
     {
         take_from(&mut self.opened, place, process);
-        self.ready.insert(process)?;
-        Ok(())
+        self.ready.insert(process)
     }
 
     /// Makes ready who waits for any change.
@@ -326,7 +350,10 @@ impl Waiters {
     pub(crate) fn wake_watched(&mut self) -> Result<(), NoMemory>
         ensures { OnOk result (IsWokenAt Watched self.old self.new) }
     {
-        join(&mut self.ready, &mut self.watched)
+        if self.watched.is_empty() {
+            return Ok(());
+        }
+        self.ready.join(&mut self.watched)
     }
 
     /// Makes ready who waits for invocations of an operation, and for more.
@@ -360,9 +387,12 @@ impl Waiters {
         requires { self.now.opened ≡ [] }
         ensures { IsNext self.now last result }
     {
-        match first_after(&self.ready, last) {
+        if let Some(process) = self.ready.sole() {
+            return Some(process);
+        }
+        match self.ready.first_after(last) {
             Some(process) => Some(process),
-            None => first(&self.ready),
+            None => self.ready.first(),
         }
     }
 
@@ -380,7 +410,7 @@ impl Waiters {
         ensures { IsFirst (λ q. nat_lt last q && may_go self.now q) result }
     {
         sooner(
-            first_after(&self.ready, last),
+            self.ready.first_after(last),
             first_open_after(self.opened.as_slice(), last),
         )
     }
@@ -388,6 +418,6 @@ impl Waiters {
     fn first(&self) -> Option<u32>
         ensures { IsFirst (may_go self.now) result }
     {
-        sooner(first(&self.ready), first_open(self.opened.as_slice()))
+        sooner(self.ready.first(), first_open(self.opened.as_slice()))
     }
 }
