@@ -71,10 +71,7 @@ set-more k s n updates q here = updates.0 q ∙ by (is_at (nat_cmp k) q)
     by true = refl
     by false = here
 
-pub set-less : (k : ℕ) (s n : BTreeSet ℕ) → Updates nat_cmp s n k true → (q : ℕ) → contains nat_cmp n q ≡ false → contains nat_cmp s q ≡ false
-set-less k s n updates q off = not-false (contains nat_cmp s q) (λ none. none) (λ here. absurd (true≢false (sym (set-more k s n updates q here) ∙ off)))
-
-pub set-apart : (k : ℕ) (b : Bool) (s n : BTreeSet ℕ) → Updates nat_cmp s n k b → (q : ℕ) → (k == q) ≡ false → contains nat_cmp n q ≡ contains nat_cmp s q
+set-apart : (k : ℕ) (b : Bool) (s n : BTreeSet ℕ) → Updates nat_cmp s n k b → (q : ℕ) → (k == q) ≡ false → contains nat_cmp n q ≡ contains nat_cmp s q
 set-apart k b s n updates q off = updates.2 q (sym (same-test k q) ∙ off)
 
 -- one that is put in alone is new
@@ -92,10 +89,6 @@ crowd-left process crowd n there updates is here len = record {
   others = set-apart process false crowd.processes n updates;
   less = sym (ap (λ b. btree_set_len n + cond b 1 0) (is ∙ here)) ∙ len;
 }
-
-pub longer-set : (added : Bool) (m n : ℕ) → n ≡ m + cond added 1 0 → n ≤ m + 1
-longer-set true m n is = omega arith
-longer-set false m n is = omega arith
 
 -- ---- the first that passes
 
