@@ -1,12 +1,15 @@
 -- Searches by halves in what ascends.
 use Rattle.std.proofs.Common.{◌≡◌, ℕ, ◌<◌, ◌≤◌, List, length, get_or, Option, None, Some, OnSome, Result, Ok, Err, ap, sym, ◌∙◌, ⊎_elim, arith}
 use Rattle.std.specs.List.{AllPairs, slice_get}
+use Rattle.std.specs.Option.{IfSome}
+use Rattle.std.specs.Result.{result_ok}
 use Rattle.std.specs.List.Sorted.{IsBinarySearchResult, IsNonDecreasingBy, IsSearchInRange}
 use Rattle.std.specs.Ordering.{nat_cmp, ordering_index}
 use Rattle.std.proofs.lemmas.Bool.{cases_lt, cases_order}
 use Rattle.std.proofs.lemmas.Bool.Decides.{nat_tests}
 use Rattle.std.proofs.lemmas.Cmp.{ranked}
 use Rattle.std.proofs.lemmas.Option.{get_or_from_slice_get, none-some, slice_get_within}
+use Rattle.sr_line.specs.Lines.{IsNumbered}
 
 module _ {X : Type 0} (n : X → ℕ) (xs : List X) (up : AllPairs (λ a b. n a < n b) xs) where
   pub non_decreasing : IsNonDecreasingBy n xs
@@ -31,6 +34,11 @@ module _ {X : Type 0} (n : X → ℕ) (xs : List X) (up : AllPairs (λ a b. n a 
       let less : place < i → n (get_or xs place e) < x = λ before. ranked _ x _ (sym (both.0 place e (omega arith) before)) in
       let greater : i ≤ place → x < n (get_or xs place e) = λ after. ranked _ x _ (sym (both.1 place e after low)) in
       absurd (⊎_elim (λ before. omega (arith, less before)) (λ after. omega (arith, greater after)) (cases_lt place i))
+
+  -- what is found has the number
+  pub searched-there : (x : ℕ) (r : Result ℕ ℕ) → IsSearchInRange r (length xs) → IsBinarySearchResult (λ y. nat_cmp (n y) x) xs r → IfSome (result_ok r) (IsNumbered n xs x)
+  searched-there x (Ok i) in_range equal = (in_range, λ e. ranked _ x _ (sym (equal e)))
+  searched-there x (Err i) in_range parted = tt
 
   -- two places that hold the same are one
   pub one_place : (i j : ℕ) (e d : X) → slice_get xs i ≡ Some e → slice_get xs j ≡ Some d → n e ≡ n d → i ≡ j

@@ -7,7 +7,7 @@ use Rattle.std.proofs.lemmas.Bool.{cases_lt}
 use Rattle.std.proofs.lemmas.List.{get_or-append-add, get_or_append_left, get_or_default, length-append, take_all}
 use Rattle.std.proofs.lemmas.List.Concat.{get_or-flat_map}
 use Rattle.std.proofs.lemmas.Option.{get_or_from_slice_get, slice_get-get_or, slice_get_within}
-use Rattle.sr_line.specs.Lines.{AllLesser, IsStart, Reaches, joined}
+use Rattle.sr_line.specs.Lines.{AllLesser, IsNumbered, IsStart, Reaches, joined}
 use Rattle.sr_line.proofs.JoinedLemmas.{in-front, length-front}
 use Rattle.sr_line.proofs.BlockLemmas.{items_of, joined-more}
 
@@ -44,6 +44,16 @@ module _ {A : Type 0} where
   }
 
   module _ (number_of : A → ℕ) where
+    -- a number that stands in a part stands in the whole
+    pub part-numbered : (whole : List A) (before : ℕ) (part : List A) → IsPart whole before part → (number place : ℕ) → (before ≤ place) × IsNumbered number_of part number (place - before) → IsNumbered number_of whole number place
+    part-numbered whole before part p number place there =
+        let low : place - before < length part = there.1.0 in
+        let sum : before + (place - before) ≡ place = omega (arith, there.0) in
+        (omega (arith, low, there.0, p.within), λ d. ap (λ k. number_of (get_or whole k d)) (sym sum) ∙ ap number_of (p.same (place - before) d low) ∙ there.1.1 d)
+
+    pub front-numbered : (xs ys : List A) (number place : ℕ) → IsNumbered number_of xs number place → IsNumbered number_of (xs ++ ys) number place
+    front-numbered xs ys number place there = (omega (arith, there.0, length-append xs ys), λ d. ap number_of (get_or_append_left xs ys d place there.0) ∙ there.1 d)
+
     pub lesser-in-front : (xs ys : List A) (before number : ℕ) → before ≤ length xs → AllLesser number_of xs before number → AllLesser number_of (xs ++ ys) before number
     lesser-in-front xs ys before number few lesser k other low = omega (arith, ap number_of (get_or_append_left xs ys other k (omega arith)), lesser k other low)
 

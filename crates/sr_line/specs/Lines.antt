@@ -28,6 +28,10 @@ pub record IsSpot {T : Type 0} (blocks : List (VecDeque T Global)) (whole block 
   pub place_within : (other : VecDeque T Global) → place < length (slice_index_or blocks block other).items
   pub sum : length (joined (take block blocks)) + place ≡ whole
 
+-- the item at a place has this number
+abbrev pub IsNumbered : {T : Type 0} → (T → ℕ) → List T → ℕ → ℕ → Type 0
+IsNumbered {T} number_of items number place = (place < length items) × ((other : T) → number_of (slice_index_or items place other) ≡ number)
+
 -- the items before a place have lesser numbers
 abbrev pub AllLesser : {T : Type 0} → (T → ℕ) → List T → ℕ → ℕ → Type 0
 AllLesser {T} number_of items before number = (k : ℕ) (other : T) → k < before → number_of (slice_index_or items k other) < number

@@ -1,4 +1,5 @@
-ghost use Rattle.std.specs.Prelude.{◌≡◌, ◌==◌, ◌<◌, ◌≤◌, ℕ, [], ◌∷◌, ◌++◌, length, remove, slice_get, AllPairs, IsOk, OnErr, OnOk, OnSome, option_copied};
+ghost use Rattle.std.specs.Prelude.{◌≡◌, ◌==◌, ◌<◌, ◌≤◌, ℕ, [], ◌∷◌, ◌++◌, length, remove, slice_get, AllPairs, IfSome, IsOk, OnErr, OnOk, OnSome, option_copied};
+ghost use Rattle.sr_line.specs.Lines.{IsNumbered};
 
 use crate::blocks::{get_in, make_room, take_in};
 use crate::search::{HasNumber, place_after, place_in_blocks, starts_by};
@@ -137,7 +138,8 @@ impl<T: HasNumber> Line<T> {
     /// The place of the item of a number, where later items have greater numbers.
     pub fn place_of(&self, number: u64) -> Option<usize>
         requires { AllPairs (λ a b. T.number_of a < T.number_of b) self.now.items }
-        ensures { (place : ℕ) (item : T) → slice_get self.now.items place ≡ Some item → T.number_of item ≡ number → result ≡ Some place }
+        ensures found { (place : ℕ) (item : T) → slice_get self.now.items place ≡ Some item → T.number_of item ≡ number → result ≡ Some place }
+        ensures there { IfSome result (IsNumbered T.number_of self.now.items number) }
     {
         let last = self.last.len();
         let before = self.len - last;

@@ -1,5 +1,5 @@
 ghost use Rattle.std.specs.Prelude.{◌≡◌, ◌+◌, ◌-◌, ◌<◌, ◌≤◌, ◌^◌, ℕ, length, slice_get, slice_index_or, AllPairs, IfSome, IsTrue, Some, false};
-ghost use Rattle.sr_line.specs.Lines.{IsStart, Reaches, joined};
+ghost use Rattle.sr_line.specs.Lines.{IsNumbered, IsStart, Reaches, joined};
 
 use crate::blocks::Spot;
 use std::collections::VecDeque;
@@ -16,7 +16,8 @@ pub trait HasNumber {
 pub fn place_in_blocks<T: HasNumber>(blocks: &VecDeque<VecDeque<T>>, number: u64) -> Option<usize>
     requires small { length (joined blocks.now.items) < 2 ^ 64 }
     requires up { AllPairs (λ a b. T.number_of a < T.number_of b) (joined blocks.now.items) }
-    ensures { (place : ℕ) (item : T) → slice_get (joined blocks.now.items) place ≡ Some item → T.number_of item ≡ number → result ≡ Some place }
+    ensures found { (place : ℕ) (item : T) → slice_get (joined blocks.now.items) place ≡ Some item → T.number_of item ≡ number → result ≡ Some place }
+    ensures there { IfSome result (IsNumbered T.number_of (joined blocks.now.items) number) }
 {
     let spot = block_of(blocks, number);
     let items = blocks.get(spot.block)?;
@@ -74,7 +75,8 @@ pub fn starts_by<T: HasNumber>(items: &VecDeque<T>, number: u64) -> bool
 pub fn place_after<T: HasNumber>(before: usize, items: &VecDeque<T>, number: u64) -> Option<usize>
     requires small { before + length items.now.items < 2 ^ 64 }
     requires up { AllPairs (λ a b. T.number_of a < T.number_of b) items.now.items }
-    ensures { (place : ℕ) (item : T) → slice_get items.now.items place ≡ Some item → T.number_of item ≡ number → result ≡ Some (before + place) }
+    ensures found { (place : ℕ) (item : T) → slice_get items.now.items place ≡ Some item → T.number_of item ≡ number → result ≡ Some (before + place) }
+    ensures there { IfSome result (λ place. (before ≤ place) × IsNumbered T.number_of items.now.items number (place - before)) }
 {
     let place = place_in(items, number)?;
     Some(before + place)
@@ -84,7 +86,7 @@ pub fn place_after<T: HasNumber>(before: usize, items: &VecDeque<T>, number: u64
 fn place_in<T: HasNumber>(items: &VecDeque<T>, number: u64) -> Option<usize>
     requires { AllPairs (λ a b. T.number_of a < T.number_of b) items.now.items }
     ensures found { (place : ℕ) (item : T) → slice_get items.now.items place ≡ Some item → T.number_of item ≡ number → result ≡ Some place }
-    ensures within { IfSome result (λ place. place < length items.now.items) }
+    ensures there { IfSome result (IsNumbered T.number_of items.now.items number) }
 {
     items
         .binary_search_by_key(&number, |item| item.number())

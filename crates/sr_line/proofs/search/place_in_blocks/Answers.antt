@@ -1,9 +1,11 @@
 use Rattle.std.proofs.Common.{◌-◌, Some, ap, ◌∙◌, arith}
-use Rattle.sr_line.proofs.StartLemmas.{block-ascends, block-fits, block-found, none-found}
+use Rattle.std.proofs.lemmas.Option.{IfSome_then}
+use Rattle.sr_line.specs.Lines.{joined}
+use Rattle.sr_line.proofs.StartLemmas.{block-ascends, block-fits, block-found, block-part, none-found, part-numbered}
 use Rattle.sr_line.proofs.search.place_in_blocks.Goals as goal
 
-pub returns-in_err-items : goal.returns-in_err-items
-returns-in_err-items g c = λ place item at is.
+pub returns-in_err-items-clause-found : goal.returns-in_err-items-clause-found
+returns-in_err-items-clause-found g c = λ place item at is.
     let spot = c.block_of-spot.result in
     absurd (none-found g.T.HasNumber.number_of c.args.blocks.now.items c.requires.up c.args.number spot.block spot.place c.block_of-spot.ensures c.in_err-items.ensures.item.3 place item at is)
 
@@ -20,8 +22,14 @@ place_after-requires-clause-up g c =
     let spot = c.block_of-spot.result in
     block-ascends g.T.HasNumber.number_of c.args.blocks.now.items c.requires.up c.args.number spot.block spot.place c.block_of-spot.ensures c.in_ok-items.items.now c.in_ok-items.ensures.item.3.0 c.in_ok-items.ensures.lookup
 
-pub returns : goal.returns
-returns g c = λ place item at is.
+pub returns-clause-found : goal.returns-clause-found
+returns-clause-found g c = λ place item at is.
     let spot = c.block_of-spot.result in
     let found = block-found g.T.HasNumber.number_of c.args.blocks.now.items c.requires.up c.args.number spot.block spot.place c.block_of-spot.ensures c.in_ok-items.items.now c.in_ok-items.ensures.item.3.0 c.in_ok-items.ensures.lookup place item at is in
-    c.place_after.ensures (place - spot.place) item found.0 is ∙ ap Some found.1
+    c.place_after.ensures.found (place - spot.place) item found.0 is ∙ ap Some found.1
+
+pub returns-clause-there : goal.returns-clause-there
+returns-clause-there g c =
+    let spot = c.block_of-spot.result in
+    let part = block-part c.args.blocks.now.items spot.block spot.place c.in_ok-items.items.now c.in_ok-items.ensures.item.3.0 c.in_ok-items.ensures.lookup c.block_of-spot.ensures.sum in
+    IfSome_then c.place_after.result c.place_after.ensures.there (λ place there. part-numbered g.T.HasNumber.number_of (joined c.args.blocks.now.items) spot.place c.in_ok-items.items.now.items part c.args.number place there)
