@@ -280,7 +280,7 @@ fn as_int(exact: i64) -> Option<i32>
     }
 }
 
-/// The two numbers on top, where they are numbers, the last put last.
+/// The two values on top, where both are numbers. The one on top comes second.
 fn numbers_on(values: &Stack<Value>) -> Option<(i32, i32)>
     ensures last { IfSome result (λ numbers. first values.now ≡ Some (Value.Int numbers.1)) }
     ensures before { IfSome result (λ numbers. first (below values.now) ≡ Some (Value.Int numbers.0)) }
