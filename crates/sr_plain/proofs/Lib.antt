@@ -16,6 +16,7 @@ pub mod NextLemmas
 pub mod OrderLemmas
 pub mod RestLemmas
 pub mod RotationLemmas
+pub mod SettleLemmas
 pub mod StayLemmas
 pub mod StoreLemmas
 pub mod TurnLemmas

@@ -11,6 +11,9 @@ use Rattle.sr_queue.specs.declared.class.Class.{Class}
 use Rattle.sr_select.specs.Guards.{guard_block, home_seen}
 use Rattle.sr_value.specs.declared.fault.Fault.{Fault}
 use Rattle.sr_value.specs.declared.value.Value.{Value}
+use Rattle.sr_world.specs.Does.{IsNot, comes_to}
+use Rattle.sr_world.specs.Steps.{does}
+use Rattle.sr_world.specs.Worlds.{World}
 use Rattle.sr_world.specs.declared.acted.Acted.{Acted}
 use Rattle.sr_world.specs.declared.acted.Acted.TheVariants.{Done, Cannot}
 use Rattle.sr_plain.specs.Changes.{change_of, gone_by, owner_at}
@@ -82,3 +85,7 @@ NotesBy core me ask caller name _ old new woken = (new ≡ old) × (woken ≡ No
 
 abbrev pub Notes : Core → Me → Ask → Carried → Waiters → Waiters → Option Woken → Type 0
 Notes core me ask carried old new woken = NotesBy core me ask carried.caller carried.name carried.acted old new woken
+
+-- a process whose request can't be done is set aside, or all wait as before
+abbrev pub MaySetAside : Core → World → Me → Ask → Waiters → Waiters → Type 0
+MaySetAside core world me ask old new = (new ≡ old) ⊎ ((comes_to (does core world me.process ask 0) ≡ IsNot) × IsSetAside core me ask old new)

@@ -1,7 +1,7 @@
 ghost use Rattle.std.specs.Prelude.{◌≡◌, OnOk, IfOk, OnErr};
 ghost use Rattle.std.specs.List.{list_all};
 ghost use Rattle.sr_select.specs.Laws.{is_plain};
-ghost use Rattle.sr_plain.specs.Noting.{IdlesAtArms, Notes, WaitsAt, WaitsAtArms, WaitsForCount, WaitsForCounts, WaitsForRead, WaitsForReads};
+ghost use Rattle.sr_plain.specs.Noting.{IdlesAtArms, MaySetAside, Notes, WaitsAt, WaitsAtArms, WaitsForCount, WaitsForCounts, WaitsForRead, WaitsForReads};
 ghost use Rattle.sr_plain.specs.Waiting.{IsWaiting, is_simple};
 ghost use Rattle.sr_world.specs.declared.acted.Acted.TheVariants.{Cannot};
 
@@ -14,7 +14,7 @@ use sr_core::{Arm, Core, Me, Site};
 use sr_queue::class_of;
 use sr_select::{block_of, names_listed};
 use sr_value::{Fault, NoMemory, Value};
-use sr_world::Acted;
+use sr_world::{Acted, World};
 
 fn is_plain(arm: &Arm) -> bool
     ensures { result ≡ is_plain arm.now }
@@ -172,4 +172,30 @@ pub(crate) fn note(
         }
         Acted::Ends(_) | Acted::Undecided => Ok(None),
     }
+}
+
+/// Whether a request waits for a reply or an invocation.
+fn is_patient(request: &Request) -> bool {
+    matches!(request, Request::Take { .. } | Request::Select { .. })
+}
+
+/// Sets a process aside that waits for a reply or an invocation which isn't there.
+pub(crate) fn set_aside(
+    waiters: &mut Waiters,
+    world: &World,
+    core: &Core,
+    me: Me,
+    ask: &Ask,
+) -> Result<(), NoMemory>
+    ensures { OnOk result (MaySetAside core.now world.now me ask.now waiters.old waiters.new) }
+{
+    if !is_patient(&ask.request) {
+        return Ok(());
+    }
+    if world.is_ready(core, me.process, ask)? {
+        return Ok(());
+    }
+    wait_for(waiters, core, me, &ask.request)?;
+    waiters.take_out(me.process);
+    Ok(())
 }

@@ -22,6 +22,11 @@ pub enum Change {
 }
 
 impl Change {
+    /// Whether an invocation comes.
+    pub(crate) fn is_arrival(self) -> bool {
+        matches!(self, Change::Class { .. })
+    }
+
     pub(crate) fn is_everything(self) -> bool
         ensures { result ≡ is_everything self }
     {

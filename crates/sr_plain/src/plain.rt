@@ -5,7 +5,7 @@ ghost use Rattle.sr_plain.specs.Waiting.{is_ready, turns_len};
 ghost use Rattle.sr_world.specs.Runs.{State, Event, Closes, Gives, first, no_step, with_input, without_more};
 ghost use Rattle.sr_world.specs.Worlds.{started};
 
-use crate::aside::note;
+use crate::aside::{note, set_aside};
 use crate::carrying::{carry_out, new_name};
 use crate::change::Woken;
 use crate::crew::{begin_once, let_go};
@@ -86,8 +86,49 @@ impl<A: Actor> Plain<A> {
     pub fn step(&mut self, program: &A::Program) -> Result<Plainly, NoMemory>
         ensures { (limit : ℕ) (state : State) (events : List Event) → IsEngine (A.asks_after program.now) A.can_feed (A.core_of program.now) limit state events self.old → Steps (A.asks_after program.now) A.can_feed (A.core_of program.now) limit state events (turn (A.core_of program.now) limit state (last_in events)) result self.new }
     {
+        let settles = self.may_wait();
         self.wake_up()?;
+        self.settle(program, settles)?;
         self.take_turn(program)
+    }
+
+    /// Whether the last step was one after which its process often waits: a call, or the answer to one.
+    fn may_wait(&self) -> bool {
+        match self.woken {
+            Some(woken) => woken.caller != 0 || woken.change.is_arrival(),
+            None => false,
+        }
+    }
+
+    /// Sets the last actor aside where it is to settle, and waits for a reply or an invocation that isn't there. It would be
+    /// asked in vain.
+    #[inline(always)]
+    fn settle(&mut self, program: &A::Program, settles: bool) -> Result<(), NoMemory>
+        requires { self.old.woken ≡ None }
+        ensures engine { OnOk result ((limit : ℕ) (state : State) (events : List Event) → IsEngine (A.asks_after program.now) A.can_feed (A.core_of program.now) limit state events self.old → IsEngine (A.asks_after program.now) A.can_feed (A.core_of program.now) limit state events self.new) }
+        ensures awake { OnOk result (self.new.woken ≡ None) }
+        ensures world { self.new.world ≡ self.old.world }
+    {
+        if !settles {
+            return Ok(());
+        }
+        let process = self.last;
+        match self.crew.get_mut(&process) {
+            Some(member) => {
+                let me = Me {
+                    process,
+                    instance: member.instance,
+                };
+                member.look(program)?;
+                match member.actor.asked() {
+                    Asks::Asked(ask) => {
+                        set_aside(&mut self.waiters, &self.world, A::core(program), me, ask)
+                    }
+                    Asks::OverTicks => Ok(()),
+                }
+            }
+            None => Ok(()),
+        }
     }
 
     /// Makes ready whom the last step woke, and lets go of those whom it ended.

@@ -43,6 +43,7 @@ impl Ready {
     }
 
     /// Puts a process in.
+    #[inline(always)]
     pub(crate) fn insert(&mut self, process: u32) -> Result<(), NoMemory>
         ensures { OnOk result (IsPutIn process self.old self.new) }
     {

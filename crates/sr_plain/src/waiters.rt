@@ -103,6 +103,7 @@ fn both(alloc: Global, process: u32, other: u32) -> Result<BTreeSet<u32>, NoMemo
 
 impl Waiting {
     /// Has one more wait there.
+    #[inline(always)]
     fn add(&mut self, alloc: Global, process: u32) -> Result<(), NoMemory>
         ensures { OnOk result (WaitsAlso process self.old self.new) }
     {
@@ -126,6 +127,7 @@ impl Waiting {
 }
 
 /// Has one more wait under a key.
+#[inline(always)]
 fn wait_under<K: Copy + Eq + Hash>(
     table: &mut HashMap<K, Waiting>,
     alloc: Global,
@@ -213,6 +215,7 @@ impl Waiters {
     }
 
     /// Has a process wait there.
+    #[inline(always)]
     pub(crate) fn wait(&mut self, place: Place, process: u32) -> Result<(), NoMemory>
         ensures { OnOk result (WaitsThere place process self.old self.new) }
     {

@@ -29,6 +29,8 @@ pub(crate) fn put_item<O: Sink>(
 }
 
 /// Adds the item that ends the run.
+#[cold]
+#[inline(never)]
 pub(crate) fn end_with(items: &mut Row<Item>, item: Item, end: End) -> RunEnd
     ensures fit { AllByRecursion FitsItem items.old → AllByRecursion FitsItem items.new }
     ensures ends { EndsWith item end items.old items.new result }

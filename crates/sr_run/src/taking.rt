@@ -30,6 +30,8 @@ fn piece_of(intake: Intake) -> usize
 }
 
 /// Takes the next bytes of the input, or its end.
+#[cold]
+#[inline(never)]
 pub(crate) fn take_more<A: Actor, I: Source>(
     plain: &mut Plain<A>,
     intake: &mut Intake,
