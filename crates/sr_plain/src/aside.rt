@@ -174,9 +174,17 @@ pub(crate) fn note(
     }
 }
 
-/// Whether a request waits for a reply or an invocation.
-fn is_patient(request: &Request) -> bool {
-    matches!(request, Request::Take { .. } | Request::Select { .. })
+/// Whether a request waits for a reply, or for an invocation at a statement without guards. Guards would be evaluated once
+/// more.
+fn is_patient(core: &Core, request: &Request) -> bool {
+    match request {
+        Request::Take { .. } => true,
+        Request::Select { site, .. } => match core.sites.get(*site as usize) {
+            Some(site) => is_simple(site),
+            None => false,
+        },
+        _ => false,
+    }
 }
 
 /// Sets a process aside that waits for a reply or an invocation which isn't there.
@@ -189,7 +197,7 @@ pub(crate) fn set_aside(
 ) -> Result<(), NoMemory>
     ensures { OnOk result (MaySetAside core.now world.now me ask.now waiters.old waiters.new) }
 {
-    if !is_patient(&ask.request) {
+    if !is_patient(core, &ask.request) {
         return Ok(());
     }
     if world.is_ready(core, me.process, ask)? {
