@@ -9,6 +9,8 @@ pub enum Item {
     /// No process could make a step. `name` is the number of the process that runs main's final code, and
     /// 0 where the run ends.
     Quiesce { name: u32 },
+    /// The machine's moment became `to`, in milliseconds.
+    Tick { to: u32 },
 }
 
 const _: () = prove!(std::mem::size_of::<Item>() <= 16);

@@ -35,7 +35,7 @@ fn push_made(text: &mut String, name: u32) -> Result<(), AllocError> {
     }
 }
 
-/// `3+5` is a step of process 3 that made 5, `rest` that the machine came to rest.
+/// `3+5` is a step of process 3 that made 5, `rest` that the machine came to rest, and `@7` that time passed to moment 7.
 fn push_item(text: &mut String, item: Item) -> Result<(), AllocError> {
     match item {
         Item::Step { actor, name } => {
@@ -46,6 +46,7 @@ fn push_item(text: &mut String, item: Item) -> Result<(), AllocError> {
             text.push_str("rest")?;
             push_made(text, name)
         }
+        Item::Tick { to } => write!(text, "@{to}"),
     }
 }
 

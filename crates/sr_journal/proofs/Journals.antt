@@ -5,7 +5,7 @@ use Rattle.std.specs.List.{concat, AllByRecursion}
 use Rattle.std.proofs.lemmas.Bool.{eqb-true, eqb-false, leb-true, le-leb}
 use Rattle.std.proofs.lemmas.Str.{IsUtf8-nil}
 use Rattle.sr_ask.specs.declared.item.Item.{Item}
-use Rattle.sr_ask.specs.declared.item.Item.TheVariants.{Step, Quiesce}
+use Rattle.sr_ask.specs.declared.item.Item.TheVariants.{Step, Quiesce, Tick}
 use Rattle.sr_journal.specs.declared.fail.JournalFail.{JournalFail}
 use Rattle.sr_journal.specs.declared.fail.JournalFail.TheVariants.{NotJournal, Truncated, Version, NoMemory}
 use Rattle.sr_journal.specs.Numbers.{number_text}
@@ -244,18 +244,22 @@ limits-judged s =
 abbrev pub StepHolds : Item → Type 0
 StepHolds (Step actor name) = IsItem (Step actor name)
 StepHolds (Quiesce name) = ⊥
+StepHolds (Tick to) = ⊥
 
 abbrev pub QuiesceHolds : Item → Type 0
 QuiesceHolds (Step actor name) = ⊥
 QuiesceHolds (Quiesce name) = IsItem (Quiesce name)
+QuiesceHolds (Tick to) = ⊥
 
 abbrev actor-of : Item → ℕ
 actor-of (Step actor name) = actor
 actor-of (Quiesce name) = 0
+actor-of (Tick to) = 0
 
 abbrev made-of : Item → ℕ
 made-of (Step actor name) = name
 made-of (Quiesce name) = name
+made-of (Tick to) = 0
 
 abbrev after-made : Item → List ℕ
 after-made item = number_text (made-of item) ++ newline
@@ -278,10 +282,12 @@ step-from a b h g =
 step-actor : (c : Item) → StepHolds c → CanStand false (Some 4294967295) (actor-of c)
 step-actor (Step a b) h = let l : a < 2 ^ 32 = h.1 in stands-above a 4294967295 h.0 (omega (arith, l))
 step-actor (Quiesce b) h = absurd h
+step-actor (Tick to) h = absurd h
 
 step-name : (c : Item) → StepHolds c → CanStand true (Some 4294967295) (made-of c)
 step-name (Step a b) h = let l : b < 2 ^ 32 = h.2 in stands b 4294967295 (omega (arith, l))
 step-name (Quiesce b) h = absurd h
+step-name (Tick to) h = absurd h
 
 quiesce-from : (b : ℕ) → CanStand true (Some 4294967295) b → QuiesceHolds (Quiesce b)
 quiesce-from b g = let m : b ≤ 4294967295 = at-most true b 4294967295 g in omega (arith, m)
@@ -289,14 +295,17 @@ quiesce-from b g = let m : b ≤ 4294967295 = at-most true b 4294967295 g in ome
 quiesce-name : (c : Item) → QuiesceHolds c → CanStand true (Some 4294967295) (made-of c)
 quiesce-name (Step a b) h = absurd h
 quiesce-name (Quiesce b) h = let l : b < 2 ^ 32 = h in stands b 4294967295 (omega (arith, l))
+quiesce-name (Tick to) h = absurd h
 
 same-step : (a b : ℕ) (c : Item) → StepHolds c → actor-of c ≡ a → made-of c ≡ b → c ≡ Step a b
 same-step a b (Step x y) h p q = λ i. Step (p i) (q i)
 same-step a b (Quiesce y) h p q = absurd h
+same-step a b (Tick to) h p q = absurd h
 
 same-quiesce : (b : ℕ) (c : Item) → QuiesceHolds c → made-of c ≡ b → c ≡ Quiesce b
 same-quiesce b (Step x y) h q = absurd h
 same-quiesce b (Quiesce y) h q = ap Quiesce q
+same-quiesce b (Tick to) h q = absurd h
 
 one-actor : CanStand false (Some 4294967295) 1
 one-actor = stands-above 1 4294967295 (omega arith) (omega arith)
@@ -374,34 +383,42 @@ module _ {A : Type 0} (F G : Format A) (b : ℕ)
 step-up : (c : Item) → StepHolds c → IsItem c
 step-up (Step a b) h = h
 step-up (Quiesce b) h = absurd h
+step-up (Tick to) h = absurd h
 
 step-led : (c : Item) → StepHolds c → item_line c ≡ 115 ∷ (blank ++ after-actor c)
 step-led (Step a b) h = refl
 step-led (Quiesce b) h = absurd h
+step-led (Tick to) h = absurd h
 
 step-down : (c : Item) (p y : List ℕ) → IsItem c → 115 ∷ p ≡ item_line c ++ y → StepHolds c
 step-down (Step a b) p y h e = h
 step-down (Quiesce b) p y h e = let head : ◌≡◌ {A = ℕ} 115 113 = cc in absurd (omega (arith, head))
+step-down (Tick to) p y h e = absurd h
 
 quiesce-up : (c : Item) → QuiesceHolds c → IsItem c
 quiesce-up (Step a b) h = absurd h
 quiesce-up (Quiesce b) h = h
+quiesce-up (Tick to) h = absurd h
 
 quiesce-led : (c : Item) → QuiesceHolds c → item_line c ≡ 113 ∷ (blank ++ after-made c)
 quiesce-led (Step a b) h = absurd h
 quiesce-led (Quiesce b) h = refl
+quiesce-led (Tick to) h = absurd h
 
 quiesce-down : (c : Item) (p y : List ℕ) → IsItem c → 113 ∷ p ≡ item_line c ++ y → QuiesceHolds c
 quiesce-down (Step a b) p y h e = let head : ◌≡◌ {A = ℕ} 113 115 = cc in absurd (omega (arith, head))
 quiesce-down (Quiesce b) p y h e = h
+quiesce-down (Tick to) p y h e = absurd h
 
-no-item : (b : ℕ) (p y : List ℕ) (c : Item) → (b ≡ 115 → ⊥) → (b ≡ 113 → ⊥) → b ∷ p ≡ item_line c ++ y → ⊥
-no-item b p y (Step x z) s q e = let head : b ≡ 115 = cc in s head
-no-item b p y (Quiesce z) s q e = let head : b ≡ 113 = cc in q head
+no-item : (b : ℕ) (p y : List ℕ) (c : Item) → IsItem c → (b ≡ 115 → ⊥) → (b ≡ 113 → ⊥) → b ∷ p ≡ item_line c ++ y → ⊥
+no-item b p y (Step x z) h s q e = let head : b ≡ 115 = cc in s head
+no-item b p y (Quiesce z) h s q e = let head : b ≡ 113 = cc in q head
+no-item b p y (Tick to) h s q e = h
 
 no-line : (c : Item) (x : List ℕ) → [] ≡ item_line c ++ x → ⊥
 no-line (Step a b) x e = cc
 no-line (Quiesce b) x e = cc
+no-line (Tick to) x e = cc
 
 pub item-judged : (s : List ℕ) → Judged Items-one s (item_at s)
 unfolding item_at
@@ -418,7 +435,7 @@ item-judged (b ∷ s) = by_first (eqb b 115) (eqb b 113) refl refl
     by_first : (x y : Bool) → eqb b 115 ≡ x → eqb b 113 ≡ y → Judged Items-one (b ∷ s) (cond x (step_at s) (cond y (quiesce_at s) (Err NotJournal)))
     by_first true y p q = subst (λ c. Judged Items-one (c ∷ s) (step_at s)) (sym (eqb-true b 115 p)) (led-judged Items-one Steps 115 step-up step-led step-down s (step_at s) (step-judged s))
     by_first false true p q = subst (λ c. Judged Items-one (c ∷ s) (quiesce_at s)) (sym (eqb-true b 113 q)) (led-judged Items-one Quiesces 113 quiesce-up quiesce-led quiesce-down s (quiesce_at s) (quiesce-judged s))
-    by_first false false p q = record { none = λ c x y h e. no-item b (s ++ x) y c (eqb-false b 115 p) (eqb-false b 113 q) e }
+    by_first false false p q = record { none = λ c x y h e. no-item b (s ++ x) y c h (eqb-false b 115 p) (eqb-false b 113 q) e }
 
 -- the lines of all items, of which there are at most so many
 abbrev pub AreItems : ℕ → List Item → Type 0

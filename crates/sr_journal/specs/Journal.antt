@@ -3,7 +3,7 @@ use Rattle.std.specs.Prelude.{ℕ, ◌≤◌, ◌<◌, ◌^◌, List, [], ◌∷
 use Rattle.std.specs.List.{concat, AllByRecursion}
 use Rattle.std.specs.Str.{IsUtf8}
 use Rattle.sr_ask.specs.declared.item.Item.{Item}
-use Rattle.sr_ask.specs.declared.item.Item.TheVariants.{Step, Quiesce}
+use Rattle.sr_ask.specs.declared.item.Item.TheVariants.{Step, Quiesce, Tick}
 use Rattle.sr_journal.specs.declared.header.Header.{Header}
 use Rattle.sr_journal.specs.Numbers.{number_text}
 
@@ -33,6 +33,7 @@ limits_line steps ticks = concat (codes "steps " ∷ number_text steps ∷ codes
 abbrev pub item_line : Item → List ℕ
 item_line (Step actor name) = concat (codes "s " ∷ number_text actor ∷ blank ∷ number_text name ∷ newline ∷ [])
 item_line (Quiesce name) = concat (codes "q " ∷ number_text name ∷ newline ∷ [])
+item_line (Tick to) = concat (codes "t " ∷ number_text to ∷ newline ∷ [])
 
 -- how many items there are, and a line for each
 abbrev pub items_text : List Item → List ℕ
@@ -47,10 +48,11 @@ journal_text header items =
 abbrev pub IsFile : ℕ × List ℕ → Type 0
 IsFile file = (file.0 ≤ 1048576) × IsUtf8 file.1
 
--- a step is made by a process, and processes are numbered from 1
+-- a step is made by a process, and processes are numbered from 1; no time passes in this version
 abbrev pub IsItem : Item → Type 0
 IsItem (Step actor name) = (1 ≤ actor) × (actor < 2 ^ 32) × (name < 2 ^ 32)
 IsItem (Quiesce name) = name < 2 ^ 32
+IsItem (Tick to) = ⊥
 
 -- what a journal can hold
 pub record IsInRange (header : Header) (items : List Item) : Type 0 where

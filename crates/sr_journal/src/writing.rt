@@ -101,6 +101,10 @@ fn push_item(text: &mut Text, item: Item) -> Result<(), NoMemory>
             text.push_all(b"q ")?;
             push_number(text, u64::from(name))?;
         }
+        Item::Tick { to } => {
+            text.push_all(b"t ")?;
+            push_number(text, u64::from(to))?;
+        }
     }
     text.push(b'\n')
 }

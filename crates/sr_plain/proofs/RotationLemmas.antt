@@ -2,7 +2,7 @@
 use Rattle.std.proofs.Common.{◌≡◌, ℕ, zero, suc, not, Bool, true, false, cond, List, [], ◌∷◌, ◌++◌, Option, None, Some, refl, ap, sym, ◌∙◌, subst, true≢false, append_assoc}
 use Rattle.std.specs.Prelude.{find, fold}
 use Rattle.sr_ask.specs.declared.item.Item.{Item}
-use Rattle.sr_ask.specs.declared.item.Item.TheVariants.{Step, Quiesce}
+use Rattle.sr_ask.specs.declared.item.Item.TheVariants.{Step, Quiesce, Tick}
 use Rattle.sr_ask.specs.declared.start.Start.{Start}
 use Rattle.sr_core.specs.declared.component.Core.{Core}
 use Rattle.sr_world.specs.Runs.{Event, Makes_item, Gives, Closes, Next, Goes, Over, Illegal, State, after, after_event, asks_next, bytes_in, first, is_legal, items_in, next, where_true, with_input, without_more}
@@ -51,8 +51,10 @@ module _ (core : Core) (limit : ℕ) where
     same-names : (t : Option Start) (item : Item) → IsTurn t state.world item → IsTurn t (with_all bytes state.world) item
     same-names (Some s) (Step actor name) here = (here.0, name-with-all name here.1)
     same-names (Some s) (Quiesce name) here = absurd here
+    same-names (Some s) (Tick to) here = absurd here
     same-names None (Step actor name) here = absurd here
     same-names None (Quiesce name) here = name-with-all name here
+    same-names None (Tick to) here = absurd here
 
     turn-with-all : (last : ℕ) (item : Item) → IsTurn (turn core limit state last) state.world item → IsTurn (turn core limit (with_all_in bytes state) last) (with_all bytes state.world) item
     turn-with-all last item here = subst (λ t. IsTurn t (with_all bytes state.world) item) (sym (same-turn last)) (same-names (turn core limit state last) item here)

@@ -1,7 +1,7 @@
 -- Whose turn it is.
 use Rattle.std.specs.Prelude.{◌≡◌, ◌++◌, ℕ, zero, suc, Bool, not, List, [], ◌∷◌, drop, take, find, Option, Some, None}
 use Rattle.sr_ask.specs.declared.item.Item.{Item}
-use Rattle.sr_ask.specs.declared.item.Item.TheVariants.{Step, Quiesce}
+use Rattle.sr_ask.specs.declared.item.Item.TheVariants.{Step, Quiesce, Tick}
 use Rattle.sr_ask.specs.declared.start.Start.{Start}
 use Rattle.sr_core.specs.declared.component.Core.{Core}
 use Rattle.sr_world.specs.Names.{IsLeastUnused, made_after}
@@ -42,6 +42,7 @@ IsTurn turn world item = ⊥
 abbrev pub last_after : ℕ → Item → ℕ
 last_after last (Step actor name) = actor
 last_after last (Quiesce name) = last
+last_after last (Tick to) = last
 
 -- each item stands where its turn is
 abbrev pub Rotates : Core → ℕ → Next → ℕ → List Item → Type 0

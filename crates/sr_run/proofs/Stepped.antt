@@ -1,10 +1,10 @@
 -- What becomes of a run when an item is made.
-use Rattle.std.proofs.Common.{◌≡◌, ◌<◌, ◌==◌, ℕ, true, List, [], ◌∷◌, ◌++◌, Option, None, Some, length, refl, ap, sym, ◌∙◌, subst, arith, append-nil}
+use Rattle.std.proofs.Common.{◌≡◌, ◌<◌, ◌==◌, ◌&&◌, ℕ, true, List, [], ◌∷◌, ◌++◌, Option, None, Some, length, refl, ap, sym, ◌∙◌, subst, arith, append-nil}
 use Rattle.std.specs.Io.KnownBytes.{append_known}
 use Rattle.sr_ask.specs.declared.ask.Asks.{Asks}
 use Rattle.sr_ask.specs.declared.ask.Asks.TheVariants.{Asked, OverTicks}
 use Rattle.sr_ask.specs.declared.item.Item.{Item}
-use Rattle.sr_ask.specs.declared.item.Item.TheVariants.{Step, Quiesce}
+use Rattle.sr_ask.specs.declared.item.Item.TheVariants.{Step, Quiesce, Tick}
 use Rattle.sr_ask.specs.declared.start.Start.{Start}
 use Rattle.sr_core.specs.declared.component.Core.{Core}
 use Rattle.sr_plain.proofs.LeaveLemmas.{leaves, leaves_at_rest}
@@ -21,8 +21,9 @@ use Rattle.sr_world.proofs.RunLemmas.{goes-where, sound-led}
 use Rattle.sr_world.specs.Laws.{closes}
 use Rattle.sr_world.specs.Does.{Does, Did, Makes, Cannot, Ends, Undecided}
 use Rattle.sr_world.specs.Endings.{quiesce}
-use Rattle.sr_world.specs.Runs.{Event, Makes_item, Goes, Next, Over, State, asks_for, asks_next, bytes_in, ending_of, is_legal, is_new, items_in, next, no_step, output_of, rested, step_of, stepped, with_answer}
+use Rattle.sr_world.specs.Runs.{Event, Makes_item, Goes, Next, Over, State, asks_for, asks_next, bytes_in, comes_after, ending_of, heeds_time, is_legal, is_new, items_in, next, no_step, output_of, rested, step_of, stepped, with_answer}
 use Rattle.sr_world.specs.Steps.{does}
+use Rattle.sr_world.specs.Updates.{pass_to}
 use Rattle.sr_world.specs.Worlds.{started}
 use Rattle.sr_world.specs.declared.ends.End.{End}
 use Rattle.sr_run.proofs.Events.{bytes-more, closes-more, items-more, led-more, or-false}
@@ -97,6 +98,11 @@ module _ (core : Core) (ticks : ℕ) (state later : State) where
         let parts = goes-where (no_step core ticks state) (rested state name (quiesce core name state.world)) later goes in
         let output : later.world.output ≡ state.world.output ++ [] = output-rested name (quiesce core name state.world) (leaves_at_rest name state.world core) parts.1 in
         let none : [] ≡ text = append-same state.world.output [] text (sym output ∙ written) in
+        absurd (omega (arith, ap length none, some))
+    who-writes (Tick to) goes =
+        let parts = goes-where (comes_after state.world.moment to && heeds_time core ticks state) (Goes (record state { world = pass_to to state.world })) later goes in
+        let same : record state { world = pass_to to state.world } ≡ later = cc in
+        let none : [] ≡ text = append-same state.world.output [] text (append-nil state.world.output ∙ ap (λ (s : State). s.world.output) same ∙ written) in
         absurd (omega (arith, ap length none, some))
 
 -- ---- one item more

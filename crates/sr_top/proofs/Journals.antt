@@ -4,7 +4,7 @@ use Rattle.std.specs.Prelude.{Result, Ok, Err, IfOk, IfErr, IfNone, IfSome, unwr
 use Rattle.std.specs.List.{AllByRecursion}
 use Rattle.std.specs.Option.{option_map}
 use Rattle.sr_ask.specs.declared.item.Item.{Item}
-use Rattle.sr_ask.specs.declared.item.Item.TheVariants.{Step, Quiesce}
+use Rattle.sr_ask.specs.declared.item.Item.TheVariants.{Step, Quiesce, Tick}
 use Rattle.sr_compiled.specs.declared.compiled.Compiled.{Compiled}
 use Rattle.sr_core.specs.declared.component.Core.{Core}
 use Rattle.sr_core.specs.declared.owner.Classes.{Classes}
@@ -105,6 +105,7 @@ each_file told (file ∷ files) read are = ((are.0, read.0.text), each_file told
 item : (made : Item) → IsNumbered made → IsItem made
 item (Step actor name) is = is
 item (Quiesce name) is = is
+item (Tick to) is = is
 
 each_item : (items : List Item) → AllByRecursion IsNumbered items → AllByRecursion IsItem items
 each_item [] are = tt

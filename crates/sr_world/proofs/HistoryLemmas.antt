@@ -8,7 +8,7 @@ use Rattle.sr_ask.specs.declared.ask.Ask.{Ask}
 use Rattle.sr_ask.specs.declared.ask.Asks.{Asks}
 use Rattle.sr_ask.specs.declared.ask.Asks.TheVariants.{Asked, OverTicks}
 use Rattle.sr_ask.specs.declared.item.Item.{Item}
-use Rattle.sr_ask.specs.declared.item.Item.TheVariants.{Step, Quiesce}
+use Rattle.sr_ask.specs.declared.item.Item.TheVariants.{Step, Quiesce, Tick}
 use Rattle.sr_ask.specs.declared.request.Request.{Request}
 use Rattle.sr_ask.specs.declared.request.Request.TheVariants as request
 use Rattle.sr_ask.specs.declared.start.Start.{Start}
@@ -208,6 +208,7 @@ module _ (core : Core) (limit : ℕ) where
     pub item-marks : (item : Item) → is_legal (next core limit state item) ≡ true → AllMarks state (marks_in core limit state item)
     item-marks (Step actor name) legal = marks-by actor name (started state.world actor) refl legal
     item-marks (Quiesce name) legal = tt
+    item-marks (Tick to) legal = tt
 
   all-entries : (state : State) (marks : List Mark) → AllMarks state marks → AllLegal core limit (map (λ mark. record { state = state; mark = mark }) marks)
   all-entries state [] h = tt

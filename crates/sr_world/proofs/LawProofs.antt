@@ -8,7 +8,7 @@ use Rattle.sr_ask.specs.declared.answer.Answer.TheVariants as answer
 use Rattle.sr_ask.specs.declared.ask.Asks.{Asks}
 use Rattle.sr_ask.specs.declared.ask.Asks.TheVariants.{Asked, OverTicks}
 use Rattle.sr_ask.specs.declared.item.Item.{Item}
-use Rattle.sr_ask.specs.declared.item.Item.TheVariants.{Step, Quiesce}
+use Rattle.sr_ask.specs.declared.item.Item.TheVariants.{Step, Quiesce, Tick}
 use Rattle.sr_ask.specs.declared.start.Start.{Start}
 use Rattle.sr_calls.specs.Calls.{items_of}
 use Rattle.sr_calls.specs.declared.held.Reply.{Reply}
@@ -18,8 +18,8 @@ use Rattle.sr_world.specs.Deciding.{is_select}
 use Rattle.sr_world.specs.Does.{Does, Did, Makes, Cannot, Ends, Undecided, comes_to, is_possible}
 use Rattle.sr_world.specs.Endings.{close_or, main_instance, may_close, rest_of}
 use Rattle.sr_world.specs.Making.{run_final}
-use Rattle.sr_world.specs.Updates.{end_all, fix}
-use Rattle.sr_world.specs.Runs.{Event, Makes_item, Gives, Closes, Next, Goes, Over, Illegal, State, after, and_then, asks_for, asks_next, begun, is_legal, is_new, items_in, led, next, no_step, output_of, rested, run, run_from, step_of, stepped, where_true, with_answer}
+use Rattle.sr_world.specs.Updates.{end_all, fix, pass_to}
+use Rattle.sr_world.specs.Runs.{Event, Makes_item, Gives, Closes, Next, Goes, Over, Illegal, State, after, and_then, asks_for, asks_next, begun, comes_after, heeds_time, is_legal, is_new, items_in, led, next, no_step, output_of, rested, run, run_from, step_of, stepped, where_true, with_answer}
 use Rattle.sr_world.specs.Sound.{IsSound, given_out, is_call, is_step, name_in, names_in, times_used}
 use Rattle.sr_world.specs.Spots.{Spot, Waiting, RepliedTo, TakenBy, DutyOf, ServiceOf, is_astray_answer, is_took, number_of}
 use Rattle.sr_world.specs.Worlds.{World, started}
@@ -117,6 +117,8 @@ module _ (core : Core) (limit : ℕ) where
           → Grows state (where_true b (rested state name (close_or core name None (rest_of state.world.fixed) state.world (main_instance core state.world))))
       by true h = grows-rested state name (main_instance core state.world) h
       by false h = absurd (true≢false (sym h))
+  grows-next items state (Tick to) sound legal =
+      grows-where (comes_after state.world.moment to && heeds_time core limit state) state (Goes (record state { world = pass_to to state.world })) legal (same-text state)
 
   pub grows-from : (items more : List Item) (state : State) → IsSound items state → is_legal (run_from core limit (Goes state) more) ≡ true → Grows state (run_from core limit (Goes state) more)
   grows-from items [] state sound legal = same-text state
@@ -291,6 +293,7 @@ module _ (a b id : ℕ) (apart : (a == b) ≡ false) (some : (id == 0) ≡ false
           omega (arith, named, with-true (c == a), with-true (c == b), not-both c)
       by false is = omega (arith, with-false (c == a), with-false (c == b))
   item-count (Quiesce n) = omega arith
+  item-count (Tick to) = omega arith
 
   one-or : (x y : Bool) → one (x || y) ≤ one x + one y
   one-or true y = omega arith

@@ -5,16 +5,17 @@ use Rattle.std.specs.Prelude.{count_by, filter}
 use Rattle.sr_ask.specs.declared.answer.Answer.{Answer}
 use Rattle.sr_ask.specs.declared.answer.Answer.TheVariants as answer
 use Rattle.sr_ask.specs.declared.item.Item.{Item}
-use Rattle.sr_ask.specs.declared.item.Item.TheVariants.{Step, Quiesce}
+use Rattle.sr_ask.specs.declared.item.Item.TheVariants.{Step, Quiesce, Tick}
 use Rattle.sr_ask.specs.declared.start.Start.{Start}
 use Rattle.sr_core.specs.declared.component.Core.{Core}
 use Rattle.sr_queue.specs.declared.pending.Pending.{Pending}
 use Rattle.sr_world.specs.Does.{Does, Did, Makes, Cannot, Ends, Undecided}
 use Rattle.sr_world.specs.Endings.{quiesce}
 use Rattle.sr_world.specs.Histories.{Entry, Mark, Arrives, Serves, all_from, arrived, entries_in, marks_by, marks_in, marks_of, is_mark_in, serves, taken_up, waiting_as}
-use Rattle.sr_world.specs.Runs.{Next, Goes, Over, Illegal, State, asks_for, asks_next, begun, is_new, next, no_step, rested, step_of, stepped, with_answer}
+use Rattle.sr_world.specs.Runs.{Next, Goes, Over, Illegal, State, asks_for, asks_next, begun, comes_after, heeds_time, is_new, next, no_step, rested, step_of, stepped, with_answer}
 use Rattle.sr_world.specs.Sound.{IsSound}
 use Rattle.sr_world.specs.Spots.{Spot, Waiting, TakenBy, ServiceOf, is_picked}
+use Rattle.sr_world.specs.Updates.{pass_to}
 use Rattle.sr_world.specs.Worlds.{World, started}
 use Rattle.sr_world.proofs.CountLemmas.{count-cons, count-filter, count-push, one}
 use Rattle.sr_world.proofs.HistoryLemmas.{all-filter, all-legal, count-map, count-never}
@@ -142,6 +143,10 @@ module _ (id : ℕ) where
     tells state later (Quiesce name) is =
         let parts = goes-where (no_step core limit state) (rested state name (quiesce core name state.world)) later is in
         tells-rested state later name (quiesce core name state.world) parts.1
+    tells state later (Tick to) is =
+        let parts = goes-where (comes_after state.world.moment to && heeds_time core limit state) (Goes (record state { world = pass_to to state.world })) later is in
+        let same : record state { world = pass_to to state.world } ≡ later = cc in
+        subst (λ s. Tells state s []) same (record { stays = λ process. omega arith; new = λ some. absurd (omega (arith, some)) })
 
     by-waits : (state : State) (actor name : ℕ) (o : Option Start) → served id (marks_by core limit state actor name o) ≤ count_by (λ p. p.id == id) state.world.pending
     by-waits state actor name None = omega arith
@@ -150,6 +155,7 @@ module _ (id : ℕ) where
     item-waits : (state : State) (item : Item) → served id (marks_in core limit state item) ≤ count_by (λ p. p.id == id) state.world.pending
     item-waits state (Step actor name) = by-waits state actor name (started state.world actor)
     item-waits state (Quiesce name) = omega arith
+    item-waits state (Tick to) = omega arith
 
     apart-spots : (process : ℕ) → ◌≡◌ {A = Spot} Waiting (TakenBy process) → ⊥
     apart-spots process is = cc

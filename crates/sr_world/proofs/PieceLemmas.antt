@@ -4,7 +4,7 @@ use Rattle.std.specs.List.{list_all}
 use Rattle.sr_ask.specs.declared.ask.Asks.{Asks}
 use Rattle.sr_ask.specs.declared.ask.Asks.TheVariants.{Asked, OverTicks}
 use Rattle.sr_ask.specs.declared.item.Item.{Item}
-use Rattle.sr_ask.specs.declared.item.Item.TheVariants.{Step, Quiesce}
+use Rattle.sr_ask.specs.declared.item.Item.TheVariants.{Step, Quiesce, Tick}
 use Rattle.sr_ask.specs.declared.request.Request.{Request}
 use Rattle.sr_ask.specs.declared.request.Request.TheVariants as request
 use Rattle.sr_ask.specs.declared.start.Start.{Start}
@@ -13,11 +13,11 @@ use Rattle.sr_instances.specs.Instances.{Instance}
 use Rattle.sr_ask.specs.declared.answer.Answer.TheVariants as answer
 use Rattle.sr_meaning.specs.Processes.{first_line}
 use Rattle.sr_world.specs.Making.{run_final}
-use Rattle.sr_world.specs.Updates.{end_all, fix}
+use Rattle.sr_world.specs.Updates.{end_all, fix, pass_to}
 use Rattle.sr_world.specs.Deciding.{awaits_input, can_do, is_select}
 use Rattle.sr_world.specs.Does.{Does, Did, Makes, Cannot, Ends, Undecided, comes_to, is_possible, is_undecided}
 use Rattle.sr_world.specs.Endings.{close_or, main_instance, may_close, quiesce, rest_of}
-use Rattle.sr_world.specs.Runs.{Event, Makes_item, Gives, Closes, Next, Goes, Over, Illegal, State, after, asks_for, asks_next, bytes_in, first, is_blocked, is_legal, is_new, items_in, next, no_step, rested, run_from, step_of, stepped, where_true, with_answer, with_input, without_more}
+use Rattle.sr_world.specs.Runs.{Event, Makes_item, Gives, Closes, Next, Goes, Over, Illegal, State, after, asks_for, asks_next, bytes_in, comes_after, first, heeds_time, is_blocked, is_legal, is_new, items_in, next, no_step, rested, run_from, step_of, stepped, where_true, with_answer, with_input, without_more}
 use Rattle.sr_world.specs.Sound.{IsSound, is_call}
 use Rattle.sr_world.specs.Steps.{does}
 use Rattle.sr_world.specs.Worlds.{World, started}
@@ -76,6 +76,10 @@ module _ (core : Core) (limit : ℕ) where
   ended-next items state later (Quiesce name) sound is =
       let parts = goes-where (no_step core limit state) (rested state name (quiesce core name state.world)) later is in
       ended-closed state later name (main_instance core state.world) parts.1
+  ended-next items state later (Tick to) sound is =
+      let parts = goes-where (comes_after state.world.moment to && heeds_time core limit state) (Goes (record state { world = pass_to to state.world })) later is in
+      let same : record state { world = pass_to to state.world } ≡ later = cc in
+      ap (λ (s : State). s.world.ended) (sym same)
 
   -- ---- one item, with all of the input
 
@@ -165,6 +169,7 @@ module _ (core : Core) (limit : ℕ) where
           ap (λ b. where_true b (rested (with_all_in bytes state) name (quiesce core name (with_all bytes state.world)))) (same-no_step state.world.live)
           ∙ all-where-true (no_step core limit state) (rested state name (quiesce core name state.world)) (rested (with_all_in bytes state) name (quiesce core name (with_all bytes state.world)))
           (ap (rested (with_all_in bytes state) name) (all-quiesce bytes core first_line name state.world) ∙ all-rested name (quiesce core name state.world))
+      all-next (Tick to) legal = all-goes (comes_after state.world.moment to && heeds_time core limit state) (record state { world = pass_to to state.world })
 
   -- ---- along events
 

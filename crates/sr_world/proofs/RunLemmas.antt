@@ -10,7 +10,7 @@ use Rattle.sr_ask.specs.declared.answer.Answer.TheVariants as answer
 use Rattle.sr_ask.specs.declared.ask.Asks.{Asks}
 use Rattle.sr_ask.specs.declared.ask.Asks.TheVariants.{Asked, OverTicks}
 use Rattle.sr_ask.specs.declared.item.Item.{Item}
-use Rattle.sr_ask.specs.declared.item.Item.TheVariants.{Step, Quiesce}
+use Rattle.sr_ask.specs.declared.item.Item.TheVariants.{Step, Quiesce, Tick}
 use Rattle.sr_ask.specs.declared.start.Start.{Start}
 use Rattle.sr_calls.specs.Calls.{items_of}
 use Rattle.sr_calls.specs.declared.held.Held.{Held}
@@ -21,10 +21,10 @@ use Rattle.sr_world.specs.Deciding.{is_select}
 use Rattle.sr_world.specs.Does.{Does, Did, Makes, Cannot, Ends, Undecided}
 use Rattle.sr_world.specs.Endings.{close_or, main_instance, may_close, quiesce, rest_of}
 use Rattle.sr_world.specs.Making.{run_final}
-use Rattle.sr_world.specs.Runs.{Event, Makes_item, Gives, Closes, Next, Goes, Over, Illegal, State, after, after_event, asks_for, asks_next, first, is_new, is_used, items_in, led, next, no_step, rested, step_of, stepped, where_true, with_answer, with_input, without_more}
+use Rattle.sr_world.specs.Runs.{Event, Makes_item, Gives, Closes, Next, Goes, Over, Illegal, State, after, after_event, asks_for, asks_next, comes_after, first, heeds_time, is_new, is_used, items_in, led, next, no_step, rested, step_of, stepped, where_true, with_answer, with_input, without_more}
 use Rattle.sr_world.specs.Sound.{IsSound, given_out, is_call, is_step, name_in, names_in, times_used}
 use Rattle.sr_world.specs.Spots.{Calls, Spot, Waiting, HeldBy, RepliedTo, TakenBy, Tests, astray, is_astray, is_astray_answer, stands, tests_of}
-use Rattle.sr_world.specs.Updates.{end_all, fix}
+use Rattle.sr_world.specs.Updates.{end_all, fix, pass_to}
 use Rattle.sr_world.specs.Worlds.{World, started}
 use Rattle.sr_world.specs.declared.ends.End.{End}
 use Rattle.sr_world.proofs.CallLemmas.{items-empty}
@@ -221,6 +221,14 @@ module _ (items : List Item) (state : State) (sound : IsSound items state) where
   sound-next core limit (Quiesce name) later is =
       let parts = goes-where (no_step core limit state) (rested state name (quiesce core name state.world)) later is in
       sound-rested name core later (main_instance core state.world) parts.1
+  sound-next core limit (Tick to) later is =
+      let parts = goes-where (comes_after state.world.moment to && heeds_time core limit state) (Goes (record state { world = pass_to to state.world })) later is in
+      let same : record state { world = pass_to to state.world } ≡ later = cc in
+      let calls = is_call (items ++ Tick to ∷ []) in
+      let before : Keeps calls state = more-kept (is_call items) calls (still-call items (Tick to)) state (kept-of items state sound) in
+      subst (IsSound (items ++ Tick to ∷ [])) same
+      (sound-of (items ++ Tick to ∷ []) (record state { world = pass_to to state.world }) (used-none (Tick to) 0 state.world.used refl refl refl)
+      (quiet-kept calls state.given state.world state.world.variables state.world.rest state.world.output state.world.ended state.world.fixed to before))
 
   -- input changes nothing of it
   pub sound-input : (rest : List ℕ) (ended : Bool) → IsSound items (record state { world = record state.world { rest = rest; ended = ended } })

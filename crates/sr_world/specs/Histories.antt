@@ -5,7 +5,7 @@ use Rattle.sr_ask.specs.declared.answer.Answer.TheVariants.{Picked}
 use Rattle.sr_ask.specs.declared.ask.Ask.{Ask}
 use Rattle.sr_ask.specs.declared.ask.Asks.TheVariants.{Asked}
 use Rattle.sr_ask.specs.declared.item.Item.{Item}
-use Rattle.sr_ask.specs.declared.item.Item.TheVariants.{Step, Quiesce}
+use Rattle.sr_ask.specs.declared.item.Item.TheVariants.{Step, Quiesce, Tick}
 use Rattle.sr_ask.specs.declared.request.Request.TheVariants.{Select}
 use Rattle.sr_ask.specs.declared.start.Start.{Start}
 use Rattle.sr_core.specs.declared.component.Core.{Core}
@@ -57,6 +57,7 @@ marks_by core limit state actor name (Some start) = marks_of state.world actor (
 abbrev pub marks_in : Core → ℕ → State → Item → List Mark
 marks_in core limit state (Step actor name) = marks_by core limit state actor name (started state.world actor)
 marks_in core limit state (Quiesce name) = []
+marks_in core limit state (Tick to) = []
 
 abbrev pub entries_in : Core → ℕ → State → Item → List Entry
 entries_in core limit state item = map (λ mark. record { state = state; mark = mark }) (marks_in core limit state item)

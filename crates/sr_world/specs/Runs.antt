@@ -1,17 +1,20 @@
 -- Runs: which items lead from the beginning to which state, and how a run ends.
-use Rattle.std.specs.Prelude.{◌≡◌, ℕ, ◌==◌, ◌&&◌, Bool, true, false, not, List, [], ◌∷◌, ◌++◌, map, Option, Some, None, if◌then◌else◌}
+use Rattle.std.specs.Prelude.{◌≡◌, ℕ, ◌==◌, ◌&&◌, ◌||◌, Bool, true, false, not, List, [], ◌∷◌, ◌++◌, map, nat_le, nat_lt, Option, Some, None, if◌then◌else◌}
 use Rattle.std.specs.List.{list_all, list_any}
 use Rattle.sr_ask.specs.declared.answer.Answer.{Answer}
 use Rattle.sr_ask.specs.declared.ask.Asks.{Asks}
 use Rattle.sr_ask.specs.declared.ask.Asks.TheVariants.{Asked, OverTicks}
 use Rattle.sr_ask.specs.declared.item.Item.{Item}
-use Rattle.sr_ask.specs.declared.item.Item.TheVariants.{Step, Quiesce}
+use Rattle.sr_ask.specs.declared.item.Item.TheVariants.{Step, Quiesce, Tick}
+use Rattle.sr_ask.specs.declared.request.Request.{Request}
+use Rattle.sr_ask.specs.declared.request.Request.TheVariants as request
 use Rattle.sr_ask.specs.declared.start.Start.{Start}
 use Rattle.sr_core.specs.declared.component.Core.{Core}
 use Rattle.sr_meaning.specs.Processes.{ask}
 use Rattle.sr_world.specs.Does.{Does, Did, Makes, Cannot, Ends, Undecided, comes_to, is_possible}
 use Rattle.sr_world.specs.Endings.{quiesce}
 use Rattle.sr_world.specs.Steps.{does}
+use Rattle.sr_world.specs.Updates.{pass_to}
 use Rattle.sr_world.specs.Worlds.{World, beginning, started}
 use Rattle.sr_world.specs.declared.ends.End.{End}
 
@@ -72,6 +75,36 @@ asks_in core limit state = map (λ start. (start.process, asks_next core limit s
 abbrev pub no_step : Core → ℕ → State → Bool
 no_step core limit state = list_all (λ start. is_blocked core state.world start.process (asks_next core limit state start)) state.world.live
 
+-- ---- time
+
+-- a process waits for a moment after this one
+abbrev pub waits_after : ℕ → Request → Bool
+waits_after moment (request.Wake until) = nat_lt moment until
+waits_after moment _ = false
+
+-- a process naps at this moment
+abbrev pub naps : ℕ → Asks → Bool
+naps moment (Asked request) = waits_after moment request.request
+naps moment OverTicks = false
+
+abbrev pub is_age : Request → Bool
+is_age request.Age = true
+is_age _ = false
+
+-- a process asks what the moment is
+abbrev pub asks_age : Asks → Bool
+asks_age (Asked request) = is_age request.request
+asks_age OverTicks = false
+
+-- some process naps, or asks what the moment is
+abbrev pub heeds_time : Core → ℕ → State → Bool
+heeds_time core limit state =
+    list_any (λ start. naps state.world.moment (asks_next core limit state start) || asks_age (asks_next core limit state start)) state.world.live
+
+-- a moment comes after another, and is at most 2,147,483,647
+abbrev pub comes_after : ℕ → ℕ → Bool
+comes_after moment to = nat_lt moment to && nat_le to 2147483647
+
 -- ---- what an item does
 
 pub data Next : Type 0 where
@@ -121,6 +154,7 @@ rested state name _ = Illegal
 abbrev pub next : Core → ℕ → State → Item → Next
 next core limit state (Step actor name) = step_of core limit state actor name (started state.world actor)
 next core limit state (Quiesce name) = where_true (no_step core limit state) (rested state name (quiesce core name state.world))
+next core limit state (Tick to) = where_true (comes_after state.world.moment to && heeds_time core limit state) (Goes (record state { world = pass_to to state.world }))
 
 -- ---- runs
 

@@ -2,7 +2,7 @@
 use Rattle.std.specs.Prelude.{◌≡◌, ℕ, zero, suc, ◌<◌, ◌≤◌, ◌==◌, ◌&&◌, Bool, false, List, [], ◌∷◌, count_by, flat_map}
 use Rattle.std.specs.List.{list_any}
 use Rattle.sr_ask.specs.declared.item.Item.{Item}
-use Rattle.sr_ask.specs.declared.item.Item.TheVariants.{Step, Quiesce}
+use Rattle.sr_ask.specs.declared.item.Item.TheVariants.{Step, Quiesce, Tick}
 use Rattle.sr_calls.specs.Calls.{items_of}
 use Rattle.sr_world.specs.Worlds.{World, is_live}
 use Rattle.sr_world.specs.Runs.{State}
@@ -17,6 +17,7 @@ times_used world name = count_by (λ used. used == name) world.used
 abbrev pub is_step : ℕ → ℕ → Item → Bool
 is_step actor name (Step a n) = (a == actor) && (n == name)
 is_step actor name (Quiesce n) = false
+is_step actor name (Tick to) = false
 
 -- a process made a step that made something with this number
 abbrev pub is_call : List Item → Calls
@@ -30,6 +31,7 @@ given_out (suc n) = suc n ∷ []
 abbrev pub name_in : Item → List ℕ
 name_in (Step actor name) = given_out name
 name_in (Quiesce name) = given_out name
+name_in (Tick to) = []
 
 abbrev pub names_in : List Item → List ℕ
 names_in items = flat_map name_in items

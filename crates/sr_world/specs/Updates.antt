@@ -48,6 +48,10 @@ with_variables variables world = record world { variables = variables }
 abbrev pub with_rest : List ℕ → World → World
 with_rest rest world = record world { rest = rest }
 
+-- time passes, and nothing else changes
+abbrev pub pass_to : ℕ → World → World
+pass_to moment world = record world { moment = moment }
+
 abbrev pub write : List ℕ → World → World
 write bytes world = record world { output = world.output ++ bytes }
 
