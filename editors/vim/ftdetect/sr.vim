@@ -1,0 +1,2 @@
+" Files of SR. Made by bench/editors.
+autocmd BufRead,BufNewFile *.sr setfiletype sr
