@@ -4,7 +4,7 @@ use Rattle.std.specs.Option.{option_map}
 use Rattle.sr_words.specs.Commands.{command_of, default_of}
 use Rattle.sr_words.specs.declared.command.Command.{Command}
 use Rattle.sr_words.specs.declared.command.Command.TheVariants.{Run, Check, Classes, Gen}
-use Rattle.sr_words.specs.declared.part.Setting.TheVariants.{Steps, Ticks}
+use Rattle.sr_words.specs.declared.options.Setting.TheVariants.{Steps, Ticks}
 
 -- where a program comes from
 pub data Origin : Type 0 where

@@ -6,7 +6,7 @@ ghost use Rattle.sr_top.specs.Journal.{CanBeAsked, HasHeaderIf};
 ghost use Rattle.sr_top.specs.Report as report_of;
 ghost use Rattle.sr_top.specs.Tasks as tasks;
 ghost use Rattle.sr_words.specs.Commands.{command_of, default_of};
-ghost use Rattle.sr_words.specs.declared.part.Setting.TheVariants as settings;
+ghost use Rattle.sr_words.specs.declared.options.Setting.TheVariants as settings;
 
 use crate::compiling::{SAMPLE_NAME, compile_files, compile_sample};
 use crate::listing::list_classes;

@@ -1,4 +1,8 @@
 mod Digits
-mod Found
-mod Reading
-mod Splitting
+pub mod Settings
+pub mod Rules
+pub mod Walks
+pub mod Whole
+pub mod Rows
+pub mod Parsed
+pub mod Getters

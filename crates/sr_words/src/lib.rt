@@ -1,9 +1,10 @@
 //! The words of the command line, and the command that they give.
 #![tactic(auto)]
 
+mod arguments;
 mod command;
 mod number;
-mod part;
+mod options;
 mod read;
 mod verb;
 

@@ -1,13 +1,18 @@
-ghost use Rattle.std.specs.Prelude.{◌≡◌, map, count_by, string_bytes, IfOk, Err, None};
-ghost use Rattle.std.specs.List.{list_all};
+ghost use Rattle.std.specs.Prelude.{◌≡◌, map, string_bytes, IfOk, Err, None, Some};
+ghost use Rattle.clap.specs.Values.{kind_of};
+ghost use Rattle.clap.specs.declared.error.kind.ErrorKind.TheVariants as kinds;
+ghost use Rattle.sr_words.specs.Arguments as arguments;
 ghost use Rattle.sr_words.specs.Commands as commands;
 ghost use Rattle.sr_words.specs.declared.command.WordsFail.TheVariants as fails;
 
+use crate::arguments::parser_for;
 use crate::command::{Command, WordsFail};
 use crate::number::number_within;
-use crate::part::{Part, Setting, parts_of};
+use crate::options::{Setting, setting_name};
 use crate::verb::{Verb, verb_of};
-use sr_value::{Duplicate, NoMemory, Row, Text};
+use clap::ArgMatches;
+use clap::error::ErrorKind;
+use sr_value::{NoMemory, Row, Text};
 use std::alloc::Global;
 
 /// The most files of a command.
@@ -23,86 +28,92 @@ pub fn read_words(alloc: Global, words: &[String]) -> Result<Command, WordsFail>
         [command, words @ ..] => match verb_of(command.as_str().as_bytes()) {
             None => Err(WordsFail::Usage),
             Some(verb) => {
-                let parts = parts_of(alloc, words)?;
-                verb_command(alloc, verb, parts.as_slice())
+                let matches = matches_of(alloc, verb, words)?;
+                verb_command(alloc, verb, &matches)
             }
         },
     }
 }
 
-/// The command of this name with these parts.
-fn verb_command(alloc: Global, verb: Verb, parts: &[Part]) -> Result<Command, WordsFail>
-    ensures command { IfOk result (λ command. commands.verb_command verb parts.now ≡ Some command) }
-    ensures usage { result ≡ Err fails.Usage → commands.verb_command verb parts.now ≡ None }
+/// What the words after the name of a command say.
+fn matches_of<'a>(
+    alloc: Global,
+    verb: Verb,
+    words: &'a [String],
+) -> Result<ArgMatches<'a>, WordsFail>
+    ensures matches { IfOk result (λ matches. commands.taken_of verb (map string_bytes words.now) ≡ Some (arguments.taken_from matches)) }
+    ensures flag { IfOk result (λ matches. arguments.HasFlag matches) }
+    ensures usage { result ≡ Err fails.Usage → commands.taken_of verb (map string_bytes words.now) ≡ None }
 {
-    if !all_may_stand(verb, parts) {
-        return Err(WordsFail::Usage);
+    match parser_for(alloc, verb) {
+        Err(_) => Err(WordsFail::NoMemory),
+        Ok(parser) => match parser.try_get_matches_from(words) {
+            Ok(matches) => Ok(matches),
+            Err(error) => Err(fail_of(&error)),
+        },
     }
+}
+
+/// Why a parse failed.
+fn fail_of(error: &clap::Error) -> WordsFail
+    ensures { result ≡ fails.Usage → kind_of error.now ≡ kinds.OutOfMemory → ⊥ }
+{
+    match error.kind() {
+        ErrorKind::OutOfMemory => WordsFail::NoMemory,
+        _ => WordsFail::Usage,
+    }
+}
+
+/// The command of this name with these matches.
+fn verb_command(alloc: Global, verb: Verb, matches: &ArgMatches<'_>) -> Result<Command, WordsFail>
+    requires { arguments.HasFlag matches.now }
+    ensures command { IfOk result (λ command. commands.verb_command verb (arguments.taken_from matches.now) ≡ Some command) }
+    ensures usage { result ≡ Err fails.Usage → commands.verb_command verb (arguments.taken_from matches.now) ≡ None }
+{
     match verb {
-        Verb::Run => run_command(alloc, parts),
+        Verb::Run => run_command(alloc, matches),
         Verb::Check => Ok(Command::Check {
-            files: files_of(alloc, parts)?,
+            files: files_of(alloc, matches)?,
         }),
         Verb::Classes => Ok(Command::Classes {
-            files: files_of(alloc, parts)?,
+            files: files_of(alloc, matches)?,
         }),
-        Verb::Gen => gen_command(parts),
+        Verb::Gen => gen_command(matches),
     }
 }
 
-/// Whether a part may stand in a command.
-fn may_stand(verb: Verb, part: &Part) -> bool
-    ensures { result ≡ commands.may_stand verb part.now }
+fn run_command(alloc: Global, matches: &ArgMatches<'_>) -> Result<Command, WordsFail>
+    requires { arguments.HasFlag matches.now }
+    ensures command { IfOk result (λ command. commands.run_command (arguments.taken_from matches.now) ≡ Some command) }
+    ensures usage { result ≡ Err fails.Usage → commands.run_command (arguments.taken_from matches.now) ≡ None }
 {
-    match part {
-        Part::Plain(_) => true,
-        Part::Journal => verb == Verb::Run,
-        Part::Given(Setting::Workers, _) => verb == Verb::Run || verb == Verb::Gen,
-        Part::Given(_, _) => verb == Verb::Run,
-    }
-}
-
-/// Whether each part may stand in the command.
-fn all_may_stand(verb: Verb, parts: &[Part]) -> bool
-    ensures { result ≡ list_all (λ part. commands.may_stand verb part) parts.now }
-{
-    parts.iter().all(|part| may_stand(verb, part))
-}
-
-fn run_command(alloc: Global, parts: &[Part]) -> Result<Command, WordsFail>
-    ensures command { IfOk result (λ command. commands.run_command parts.now ≡ Some command) }
-    ensures usage { result ≡ Err fails.Usage → commands.run_command parts.now ≡ None }
-{
-    let Some(workers) = number_of(Setting::Workers, parts) else {
+    let Some(workers) = number_of(Setting::Workers, matches) else {
         return Err(WordsFail::Usage);
     };
-    let Some(steps) = number_of(Setting::Steps, parts) else {
+    let Some(steps) = number_of(Setting::Steps, matches) else {
         return Err(WordsFail::Usage);
     };
-    let Some(ticks) = number_of(Setting::Ticks, parts) else {
+    let Some(ticks) = number_of(Setting::Ticks, matches) else {
         return Err(WordsFail::Usage);
     };
-    let Some(journal) = journal_of(parts) else {
-        return Err(WordsFail::Usage);
-    };
-    let files = files_of(alloc, parts)?;
+    let files = files_of(alloc, matches)?;
     Ok(Command::Run {
         files,
         workers,
         steps,
         ticks,
-        journal,
+        journal: has_journal(matches),
     })
 }
 
-fn gen_command(parts: &[Part]) -> Result<Command, WordsFail>
-    ensures command { IfOk result (λ command. commands.gen_command parts.now ≡ Some command) }
-    ensures usage { result ≡ Err fails.Usage → commands.gen_command parts.now ≡ None }
+fn gen_command(matches: &ArgMatches<'_>) -> Result<Command, WordsFail>
+    ensures command { IfOk result (λ command. commands.gen_command (arguments.taken_from matches.now) ≡ Some command) }
+    ensures usage { result ≡ Err fails.Usage → commands.gen_command (arguments.taken_from matches.now) ≡ None }
 {
-    let Some(workers) = number_of(Setting::Workers, parts) else {
+    let Some(workers) = number_of(Setting::Workers, matches) else {
         return Err(WordsFail::Usage);
     };
-    let Some(seed) = seed_of(parts) else {
+    let Some(seed) = seed_of(matches) else {
         return Err(WordsFail::Usage);
     };
     Ok(Command::Gen { seed, workers })
@@ -130,86 +141,73 @@ fn default_of(setting: Setting) -> u32
     }
 }
 
-/// The number of an option; `None` where it is given twice, or its value is no number of it.
-fn number_of(setting: Setting, parts: &[Part]) -> Option<u32>
-    ensures { result ≡ commands.setting_number setting (commands.values_of setting parts.now) }
+/// The number of an option; `None` where its value is no number of it.
+fn number_of(setting: Setting, matches: &ArgMatches<'_>) -> Option<u32>
+    ensures { result ≡ commands.setting_number setting (commands.value_in setting (arguments.taken_from matches.now)) }
 {
-    let mut number = None;
-    for part in parts {
-        match part {
-            Part::Given(other, value) if *other == setting => {
-                if number.is_some() {
-                    return None;
-                }
-                number = Some(number_within(1, most_of(setting), value.as_bytes())?);
-            }
-            _ => {}
-        }
-    }
-    match number {
+    match matches.get_str(setting_name(setting)) {
         None => Some(default_of(setting)),
-        Some(number) => Some(number),
+        Some(value) => number_within(1, most_of(setting), value.as_bytes()),
     }
 }
 
-/// Whether a part is the option `--journal`.
-fn is_journal(part: &Part) -> bool
-    ensures { result ≡ commands.is_journal part.now }
+/// Whether `--journal` is given.
+fn has_journal(matches: &ArgMatches<'_>) -> bool
+    requires { arguments.HasFlag matches.now }
+    ensures { result ≡ (arguments.taken_from matches.now).journal }
 {
-    match part {
-        Part::Journal => true,
-        _ => false,
+    matches.get_flag("journal")
+}
+
+/// The texts of words.
+fn texts_of(alloc: Global, words: &[&str]) -> Result<Row<Text>, NoMemory>
+    ensures { IfOk result (λ texts. texts ≡ map (λ word. word.now) words.now) }
+{
+    let mut texts = Row::new(alloc);
+    for word in words {
+        texts.push(Text::from_slice(alloc, word.as_bytes())?)?;
+    }
+    Ok(texts)
+}
+
+/// The files, where there are 1 to 64.
+fn files_in(alloc: Global, words: &[&str]) -> Result<Row<Text>, WordsFail>
+    ensures files { IfOk result (λ files. commands.files_of (map (λ word. word.now) words.now) ≡ Some files) }
+    ensures usage { result ≡ Err fails.Usage → commands.files_of (map (λ word. word.now) words.now) ≡ None }
+{
+    if words.is_empty() || words.len() > MOST_FILES {
+        return Err(WordsFail::Usage);
+    }
+    Ok(texts_of(alloc, words)?)
+}
+
+/// The files of a command, where there are 1 to 64.
+fn files_of(alloc: Global, matches: &ArgMatches<'_>) -> Result<Row<Text>, WordsFail>
+    ensures files { IfOk result (λ files. commands.files_of (arguments.taken_from matches.now).words ≡ Some files) }
+    ensures usage { result ≡ Err fails.Usage → commands.files_of (arguments.taken_from matches.now).words ≡ None }
+{
+    match matches.get_raw("word") {
+        None => Err(WordsFail::Usage),
+        Some(words) => files_in(alloc, words),
     }
 }
 
-/// Whether `--journal` is given; `None` where it is given twice.
-fn journal_of(parts: &[Part]) -> Option<bool>
-    ensures { result ≡ commands.journal_of (count_by commands.is_journal parts.now) }
+/// The seed, where there is one word, and it is a number.
+fn seed_in(words: &[&str]) -> Option<u32>
+    ensures { result ≡ commands.seed_of (map (λ word. word.now) words.now) }
 {
-    match parts.iter().filter(|part| is_journal(*part)).count() {
-        0 => Some(false),
-        1 => Some(true),
+    match words {
+        [word] => number_within(0, u32::MAX, word.as_bytes()),
         _ => None,
     }
 }
 
-/// The words that are no options.
-fn plain_words(alloc: Global, parts: &[Part]) -> Result<Row<Text>, NoMemory>
-    ensures { IfOk result (λ words. words ≡ commands.plain_words parts.now) }
+/// The seed of a command, where there is one word that is no option, and it is a number.
+fn seed_of(matches: &ArgMatches<'_>) -> Option<u32>
+    ensures { result ≡ commands.seed_of (arguments.taken_from matches.now).words }
 {
-    let mut words = Row::new(alloc);
-    for part in parts {
-        if let Part::Plain(word) = part {
-            words.push(word.copy(alloc)?)?;
-        }
+    match matches.get_raw("word") {
+        None => None,
+        Some(words) => seed_in(words),
     }
-    Ok(words)
-}
-
-/// The files, where there are 1 to 64.
-fn files_of(alloc: Global, parts: &[Part]) -> Result<Row<Text>, WordsFail>
-    ensures files { IfOk result (λ files. commands.files_of (commands.plain_words parts.now) ≡ Some files) }
-    ensures usage { result ≡ Err fails.Usage → commands.files_of (commands.plain_words parts.now) ≡ None }
-{
-    let files = plain_words(alloc, parts)?;
-    if files.is_empty() || files.len() > MOST_FILES {
-        return Err(WordsFail::Usage);
-    }
-    Ok(files)
-}
-
-/// The seed, where there is one word that is no option, and it is a number.
-fn seed_of(parts: &[Part]) -> Option<u32>
-    ensures { result ≡ commands.seed_of (commands.plain_words parts.now) }
-{
-    let mut seed = None;
-    for part in parts {
-        if let Part::Plain(word) = part {
-            if seed.is_some() {
-                return None;
-            }
-            seed = Some(number_within(0, u32::MAX, word.as_bytes())?);
-        }
-    }
-    seed
 }

@@ -1,8 +1,8 @@
 ghost use Rattle.std.specs.Prelude.{◌≡◌};
-ghost use Rattle.sr_words.specs.Commands as commands;
+ghost use Rattle.sr_words.specs.Verbs as verbs;
 
 /// The name of a command.
-#[derive(Clone, Copy, PartialEq, Eq)]
+#[derive(Clone, Copy)]
 pub enum Verb {
     Run,
     Check,
@@ -12,7 +12,7 @@ pub enum Verb {
 
 /// The command that is written as this word.
 pub fn verb_of(word: &[u8]) -> Option<Verb>
-    ensures { result ≡ commands.verb_of word.now }
+    ensures { result ≡ verbs.verb_of word.now }
 {
     if word == b"run".as_slice() {
         Some(Verb::Run)

@@ -1,15 +1,17 @@
--- An option whose first value is no number has none.
-use Rattle.std.proofs.Common.{◌≡◌, ◌+◌, ◌∷◌, ◌∙◌, drop, arith, rules}
-use Rattle.std.proofs.lemmas.Grind.{common_steps}
-use Rattle.sr_words.specs.declared.part.Part.TheVariants.{Given}
-use Rattle.sr_words.proofs.Found.{wrong_value}
+-- The getter answers what the matches say of the option.
+use Rattle.std.proofs.Common.{◌∙◌, ap, sym, Some, rules}
+use Rattle.std.specs.Option.{option_map}
+use Rattle.clap.specs.Matches.{found_of}
+use Rattle.sr_words.specs.Commands.{setting_number}
+use Rattle.sr_words.proofs.Getters.{value_read}
 use Rattle.sr_words.proofs.read.number_of.Goals as goal
 
-pub returns-in_err-number_within-in-Given : goal.returns-in_err-number_within-in-Given
-returns-in_err-number_within-in-Given c =
-    let rest = drop c.loop-part.part-index c.args.parts.now in
-    let others = drop (c.loop-part.part-index + 1) c.args.parts.now in
-    let front : rest ≡ Given c.in-Given.other c.in-Given.value ∷ others = grind (arith, common_steps) in
-    c.from_residual.ensures
-    ∙ wrong_value c.args.setting c.in-Given.other c.in-Given.value c.loop-part.number _ rest others (search rules) front (search rules) (search rules)
-    c.loop-part.invariant
+pub returns-in-None : goal.returns-in-None
+returns-in-None c =
+    let read = value_read c.args.setting (found_of c.args.matches.now) c.setting_name.result.now c.get_str.result c.get_str.ensures c.setting_name.ensures in
+    ap Some c.default_of.ensures ∙ sym (ap (setting_number c.args.setting) (read ∙ ap (option_map (λ v. v.now)) c.in-None.is))
+
+pub returns-in-Some : goal.returns-in-Some
+returns-in-Some c =
+    let read = value_read c.args.setting (found_of c.args.matches.now) c.setting_name.result.now c.get_str.result c.get_str.ensures c.setting_name.ensures in
+    search rules

@@ -1,0 +1,6 @@
+-- The texts so far and those of the other words are all of them.
+use Rattle.std.proofs.Common.{◌≡◌, ◌++◌, map, drop}
+use Rattle.sr_words.proofs.read.texts_of.Given as goal
+
+abbrev pub invariant-loop-word : goal.invariant-loop-word
+invariant-loop-word l = l.texts ++ map (λ word. word.now) (drop l.word-index l.words) ≡ map (λ word. word.now) l.words

@@ -1,0 +1,31 @@
+-- The options of each command, and how they are written.
+use Rattle.std.specs.Prelude.{ℕ, List, [], ◌∷◌, codes, find, Option}
+use Rattle.std.specs.Str.{bytes_eq}
+use Rattle.sr_words.specs.declared.options.CommandOption.{CommandOption}
+use Rattle.sr_words.specs.declared.options.CommandOption.TheVariants.{Number, Journal}
+use Rattle.sr_words.specs.declared.options.Setting.{Setting}
+use Rattle.sr_words.specs.declared.options.Setting.TheVariants.{Workers, Steps, Ticks}
+use Rattle.sr_words.specs.declared.verb.Verb.{Verb}
+use Rattle.sr_words.specs.declared.verb.Verb.TheVariants.{Run, Check, Classes, Gen}
+
+-- the options of each command
+abbrev pub options_of : Verb → List CommandOption
+options_of Run = Number Workers ∷ Number Steps ∷ Number Ticks ∷ Journal ∷ []
+options_of Check = []
+options_of Classes = []
+options_of Gen = Number Workers ∷ []
+
+-- what stands after the dashes of an option that takes a number
+abbrev pub setting_name : Setting → List ℕ
+setting_name Workers = codes "workers"
+setting_name Steps = codes "steps"
+setting_name Ticks = codes "ticks"
+
+-- what stands after the dashes of an option
+abbrev pub option_name : CommandOption → List ℕ
+option_name (Number setting) = setting_name setting
+option_name Journal = codes "journal"
+
+-- the option of this name among some; names are never shortened
+abbrev pub option_named : List CommandOption → List ℕ → Option CommandOption
+option_named options name = find (λ option. bytes_eq (option_name option) name) options

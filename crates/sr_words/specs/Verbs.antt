@@ -1,0 +1,14 @@
+-- The commands, and how they are written.
+use Rattle.std.specs.Prelude.{ℕ, List, codes, Option, Some, None, if◌then◌else◌}
+use Rattle.std.specs.Str.{bytes_eq}
+use Rattle.sr_words.specs.declared.verb.Verb.{Verb}
+use Rattle.sr_words.specs.declared.verb.Verb.TheVariants.{Run, Check, Classes, Gen}
+
+-- the command that is written as a word
+abbrev pub verb_of : List ℕ → Option Verb
+verb_of word =
+    if bytes_eq word (codes "run") then Some Run
+    else if bytes_eq word (codes "check") then Some Check
+    else if bytes_eq word (codes "classes") then Some Classes
+    else if bytes_eq word (codes "gen") then Some Gen
+    else None

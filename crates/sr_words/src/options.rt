@@ -1,0 +1,59 @@
+ghost use Rattle.std.specs.Prelude.{◌≡◌};
+ghost use Rattle.sr_words.specs.Options as options;
+
+use crate::verb::Verb;
+
+/// An option that takes a number.
+#[derive(Clone, Copy)]
+pub enum Setting {
+    Workers,
+    Steps,
+    Ticks,
+}
+
+/// An option of a command.
+#[derive(Clone, Copy)]
+pub enum CommandOption {
+    /// One that takes a number.
+    Number(Setting),
+    /// `--journal`, which takes no value.
+    Journal,
+}
+
+/// The options of a command.
+pub fn options_of(verb: Verb) -> &'static [CommandOption]
+    ensures { result.now ≡ options.options_of verb }
+{
+    match verb {
+        Verb::Run => &[
+            CommandOption::Number(Setting::Workers),
+            CommandOption::Number(Setting::Steps),
+            CommandOption::Number(Setting::Ticks),
+            CommandOption::Journal,
+        ],
+        Verb::Check => &[],
+        Verb::Classes => &[],
+        Verb::Gen => &[CommandOption::Number(Setting::Workers)],
+    }
+}
+
+/// What stands after the dashes of an option that takes a number.
+pub fn setting_name<'a>(setting: Setting) -> &'a str
+    ensures { result.now ≡ options.setting_name setting }
+{
+    match setting {
+        Setting::Workers => "workers",
+        Setting::Steps => "steps",
+        Setting::Ticks => "ticks",
+    }
+}
+
+/// What stands after the dashes of an option.
+pub fn option_name<'a>(option: CommandOption) -> &'a str
+    ensures { result.now ≡ options.option_name option }
+{
+    match option {
+        CommandOption::Number(setting) => setting_name(setting),
+        CommandOption::Journal => "journal",
+    }
+}
