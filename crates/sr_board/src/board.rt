@@ -147,7 +147,8 @@ impl<S, E, P: Journals<S, E>> Board<S, E, P> {
         ensures seat { seat.new.token.me ≡ (splitting seat.old.token.me.0, seat.old.token.me.1) }
         ensures new { result.token.me ≡ (split_off seat.old.token.me.0, []) }
     {
-        let token = self.table.shared.split_seat::<Fork>(&mut seat.token);
+        let table = &self.table.shared;
+        let token = table.split_seat::<Fork>(&mut seat.token);
         let number = seat.next;
         seat.next = number + 1;
         BoardSeat {
@@ -172,9 +173,8 @@ impl<S, E, P: Journals<S, E>> Board<S, E, P> {
             next: _,
             clock: _,
         } = other;
-        self.table
-            .shared
-            .join_seat::<Absorb>(&mut seat.token, token);
+        let table = &self.table.shared;
+        table.join_seat::<Absorb>(&mut seat.token, token);
     }
 
     /// Gives the parts back, in the order of their places, when all seats have joined.
