@@ -1,0 +1,10 @@
+pub mod Lists
+pub mod Ascending
+pub mod ViewLemmas
+pub mod NewLemmas
+pub mod TakeLemmas
+pub mod CommitLemmas
+pub mod GiveLemmas
+pub mod SplitLemmas
+pub mod JoinLemmas
+pub mod CloseLemmas
