@@ -1,4 +1,6 @@
+pub mod Fifos
 pub mod Lowering
 pub mod OneByOne
+pub mod Places
 pub mod Quantifiers
 pub mod Stretches

@@ -1,4 +1,5 @@
 pub mod Acts
+pub mod Fifos
 pub mod Laws
 pub mod Numbers
 pub mod Operands

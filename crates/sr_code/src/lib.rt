@@ -6,14 +6,18 @@
 #![tactic(auto)]
 
 mod code;
+mod fifo;
 mod instruction;
 pub mod laws;
 mod numbers;
 mod operands;
+mod outs;
 mod stack;
 
 pub use code::{Code, Coded, Entry, Program};
+pub use fifo::Fifo;
 pub use instruction::Instruction;
 pub use numbers::Numbers;
 pub use operands::{Call, Completed, Operands, Reading};
+pub use outs::Outs;
 pub use stack::Stack;

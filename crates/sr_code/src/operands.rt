@@ -1,4 +1,6 @@
+use crate::fifo::Fifo;
 use crate::numbers::Numbers;
+use crate::outs::Outs;
 use crate::stack::Stack;
 use sr_ask::{Located, Out, Pick, ReadTarget, Service};
 use sr_core::Piece;
@@ -31,7 +33,7 @@ impl Duplicate for Call {
 #[derive(Drop)]
 pub struct Reading {
     /// The places that are still to be read into.
-    pub targets: Row<ReadTarget>,
+    pub targets: Fifo<ReadTarget>,
     /// How many items have been read.
     pub count: u32,
 }
@@ -55,11 +57,11 @@ pub struct Operands {
     pub places: Stack<Located>,
     pub shapes: Stack<Shape>,
     /// Lists of values: arguments, results.
-    pub lists: Stack<Row<Value>>,
+    pub lists: Stack<Fifo<Value>>,
     pub pieces: Stack<Row<Piece>>,
     pub calls: Stack<Call>,
     /// The places that the results of a reply go to.
-    pub targets: Stack<Row<Located>>,
+    pub targets: Stack<Fifo<Located>>,
     pub readings: Stack<Reading>,
     /// What the quantifiers around have still to take.
     pub loops: Stack<Numbers>,
@@ -70,7 +72,7 @@ pub struct Operands {
     /// The services around.
     pub services: Stack<Service>,
     /// What is out of the `co`s around.
-    pub outs: Stack<Row<Out>>,
+    pub outs: Stack<Outs>,
     pub completed: Stack<Completed>,
 }
 
