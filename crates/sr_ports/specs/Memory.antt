@@ -1,5 +1,7 @@
 -- Devices in memory, whose calls fail by a list.
-use Rattle.std.specs.Prelude.{◌≡◌, ℕ, ◌+◌, ◌-◌, ◌^◌, min, List, drop, Contains}
+use Rattle.std.specs.Prelude.{◌≡◌, ℕ, ◌+◌, ◌-◌, ◌^◌, min, List, drop, Contains, Option, Some, None, if◌then◌else◌}
+use Rattle.sr_ports.specs.declared.clock.ClockCall.{ClockCall}
+use Rattle.sr_ports.specs.declared.memory_clock.MemClock.{MemClock}
 use Rattle.sr_ports.specs.declared.schedule.Schedule.{Schedule}
 use Rattle.sr_ports.specs.declared.memory_files.MemFiles.{MemFiles}
 use Rattle.sr_ports.specs.declared.memory_streams.MemSource.{MemSource}
@@ -23,6 +25,11 @@ pub record HasNoCalls (schedule : Schedule) (failing : List ℕ) : Type 0 where
   pub none : schedule.calls ≡ 0
   pub no_faults : schedule.faults ≡ 0
   pub listed : schedule.failing ≡ failing
+
+-- how many of so many bytes fit beside those that are held
+abbrev pub fitting : Option ℕ → ℕ → ℕ → ℕ
+fitting None held count = count
+fitting (Some room) held count = min count (room - held)
 
 -- what a device in memory holds or has left, the most bytes of one call, its calls, and how many of them failed
 
@@ -53,8 +60,23 @@ sink_held sink = sink.bytes
 abbrev pub sink_most : MemSink → ℕ
 sink_most sink = sink.most
 
+-- how many bytes it holds at most
+abbrev pub sink_room : MemSink → Option ℕ
+sink_room sink = sink.room
+
 abbrev pub sink_calls : MemSink → Schedule
 sink_calls sink = sink.schedule
 
 abbrev pub sink_faults : MemSink → ℕ
 sink_faults sink = sink.schedule.faults
+
+-- the calls of a clock, until they are too many
+abbrev pub clock_calls : MemClock → Option (List ClockCall)
+clock_calls clock = if clock.told then Some clock.calls.items else None
+
+-- what it tells next, and how much passes then
+abbrev pub clock_moment : MemClock → ℕ
+clock_moment clock = clock.moment
+
+abbrev pub clock_step : MemClock → ℕ
+clock_step clock = clock.step

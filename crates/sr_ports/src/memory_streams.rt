@@ -1,8 +1,9 @@
-ghost use Rattle.std.specs.Prelude.{◌≡◌, ◌<◌, ◌≤◌, ◌↔◌, [], min, length, drop, Some, MatchResult, IfOk, IsErr, IsErrOf};
+ghost use Rattle.std.specs.Prelude.{◌≡◌, ◌<◌, ◌≤◌, ◌↔◌, ◌⊎◌, [], min, length, drop, None, Some, MatchResult, IfOk, IsErr, IsErrOf};
 ghost use Rattle.sr_ports.specs.Faults.{Counts, TakeCounts};
 ghost use Rattle.sr_ports.specs.Streams.{Takes, EndsWhereEmpty, Puts};
 
 use crate::fault::{PortFail, TakeFailed};
+use crate::room::fitting;
 use crate::schedule::Schedule;
 use crate::sink::Sink;
 use crate::slices::{copy_front, rest_of};
@@ -26,6 +27,8 @@ pub struct MemSource {
 pub struct MemSink {
     bytes: Text,
     most: usize,
+    /// How many bytes it holds at most.
+    room: Option<u32>,
     schedule: Schedule,
     ghost moves: { 0 < most },
 }
@@ -97,7 +100,7 @@ impl Source for MemSource {
 }
 
 impl MemSink {
-    ghost use Rattle.sr_ports.specs.Memory.{sink_held, sink_most, sink_calls, sink_faults, HasNoCalls};
+    ghost use Rattle.sr_ports.specs.Memory.{sink_held, sink_most, sink_room, sink_calls, sink_faults, HasNoCalls};
 
     /// A sink of no bytes, which takes at most `most` of them in one call. `fails` has the numbers of the calls
     /// that fail, counted from 1. It takes no memory.
@@ -105,12 +108,31 @@ impl MemSink {
         requires { 0 < most }
         ensures held { sink_held result ≡ [] }
         ensures most { sink_most result ≡ most }
+        ensures room { sink_room result ≡ None }
         ensures calls { HasNoCalls (sink_calls result) fails }
     {
         MemSink {
             bytes: Text::new(alloc),
             most,
+            room: None,
             schedule: Schedule::new(fails),
+        }
+    }
+
+    /// A sink of no bytes, which holds at most `room` of them and takes at most `most` in one call. A call fails where it
+    /// holds as many as it may. It takes no memory.
+    pub fn limited(alloc: Global, room: u32, most: usize) -> Self
+        requires { 0 < most }
+        ensures held { sink_held result ≡ [] }
+        ensures most { sink_most result ≡ most }
+        ensures room { sink_room result ≡ Some room }
+        ensures calls { HasNoCalls (sink_calls result) [] }
+    {
+        MemSink {
+            bytes: Text::new(alloc),
+            most,
+            room: Some(room),
+            schedule: Schedule::new(Row::new(alloc)),
         }
     }
 
@@ -130,7 +152,7 @@ impl MemSink {
 }
 
 impl Sink for MemSink {
-    ghost use Rattle.sr_ports.specs.Memory.{sink_held, sink_most, sink_calls, sink_faults, NextFails, MakesCall};
+    ghost use Rattle.sr_ports.specs.Memory.{fitting as fitting_in, sink_held, sink_most, sink_room, sink_calls, sink_faults, NextFails, MakesCall};
 
     ghost held = { λ sink. Some (sink_held sink) };
 
@@ -141,17 +163,21 @@ impl Sink for MemSink {
         ensures bytes { Puts (Some (sink_held self.old)) (Some (sink_held self.new)) result piece.now }
         ensures cause { Counts (sink_faults self.old) (sink_faults self.new) result }
 
-        // A call fails exactly where the list says so, and takes as many bytes as it may.
-        ensures fails { IsErrOf result PortFail.Failed ↔ NextFails (sink_calls self.old) }
-        ensures size { IfOk result (λ count. count ≡ min (sink_most self.old) (length piece.now)) }
+        // A call fails exactly where the list says so or no byte fits, and takes as many bytes as it may.
+        ensures fails { IsErrOf result PortFail.Failed
+            ↔ (NextFails (sink_calls self.old) ⊎ (fitting_in (sink_room self.old) (length (sink_held self.old)) (length piece.now) ≡ 0)) }
+        ensures size { IfOk result (λ count. count ≡ min (sink_most self.old) (fitting_in (sink_room self.old) (length (sink_held self.old)) (length piece.now))) }
         ensures calls { MakesCall (sink_calls self.old) (sink_calls self.new) }
         ensures most { sink_most self.new ≡ sink_most self.old }
+        ensures room { sink_room self.new ≡ sink_room self.old }
     {
-        if self.schedule.begin() {
+        let fits = fitting(self.room, self.bytes.len(), piece.len());
+        let fails = self.schedule.begin();
+        if fails || fits == 0 {
             self.schedule.raise();
             return Err(PortFail::Failed);
         }
-        let count = self.most.min(piece.len());
+        let count = self.most.min(fits);
         self.bytes.push_all(&piece[..count])?;
         Ok(count)
     }

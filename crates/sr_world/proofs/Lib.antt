@@ -7,6 +7,7 @@ pub mod HistoryLemmas
 pub mod InputLemmas
 pub mod KeepLemmas
 pub mod LawProofs
+pub mod LookLemmas
 pub mod MoveLemmas
 pub mod NameLemmas
 pub mod OnceLemmas

@@ -1,5 +1,5 @@
 -- What the code does to the parts of a world, one after another.
-use Rattle.std.specs.Prelude.{◌≡◌, ◌==◌, ◌&&◌, ◌+◌, ◌<◌, nat_lt, ℕ, zero, suc, pos, Bool, true, false, List, [], Option, Some, None, Result, Ok, Err, is_some, unwrap_or, if◌then◌else◌, fold}
+use Rattle.std.specs.Prelude.{◌≡◌, ◌==◌, ◌&&◌, ◌+◌, ◌<◌, ◌≤◌, length, drop, max, nat_lt, take_while, ℕ, zero, suc, pos, Bool, true, false, List, [], Option, Some, None, Result, Ok, Err, is_some, unwrap_or, if◌then◌else◌, fold}
 use Rattle.std.specs.FinMap as map
 use Rattle.std.specs.List.{Contains}
 use Rattle.std.specs.Option.{option_and_then}
@@ -27,6 +27,7 @@ use Rattle.sr_value.specs.declared.value.Value.{Value}
 use Rattle.sr_world.specs.Answering.{held_of}
 use Rattle.sr_world.specs.Does.{Does, Did, Makes, failed}
 use Rattle.sr_world.specs.Endings.{may_close}
+use Rattle.sr_world.specs.Inputs.{is_blank, is_part}
 use Rattle.sr_world.specs.Invoking.{arrive, instance_of_process, is_gone, owner_for}
 use Rattle.sr_world.specs.Making.{is_ready, run_initial}
 use Rattle.sr_world.specs.Names.{IsGreatest}
@@ -206,3 +207,28 @@ count_found actor op scope world = Did world (answer.Number (pos (waiting (owner
 abbrev pub can_close : Core → Option Instance → Bool
 can_close core None = false
 can_close core (Some main) = may_close core main
+
+-- ---- the first token of the input
+
+-- of bytes that were read up to a place, blanks were seen up to where a token begins, and no blank from there to its end
+pub record HasPassed (bytes : List ℕ) (at token end : ℕ) : Type 0 where
+  pub begun : at ≤ token
+  pub ended : token ≤ end
+  pub within : end ≤ length bytes
+  pub blanks : token ≤ at + length (take_while is_blank (drop at bytes))
+  pub parts : end ≤ token + length (take_while is_part (drop token bytes))
+
+-- all of its blanks and all of the token were seen
+pub record HasToken (bytes : List ℕ) (at token end : ℕ) : Type 0 where
+  pub begun : at ≤ token
+  pub ended : token ≤ end
+  pub within : end ≤ length bytes
+  pub begins : token ≡ at + length (take_while is_blank (drop at bytes))
+  pub ends : end ≡ token + length (take_while is_part (drop token bytes))
+
+-- where the token begins, once more bytes were looked at, and where it ends
+abbrev pub begins_at : List ℕ → ℕ → ℕ → ℕ
+begins_at bytes token end = if token == end then token + length (take_while is_blank (drop token bytes)) else token
+
+abbrev pub ends_at : List ℕ → ℕ → ℕ → ℕ
+ends_at bytes token end = max token end + length (take_while is_part (drop (max token end) bytes))

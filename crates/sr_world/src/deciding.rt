@@ -107,7 +107,7 @@ impl World {
         ensures { result ≡ awaits_input self.now request.now }
     {
         match request {
-            Request::Read { kind } => !is_decided(*kind, self.input.rest(), self.ended),
+            Request::Read { kind } => !is_decided(*kind, &self.input, self.ended),
             _ => false,
         }
     }

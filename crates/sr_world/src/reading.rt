@@ -1,40 +1,31 @@
-ghost use Rattle.std.specs.Prelude.{◌≡◌, ◌&&◌, IfOk, OnErr, OnOk, pos};
+ghost use Rattle.std.specs.Prelude.{◌≡◌, IfOk, OnErr, OnOk, pos};
 ghost use Rattle.sr_ask.specs.declared.answer.Answer.{Answer};
 ghost use Rattle.sr_world.specs.Acting.{Acts};
 ghost use Rattle.sr_world.specs.Does.{Did};
-ghost use Rattle.sr_world.specs.Inputs.{after_token, char_read, is_decided as decided, item_read, some_are, token_in, token_read};
+ghost use Rattle.sr_world.specs.Inputs.{char_read, is_decided as decided, item_read, some_are, token_in, token_read};
 ghost use Rattle.sr_world.specs.Steps.{read as read_of, wake as wake_of};
 ghost use Rattle.sr_world.specs.Updates.{write as write_of};
 
 use crate::acted::Acted;
 use crate::input::Input;
-use crate::tokens::{blank_count, token, token_value, without_blanks};
+use crate::tokens::token_value;
 use crate::world::World;
 use sr_ask::{Answer, ReadKind};
 use sr_value::{NoMemory, Text, Value};
 use std::alloc::Global;
 
-/// Whether the next item doesn't depend on bytes that may still come.
+/// Whether the next item doesn't depend on bytes that may still come. It takes a time that doesn't depend on the input.
 #[tactic(auto, using(crate::proofs::TokenLemmas::decided_token))]
-pub fn is_decided(kind: ReadKind, bytes: &[u8], ended: bool) -> bool
-    ensures { result ≡ decided kind bytes.now ended }
+pub fn is_decided(kind: ReadKind, input: &Input, ended: bool) -> bool
+    ensures { result ≡ decided kind input.now ended }
 {
     if ended {
         return true;
     }
     match kind {
-        ReadKind::Char => has_some(bytes),
-        _ => is_token_whole(bytes),
+        ReadKind::Char => has_some(input.rest()),
+        _ => input.is_token_whole(),
     }
-}
-
-/// Whether there is a token, and a byte after it.
-fn is_token_whole(bytes: &[u8]) -> bool
-    ensures { result ≡ (some_are (token_in bytes.now) && some_are (after_token bytes.now)) }
-{
-    let started = without_blanks(bytes);
-    let token = token(started);
-    has_some(token) && has_some(&started[token.len()..])
 }
 
 fn has_some(bytes: &[u8]) -> bool
@@ -80,8 +71,8 @@ fn read_token(alloc: Global, input: &mut Input, kind: ReadKind) -> Result<Answer
     ensures rest { OnOk result (input.new ≡ (token_read kind input.old (token_in input.old)).rest) }
     ensures err { OnErr result (input.new ≡ input.old) }
 {
-    let blanks = blank_count(input.rest());
-    let token = token(without_blanks(input.rest()));
+    let blanks = input.blanks();
+    let token = input.token();
     let len = token.len();
     if len == 0 {
         input.pass(input.len());
@@ -104,7 +95,7 @@ impl World {
     pub(crate) fn read(&mut self, kind: ReadKind) -> Result<Acted, NoMemory>
         ensures { Acts (read_of kind self.old) self.old self.new result }
     {
-        if !is_decided(kind, self.input.rest(), self.ended) {
+        if !is_decided(kind, &self.input, self.ended) {
             return Ok(Acted::Undecided);
         }
         let answer = read_item(self.alloc, &mut self.input, kind)?;

@@ -1,5 +1,5 @@
 ghost use Rattle.std.specs.Prelude.{◌≡◌, ◌≤◌, IfOk, length, take_while};
-ghost use Rattle.sr_world.specs.Inputs.{is_blank as blank, is_part as part, token_value as value_of, without_blanks as past_blanks};
+ghost use Rattle.sr_world.specs.Inputs.{is_blank as blank, is_part as part, token_value as value_of};
 
 use sr_ask::ReadKind;
 use sr_value::{NoMemory, Text, Value, parse_int};
@@ -21,26 +21,11 @@ pub fn blank_count(bytes: &[u8]) -> usize
 }
 
 /// How many bytes stand before the first blank.
-fn token_len(bytes: &[u8]) -> usize
+pub fn token_len(bytes: &[u8]) -> usize
     ensures count { result ≡ length (take_while part bytes.now) }
     ensures within { result ≤ length bytes.now }
 {
     bytes.iter().take_while(|byte| !is_blank(**byte)).count()
-}
-
-/// The bytes from the first that is no blank.
-pub fn without_blanks(bytes: &[u8]) -> &[u8]
-    ensures { result.now ≡ past_blanks bytes.now }
-{
-    &bytes[blank_count(bytes)..]
-}
-
-/// The bytes before the first blank.
-pub fn token(bytes: &[u8]) -> &[u8]
-    ensures token { result.now ≡ take_while part bytes.now }
-    ensures within { length result.now ≤ length bytes.now }
-{
-    &bytes[..token_len(bytes)]
 }
 
 /// What a token is as this kind, where it fits.
