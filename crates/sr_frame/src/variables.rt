@@ -188,14 +188,12 @@ pub fn turn_held(alloc: Global, own: &Row<Option<Own>>, vars: &[u32]) -> Result<
 pub fn set_vars(own: &mut Row<Option<Own>>, vars: &[u32], turn: &[i32])
     ensures { own.new ≡ vars_set vars.now turn.now own.old }
 {
-    match vars {
-        [] => {}
-        [var, others @ ..] => match turn {
-            [] => {}
-            [number, rest @ ..] => {
-                set_own(own, *var, number_own(*number));
-                set_vars(own, others, rest);
-            }
-        },
+    let mut rest = turn;
+    for var in vars {
+        let [number, others @ ..] = rest else {
+            return;
+        };
+        set_own(own, *var, number_own(*number));
+        rest = others;
     }
 }

@@ -36,28 +36,25 @@ pub fn texts_in(alloc: Global, names: &EnumNames, values: &[Value]) -> Result<Ro
 fn put_spaced(bytes: &mut Text, texts: &[Text]) -> Result<(), NoMemory>
     ensures { OnOk result (bytes.new ≡ bytes.old ++ spaced texts.now) }
 {
-    match texts {
-        [] => Ok(()),
-        [text] => bytes.push_all(text.as_bytes()),
-        [text, rest @ ..] => {
-            bytes.push_all(text.as_bytes())?;
-            bytes.push(b' ')?;
-            put_spaced(bytes, rest)
-        }
+    let [first, others @ ..] = texts else {
+        return Ok(());
+    };
+    bytes.push_all(first.as_bytes())?;
+    for text in others {
+        bytes.push(b' ')?;
+        bytes.push_all(text.as_bytes())?;
     }
+    Ok(())
 }
 
 /// Appends texts to others, with nothing between them.
 fn put_flat(bytes: &mut Text, texts: &[Text]) -> Result<(), NoMemory>
     ensures { OnOk result (bytes.new ≡ bytes.old ++ flat texts.now) }
 {
-    match texts {
-        [] => Ok(()),
-        [text, rest @ ..] => {
-            bytes.push_all(text.as_bytes())?;
-            put_flat(bytes, rest)
-        }
+    for text in texts {
+        bytes.push_all(text.as_bytes())?;
     }
+    Ok(())
 }
 
 /// What a `write` of these texts writes, or a `writes` where it isn't a line.

@@ -1,4 +1,4 @@
-ghost use Rattle.std.specs.Prelude.{◌≡◌, ◌++◌, drop, MatchResult, OnOk};
+ghost use Rattle.std.specs.Prelude.{◌≡◌, drop, MatchResult};
 ghost use Rattle.sr_meaning.specs.Expressions.{default_given, taken};
 ghost use Rattle.sr_meaning.specs.Places.{store_results};
 ghost use Rattle.sr_interpreter_expr.specs.Interpreters.{Agrees, here_of, stage_of};
@@ -10,8 +10,7 @@ use crate::scene::Scene;
 use crate::settle::failed;
 use crate::stop::Stop;
 use sr_ask::{Located, Request};
-use sr_value::{Duplicate, NoMemory, Row, Shape, Value, ValueFail, default_of};
-use std::alloc::Global;
+use sr_value::{Duplicate, Row, Shape, Value, ValueFail, default_of};
 
 /// The reply to one invocation.
 pub fn reply_to(
@@ -55,16 +54,15 @@ pub fn store_from(
 ) -> Result<Row<Value>, Stop>
     ensures { Agrees (store_results (drop at places.now) (drop at results.now) (here_of scene.now) (stage_of interpreter.old)) result (stage_of interpreter.new) }
 {
-    match places.get(at) {
-        None => left_from(scene, results, at),
-        Some(place) => match results.get(at) {
-            None => left_from(scene, results, at),
-            Some(value) => {
-                store(scene, interpreter, place, value.copy(scene.alloc)?)?;
-                store_from(scene, interpreter, places, results, at + 1)
-            }
-        },
+    let mut at = at;
+    'places: while let Some(place) = places.get(at) {
+        let Some(value) = results.get(at) else {
+            break;
+        };
+        store(scene, interpreter, place, value.copy(scene.alloc)?)?;
+        at += 1;
     }
+    left_from(scene, results, at)
 }
 
 /// Copies of the results from one on.
@@ -72,24 +70,10 @@ fn left_from(scene: &Scene, results: &[Value], at: usize) -> Result<Row<Value>, 
     ensures { MatchResult result (λ left. left ≡ drop at results.now) (λ stop. stop ≡ Stop.NoMemory) }
 {
     let mut left = Row::new(scene.alloc);
-    copy_from(scene.alloc, &mut left, results, at)?;
-    Ok(left)
-}
-
-/// Copies of the results from one on, after others.
-fn copy_from(
-    alloc: Global,
-    left: &mut Row<Value>,
-    results: &[Value],
-    at: usize,
-) -> Result<(), NoMemory>
-    ensures { OnOk result (left.new ≡ left.old ++ drop at results.now) }
-{
-    match results.get(at) {
-        None => Ok(()),
-        Some(value) => {
-            left.push(value.copy(alloc)?)?;
-            copy_from(alloc, left, results, at + 1)
-        }
+    let mut at = at;
+    'results: while let Some(value) = results.get(at) {
+        left.push(value.copy(scene.alloc)?)?;
+        at += 1;
     }
+    Ok(left)
 }

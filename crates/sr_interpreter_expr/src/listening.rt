@@ -162,14 +162,13 @@ fn next_answer(interpreter: &mut Interpreter) -> Option<Answer>
 fn heard<T, F: Takes<T>>(interpreter: &mut Interpreter, form: &F, limit: u32) -> Option<T>
     ensures { HearsAnswer (F.takes form.now) limit (stage_of interpreter.old) result (stage_of interpreter.new) }
 {
-    let answer = next_answer(interpreter)?;
-    match form.take(answer) {
-        Some(got) => {
+    'answers: while let Some(answer) = next_answer(interpreter) {
+        if let Some(got) = form.take(answer) {
             interpreter.ticks = limit;
-            Some(got)
+            return Some(got);
         }
-        None => heard(interpreter, form, limit),
     }
+    None
 }
 
 /// Asks, and goes on after the first answer of the form.

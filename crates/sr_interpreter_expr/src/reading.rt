@@ -54,22 +54,17 @@ pub fn read_from(
 ) -> Result<Value, Stop>
     ensures { Agrees (read_all at (drop at read_targets.now) (here_of scene.now) (stage_of interpreter.old)) result (stage_of interpreter.new) }
 {
-    match read_targets.get(at) {
-        None => number_read(scene, interpreter, at),
-        Some(read_target) => match ask(
-            scene,
-            interpreter,
-            &IsItem,
-            Request::Read {
-                kind: read_target.kind,
-            },
-        )? {
-            InputItem::Value(value) => {
-                store(scene, interpreter, &read_target.place, value)?;
-                read_from(scene, interpreter, read_targets, at + 1)
-            }
-            InputItem::NotOfKind => number_read(scene, interpreter, at),
-            InputItem::NoMore => number_at_end(scene, interpreter, at),
-        },
+    let mut at = at;
+    'targets: while let Some(read_target) = read_targets.get(at) {
+        let request = Request::Read {
+            kind: read_target.kind,
+        };
+        match ask(scene, interpreter, &IsItem, request)? {
+            InputItem::Value(value) => store(scene, interpreter, &read_target.place, value)?,
+            InputItem::NotOfKind => return number_read(scene, interpreter, at),
+            InputItem::NoMore => return number_at_end(scene, interpreter, at),
+        }
+        at += 1;
     }
+    number_read(scene, interpreter, at)
 }
