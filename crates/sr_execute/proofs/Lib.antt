@@ -1,4 +1,5 @@
 pub mod Drops
+pub mod Firsts
 pub mod Meant
 pub mod Numbers
 pub mod Storing

@@ -11,7 +11,7 @@ use crate::putting::put_value;
 use crate::step::Step;
 use crate::tops::top_or;
 use sr_ask::{Located, Request, Spot};
-use sr_code::{Call, Operands};
+use sr_code::{Call, Fifo, Operands};
 use sr_core::capability;
 use sr_frame::{Scene, own_value};
 use sr_value::{Cap, NoMemory, Row, Shape, Value, ValueFail, default_of};
@@ -130,7 +130,7 @@ pub fn invoke(alloc: Global, frame: &mut Frame) -> Result<Step, NoMemory>
         values,
         places,
     } = take_call(alloc, &mut frame.operands);
-    frame.operands.targets.push(places)?;
+    frame.operands.targets.push(Fifo::from_row(places))?;
     Ok(Step::Asks(Request::Invoke {
         target,
         args: values,
@@ -175,7 +175,7 @@ pub fn create(
 ) -> Result<Step, NoMemory>
     ensures { Does result frame.new (begun scene.now.names.now (instruction.Create resource) (here_of scene.now) next frame.old.operands frame.old) }
 {
-    let args = frame.operands.lists.take(Row::new(scene.alloc));
+    let args = frame.operands.lists.take(Fifo::new(scene.alloc)).into_row();
     let vm = frame.operands.caps.take(Cap::Null);
     Ok(Step::Asks(Request::Create { resource, args, vm }))
 }

@@ -12,8 +12,8 @@ use crate::step::Step;
 use crate::tops::top_or;
 use crate::variables::store_at;
 use sr_ask::{Answer, Located, Out, Request};
-use sr_code::{Completed, Stack};
-use sr_frame::{Scene, arm_of, ids_out, made, place_out, set_vars, turn_held};
+use sr_code::{Completed, Fifo, Outs, Stack};
+use sr_frame::{Scene, made, set_vars, turn_held};
 use sr_value::{Duplicate, NoMemory, Row, Value};
 use std::alloc::Global;
 
@@ -36,7 +36,7 @@ fn no_completed(alloc: Global) -> Completed
 pub fn open_co(scene: &Scene, frame: &mut Frame, next: usize) -> Result<Step, NoMemory>
     ensures { Does result frame.new (begun scene.now.names.now instruction.OpenCo (here_of scene.now) next frame.old.operands frame.old) }
 {
-    let around = std::mem::replace(&mut frame.out, Row::new(scene.alloc));
+    let around = std::mem::replace(&mut frame.out, Outs::new(scene.alloc));
     frame.operands.outs.push(around)?;
     Ok(Step::Goes(next))
 }
@@ -45,7 +45,7 @@ pub fn open_co(scene: &Scene, frame: &mut Frame, next: usize) -> Result<Step, No
 pub fn close_co(scene: &Scene, frame: &mut Frame, next: usize) -> Result<Step, NoMemory>
     ensures { Does result frame.new (begun scene.now.names.now instruction.CloseCo (here_of scene.now) next frame.old.operands frame.old) }
 {
-    frame.out = frame.operands.outs.take(Row::new(scene.alloc));
+    frame.out = frame.operands.outs.take(Outs::new(scene.alloc));
     let _ = frame.operands.counts.take(0);
     Ok(Step::Goes(next))
 }
@@ -83,7 +83,7 @@ pub fn take_reply(
     }
     let _ = frame.operands.counts.take(0);
     frame.operands.counts.push(count - 1)?;
-    let ids = ids_out(scene.alloc, frame.out.as_slice())?;
+    let ids = frame.out.ids(scene.alloc)?;
     Ok(Step::Asks(Request::Take { ids }))
 }
 
@@ -118,16 +118,16 @@ pub fn set_turn(
 /// Copies of results and of the places that they go to.
 fn put_results(
     alloc: Global,
-    targets: &mut Stack<Row<Located>>,
-    lists: &mut Stack<Row<Value>>,
+    targets: &mut Stack<Fifo<Located>>,
+    lists: &mut Stack<Fifo<Value>>,
     backs: &Row<Located>,
     results: &Row<Value>,
 ) -> Result<(), NoMemory>
     ensures targets { OnOk result (targets.new ≡ backs.now ∷ targets.old) }
     ensures lists { OnOk result (lists.new ≡ results.now ∷ lists.old) }
 {
-    targets.push(backs.copy(alloc)?)?;
-    lists.push(results.copy(alloc)?)?;
+    targets.push(Fifo::from_row(backs.copy(alloc)?))?;
+    lists.push(Fifo::from_row(results.copy(alloc)?))?;
     Ok(())
 }
 
@@ -188,7 +188,7 @@ pub fn start_made(
     };
     let arm = noted.arm;
     let turn = turn_held(alloc, &frame.own, noted.vars)?;
-    let backs = frame.operands.targets.take(Row::new(alloc));
+    let backs = frame.operands.targets.take(Fifo::new(alloc)).into_row();
     if noted.has_place {
         let place = Some(take_place(alloc, &mut frame.operands));
         push_out(
@@ -228,7 +228,7 @@ pub fn complete(
     ensures { Leads result frame.old frame.new (resumes (instruction.TakeReply arms.now) next frame.old answer) }
 {
     match answer {
-        Answer::Took { id, results } => match place_out(frame.out.as_slice(), id) {
+        Answer::Took { id, results } => match frame.out.place_of(id) {
             Some(at) => complete_at(frame, at, results, arms, next),
             None => Ok(None),
         },
@@ -248,9 +248,9 @@ fn complete_at(
     requires fits { next + 1 < 2 ^ 64 }
     ensures { Leads result frame.old frame.new (completed_at at results arms.now next frame.old) }
 {
-    match arms.get(arm_of(frame.out.as_slice(), at) as usize) {
+    match arms.get(frame.out.arm_at(at) as usize) {
         Some(arm) => {
-            let out = frame.out.remove(at);
+            let out = frame.out.take(at);
             frame.operands.completed.push(Completed { out, results })?;
             Ok(Some(*arm))
         }

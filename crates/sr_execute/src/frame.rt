@@ -1,5 +1,5 @@
-use sr_ask::{Out, Own, Service};
-use sr_code::Operands;
+use sr_ask::{Own, Service};
+use sr_code::{Operands, Outs};
 use sr_value::Row;
 
 /// What a process holds while it runs.
@@ -13,5 +13,5 @@ pub struct Frame {
     /// The invocation that it services.
     pub service: Service,
     /// The invocations of its `co` that are out.
-    pub out: Row<Out>,
+    pub out: Outs,
 }

@@ -9,9 +9,10 @@ use crate::frame::Frame;
 use crate::putting::{put_number, put_value};
 use crate::step::Step;
 use crate::tops::top_or;
+use sr_code::Fifo;
 use sr_core::{Function, apply, capability, count, member, number, truth};
 use sr_frame::Scene;
-use sr_value::{Cap, Fault, NoMemory, Operator, Row, Value, ValueFail, arith, unary};
+use sr_value::{Cap, Fault, NoMemory, Operator, Value, ValueFail, arith, unary};
 
 /// A value becomes the result of an operator.
 pub fn operate_one(
@@ -139,7 +140,7 @@ pub fn apply_to_list(
 ) -> Result<Step, NoMemory>
     ensures { Does result frame.new (begun scene.now.names.now (instruction.Apply function) (here_of scene.now) next frame.old.operands frame.old) }
 {
-    let args = frame.operands.lists.take(Row::new(scene.alloc));
+    let args = frame.operands.lists.take(Fifo::new(scene.alloc)).into_row();
     match apply(scene.alloc, scene.names, function, args) {
         Ok(value) => put_value(frame, value, next),
         Err(ValueFail::Fault(fault)) => Ok(Step::Faults(fault)),

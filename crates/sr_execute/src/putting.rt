@@ -4,6 +4,7 @@ ghost use Rattle.sr_execute.specs.Executes.{Does, went};
 use crate::frame::Frame;
 use crate::step::Step;
 use sr_ask::Located;
+use sr_code::Fifo;
 use sr_core::Piece;
 use sr_value::{NoMemory, Row, Shape, Value};
 
@@ -24,7 +25,7 @@ pub fn put_number(frame: &mut Frame, number: i32, next: usize) -> Result<Step, N
 }
 
 /// A list goes on the operands.
-pub fn put_list(frame: &mut Frame, list: Row<Value>, next: usize) -> Result<Step, NoMemory>
+pub fn put_list(frame: &mut Frame, list: Fifo<Value>, next: usize) -> Result<Step, NoMemory>
     ensures { Does result frame.new (went next (put_list list frame.old.operands) frame.old) }
 {
     frame.operands.lists.push(list)?;

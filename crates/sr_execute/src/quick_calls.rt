@@ -9,7 +9,7 @@ use crate::frame::Frame;
 use crate::quick::Carried;
 use crate::tops::{take_value, top_or};
 use sr_ask::{Gives, Pick, Service};
-use sr_code::Call;
+use sr_code::{Call, Fifo};
 use sr_core::capability;
 use sr_frame::{Scene, value_after};
 use sr_value::{Duplicate, NoMemory, Row, Value, ValueFail};
@@ -19,7 +19,11 @@ use sr_value::{Duplicate, NoMemory, Row, Value, ValueFail};
 pub fn quick_arguments(scene: &Scene, frame: &mut Frame, next: usize) -> Result<Carried, NoMemory>
     ensures { DoesOrLeaves result frame.old frame.new (begun scene.now.names.now instruction.Arguments (here_of scene.now) next frame.old.operands frame.old) }
 {
-    quick_list(frame, scene.start.args.copy(scene.alloc)?, next)
+    quick_list(
+        frame,
+        Fifo::from_row(scene.start.args.copy(scene.alloc)?),
+        next,
+    )
 }
 
 /// A list without values goes on the operands.
@@ -27,7 +31,7 @@ pub fn quick_arguments(scene: &Scene, frame: &mut Frame, next: usize) -> Result<
 pub fn quick_no_values(scene: &Scene, frame: &mut Frame, next: usize) -> Result<Carried, NoMemory>
     ensures { DoesOrLeaves result frame.old frame.new (begun scene.now.names.now instruction.NoValues (here_of scene.now) next frame.old.operands frame.old) }
 {
-    quick_list(frame, Row::new(scene.alloc), next)
+    quick_list(frame, Fifo::new(scene.alloc), next)
 }
 
 /// The list on top goes.
@@ -41,7 +45,7 @@ pub fn quick_drop_list(frame: &mut Frame, next: usize) -> Result<Carried, NoMemo
 
 /// A list goes on the operands.
 #[inline(always)]
-fn quick_list(frame: &mut Frame, list: Row<Value>, next: usize) -> Result<Carried, NoMemory>
+fn quick_list(frame: &mut Frame, list: Fifo<Value>, next: usize) -> Result<Carried, NoMemory>
     ensures { DoesOrLeaves result frame.old frame.new (went next (put_list list frame.old.operands) frame.old) }
 {
     frame.operands.lists.push(list)?;
@@ -54,7 +58,7 @@ pub fn quick_collect(scene: &Scene, frame: &mut Frame, next: usize) -> Result<Ca
     ensures { DoesOrLeaves result frame.old frame.new (begun scene.now.names.now instruction.Collect (here_of scene.now) next frame.old.operands frame.old) }
 {
     let value = take_value(&mut frame.operands.values);
-    let mut list = frame.operands.lists.take(Row::new(scene.alloc));
+    let mut list = frame.operands.lists.take(Fifo::new(scene.alloc));
     list.push(value)?;
     frame.operands.lists.push(list)?;
     Ok(Carried::Goes(next))
@@ -102,13 +106,12 @@ pub fn quick_store_results(
 ) -> Result<Carried, NoMemory>
     ensures { DoesOrLeaves result frame.old frame.new (begun scene.now.names.now (instruction.StoreResults to) (here_of scene.now) next frame.old.operands frame.old) }
 {
-    let none = Row::new(scene.alloc);
-    match top_or(&frame.operands.targets, &none).as_slice() {
-        [] => {}
-        _ => return Ok(Carried::Left),
+    let none = Fifo::new(scene.alloc);
+    if !top_or(&frame.operands.targets, &none).is_empty() {
+        return Ok(Carried::Left);
     }
     let _ = frame.operands.targets.pop();
-    let values = frame.operands.lists.take(Row::new(scene.alloc));
+    let values = frame.operands.lists.take(Fifo::new(scene.alloc)).into_row();
     frame.operands.values.push(value_after(values))?;
     Ok(Carried::Goes(to.min(next)))
 }
@@ -130,7 +133,7 @@ pub fn quick_open_service(
         args: Row::new(scene.alloc),
         back: 0,
     });
-    frame.operands.lists.push(args)?;
+    frame.operands.lists.push(Fifo::from_row(args))?;
     let service = Service {
         held: id,
         back,

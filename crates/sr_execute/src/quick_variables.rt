@@ -11,9 +11,10 @@ use crate::shapes::{formal_found, take_sent};
 use crate::ticks::next_number;
 use crate::tops::{take_shape, take_value};
 use sr_ask::Own;
+use sr_code::Fifo;
 use sr_core::{FormalShape, Mode, Scope};
 use sr_frame::{Scene, own_stored, set_number, set_own};
-use sr_value::{NoMemory, Row, Shape, Value, ValueFail, default_of};
+use sr_value::{NoMemory, Shape, Value, ValueFail, default_of};
 use std::alloc::Global;
 
 /// An own variable is made. Numbers are 0 at first.
@@ -120,7 +121,7 @@ pub fn quick_store_formal(
 ) -> Result<Carried, NoMemory>
     ensures { DoesOrLeaves result frame.old frame.new (begun scene.now.names.now (instruction.StoreFormal Scope.Own var mode) (here_of scene.now) next frame.old.operands frame.old) }
 {
-    let mut args = frame.operands.lists.take(Row::new(scene.alloc));
+    let mut args = frame.operands.lists.take(Fifo::new(scene.alloc));
     let sent = take_sent(mode, &mut args);
     frame.operands.lists.push(args)?;
     match sent {

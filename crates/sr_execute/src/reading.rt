@@ -13,10 +13,10 @@ use crate::step::Step;
 use crate::tops::top_or;
 use crate::variables::store_at;
 use sr_ask::{ReadKind, ReadTarget, Request};
-use sr_code::{Operands, Reading};
+use sr_code::{Fifo, Operands, Reading};
 use sr_core::Readable;
-use sr_frame::{Scene, take_first};
-use sr_value::{Fault, NoMemory, Row, Value};
+use sr_frame::Scene;
+use sr_value::{Fault, NoMemory, Value};
 use std::alloc::Global;
 
 /// How an item is asked for.
@@ -35,7 +35,7 @@ fn no_reading(alloc: Global) -> Reading
     ensures { result ≡ no_reading }
 {
     Reading {
-        targets: Row::new(alloc),
+        targets: Fifo::new(alloc),
         count: 0,
     }
 }
@@ -76,6 +76,7 @@ pub fn add_reading(
 }
 
 /// Asks for the next item, where a place is left.
+#[tactic(auto, using(crate::proofs::Firsts::reads_none, crate::proofs::Firsts::reads_some))]
 pub fn read_next(
     scene: &Scene,
     frame: &mut Frame,
@@ -86,9 +87,9 @@ pub fn read_next(
     ensures { Does result frame.new (begun scene.now.names.now (instruction.ReadNext store end) (here_of scene.now) next frame.old.operands frame.old) }
 {
     let none = no_reading(scene.alloc);
-    match top_or(&frame.operands.readings, &none).targets.as_slice() {
-        [] => Ok(Step::Goes(next)),
-        [target, ..] => Ok(Step::Asks(Request::Read { kind: target.kind })),
+    match top_or(&frame.operands.readings, &none).targets.first() {
+        None => Ok(Step::Goes(next)),
+        Some(target) => Ok(Step::Asks(Request::Read { kind: target.kind })),
     }
 }
 
@@ -98,7 +99,7 @@ fn take_target(alloc: Global, operands: &mut Operands) -> Result<Option<ReadTarg
     ensures others { OnOk result (operands.new ≡ one_read operands.old) }
 {
     let Reading { mut targets, count } = take_reading(alloc, operands);
-    let first = take_first(&mut targets);
+    let first = targets.take_first();
     let Some(count) = count.checked_add(1) else {
         return Err(NoMemory);
     };

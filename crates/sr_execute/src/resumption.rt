@@ -13,9 +13,9 @@ use crate::co::{Arm, complete, start_made};
 use crate::frame::Frame;
 use crate::places::take_place;
 use sr_ask::{Answer, InputItem, Selection};
-use sr_code::Instruction;
+use sr_code::{Fifo, Instruction};
 use sr_frame::{done, got, instance_in, made, moment, number, read_item, ready, selected, took};
-use sr_value::{Cap, NoMemory, Row, Value};
+use sr_value::{Cap, NoMemory, Value};
 use std::alloc::Global;
 
 /// Goes on after `Done`.
@@ -192,11 +192,11 @@ fn take_results(
     let _ = frame.operands.names.take(0);
     match reply.results {
         Some(results) => {
-            frame.operands.lists.push(results)?;
+            frame.operands.lists.push(Fifo::from_row(results))?;
             Ok(Some(next))
         }
         None => {
-            let _ = frame.operands.targets.take(Row::new(alloc));
+            let _ = frame.operands.targets.take(Fifo::new(alloc));
             Ok(Some(none))
         }
     }

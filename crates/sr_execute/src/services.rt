@@ -10,7 +10,7 @@ use crate::places::home_at;
 use crate::putting::put_list;
 use crate::step::Step;
 use sr_ask::{Gives, Pick, Request, Service};
-use sr_code::Call;
+use sr_code::{Call, Fifo};
 use sr_core::Named;
 use sr_frame::{Scene, own_value, results_now};
 use sr_value::{Cap, Duplicate, NoMemory, Row, Value, ValueFail};
@@ -20,7 +20,7 @@ use std::alloc::Global;
 pub fn select(alloc: Global, frame: &mut Frame, site: u32) -> Result<Step, NoMemory>
     ensures { Does result frame.new (waits (request.Select site (list_on frame.old.operands)) (drop_list frame.old.operands) frame.old) }
 {
-    let env = frame.operands.lists.take(Row::new(alloc));
+    let env = frame.operands.lists.take(Fifo::new(alloc)).into_row();
     Ok(Step::Asks(Request::Select { site, env }))
 }
 
@@ -69,7 +69,7 @@ pub fn join_list(
 ) -> Result<Step, NoMemory>
     ensures { Does result frame.new (went next (join_value value frame.old.operands) frame.old) }
 {
-    let mut list = frame.operands.lists.take(Row::new(scene.alloc));
+    let mut list = frame.operands.lists.take(Fifo::new(scene.alloc));
     list.push(value)?;
     put_list(frame, list, next)
 }
@@ -125,7 +125,7 @@ pub fn open_service(
         args: Row::new(scene.alloc),
         back: 0,
     });
-    frame.operands.lists.push(args)?;
+    frame.operands.lists.push(Fifo::from_row(args))?;
     let service = Service {
         held: id,
         back,

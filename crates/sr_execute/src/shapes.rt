@@ -11,11 +11,11 @@ use crate::frame::Frame;
 use crate::places::variable_in;
 use crate::putting::put_shape;
 use crate::step::Step;
-use crate::tops::top_or;
+use crate::tops::{sent, top_or};
 use crate::variables::{make_at, store_at};
-use sr_code::Operands;
-use sr_core::{FormalShape, Mode, Scope, formal_shape, sent_to};
-use sr_frame::{Scene, bounded_by, take_first};
+use sr_code::{Fifo, Operands};
+use sr_core::{FormalShape, Mode, Scope, formal_shape};
+use sr_frame::{Scene, bounded_by};
 use sr_value::{Dims, Fault, NoMemory, Row, Shape, Shared, Value, ValueFail};
 use std::alloc::Global;
 
@@ -126,9 +126,8 @@ pub fn formal_found(
 ) -> Result<Shape, ValueFail>
     ensures { Answers result (formal_shape shape.now (sent_to mode (list_on operands.now))) }
 {
-    let none = Row::new(alloc);
-    let args = top_or(&operands.lists, &none).as_slice();
-    formal_shape(alloc, shape, sent_to(mode, args))
+    let none = Fifo::new(alloc);
+    formal_shape(alloc, shape, sent(mode, top_or(&operands.lists, &none)))
 }
 
 /// Makes a formal, whose argument is the next of the list.
@@ -157,13 +156,13 @@ pub fn make_formal(
 }
 
 /// Takes what a formal is sent, where it is sent something.
-pub fn take_sent(mode: Mode, args: &mut Row<Value>) -> Option<Value>
+pub fn take_sent(mode: Mode, args: &mut Fifo<Value>) -> Option<Value>
     ensures sent { result ≡ sent_to mode args.old }
     ensures others { args.new ≡ sent_after mode args.old }
 {
     match mode {
-        Mode::Val => take_first(args),
-        Mode::Var => take_first(args),
+        Mode::Val => args.take_first(),
+        Mode::Var => args.take_first(),
         Mode::Res => None,
     }
 }
@@ -179,7 +178,7 @@ pub fn store_formal(
 ) -> Result<Step, NoMemory>
     ensures { Does result frame.new (begun scene.now.names.now (instruction.StoreFormal scope var mode) (here_of scene.now) next frame.old.operands frame.old) }
 {
-    let mut args = frame.operands.lists.take(Row::new(scene.alloc));
+    let mut args = frame.operands.lists.take(Fifo::new(scene.alloc));
     let sent = take_sent(mode, &mut args);
     frame.operands.lists.push(args)?;
     match sent {

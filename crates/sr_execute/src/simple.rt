@@ -11,6 +11,7 @@ use crate::putting::{put_list, put_pieces, put_place, put_shape, put_value};
 use crate::step::Step;
 use crate::ticks::number_on;
 use sr_ask::Request;
+use sr_code::Fifo;
 use sr_core::{OperationOwner, Root};
 use sr_frame::{Scene, whole};
 use sr_value::{Cap, Duplicate, NoMemory, Row, Sel, Shape, Value};
@@ -59,7 +60,7 @@ pub fn put_machine(scene: &Scene, frame: &mut Frame, next: usize) -> Result<Step
 pub fn put_no_values(scene: &Scene, frame: &mut Frame, next: usize) -> Result<Step, NoMemory>
     ensures { Does result frame.new (begun scene.now.names.now instruction.NoValues (here_of scene.now) next frame.old.operands frame.old) }
 {
-    put_list(frame, Row::new(scene.alloc), next)
+    put_list(frame, Fifo::new(scene.alloc), next)
 }
 
 /// A bracketed list without pieces goes on the operands.
@@ -104,7 +105,11 @@ pub fn put_fixed(
 pub fn put_arguments(scene: &Scene, frame: &mut Frame, next: usize) -> Result<Step, NoMemory>
     ensures { Does result frame.new (begun scene.now.names.now instruction.Arguments (here_of scene.now) next frame.old.operands frame.old) }
 {
-    put_list(frame, scene.start.args.copy(scene.alloc)?, next)
+    put_list(
+        frame,
+        Fifo::from_row(scene.start.args.copy(scene.alloc)?),
+        next,
+    )
 }
 
 /// The list on top goes.

@@ -1,8 +1,10 @@
-ghost use Rattle.std.specs.Prelude.{◌≡◌};
+ghost use Rattle.std.specs.Prelude.{◌≡◌, option_copied};
 ghost use Rattle.sr_ask.specs.Places.{nothing};
+ghost use Rattle.sr_core.specs.Formals.{sent_to};
 ghost use Rattle.sr_code.specs.Stacks.{below, first_or};
 
-use sr_code::Stack;
+use sr_code::{Fifo, Stack};
+use sr_core::Mode;
 use sr_value::{Shape, Value};
 
 /// The top of a stack, or a default where there is none.
@@ -35,5 +37,17 @@ pub fn take_shape(shapes: &mut Stack<Shape>) -> Shape
     match shapes.pop() {
         Some(shape) => shape,
         None => Shape::Int,
+    }
+}
+
+/// What a formal is sent.
+#[tactic(auto, using(crate::proofs::Firsts::first_sent))]
+pub fn sent(mode: Mode, args: &Fifo<Value>) -> Option<&Value>
+    ensures { option_copied result ≡ sent_to mode args.now }
+{
+    match mode {
+        Mode::Val => args.first(),
+        Mode::Var => args.first(),
+        Mode::Res => None,
     }
 }

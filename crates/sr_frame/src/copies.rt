@@ -79,17 +79,6 @@ pub fn copied_out(alloc: Global, out: &Out) -> Result<Out, NoMemory>
     })
 }
 
-/// A copy of those that are out.
-pub fn copied_outs(alloc: Global, outs: &Row<Out>) -> Result<Row<Out>, NoMemory>
-    ensures { IfOk result (λ copy. copy ≡ outs.now) }
-{
-    let mut copies = Row::new(alloc);
-    for out in outs.as_slice() {
-        copies.push(copied_out(alloc, out)?)?;
-    }
-    Ok(copies)
-}
-
 /// A copy of an invocation that was chosen.
 pub fn copied_pick(alloc: Global, pick: &Pick) -> Result<Pick, NoMemory>
     ensures { IfOk result (λ copy. copy ≡ pick.now) }

@@ -3,7 +3,6 @@
 
 mod answers;
 mod copies;
-mod outs;
 mod results;
 mod scene;
 mod services;
@@ -13,11 +12,9 @@ mod writing;
 
 pub use answers::{done, got, made, moment, number, read_item, ready, selected, took};
 pub use copies::{
-    copied_gives, copied_out, copied_outs, copied_pick, copied_pieces, copied_service,
-    copied_variables,
+    copied_gives, copied_out, copied_pick, copied_pieces, copied_service, copied_variables,
 };
-pub use outs::{arm_of, ids_out, place_out};
-pub use results::{instance_in, take_first, value_after};
+pub use results::{instance_in, value_after};
 pub use scene::Scene;
 pub use services::{results_now, service_with, whole};
 pub use shapes::bounded_by;

@@ -1,9 +1,9 @@
 ghost use Rattle.std.specs.Prelude.{◌≡◌, IfOk};
 
-use sr_ask::{Out, Pick, ReadTarget, Service};
-use sr_code::{Completed, Reading, Stack};
+use sr_ask::{Pick, ReadTarget, Service};
+use sr_code::{Completed, Fifo, Outs, Reading, Stack};
 use sr_core::Piece;
-use sr_frame::{copied_out, copied_outs, copied_pick, copied_pieces, copied_service};
+use sr_frame::{copied_out, copied_pick, copied_pieces, copied_service};
 use sr_value::{Duplicate, NoMemory, Row, Value};
 use std::alloc::Global;
 
@@ -26,8 +26,8 @@ impl Copied for Service {
     }
 }
 
-impl Copied for Row<Out> {
-    fn copied(&self, alloc: Global) -> Result<Row<Out>, NoMemory> {
+impl Copied for Outs {
+    fn copied(&self, alloc: Global) -> Result<Outs, NoMemory> {
         copied_outs(alloc, self)
     }
 }
@@ -41,7 +41,7 @@ impl Copied for Row<Piece> {
 impl Copied for Reading {
     fn copied(&self, alloc: Global) -> Result<Reading, NoMemory> {
         Ok(Reading {
-            targets: copied_targets(alloc, self.targets.as_slice())?,
+            targets: copied_targets(alloc, &self.targets)?,
             count: self.count,
         })
     }
@@ -66,12 +66,25 @@ fn copied_target(alloc: Global, target: &ReadTarget) -> Result<ReadTarget, NoMem
     })
 }
 
-fn copied_targets(alloc: Global, targets: &[ReadTarget]) -> Result<Row<ReadTarget>, NoMemory>
+#[tactic(auto, using(crate::proofs::Copies::one_more))]
+fn copied_targets(alloc: Global, targets: &Fifo<ReadTarget>) -> Result<Fifo<ReadTarget>, NoMemory>
     ensures { IfOk result (λ copy. copy ≡ targets.now) }
 {
-    let mut copies = Row::new(alloc);
-    for target in targets {
-        copies.push(copied_target(alloc, target)?)?;
+    let mut copies = Fifo::new(alloc);
+    for at in 0..targets.len() {
+        copies.push(copied_target(alloc, targets.at(at))?)?;
+    }
+    Ok(copies)
+}
+
+/// A copy of those that are out.
+#[tactic(auto, using(crate::proofs::Copies::one_more))]
+pub(crate) fn copied_outs(alloc: Global, outs: &Outs) -> Result<Outs, NoMemory>
+    ensures { IfOk result (λ copy. copy ≡ outs.now) }
+{
+    let mut copies = Outs::new(alloc);
+    for at in 0..outs.len() {
+        copies.push(copied_out(alloc, outs.at(at))?)?;
     }
     Ok(copies)
 }

@@ -3,7 +3,7 @@ ghost use Rattle.sr_code.specs.Runs.{ends_at, entry_of, first_line, gives_withou
 ghost use Rattle.sr_process.specs.Processes.{frame_at, frame_with, line_without};
 
 use sr_ask::{Gives, Own, Role, Service, Start};
-use sr_code::{Code, Entry, Operands, Stack};
+use sr_code::{Code, Entry, Operands, Outs, Stack};
 use sr_execute::Frame;
 use sr_frame::{copied_gives, service_with, undeclared};
 use sr_value::{NoMemory, Place, Row};
@@ -103,7 +103,7 @@ fn frame_with(alloc: Global, own: Row<Option<Own>>, service: Service, limit: u32
         ticks: limit,
         own,
         service,
-        out: Row::new(alloc),
+        out: Outs::new(alloc),
     }
 }
 
@@ -119,6 +119,6 @@ pub fn no_frame(alloc: Global) -> Frame {
             answered: false,
             gives: Gives::Instance,
         },
-        out: Row::new(alloc),
+        out: Outs::new(alloc),
     }
 }

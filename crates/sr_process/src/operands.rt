@@ -1,9 +1,9 @@
 ghost use Rattle.std.specs.Prelude.{◌≡◌, OnOk};
 
-use crate::copies::copied_stack;
+use crate::copies::{copied_outs, copied_stack};
 use sr_code::Operands;
 use sr_execute::Frame;
-use sr_frame::{copied_outs, copied_service, copied_variables};
+use sr_frame::{copied_service, copied_variables};
 use sr_value::{Duplicate, NoMemory};
 use std::alloc::Global;
 
