@@ -66,7 +66,7 @@ fn copied_target(alloc: Global, target: &ReadTarget) -> Result<ReadTarget, NoMem
     })
 }
 
-#[tactic(auto, using(crate::proofs::Copies::one_more))]
+#[tactic(auto, using(crate::proofs::OneMore::one_more))]
 fn copied_targets(alloc: Global, targets: &Fifo<ReadTarget>) -> Result<Fifo<ReadTarget>, NoMemory>
     ensures { IfOk result (λ copy. copy ≡ targets.now) }
 {
@@ -78,7 +78,7 @@ fn copied_targets(alloc: Global, targets: &Fifo<ReadTarget>) -> Result<Fifo<Read
 }
 
 /// A copy of those that are out.
-#[tactic(auto, using(crate::proofs::Copies::one_more))]
+#[tactic(auto, using(crate::proofs::OneMore::one_more))]
 pub(crate) fn copied_outs(alloc: Global, outs: &Outs) -> Result<Outs, NoMemory>
     ensures { IfOk result (λ copy. copy ≡ outs.now) }
 {
