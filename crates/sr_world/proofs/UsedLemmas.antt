@@ -1,9 +1,13 @@
 -- The numbers that were given out, with one more.
-use Rattle.std.proofs.Common.{◌≡◌, ℕ, ◌+◌, ◌<◌, ◌≤◌, ◌==◌, Bool, true, false, List, [], ◌∷◌, ◌++◌, refl, subst, arith}
+use Rattle.std.proofs.Common.{◌≡◌, ◌↔◌, ℕ, ◌+◌, ◌<◌, ◌≤◌, ◌==◌, Bool, true, false, List, [], ◌∷◌, ◌++◌, Result, Ok, Err, IsOk, MatchResult, length, get_or, refl, sym, ◌∙◌, subst, arith, true≢false}
 use Rattle.std.specs.Prelude.{◌&&◌, nat_lt, if◌then◌else◌}
-use Rattle.std.specs.List.{Contains}
-use Rattle.std.proofs.lemmas.Bool.{eqb-true, ltb-false, ltb-true}
-use Rattle.std.proofs.lemmas.List.Elements.{All-contains, All-push, Contains-append_left, Contains-append_right}
+use Rattle.std.specs.List.{AllPairs, Contains}
+use Rattle.std.specs.List.Sorted.{IsBinarySearchResult}
+use Rattle.std.specs.Ordering.{nat_cmp}
+use Rattle.std.proofs.lemmas.Bool.{eqb-false, eqb-true, ltb-false, ltb-true}
+use Rattle.std.proofs.lemmas.List.{get_or_default}
+use Rattle.std.proofs.lemmas.List.Elements.{All-contains, All-push, Contains-append_left, Contains-append_right, Contains-get_or}
+use Rattle.std.proofs.lemmas.List.Sorted.{searched}
 use Rattle.sr_world.specs.Names.{AreAllUsed, IsGreatest, IsLeastUnused}
 use Rattle.sr_world.specs.Parts.{AreUsedBelow, Bounds, greater, next_after}
 
@@ -87,3 +91,31 @@ all_used names next low most here = record { each = λ k p l. at k p l (nat_lt k
 
 pub last_unused : (names : List ℕ) (next : ℕ) → AreUsedBelow names next → 4294967295 ≤ next → ¬ Contains names 4294967295 → IsLeastUnused names 4294967295
 last_unused names next low most new = record { positive = omega arith; unused = new; least = λ k p l. low.below k p (omega (arith, l, most)) }
+
+-- ---- numbers that ascend
+
+-- a search by halves finds a number exactly where it is there
+pub search_finds : (names : List ℕ) (name : ℕ) (found : Result ℕ ℕ) → IsBinarySearchResult (λ n. nat_cmp n name) names found → AllPairs (λ a b. a < b) names → IsOk found ↔ Contains names name
+search_finds names name found halved ascend = by found (searched names name found halved rise)
+  where
+    rise : (i j : ℕ) → i ≤ j → j < length names → get_or names i 0 ≤ get_or names j 0
+    rise i j order within = at (i == j) refl
+      where
+        at : (b : Bool) → (i == j) ≡ b → get_or names i 0 ≤ get_or names j 0
+        at true is = let same = eqb-true i j is in subst (λ k. get_or names i 0 ≤ get_or names k 0) same (omega arith)
+        at false is = let apart = eqb-false i j is in let less = ascend i j 0 (omega (arith, order, apart)) within in omega (arith, less)
+
+    none : (place : ℕ) → ((k : ℕ) → k < place → get_or names k 0 < name) → ((k : ℕ) → place ≤ k → k < length names → name < get_or names k 0) → Contains names name → ⊥
+    none place below above (k, within, is) = at (nat_lt k place) refl
+      where
+        here : get_or names k 0 ≡ name
+        here = get_or_default names k 0 name within ∙ is
+
+        at : (b : Bool) → nat_lt k place ≡ b → ⊥
+        at true before = let less = below k (ltb-true k place before) in omega (arith, here, less)
+        at false past = let more = above k (ltb-false k place past) within in omega (arith, here, more)
+
+    by : (r : Result ℕ ℕ) → MatchResult r (λ i. (i < length names) × (get_or names i 0 ≡ name)) (λ i. (i ≤ length names) × ((k : ℕ) → k < i → get_or names k 0 < name) × ((k : ℕ) → i ≤ k → k < length names → name < get_or names k 0))
+        → IsOk r ↔ Contains names name
+    by (Ok i) (within, is) = ((λ ok. subst (λ n. Contains names n) is (Contains-get_or names i 0 within)), (λ there. refl))
+    by (Err i) (within, below, above) = ((λ ok. absurd (true≢false (sym ok))), (λ there. absurd (none i below above there)))

@@ -12,6 +12,7 @@ pub mod Making
 pub mod Names
 pub mod Parts
 pub mod Runs
+pub mod Seeing
 pub mod Selecting
 pub mod Sound
 pub mod Spots

@@ -11,7 +11,7 @@ use sr_core::Core;
 use sr_value::NoMemory;
 
 /// The duty that a call makes. A `send` makes none.
-fn duty_for(wants: bool, actor: u32, name: u32) -> Duty
+pub(crate) fn duty_for(wants: bool, actor: u32, name: u32) -> Duty
     ensures { result ≡ duty_of_call wants actor name }
 {
     Duty {

@@ -7,7 +7,7 @@ ghost use Rattle.sr_world.specs.Does.{Did};
 ghost use Rattle.sr_world.specs.Endings.{close as close_of, destroy as destroy_of, destroy_open as destroy_of_open, finish as finish_of};
 ghost use Rattle.sr_world.specs.Invoking.{instance_of_process as instance_for};
 ghost use Rattle.sr_world.specs.Making.{has_final_code as final_code_in};
-ghost use Rattle.sr_world.specs.Parts.{KeepsReplies, numbers_after, people_of, places_after, without_all, without_one};
+ghost use Rattle.sr_world.specs.Parts.{CanReply, KeepsReplies, numbers_after, people_of, places_after, without_all, without_one};
 ghost use Rattle.sr_world.specs.Updates.{end_instance as end_instance_of, use_name};
 
 use crate::acted::Acted;
@@ -33,6 +33,18 @@ pub fn has_final_code(core: &Core, component: usize) -> bool
         Some(found) => found.final_code.is_some(),
         None => false,
     }
+}
+
+/// Makes room for a reply to whoever waits, where it lives. For one that has ended nothing is kept.
+fn reserve_reply(processes: &Processes, calls: &mut Calls, caller: u32) -> Result<(), NoMemory>
+    ensures can { OnOk result (CanReply processes.now.starts calls.new caller) }
+    ensures held { calls.new.held ≡ calls.old.held }
+    ensures replies { calls.new.replies ≡ calls.old.replies }
+{
+    if processes.is_live(caller) {
+        return calls.reserve(caller);
+    }
+    Ok(())
 }
 
 /// Ends a process. It takes no memory.
@@ -123,7 +135,7 @@ impl World {
     {
         let duty = self.duty_held(actor, actor);
         let instance = self.instance_of_process(actor);
-        self.calls.reserve(duty.back)?;
+        reserve_reply(&self.processes, &mut self.calls, duty.back)?;
         let others = self.ending_with(role, actor, back)?;
         let results = results.copy(self.alloc)?;
         end_process(&mut self.processes, &mut self.calls, actor);
@@ -163,7 +175,7 @@ impl World {
         ensures err { OnErr result (self.new ≡ self.old) }
     {
         self.used.reserve()?;
-        self.calls.reserve(duty.back)?;
+        reserve_reply(&self.processes, &mut self.calls, duty.back)?;
         let numbers = self.processes.of_instance(self.alloc, instance)?;
         self.used.push(name);
         set_state(&mut self.places, instance, State::Gone);

@@ -20,6 +20,7 @@ mod reading;
 mod reads;
 mod ready;
 pub mod run_laws;
+mod seeing;
 mod selecting;
 mod starting;
 mod storing;

@@ -1,4 +1,5 @@
-ghost use Rattle.std.specs.Prelude.{◌≡◌, ◌<◌, ◌++◌, ◌∷◌, [], IfNone, IfSome, OnErr, OnOk};
+ghost use Rattle.std.specs.Prelude.{◌≡◌, ◌↔◌, ◌<◌, ◌++◌, ◌∷◌, [], IfNone, IfSome, IsTrue, OnErr, OnOk};
+ghost use Rattle.std.specs.List.{AllPairs, Contains};
 ghost use Rattle.sr_world.specs.Names.{AreAllUsed, IsGreatest, IsLeastUnused, names_after as later_names};
 ghost use Rattle.sr_world.specs.Parts.{AreUsedBelow, greater as greater_of, next_after as next_of};
 
@@ -131,6 +132,13 @@ impl Used {
         ensures { IsGreatest self.now.names result }
     {
         self.greatest
+    }
+
+    /// Whether a number was given out, where they ascend. The time grows with the logarithm of their count.
+    pub fn contains(&self, name: u32) -> bool
+        ensures { AllPairs (λ a b. a < b) self.now.names → (IsTrue result ↔ Contains self.now.names name) }
+    {
+        self.names.as_slice().binary_search(&name).is_ok()
     }
 
     /// What was given out after a number.

@@ -1,9 +1,11 @@
-ghost use Rattle.std.specs.Prelude.{◌≡◌, ◌↔◌, ◌++◌, ◌∷◌, [], IfNone, IfOk, IfSome, IsTrue, OnErr, OnOk, length, map, option_copied, slice_get, true};
+ghost use Rattle.std.specs.Prelude.{◌≡◌, ◌↔◌, ◌<◌, ◌≤◌, ◌++◌, ◌∷◌, [], IfNone, IfOk, IfSome, IsTrue, OnErr, OnOk, length, map, option_copied, slice_get, true};
+ghost use Rattle.std.specs.List.{AllPairs, Contains};
 ghost use Rattle.std.specs.Option.{option_map};
 ghost use Rattle.sr_processes.specs.Living.{IsLive};
 ghost use Rattle.sr_world.specs.Acting.{IsNew, NeedsNew};
 ghost use Rattle.sr_world.specs.Does.{Does};
 ghost use Rattle.sr_world.specs.Names.{AreAllUsed, IsGreatest, IsLeastUnused, made_after as made_after_in};
+ghost use Rattle.sr_world.specs.Updates.{pass_to};
 ghost use Rattle.sr_world.specs.Worlds as worlds;
 
 use crate::input::Input;
@@ -179,6 +181,14 @@ impl World {
             && !self.places.machines().as_slice().contains(&name)
     }
 
+    /// Whether a process, instance, machine or invocation has got this number. Where the numbers were given out in
+    /// ascending order, it is searched by halves; elsewhere the answer says nothing.
+    pub fn is_used(&self, name: u32) -> bool
+        ensures { AllPairs (λ a b. a < b) self.now.used → (IsTrue result ↔ Contains self.now.used name) }
+    {
+        self.used.contains(name)
+    }
+
     /// The least number from 1 on that no process, instance, machine or invocation has got; none where each
     /// has been given out. Where a run takes this number at each step, it is found without a search.
     pub fn least_unused(&self) -> Option<u32>
@@ -214,6 +224,29 @@ impl World {
         ensures { result ≡ self.now.moment }
     {
         self.moment
+    }
+
+    /// Lets time pass to a later moment. It takes no memory.
+    pub fn advance(&mut self, to: u32)
+        requires later { self.old.moment < to }
+        requires most { to ≤ 2147483647 }
+        ensures { self.new ≡ pass_to to self.old }
+    {
+        self.moment = to;
+    }
+
+    /// The instances and machines.
+    pub fn places(&self) -> &Places
+        ensures { result.now ≡ self.now.places }
+    {
+        &self.places
+    }
+
+    /// The invocations that nobody services yet.
+    pub fn queue(&self) -> &Queue
+        ensures { result.now.items ≡ self.now.pending }
+    {
+        &self.queue
     }
 
     /// What was written.

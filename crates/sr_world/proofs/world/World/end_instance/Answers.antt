@@ -13,6 +13,6 @@ returns-clause-ok c =
     c.answer_reserved.new.calls.held c.answer_reserved.new.calls.replies c.set_state.new.places c.push.new.self.names
     c.self.view_is (c.as_slice.ensures ∙ c.in_ok-numbers.ensures) c.new.ensures
     (c.end_processes.ensures.people
-    ∙ ap (λ p. without_all p c.as_slice.result.now) (same_people c.self.inside.processes c.self.inside.calls c.reserve-2.new.self c.in_ok-reserve-2.ensures.held c.in_ok-reserve-2.ensures.replies))
+    ∙ ap (λ p. without_all p c.as_slice.result.now) (same_people c.self.inside.processes c.self.inside.calls c.reserve_reply.new.calls c.in_ok-reserve_reply.ensures.held c.in_ok-reserve_reply.ensures.replies))
     c.answer_reserved.ensures.held c.answer_reserved.ensures.replies c.set_state.ensures
     (c.push.ensures ∙ ap (λ ns. ns ++ c.args.name ∷ []) c.in_ok-reserve.ensures.names)

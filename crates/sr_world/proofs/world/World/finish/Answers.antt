@@ -22,7 +22,7 @@ returns c =
           (c.end_processes.ensures.people
           ∙ ap (λ p. without_all p c.as_slice.result.now)
           (c.end_process.ensures.people
-          ∙ ap (λ p. without_one p c.args.actor) (same_people c.self.inside.processes c.self.inside.calls c.reserve.new.self c.in_ok-reserve.ensures.held c.in_ok-reserve.ensures.replies)))
+          ∙ ap (λ p. without_one p c.args.actor) (same_people c.self.inside.processes c.self.inside.calls c.reserve_reply.new.calls c.in_ok-reserve_reply.ensures.held c.in_ok-reserve_reply.ensures.replies)))
           c.answer_unless.ensures.held c.answer_unless.ensures.replies c.set_after.ensures,
       refl,
     )
