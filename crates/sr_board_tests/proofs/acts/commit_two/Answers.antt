@@ -1,0 +1,11 @@
+use Rattle.std.proofs.Common.{refl, ap, sym, ◌∷◌, [], arith}
+use Rattle.sr_board_tests.proofs.ActLemmas.{after_parts, touched_parts}
+use Rattle.sr_board_tests.proofs.acts.commit_two.Goals as goal
+
+pub commit-requires-clause-later : goal.commit-requires-clause-later
+commit-requires-clause-later c = let clock = c.args.seat.now.clock_is in let latest = c.in-Some.ensures in let later = c.in-Some-latest.ensures in
+    after_parts c.args.seat.now.token.me.0 (c.args.two.now ∷ c.args.one.now ∷ []) _ c.requires.hand.held (omega arith) (omega arith, (omega arith, tt))
+
+pub commit-requires-clause-touched : goal.commit-requires-clause-touched
+commit-requires-clause-touched c = let one = c.args.one.now in let two = c.args.two.now in let e = c.entry_of-entry.ensures in
+    touched_parts c.args.seat.now.token.me.0 (two ∷ one ∷ []) c.entry_of-entry.result 1 0 0 one two two c.requires.hand.held refl (sym (ap (λ x. x.first) e)) refl (sym (ap (λ x. x.second) e)) refl (sym (ap (λ x. x.third) e))
