@@ -29,7 +29,7 @@ use Rattle.sr_plain.specs.Order.{IsOrdered}
 use Rattle.sr_plain.specs.Ready.{AreAside, me_at}
 use Rattle.sr_plain.specs.Turns.{IsName, takes_turn}
 use Rattle.sr_plain.specs.declared.change.Woken.{Woken}
-use Rattle.sr_plain.specs.declared.member.Member.{Member}
+use Rattle.sr_actor.specs.declared.member.Member.{Member}
 use Rattle.sr_plain.specs.declared.plain.Plain.{Plain}
 use Rattle.sr_plain.specs.declared.plainly.Plainly.{Plainly}
 use Rattle.sr_plain.specs.declared.plainly.Plainly.TheVariants as plainly

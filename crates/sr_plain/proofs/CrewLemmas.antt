@@ -10,7 +10,7 @@ use Rattle.sr_world.specs.Worlds.{World, started}
 use Rattle.sr_plain.specs.Changes.{is_everything}
 use Rattle.sr_plain.specs.Crew.{AllLive, Answers, HasEnded, IsFed, IsSame, KeepsLiving, KeepsOthers, LetsGo, LooksAt, Looks, Plays, is_gone, may_leave, member_of}
 use Rattle.sr_plain.specs.declared.change.Woken.{Woken}
-use Rattle.sr_plain.specs.declared.member.Member.{Member}
+use Rattle.sr_actor.specs.declared.member.Member.{Member}
 
 -- one leaves, or nobody does
 abbrev pub LeavesOne : {A S : Type 0} → Option ℕ → HashMap ℕ (Member A) S → HashMap ℕ (Member A) S → Type 0

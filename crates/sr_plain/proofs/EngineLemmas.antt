@@ -20,7 +20,7 @@ use Rattle.sr_plain.specs.declared.change.Woken.{Woken}
 use Rattle.sr_plain.specs.declared.waiters.Waiters.{Waiters}
 use Rattle.sr_plain.specs.Waking.{WakesUp}
 use Rattle.sr_plain.proofs.AsideLemmas.{aside_input, aside_woken}
-use Rattle.sr_plain.specs.declared.member.Member.{Member}
+use Rattle.sr_actor.specs.declared.member.Member.{Member}
 use Rattle.sr_plain.specs.declared.plain.Plain.{Plain}
 use Rattle.sr_plain.proofs.LedLemmas.{last-more, led-more}
 use Rattle.sr_plain.proofs.LivingLemmas.{living-everyone, living-left, living-same}

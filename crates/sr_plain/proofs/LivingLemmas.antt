@@ -14,7 +14,7 @@ use Rattle.sr_plain.specs.Crew.{AreLiving, Begins, HasEnded, KeepsLiving, KeepsO
 use Rattle.sr_plain.specs.Leaving.{Leaves, LiveOn}
 use Rattle.sr_plain.specs.declared.change.Change.TheVariants.{Everything}
 use Rattle.sr_plain.specs.declared.change.Woken.{Woken}
-use Rattle.sr_plain.specs.declared.member.Member.{Member}
+use Rattle.sr_actor.specs.declared.member.Member.{Member}
 
 neither : (a b : Bool) → (a || b) ≡ false → (a ≡ false) × (b ≡ false)
 neither true b off = absurd (true≢false off)

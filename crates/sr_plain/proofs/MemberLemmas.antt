@@ -29,7 +29,7 @@ use Rattle.sr_plain.specs.Ready.{AreAside, me_at}
 use Rattle.sr_plain.specs.Turns.{takes_turn, turn, turn_of}
 use Rattle.sr_plain.specs.Waiting.{IsNextAfter, IsPromoted, IsTakenOut, is_ready, may_go}
 use Rattle.sr_plain.specs.declared.change.Woken.{Woken}
-use Rattle.sr_plain.specs.declared.member.Member.{Member}
+use Rattle.sr_actor.specs.declared.member.Member.{Member}
 use Rattle.sr_plain.specs.declared.plain.Plain.{Plain}
 use Rattle.sr_plain.specs.declared.plainly.Plainly.{Plainly}
 use Rattle.sr_plain.specs.declared.plainly.Plainly.TheVariants as plainly

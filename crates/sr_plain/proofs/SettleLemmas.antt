@@ -15,7 +15,7 @@ use Rattle.sr_plain.specs.Crew.{member_of}
 use Rattle.sr_plain.specs.Engine.{IsEngine}
 use Rattle.sr_plain.specs.Noting.{IsSetAside, MaySetAside}
 use Rattle.sr_plain.specs.Ready.{AreAside, me_at}
-use Rattle.sr_plain.specs.declared.member.Member.{Member}
+use Rattle.sr_actor.specs.declared.member.Member.{Member}
 use Rattle.sr_plain.specs.declared.plain.Plain.{Plain}
 use Rattle.sr_plain.specs.declared.waiters.Waiters.{Waiters}
 use Rattle.sr_plain.proofs.AsideLemmas.{aside_set}

@@ -14,7 +14,7 @@ use Rattle.sr_plain.specs.Crew.{Answers, KeepsLiving, LooksAt, Looks, Plays, mem
 use Rattle.sr_plain.specs.Engine.{StandsFor, Stands}
 use Rattle.sr_plain.specs.Leaving.{Leaves}
 use Rattle.sr_plain.specs.Order.{IsOrdered}
-use Rattle.sr_plain.specs.declared.member.Member.{Member}
+use Rattle.sr_actor.specs.declared.member.Member.{Member}
 use Rattle.sr_plain.proofs.LedLemmas.{led-more, lives-used, sound, used-more}
 
 module _ {A : Type 0} (after : A → List Answer → Asks) (can_feed : A → Type 0) (core : Core) (limit : ℕ) (state : State) (events : List Event) where

@@ -6,7 +6,7 @@ use Rattle.sr_ask.specs.declared.item.Item.TheVariants.{Step}
 use Rattle.sr_world.specs.declared.acted.Acted.{Acted}
 use Rattle.sr_world.specs.declared.acted.Acted.TheVariants as acted
 use Rattle.sr_plain.specs.Crew.{IsFed}
-use Rattle.sr_plain.specs.declared.member.Member.{Member}
+use Rattle.sr_actor.specs.declared.member.Member.{Member}
 use Rattle.sr_plain.specs.declared.plainly.Plainly.{Plainly}
 use Rattle.sr_plain.specs.declared.plainly.Plainly.TheVariants.{Stepped, Wants, Ended}
 

@@ -23,7 +23,7 @@ use Rattle.sr_plain.specs.Crew.{AreLiving, Plays, member_of}
 use Rattle.sr_plain.specs.Order.{IsOrdered}
 use Rattle.sr_plain.specs.Ready.{AreAside, IsNoted}
 use Rattle.sr_plain.specs.Turns.{IsTurn, last_after}
-use Rattle.sr_plain.specs.declared.member.Member.{Member}
+use Rattle.sr_actor.specs.declared.member.Member.{Member}
 use Rattle.sr_plain.specs.declared.plain.Plain.{Plain}
 use Rattle.sr_plain.specs.declared.plainly.Plainly.{Plainly}
 use Rattle.sr_plain.specs.declared.plainly.Plainly.TheVariants.{Stepped, Wants, Over, Ended}

@@ -8,13 +8,13 @@ ghost use Rattle.sr_world.specs.Worlds.{started};
 use crate::aside::{note, set_aside};
 use crate::carrying::{carry_out, new_name};
 use crate::change::Woken;
-use crate::crew::{begin_once, let_go};
-use crate::member::Member;
+use crate::crew::let_go;
+use crate::member::hear;
 use crate::plainly::Plainly;
 use crate::tried::Tried;
 use crate::waiters::Waiters;
 use crate::waking::wake_up;
-use sr_actor::Actor;
+use sr_actor::{Actor, Member, begin_once};
 use sr_ask::{Asks, Item};
 use sr_core::Me;
 use sr_value::{NoMemory, Text};
@@ -227,7 +227,7 @@ impl<A: Actor> Plain<A> {
                         let core = A::core(program);
                         let carried = carry_out(self.alloc, &mut self.world, core, process, ask)?;
                         self.woken = note(&mut self.waiters, core, me, ask, &carried)?;
-                        Ok(Tried::Asked(member.hear(process, carried, &mut self.last)))
+                        Ok(Tried::Asked(hear(member, process, carried, &mut self.last)))
                     }
                     Asks::OverTicks => Ok(Tried::Asked(Some(Plainly::Over(process)))),
                 }

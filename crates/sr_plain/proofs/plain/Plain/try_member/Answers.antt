@@ -12,7 +12,7 @@ use Rattle.sr_plain.specs.Carrying.{Names}
 use Rattle.sr_plain.specs.Crew.{member_of}
 use Rattle.sr_plain.specs.Noting.{NotesBy}
 use Rattle.sr_plain.specs.Turns.{turn_of}
-use Rattle.sr_plain.specs.declared.member.Member.{Member}
+use Rattle.sr_actor.specs.declared.member.Member.{Member}
 use Rattle.sr_plain.specs.declared.plain.Plain.{Plain}
 use Rattle.sr_plain.specs.declared.plainly.Plainly.TheVariants as plainly
 use Rattle.sr_plain.proofs.CrewLemmas.{written-itself}
@@ -60,7 +60,7 @@ returns-in_ok-self-in-Asked-clause-tries g c = λ limit state events engine read
     let m = c.in-Some.member.now in
     let me : Me = record { process = process; instance = m.instance } in
     let m' = c.look.new.self in
-    let m'' = c.hear.new.self in
+    let m'' = c.hear.new.member in
     let asks : Ask = c.in-Asked.ask in
     let carried = c.in_ok-carried-in-Asked.carried in
     let woken = c.in_ok-self-in-Asked.field-0 in
