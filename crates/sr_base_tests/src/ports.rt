@@ -1,8 +1,10 @@
 ghost use Rattle.std.specs.Prelude.{◌≤◌, IfOk};
 
 use sr_ports::{
-    FileSink, Files, HostFiles, HostSink, HostSource, PortFail, Sink, Source, TakeFailed, put_all,
+    Clock, ClockCall, FileSink, Files, HostClock, HostFiles, HostSink, HostSource, MemClock,
+    MemSink, PortFail, Sink, Source, TakeFailed, put_all,
 };
+use std::alloc::Global;
 use std::io;
 use std::io::{Error, ErrorKind, Read, Write};
 
@@ -102,4 +104,41 @@ fn host_files(rt: HostRuntime) {
     assert!(rt; reads(&rt, name, 5, Some(b"one\nt")));
     assert!(rt; reads(&rt, ".", 5, None));
     assert!(rt; !put_lines(&mut FileSink::new(&rt, "no/such/folder")));
+}
+
+/// Whether a sink of room for five bytes, which takes two a call, takes five and fails then.
+fn holds_five(alloc: Global) -> bool {
+    let mut sink = MemSink::limited(alloc, 5, 2);
+    put_all(&mut sink, b"abc") == Ok(())
+        && put_all(&mut sink, b"defg") == Err(PortFail::Failed)
+        && sink.held() == b"abcde".as_slice()
+        && sink.faults() == 1
+}
+
+/// What a clock tells before and after ten milliseconds.
+fn tells<C: Clock>(clock: &mut C) -> (u32, u32) {
+    let before = clock.now();
+    clock.pause(10);
+    (before, clock.now())
+}
+
+/// Whether a clock in memory adds up what passes, and keeps its calls.
+fn keeps_calls(alloc: Global) -> bool {
+    let wanted = [ClockCall::Now(5), ClockCall::Pause(10), ClockCall::Now(17)];
+    match MemClock::new(alloc, 5, 2) {
+        Ok(mut clock) => tells(&mut clock) == (5, 17) && clock.calls() == Some(wanted.as_slice()),
+        Err(_) => false,
+    }
+}
+
+fn goes_on(rt: &HostRuntime) -> bool {
+    let (before, after) = tells(&mut HostClock::new(rt));
+    before <= after
+}
+
+#[test]
+fn rooms_and_clocks(rt: HostRuntime) {
+    assert!(rt; holds_five(rt.alloc()));
+    assert!(rt; keeps_calls(rt.alloc()));
+    assert!(rt; goes_on(&rt));
 }
