@@ -47,6 +47,26 @@ impl Write for Faulty {
     }
 }
 
+/// A stream that takes two bytes a call, and keeps them.
+#[derive(Drop)]
+struct Slow<'a> {
+    taken: &'a mut Vec<u8>,
+}
+
+impl Write for Slow<'_> {
+    fn write(&mut self, buf: &[u8]) -> io::Result<usize> {
+        let count = buf.len().min(2);
+        match self.taken.extend_from_slice(&buf[..count]) {
+            Ok(()) => Ok(count),
+            Err(_) => Err(Error::from(ErrorKind::OutOfMemory)),
+        }
+    }
+
+    fn flush(&mut self) -> io::Result<()> {
+        Ok(())
+    }
+}
+
 /// Whether a take gives these bytes, or fails where there are none to give.
 fn takes<S: Source>(source: &mut S, wanted: Option<&[u8]>) -> bool {
     let mut room = [0u8; 4];
@@ -106,6 +126,17 @@ fn host_files(rt: HostRuntime) {
     assert!(rt; !put_lines(&mut FileSink::new(&rt, "no/such/folder")));
 }
 
+fn put_threes(taken: &mut Vec<u8>) -> bool {
+    let mut sink = HostSink::new(Slow { taken });
+    put_all(&mut sink, b"abc") == Ok(()) && put_all(&mut sink, b"def") == Ok(())
+}
+
+/// Whether all bytes of pieces of three come to a stream that takes two a call.
+fn short_writes_go_on(alloc: Global) -> bool {
+    let mut taken = Vec::new(alloc);
+    put_threes(&mut taken) && taken.as_slice() == b"abcdef".as_slice()
+}
+
 /// Whether a sink of room for five bytes, which takes two a call, takes five and fails then.
 fn holds_five(alloc: Global) -> bool {
     let mut sink = MemSink::limited(alloc, 5, 2);
@@ -138,6 +169,7 @@ fn goes_on(rt: &HostRuntime) -> bool {
 
 #[test]
 fn rooms_and_clocks(rt: HostRuntime) {
+    assert!(rt; short_writes_go_on(rt.alloc()));
     assert!(rt; holds_five(rt.alloc()));
     assert!(rt; keeps_calls(rt.alloc()));
     assert!(rt; goes_on(&rt));
