@@ -28,6 +28,11 @@ def in_spec(item, head="global g", tail="end"):
     return lambda count: "\n".join([head, each(count, item), tail, main_of("import g")])
 
 
+def in_spec_of_resource(item):
+    """Lines in the spec of a resource that main creates."""
+    return lambda count: "\n".join(["resource r", each(count, item), "body r()", "end", main_of("import r", "create r()")])
+
+
 def beside(item, main="skip"):
     """Components before main."""
     return lambda count: each(count, item) + "\n" + main_of(main)
@@ -92,6 +97,7 @@ DECLARATIONS = [
     ("const", rows("const c@ := @")),
     ("const of the one before", rows("const c@ := c^ + 1", "const c0 := 0")),
     ("const in a spec", in_spec("const c@ := @")),
+    ("const in the spec of a resource", in_spec_of_resource("const c@ := @")),
     ("const with a type", rows("const c@ : int := @")),
     ("const that isn't static", rows("const c@ := x", "var x := 1")),
     ("type", rows("type t@ = int")),
@@ -112,6 +118,7 @@ DECLARATIONS = [
     ("names in a formal of an optype", listed("optype t = (", "a@", " : int)", after="op f : t")),
     ("op", rows("op f@()")),
     ("op in a spec", in_spec("op f@()")),
+    ("op in the spec of a resource", in_spec_of_resource("op f@()")),
     ("op of an optype", rows("op f@ : t", "optype t = ()")),
     ("items of one op", listed("op ", "f@()", "")),
     ("items of one op of an optype", listed("op ", "f@ : t", "", before="optype t = ()")),
@@ -160,6 +167,10 @@ PROCS = [
     ("var in a block", rows("var x@ : int", "if true ->", "fi")),
     ("const in a block", rows("const c@ := @", "if true ->", "fi")),
     ("val arguments", passed("val ", "1")),
+    ("arrays as val arguments", lambda count: main_of(f"procedure f({each(count, 'a@[2] : int', '; ')})", "end",
+        "var x[2] : int", f"f({each(count, 'x', ', ')})")),
+    ("strings as val arguments", lambda count: main_of(f"procedure f({each(count, 'a@ : string[*]', '; ')})", "end",
+        "f(" + each(count, '"x"', ", ") + ")")),
     ("shared var arguments", passed("var ", "x", SHARED)),
     ("shared res arguments", passed("res ", "x", SHARED)),
     ("items of an array as var arguments", passed("var ", "a[1]", SHARED)),

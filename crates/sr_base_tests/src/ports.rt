@@ -1,8 +1,10 @@
 ghost use Rattle.std.specs.Prelude.{◌≤◌, IfOk};
 
 use sr_ports::{
-    FileSink, Files, HostFiles, HostSink, HostSource, PortFail, Sink, Source, TakeFailed, put_all,
+    Clock, ClockCall, FileSink, Files, HostClock, HostFiles, HostSink, HostSource, MemClock,
+    MemSink, PortFail, Sink, Source, TakeFailed, put_all,
 };
+use std::alloc::Global;
 use std::io;
 use std::io::{Error, ErrorKind, Read, Write};
 
@@ -38,6 +40,26 @@ impl Read for Faulty {
 impl Write for Faulty {
     fn write(&mut self, buf: &[u8]) -> io::Result<usize> {
         self.step(buf.len())
+    }
+
+    fn flush(&mut self) -> io::Result<()> {
+        Ok(())
+    }
+}
+
+/// A stream that takes two bytes a call, and keeps them.
+#[derive(Drop)]
+struct Slow<'a> {
+    taken: &'a mut Vec<u8>,
+}
+
+impl Write for Slow<'_> {
+    fn write(&mut self, buf: &[u8]) -> io::Result<usize> {
+        let count = buf.len().min(2);
+        match self.taken.extend_from_slice(&buf[..count]) {
+            Ok(()) => Ok(count),
+            Err(_) => Err(Error::from(ErrorKind::OutOfMemory)),
+        }
     }
 
     fn flush(&mut self) -> io::Result<()> {
@@ -102,4 +124,53 @@ fn host_files(rt: HostRuntime) {
     assert!(rt; reads(&rt, name, 5, Some(b"one\nt")));
     assert!(rt; reads(&rt, ".", 5, None));
     assert!(rt; !put_lines(&mut FileSink::new(&rt, "no/such/folder")));
+}
+
+fn put_threes(taken: &mut Vec<u8>) -> bool {
+    let mut sink = HostSink::new(Slow { taken });
+    put_all(&mut sink, b"abc") == Ok(()) && put_all(&mut sink, b"def") == Ok(())
+}
+
+/// Whether all bytes of pieces of three come to a stream that takes two a call.
+fn short_writes_go_on(alloc: Global) -> bool {
+    let mut taken = Vec::new(alloc);
+    put_threes(&mut taken) && taken.as_slice() == b"abcdef".as_slice()
+}
+
+/// Whether a sink of room for five bytes, which takes two a call, takes five and fails then.
+fn holds_five(alloc: Global) -> bool {
+    let mut sink = MemSink::limited(alloc, 5, 2);
+    put_all(&mut sink, b"abc") == Ok(())
+        && put_all(&mut sink, b"defg") == Err(PortFail::Failed)
+        && sink.held() == b"abcde".as_slice()
+        && sink.faults() == 1
+}
+
+/// What a clock tells before and after ten milliseconds.
+fn tells<C: Clock>(clock: &mut C) -> (u32, u32) {
+    let before = clock.now();
+    clock.pause(10);
+    (before, clock.now())
+}
+
+/// Whether a clock in memory adds up what passes, and keeps its calls.
+fn keeps_calls(alloc: Global) -> bool {
+    let wanted = [ClockCall::Now(5), ClockCall::Pause(10), ClockCall::Now(17)];
+    match MemClock::new(alloc, 5, 2) {
+        Ok(mut clock) => tells(&mut clock) == (5, 17) && clock.calls() == Some(wanted.as_slice()),
+        Err(_) => false,
+    }
+}
+
+fn goes_on(rt: &HostRuntime) -> bool {
+    let (before, after) = tells(&mut HostClock::new(rt));
+    before <= after
+}
+
+#[test]
+fn rooms_and_clocks(rt: HostRuntime) {
+    assert!(rt; short_writes_go_on(rt.alloc()));
+    assert!(rt; holds_five(rt.alloc()));
+    assert!(rt; keeps_calls(rt.alloc()));
+    assert!(rt; goes_on(&rt));
 }

@@ -34,7 +34,7 @@ pub fn first_part(seat: u32, index: u64, alone: bool) -> u32
     ensures { result < 30 }
 {
     if alone {
-        (seat % 4) * 7 + (index % 7) as u32
+        (seat % 4) * 8 + (index % 6) as u32
     } else {
         ((index % 30) as u32 * step_of(seat)) % 30
     }

@@ -1,5 +1,6 @@
 pub mod Actions
 pub mod Blocks
+pub mod Enclosed
 pub mod Endings
 pub mod Listed
 pub mod Loops

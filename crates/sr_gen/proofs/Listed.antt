@@ -1,16 +1,13 @@
 -- Statements and guarded blocks that are emitted from the last to the first.
-use Rattle.std.proofs.Common.{◌≡◌, ℕ, zero, suc, ◌+◌, ◌-◌, ◌<◌, ◌≤◌, List, [], ◌∷◌, drop, length, map, refl, sym, subst, ◌∙◌, ap, get_or, arith}
+use Rattle.std.proofs.Common.{◌≡◌, ℕ, zero, ◌+◌, ◌-◌, ◌<◌, ◌≤◌, List, [], ◌∷◌, drop, length, map, refl, sym, subst, ◌∙◌, ap, get_or, arith}
 use Rattle.std.proofs.lemmas.List.{drop_more}
 use Rattle.sr_value.specs.declared.place.Place.{Place}
 use Rattle.sr_core.specs.declared.component.Core.{Core}
 use Rattle.sr_core.specs.declared.statement.Guarded.{Guarded}
-use Rattle.sr_core.specs.declared.statement.Quantifier.{Quantifier}
 use Rattle.sr_core.specs.declared.statement.Statement.{Statement}
 use Rattle.sr_code.specs.declared.code.Coded.{Coded}
-use Rattle.sr_meaning.specs.declared.ending.Ending.{Ending}
-use Rattle.sr_meaning.specs.Expressions.{Meaning}
 use Rattle.sr_meaning.specs.Pieces.{guarded_of}
-use Rattle.sr_meaning.specs.Statements.{block_meaning, first_true, meaning_of, quantified}
+use Rattle.sr_meaning.specs.Statements.{block_meaning, first_true, meaning_of}
 use Rattle.sr_gen.specs.Doing.{Acts, Tries}
 use Rattle.sr_gen.specs.declared.ways.Ways.{Ways}
 use Rattle.sr_gen.proofs.Blocks.{tries_more, tries_none}
@@ -28,13 +25,6 @@ drop_from xs at x low high is =
 
 pub drop_none : {A : Type 0} (xs : List A) (at : ℕ) → at ≤ 0 → drop at xs ≡ xs
 drop_none xs at h = let is : at ≡ zero = omega arith in ap (λ n. drop n xs) is
-
--- nothing is left past the end
-pub drop_past : {A : Type 0} (xs : List A) (at : ℕ) → length xs ≤ at → drop at xs ≡ []
-drop_past [] zero h = refl
-drop_past [] (suc at) h = refl
-drop_past (x ∷ xs) zero h = absurd (omega arith)
-drop_past (x ∷ xs) (suc at) h = drop_past xs at (omega arith)
 
 -- ---- blocks
 
@@ -84,14 +74,3 @@ pub guards_end : {ways : Ways} {through : ℕ} {core : Core} {line : Place} (gua
     → Tries ways through core line (first_true (map guarded_of (drop at guards))) c0 c1 → Tries ways through core line (first_true (map guarded_of guards)) c0 c1
 guards_end {ways = ways} {through = through} {core = core} {line = line} guards at {c0 = c0} {c1 = c1} low tries =
     let Q : List Guarded → Type 0 = λ rest. Tries ways through core line (first_true (map guarded_of rest)) c0 c1 in subst Q (drop_none guards at low) tries
-
--- ---- quantifiers
-
-pub quantified_ends : {ways : Ways} {core : Core} {line : Place} (quantifiers : List Quantifier) (inner : Meaning Ending) (at : ℕ) {c0 c1 : List Coded} → length quantifiers ≤ at
-    → Acts ways core line inner c0 c1 → Acts ways core line (quantified (drop at quantifiers) inner) c0 c1
-quantified_ends quantifiers inner at past acts = acts_as (ap (λ rest. quantified rest inner) (drop_past quantifiers at past)) acts
-
-pub quantified_from : {ways : Ways} {core : Core} {line : Place} (quantifiers : List Quantifier) (inner : Meaning Ending) (at : ℕ) (q : Quantifier) {c0 c1 : List Coded} → at < length quantifiers
-    → q ≡ get_or quantifiers at q → Acts ways core line (quantified (q ∷ drop (at + 1) quantifiers) inner) c0 c1 → Acts ways core line (quantified (drop at quantifiers) inner) c0 c1
-quantified_from quantifiers inner at q within is acts =
-    acts_as (ap (λ rest. quantified rest inner) (drop_more quantifiers at q within ∙ ap (λ other. other ∷ drop (at + 1) quantifiers) (sym is))) acts

@@ -9,10 +9,12 @@ mod inner;
 mod invocation;
 mod patching;
 mod program;
+mod quantifiers;
 mod role;
 mod sends;
 mod site;
 mod statement;
+mod turns;
 mod ways;
 
 pub use action::gen_action;

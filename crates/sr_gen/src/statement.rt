@@ -1,25 +1,25 @@
-ghost use Rattle.std.specs.Prelude.{◌≡◌, ◌<◌, [], OnOk, min, drop, length, map};
+ghost use Rattle.std.specs.Prelude.{◌≡◌, [], OnOk, min, length, map};
 ghost use Rattle.sr_core.specs.declared.component.Core.{Core};
 ghost use Rattle.sr_core.specs.declared.statement.Statement.TheOpen.{Statement-F};
 ghost use Rattle.sr_meaning.specs.Pieces.{co_part_of, guarded_of, optional_block};
 ghost use Rattle.sr_meaning.specs.Statements.{block_of, co_meaning, do_meaning, first_true, if_meaning, in_meaning, meaning_of, no_guard, quantified, start_calls, statement_meaning};
-ghost use Rattle.sr_gen.specs.Blocks.{bounds_meaning, each_block, fa_meaning, inner_meaning};
-ghost use Rattle.sr_code.specs.Operands.{put_numbers};
+ghost use Rattle.sr_gen.specs.Blocks.{each_block, fa_meaning, inner_meaning};
 ghost use Rattle.sr_gen_expr.specs.Emitting.{Gives, put_nothing};
-ghost use Rattle.sr_gen.specs.Doing.{Acts, Completes, CompletesEach, Drops, Rests, Serves, ServesEach, Tries};
+ghost use Rattle.sr_gen.specs.Doing.{Acts, Completes, CompletesEach, Rests, Serves, ServesEach, Tries};
 ghost use Rattle.sr_gen.specs.declared.ways.Ways.{Ways};
 
 use crate::action::gen_action;
-use crate::condition::{gen_condition, gen_truth};
+use crate::condition::gen_truth;
 use crate::inner::Inner;
 use crate::invocation::{gen_start, gen_stored, item_number, result_vars, variables};
 use crate::patching::patch;
+use crate::quantifiers::{close_all, open_all};
 use crate::sends::gen_sends;
 use crate::site::{arms_of, gen_close, gen_named, has_else, names_of};
 use crate::ways::{Ways, one_way};
 use sr_code::{Coded, Instruction};
 use sr_core::{Action, Arm, CoArm, Core, Declaration, Guarded, Quantifier, Scope, Statement};
-use sr_gen_expr::{emit, gen_declaration, gen_formals, gen_number, gen_returned};
+use sr_gen_expr::{emit, gen_declaration, gen_formals, gen_returned};
 use sr_value::{NoMemory, Place, Row};
 use std::alloc::Global;
 
@@ -318,14 +318,13 @@ fn gen_fa(
         inner,
         place,
         quantifiers,
-        0,
         &Inner::Block(body),
         out,
     )?;
     Ok(())
 }
 
-/// Emits what stands after quantifiers from the one at `at` on, for all their values.
+/// Emits what stands after quantifiers, for all their values.
 #[cycle(statement)]
 fn gen_quantified(
     alloc: Global,
@@ -333,98 +332,15 @@ fn gen_quantified(
     ways: Ways,
     place: Place,
     quantifiers: &[Quantifier],
-    at: usize,
     inner: &Inner,
     out: &mut Row<Coded>,
 ) -> Result<(), NoMemory>
-    ensures { OnOk result (Acts ways core.now place (quantified (drop at quantifiers.now) (inner_meaning inner.now)) out.old out.new) }
+    ensures { OnOk result (Acts ways core.now place (quantified quantifiers.now (inner_meaning inner.now)) out.old out.new) }
 {
-    if at < quantifiers.len() {
-        gen_quantifier(alloc, core, ways, place, quantifiers, at, inner, out)?;
-        Ok(())
-    } else {
-        gen_inner(alloc, core, ways, place, inner, out)?;
-        Ok(())
-    }
-}
-
-/// Emits one quantifier, and those after it.
-#[cycle(statement)]
-fn gen_quantifier(
-    alloc: Global,
-    core: &Core,
-    ways: Ways,
-    place: Place,
-    quantifiers: &[Quantifier],
-    at: usize,
-    inner: &Inner,
-    out: &mut Row<Coded>,
-) -> Result<(), NoMemory>
-    requires { at < length quantifiers.now }
-    ensures { OnOk result (Acts ways core.now place (quantified (drop at quantifiers.now) (inner_meaning inner.now)) out.old out.new) }
-{
-    let first = &quantifiers[at];
-    let to = out.len();
-    gen_drop(place, ways.returned, out)?;
-    let returned = out.len();
-    gen_drop(place, ways.left, out)?;
-    let left = out.len();
-    emit(place, Instruction::Jump { to }, out)?;
-    let each = out.len();
-    emit(
-        place,
-        Instruction::Each {
-            var: first.var,
-            head: 0,
-        },
-        out,
-    )?;
-    let turned = out.len();
-    let pads = Ways {
-        left,
-        turned,
-        returned,
-    };
-    gen_quantified(alloc, core, pads, place, quantifiers, at + 1, inner, out)?;
-    gen_condition(alloc, core, place, turned, &first.condition, out)?;
-    let head = out.len();
-    patch(
-        place,
-        Instruction::Each {
-            var: first.var,
-            head,
-        },
-        each,
-        out,
-    );
-    emit(place, Instruction::Jump { to: turned }, out)?;
-    gen_bounds(alloc, core, place, first, out)?;
-    Ok(())
-}
-
-/// Emits the bounds and the step of a quantifier, which become its values.
-fn gen_bounds(
-    alloc: Global,
-    core: &Core,
-    place: Place,
-    quantifier: &Quantifier,
-    out: &mut Row<Coded>,
-) -> Result<(), NoMemory>
-    ensures { OnOk result (Gives put_numbers core.now place (bounds_meaning quantifier.now) out.old out.new) }
-{
-    emit(place, Instruction::Quantify(quantifier.direction), out)?;
-    gen_number(alloc, core, place, &quantifier.by, out)?;
-    gen_number(alloc, core, place, &quantifier.to, out)?;
-    gen_number(alloc, core, place, &quantifier.from, out)?;
-    Ok(())
-}
-
-/// Emits what drops the values of a quantifier and goes on at `to`.
-fn gen_drop(place: Place, to: usize, out: &mut Row<Coded>) -> Result<(), NoMemory>
-    ensures { OnOk result (Drops to out.old out.new) }
-{
-    emit(place, Instruction::Jump { to }, out)?;
-    emit(place, Instruction::DropNumbers, out)?;
+    let mut turns = Row::new(alloc);
+    let inside = open_all(place, ways, quantifiers, &mut turns, out)?;
+    gen_inner(alloc, core, inside, place, inner, out)?;
+    close_all(alloc, core, place, quantifiers, turns.as_slice(), out)?;
     Ok(())
 }
 
@@ -677,16 +593,7 @@ fn gen_calls(
             quantifiers,
         };
         let next = out.len();
-        gen_quantified(
-            alloc,
-            core,
-            one_way(next),
-            place,
-            quantifiers,
-            0,
-            &inner,
-            out,
-        )?;
+        gen_quantified(alloc, core, one_way(next), place, quantifiers, &inner, out)?;
     }
     Ok(())
 }

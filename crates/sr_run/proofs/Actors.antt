@@ -60,7 +60,7 @@ module _ (core : Core) (ticks : ℕ) where
     where
       by : (now : Next) → next core ticks state item ≡ now → Rotates core ticks now (last_after last item) items → is_legal (run_from core ticks now items) ≡ true
           → ((before : List Item) (later : State) → IsSound before later → Rotates core ticks (Goes later) (last_after last item) items → is_legal (run_from core ticks (Goes later) items) ≡ true
-              → AllByRecursion HasActor items)
+          → AllByRecursion HasActor items)
           → AllByRecursion HasActor items
       by (Goes later) is here h more = more (past ++ item ∷ []) later (sound-next past state sound core ticks item later is) here h
       by (Over ending later) is here h more = ended ending later items h

@@ -1,18 +1,19 @@
-use Rattle.std.proofs.Common.{◌≡◌, ◌<◌, Some, ap, arith, length, map, refl, slice_get, sym, ◌∙◌, drop, ◌+◌}
+use Rattle.std.proofs.Common.{◌≡◌, ◌<◌, Some, ap, arith, length, map, refl, slice_get, sym, ◌∙◌, ◌+◌}
 use Rattle.std.proofs.lemmas.List.{length-map}
 use Rattle.sr_core.specs.Formals.{result_vars}
 use Rattle.sr_core.specs.declared.statement.Scope.TheVariants.{Own as own_scope}
 use Rattle.sr_core.specs.declared.statement.Guarded.{out-Guarded}
-use Rattle.sr_code.specs.declared.instruction.Instruction.TheVariants.{Again, Each, Jump, OpenService}
+use Rattle.sr_code.specs.declared.instruction.Instruction.TheVariants.{Again, Jump, OpenService}
 use Rattle.sr_meaning.specs.Pieces.{co_part_of, guarded_of, optional_block}
 use Rattle.sr_meaning.specs.Statements.{block_of, make_formals, meaning_of, no_guard, quantified}
 use Rattle.sr_gen_expr.proofs.Stretching.{emits_as, takes_as}
 use Rattle.sr_gen.specs.Blocks.{inner_meaning}
 use Rattle.sr_gen.specs.Doing.{fa_ways}
 use Rattle.sr_gen.proofs.Blocks.{acts_if, tries_as, tries_guarded}
+use Rattle.sr_gen.proofs.Enclosed.{opened_as}
 use Rattle.sr_gen.proofs.Endings.{acts_as, acts_ticked}
-use Rattle.sr_gen.proofs.Listed.{block_begins, block_ends, block_steps, guards_begin, guards_end, guards_step, quantified_ends, quantified_from}
-use Rattle.sr_gen.proofs.Loops.{acts_do, acts_fa, acts_pads, acts_quantified, acts_with, checks_with, patches_with, rests_as, rests_none, rests_some, rests_with, tries_loop, tries_with}
+use Rattle.sr_gen.proofs.Listed.{block_begins, block_ends, block_steps, guards_begin, guards_end, guards_step}
+use Rattle.sr_gen.proofs.Loops.{acts_do, acts_fa, acts_pads, acts_with, checks_with, patches_with, rests_as, rests_none, rests_some, rests_with, tries_loop, tries_with}
 use Rattle.sr_gen.proofs.Services.{acts_in_row, item_at, serves_arm, services_begin, services_step}
 use Rattle.sr_gen.proofs.Together.{acts_co, calls_begin, calls_end, calls_step, completes_arm, completes_as, part_is, replies_begin, replies_end, replies_step}
 use Rattle.sr_gen.proofs.Trees.{guarded_is, meaning_act, meaning_co, meaning_declare, meaning_do, meaning_fa, meaning_if, meaning_in, meaning_sends}
@@ -105,20 +106,12 @@ pub gen_fa-returns : goal.gen_fa-returns
 gen_fa-returns t c =
     acts_fa (quantified c.args.quantifiers.now (block_of c.args.body.now)) (acts_with (ap (fa_ways c.args.ways) c.len-to.ensures) c.in_ok-gen_quantified.ensures)
 
-pub gen_quantified-returns-in_ok-gen_quantifier : goal.gen_quantified-returns-in_ok-gen_quantifier
-gen_quantified-returns-in_ok-gen_quantifier t c = c.in_ok-gen_quantifier.ensures
-
-pub gen_quantified-returns-in_ok-gen_inner : goal.gen_quantified-returns-in_ok-gen_inner
-gen_quantified-returns-in_ok-gen_inner t c = quantified_ends c.args.quantifiers.now (inner_meaning c.args.inner.now) c.args.at (omega arith) c.in_ok-gen_inner.ensures
-
-pub gen_quantifier-returns : goal.gen_quantifier-returns
-gen_quantifier-returns t c =
-    quantified_from c.args.quantifiers.now (inner_meaning c.args.inner.now) c.args.at c.index-quantifiers-at.result c.requires c.index-quantifiers-at.is
-    (acts_quantified c.index-quantifiers-at.result (drop (c.args.at + 1) c.args.quantifiers.now) (inner_meaning c.args.inner.now) c.in_ok-gen_drop.ensures c.in_ok-gen_drop-2.ensures
-    (emits_as (ap Jump c.len-to.ensures) c.in_ok-emit.ensures) c.in_ok-emit-2.ensures
-    (acts_pads c.len-left.ensures c.len-turned.ensures c.len-returned.ensures c.in_ok-gen_quantified.ensures)
-    (checks_with c.len-turned.ensures c.in_ok-gen_condition.ensures) (patches_with (ap (Each c.index-quantifiers-at.result.var) c.len-head.ensures) c.len-each.ensures c.patch.ensures)
-    (emits_as (ap Jump c.len-turned.ensures) c.in_ok-emit-3.ensures) c.in_ok-gen_bounds.ensures)
+pub gen_quantified-returns : goal.gen_quantified-returns
+gen_quantified-returns t c =
+    c.in_ok-close_all.ensures c.args.ways _ (inner_meaning c.args.inner.now) c.args.out.now c.open_all.new.out
+    (opened_as c.args.place c.args.quantifiers.now c.as_slice.result.now c.open_all.new.turns c.args.ways c.args.out.now (length c.args.quantifiers.now) _ c.open_all.new.out
+    c.as_slice.ensures c.in_ok-inside.ensures.opened)
+    c.in_ok-gen_inner.ensures
 
 pub gen_inner-returns-in_ok-gen_block-in-Block : goal.gen_inner-returns-in_ok-gen_block-in-Block
 gen_inner-returns-in_ok-gen_block-in-Block t c = acts_as (ap inner_meaning c.in-Block.is) (c.in_ok-gen_block-in-Block.ensures c.args.place)

@@ -1,5 +1,5 @@
 -- What is left to emit is what all leads to; each piece has less to emit. The code so far is that of the items from here on.
-use Rattle.std.proofs.Common.{◌≡◌, ◌+◌, ◌-◌, ◌*◌, ◌≤◌, drop, length, map, min}
+use Rattle.std.proofs.Common.{◌≡◌, ◌+◌, ◌-◌, ◌≤◌, drop, length, map, min}
 use Rattle.sr_value.specs.declared.place.Place.{Place}
 use Rattle.sr_meaning.specs.Pieces.{co_part_of, guarded_of}
 use Rattle.sr_meaning.specs.Statements.{block_meaning, first_true, meaning_of, start_calls}
@@ -32,13 +32,10 @@ abbrev pub decreases-gen_otherwise : goal.decreases-gen_otherwise
 decreases-gen_otherwise l = 1 + weight_of_optional l.otherwise.now
 
 abbrev pub decreases-gen_fa : goal.decreases-gen_fa
-decreases-gen_fa l = 3 + (3 * length l.quantifiers.now + weight_of_block l.body.now)
+decreases-gen_fa l = 3 + weight_of_block l.body.now
 
 abbrev pub decreases-gen_quantified : goal.decreases-gen_quantified
-decreases-gen_quantified l = 2 + (3 * (length l.quantifiers.now - l.at) + weight_of_inner l.inner.now)
-
-abbrev pub decreases-gen_quantifier : goal.decreases-gen_quantifier
-decreases-gen_quantifier l = 1 + (3 * (length l.quantifiers.now - l.at) + weight_of_inner l.inner.now)
+decreases-gen_quantified l = 2 + weight_of_inner l.inner.now
 
 abbrev pub decreases-gen_inner : goal.decreases-gen_inner
 decreases-gen_inner l = 1 + weight_of_inner l.inner.now
