@@ -2,7 +2,7 @@ ghost use Rattle.std.specs.Prelude.{[], ℕ};
 ghost use Rattle.sr_ask.specs.declared.ask.Ask.{Ask};
 ghost use Rattle.sr_core.specs.declared.component.Core.{Core};
 ghost use Rattle.sr_plain.specs.Leaving.{LeavesIf, written_by};
-ghost use Rattle.sr_plain.specs.Rotation.{InTurnIsRotation, OneMoreInTurn};
+ghost use Rattle.sr_plain.specs.Rotation.{InTurnIsRotation, NextIsLeastUnused, OneMoreInTurn};
 ghost use Rattle.sr_world.specs.Endings.{quiesce};
 ghost use Rattle.sr_world.specs.Steps.{does};
 ghost use Rattle.sr_world.specs.Worlds.{World};
@@ -16,6 +16,11 @@ pub fn others_live_on()
 /// Events that are in turn stay so with one more in turn, as each step of the engine is, and with input.
 pub fn turns_go_on()
     ensures { OneMoreInTurn }
+{}
+
+/// Where all items came in turn, each new number is the least that wasn't given out.
+pub fn new_numbers_are_least()
+    ensures { NextIsLeastUnused }
 {}
 
 /// The items of events in turn are a rotation, in whatever pieces the input came.
