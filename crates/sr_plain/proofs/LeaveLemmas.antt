@@ -1,6 +1,6 @@
 -- What each request leaves of who lives and of what was written.
-use Rattle.std.proofs.Common.{◌≡◌, ◌<◌, ◌≤◌, ◌⊎◌, inl, inr, ℕ, zero, suc, ◌==◌, not, Bool, true, false, cond, List, [], ◌∷◌, ◌++◌, Option, None, Some, refl, ap, sym, ◌∙◌, subst, eqb-true, append-nil, arith}
-use Rattle.std.specs.Prelude.{Result, Ok, Err, find, nat_lt, remove, slice_get}
+use Rattle.std.proofs.Common.{◌≡◌, ◌<◌, ◌≤◌, ◌⊎◌, inl, inr, ℕ, zero, suc, ◌==◌, not, Bool, true, false, cond, List, [], ◌∷◌, ◌++◌, Option, None, Some, refl, ap, sym, ◌∙◌, subst, eq-eqb, eqb-true, true≢false, append-nil, arith}
+use Rattle.std.specs.Prelude.{Result, Ok, Err, filter, find, nat_lt, remove, slice_get}
 use Rattle.sr_ask.specs.declared.answer.Answer.TheVariants as answer
 use Rattle.sr_ask.specs.declared.ask.Role.{Role}
 use Rattle.sr_ask.specs.declared.ask.Role.TheVariants.{Boot, Initial, Proc as proc_role, Final}
@@ -112,6 +112,38 @@ in-line-removed zero low [] high is = is
 in-line-removed (suc place) low [] high is = is
 in-line-removed zero low (p ∷ ps) high is = let first = is.0 in lower-line p.id low ps high (omega arith) is.1
 in-line-removed (suc place) low (p ∷ ps) high is = (is.0, in-line-removed place p.id ps high is.1)
+
+-- what stands in order has greater numbers than this one
+none-equal : (low : ℕ) (ps : List Pending) (high n : ℕ) → AreInLine low ps high → n ≤ low → filter (λ (other : Pending). not (other.id == n)) ps ≡ ps
+none-equal low [] high n is under = refl
+none-equal low (p ∷ ps) high n is under = by (p.id == n) refl (none-equal p.id ps high n is.1 (let first = is.0 in omega arith))
+  where
+    by : (b : Bool) → (p.id == n) ≡ b → filter (λ (other : Pending). not (other.id == n)) ps ≡ ps → cond (not b) (p ∷ filter (λ (other : Pending). not (other.id == n)) ps) (filter (λ (other : Pending). not (other.id == n)) ps) ≡ p ∷ ps
+    by true same more = absurd (let equal : p.id ≡ n = eqb-true p.id n same in let first = is.0 in omega arith)
+    by false off more = ap (λ rest. p ∷ rest) more
+
+-- one is taken out by its number as by its place
+pub by-number : (low high place : ℕ) (ps : List Pending) (p : Pending) → AreInLine low ps high → slice_get ps place ≡ Some p → remove ps place ≡ filter (λ (other : Pending). not (other.id == p.id)) ps
+by-number low high place [] p is at = absurd (cc)
+by-number low high zero (x ∷ xs) p is at = by (x.id == p.id) refl
+  where
+    same : x ≡ p
+    same = cc
+
+    by : (b : Bool) → (x.id == p.id) ≡ b → xs ≡ cond (not b) (x ∷ filter (λ (other : Pending). not (other.id == p.id)) xs) (filter (λ (other : Pending). not (other.id == p.id)) xs)
+    by true here = sym (none-equal x.id xs high p.id is.1 (let equal : x.id ≡ p.id = ap (λ (q : Pending). q.id) same in omega arith))
+    by false off = absurd (true≢false (sym (eq-eqb x.id p.id (ap (λ (q : Pending). q.id) same)) ∙ off))
+by-number low high (suc place) (x ∷ xs) p is at = by (x.id == p.id) refl (by-number x.id high place xs p is.1 at)
+  where
+    above : (k l : ℕ) (ys : List Pending) → AreInLine l ys high → slice_get ys k ≡ Some p → l < p.id
+    above k l [] inline there = absurd (cc)
+    above zero l (y ∷ ys) inline there = let equal : y ≡ p = cc in let number : y.id ≡ p.id = ap (λ (q : Pending). q.id) equal in let first = inline.0 in omega arith
+    above (suc k) l (y ∷ ys) inline there = let more = above k y.id ys inline.1 there in let first = inline.0 in omega arith
+
+    by : (b : Bool) → (x.id == p.id) ≡ b → remove xs place ≡ filter (λ (other : Pending). not (other.id == p.id)) xs
+        → x ∷ remove xs place ≡ cond (not b) (x ∷ filter (λ (other : Pending). not (other.id == p.id)) xs) (filter (λ (other : Pending). not (other.id == p.id)) xs)
+    by true same more = absurd (let equal : x.id ≡ p.id = eqb-true x.id p.id same in let greater = above place x.id xs is.1 at in omega arith)
+    by false off more = ap (λ rest. x ∷ rest) more
 
 -- ---- what makes no process
 
