@@ -1,3 +1,4 @@
+pub mod Arranged
 pub mod Causes
 pub mod Numbers
 pub mod Runs

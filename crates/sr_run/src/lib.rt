@@ -5,8 +5,10 @@ mod advance;
 mod end;
 mod intake;
 mod items;
+mod stretch;
 mod taking;
 mod whole;
 
 pub use end::{LimitKind, Run, RunEnd};
+pub use stretch::Stretch;
 pub use whole::run;

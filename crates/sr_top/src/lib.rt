@@ -14,6 +14,6 @@ mod reading;
 mod report;
 mod top;
 
-pub use report::{Ending, Report, Side, Stretch};
-pub use sr_run::LimitKind;
+pub use report::{Ending, Report, Side};
+pub use sr_run::{LimitKind, Stretch};
 pub use top::sr_top;

@@ -1,5 +1,5 @@
 use sr_ask::Item;
-use sr_run::LimitKind;
+use sr_run::{LimitKind, Stretch};
 use sr_text::Refusal;
 use sr_value::{Fault, Place, Row};
 
@@ -39,13 +39,6 @@ pub enum Side {
     Failed,
     /// Memory ran out; some first bytes of it were put.
     NoMemory,
-}
-
-/// The items of one round of the workers: `count` items after the first `from`.
-#[derive(Clone, Copy, Debug, PartialEq, Eq)]
-pub struct Stretch {
-    pub from: u32,
-    pub count: u32,
 }
 
 /// What a call of the program did.
