@@ -1,10 +1,10 @@
 -- What a pass over some processes leaves.
-use Rattle.std.proofs.Common.{◌≡◌, ◌⊎◌, inl, inr, ◌↔◌, ◌<◌, ◌≤◌, ◌==◌, ◌&&◌, ◌||◌, ◌+◌, ℕ, zero, suc, Bool, true, false, not, cond, List, [], ◌∷◌, ◌++◌, length, map, take, Option, None, Some, IsSome, is_some, refl, ap, sym, ◌∙◌, subst, arith, true≢false, append-nil, append_assoc, length-append}
+use Rattle.std.proofs.Common.{◌≡◌, ◌⊎◌, inl, inr, ◌<◌, ◌≤◌, ◌==◌, ◌&&◌, ◌||◌, ◌+◌, ℕ, zero, suc, Bool, true, false, not, cond, List, [], ◌∷◌, ◌++◌, length, map, Option, None, Some, is_some, refl, ap, sym, ◌∙◌, subst, arith, true≢false, append-nil, append_assoc, length-append}
 use Rattle.std.proofs.lemmas.Bool.{cases_lt}
 use Rattle.std.proofs.lemmas.List.{map-append}
 use Rattle.std.proofs.lemmas.List.Elements.{All-contains}
 use Rattle.std.specs.List.{list_all, list_any}
-use Rattle.std.specs.Prelude.{IfOk, IfSome, OnOk, Ok, Result, Err, count_by, find, slice_get}
+use Rattle.std.specs.Prelude.{IfOk, IfSome, OnOk, Ok, Result, Err, count_by, slice_get}
 use Rattle.sr_ask.specs.declared.answer.Answer.{Answer}
 use Rattle.sr_ask.specs.declared.ask.Asks.{Asks}
 use Rattle.sr_ask.specs.declared.item.Item.{Item}
@@ -13,15 +13,15 @@ use Rattle.sr_ask.specs.declared.start.Start.{Start}
 use Rattle.sr_core.specs.declared.component.Core.{Core}
 use Rattle.sr_world.specs.Does.{comes_to}
 use Rattle.sr_world.specs.Names.{IsGreatest}
-use Rattle.sr_world.specs.Runs.{Event, Makes_item, Goes, State, asks_next, led, next, run_from}
+use Rattle.sr_world.specs.Runs.{Event, Makes_item, Goes, State, asks_next, next, run_from}
 use Rattle.sr_world.specs.Sound.{times_used}
 use Rattle.sr_world.specs.Steps.{does}
-use Rattle.sr_world.specs.Worlds.{World, started}
+use Rattle.sr_world.specs.Worlds.{started}
 use Rattle.sr_plain.specs.Engine.{Comes, HasStepped, IsEngine, Tries, last_in}
-use Rattle.sr_plain.specs.Order.{IsNext, IsNumbered}
+use Rattle.sr_plain.specs.Order.{IsNumbered}
 use Rattle.sr_plain.specs.Passing.{AddsItem, HasPassed, HasTakenPart, IsAskedOnce, IsPassedOver, IsPassing, NoneCould, could_at, is_left, item_of}
 use Rattle.sr_plain.specs.Ready.{AreAside}
-use Rattle.sr_plain.specs.Stretches.{IsOfLiving, IsStretch, asks_narrow, asks_wide, could, is_done, is_narrow, nobody_could}
+use Rattle.sr_plain.specs.Stretches.{asks_narrow, asks_wide, could, is_done, nobody_could}
 use Rattle.sr_plain.specs.Turns.{takes_turn, turn_of}
 use Rattle.sr_plain.specs.Waiting.{may_go}
 use Rattle.sr_plain.specs.declared.plain.Plain.{Plain}

@@ -1,6 +1,5 @@
 -- What a step of a stretch does, and who could take part.
-use Rattle.std.proofs.Common.{◌≡◌, ◌⊎◌, inl, inr, ◌<◌, ◌≤◌, ◌==◌, ◌&&◌, ℕ, zero, suc, Bool, true, false, not, cond, List, [], ◌∷◌, ◌++◌, Option, None, Some, IsSome, is_some, refl, ap, sym, ◌∙◌, subst, arith, true≢false, append-nil}
-use Rattle.std.proofs.lemmas.List.Elements.{All-contains}
+use Rattle.std.proofs.Common.{◌≡◌, ◌==◌, ◌&&◌, ℕ, Bool, true, false, not, cond, List, [], ◌∷◌, ◌++◌, Option, None, Some, refl, ap, sym, ◌∙◌, subst, true≢false}
 use Rattle.std.specs.List.{AllByRecursion, list_all}
 use Rattle.std.specs.Prelude.{find}
 use Rattle.sr_ask.specs.declared.ask.Ask.{Ask}
@@ -26,7 +25,7 @@ use Rattle.sr_world.specs.Worlds.{World, started}
 use Rattle.sr_world.specs.declared.ends.End.{End}
 use Rattle.sr_plain.specs.Engine.{IsLast, IsOver, WaitsForInput}
 use Rattle.sr_plain.specs.Leaving.{Leaves, LeavesIf, written_by}
-use Rattle.sr_plain.specs.Passing.{could_at, is_left}
+use Rattle.sr_plain.specs.Passing.{could_at}
 use Rattle.sr_plain.specs.Ready.{me_at}
 use Rattle.sr_plain.specs.Stretches.{AreNarrow, IsOfLiving, IsStretch, asks_narrow, asks_wide, could, is_done, is_narrow, nobody_could}
 use Rattle.sr_plain.specs.Turns.{takes_turn}

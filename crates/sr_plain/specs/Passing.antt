@@ -11,7 +11,7 @@ use Rattle.sr_world.specs.Sound.{times_used}
 use Rattle.sr_world.specs.Worlds.{started}
 use Rattle.sr_plain.specs.Engine.{IsEngine}
 use Rattle.sr_plain.specs.Order.{IsNumbered}
-use Rattle.sr_plain.specs.Stretches.{IsOfLiving, IsStretch, asks_wide, could, is_narrow, nobody_could}
+use Rattle.sr_plain.specs.Stretches.{IsStretch, asks_wide, could, is_narrow, nobody_could}
 use Rattle.sr_plain.specs.declared.plain.Plain.{Plain}
 use Rattle.sr_plain.specs.declared.plainly.Plainly.{Plainly}
 use Rattle.sr_plain.specs.declared.plainly.Plainly.TheVariants.{Stepped, Wants, Over, Ended}

@@ -1,5 +1,5 @@
 //! A pass: each process that may be able to make a step is asked once, and what is wide or ends the run is left.
-ghost use Rattle.std.specs.Prelude.{◌≡◌, ◌<◌, ◌≤◌, ◌∷◌, ◌++◌, ℕ, [], List, IfNone, IfOk, IfSome, IsSome, None, OnErr, OnOk, is_some, length};
+ghost use Rattle.std.specs.Prelude.{◌≡◌, ◌<◌, ◌≤◌, ◌+◌, ℕ, [], List, IfNone, IfOk, IfSome, None, OnErr, OnOk, length, true};
 ghost use Rattle.sr_classes.specs.Classes.{class_of};
 ghost use Rattle.sr_plain.specs.Crew.{member_of};
 ghost use Rattle.sr_plain.specs.Passing.{AddsItem, HasPassed, IsAskedOnce, IsPassing, NoneCould, is_left, item_of as item_in};

@@ -37,7 +37,10 @@ impl<A: Actor> Rounds<A> for Passes {
         plain: Plain<A>,
         room: u32,
         items: &mut Row<Item>,
-    ) -> Result<Plain<A>, NoMemory> {
+    ) -> Result<Plain<A>, NoMemory>
+        ensures passed { IfOk result (λ later. (limit : ℕ) (state : State) (events : List Event) → IsEngine (A.asks_after program.now) A.can_feed (A.core_of program.now) limit state events plain → HasPassed (A.asks_after program.now) A.can_feed (A.core_of program.now) (class_of classes.now.of) limit state events room items.old items.new later) }
+        ensures err { OnErr result (items.new ≡ items.old) }
+    {
         let mut plain = plain;
         plain.pass(program, classes, room, items)?;
         Ok(plain)

@@ -2,7 +2,7 @@ use Rattle.std.proofs.Common.{◌≡◌, ◌≤◌, ◌-◌, ℕ, List, [], None
 use Rattle.sr_classes.specs.Classes.{class_of}
 use Rattle.sr_plain.specs.Passing.{IsPassing, NoneCould}
 use Rattle.sr_world.specs.Runs.{Event, State}
-use Rattle.sr_plain.proofs.pass.Plain.pass_over.Given as goal
+use Rattle.sr_plain.proofs.plain.Plain.pass_over.Given as goal
 
 -- the pass goes on, and where it has made nothing, none of those could take part that were asked
 abbrev pub invariant-loop-process : goal.invariant-loop-process

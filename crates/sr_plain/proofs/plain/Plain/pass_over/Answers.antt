@@ -1,13 +1,12 @@
-use Rattle.std.proofs.Common.{◌≡◌, ◌<◌, ◌≤◌, ◌+◌, ℕ, List, [], None, Option, Some, arith, length, subst}
-use Rattle.std.proofs.lemmas.Grind.{common_steps}
+use Rattle.std.proofs.Common.{◌≡◌, ◌≤◌, ◌+◌, ℕ, List, Option, Some, ap, arith, length, subst}
 use Rattle.sr_ask.specs.declared.item.Item.{Item}
 use Rattle.sr_classes.specs.Classes.{class_of}
-use Rattle.sr_world.specs.Runs.{Event, Makes_item}
+use Rattle.sr_world.specs.Runs.{Makes_item}
 use Rattle.std.specs.Prelude.{map, ◌++◌}
-use Rattle.sr_plain.specs.Waiting.{IsFirstUpTo, IsNextToAsk}
+use Rattle.sr_plain.specs.Waiting.{IsNextToAsk}
 use Rattle.sr_plain.proofs.MemberLemmas.{promoted_engine}
 use Rattle.sr_plain.proofs.PassLemmas.{none-left, one-asked}
-use Rattle.sr_plain.proofs.pass.Plain.pass_over.Goals as goal
+use Rattle.sr_plain.proofs.plain.Plain.pass_over.Goals as goal
 
 next-is : (o : Option ℕ) (x : ℕ) (P : Option ℕ → Type 0) → o ≡ Some x → P o → P (Some x)
 next-is o x P is h = subst P is h
@@ -69,6 +68,6 @@ returns-clause-over g c = λ limit state events bound below begun.
         (so_far.1 is).0,
         λ some.
             none-left after g.A.Actor.can_feed core class limit state events bound c.loop-process.made c.loop-process.self so_far.0 c.loop-process.invariant.0 c.args.low c.loop-process.at
-            (λ same. (so_far.1 same).1) c.args.high (next (let none = is in omega (arith, some, ap (λ (is' : List Item). length is') none))) is,
+            (λ same. (so_far.1 same).1) c.args.high (next (omega (arith, some, ap (λ (made : List Item). length made) is))) is,
       ),
     )

@@ -1,4 +1,4 @@
-use Rattle.std.proofs.Common.{◌≡◌, ◌∙◌, [], ap, subst, sym, ℕ, Bool, Some, true, refl}
+use Rattle.std.proofs.Common.{◌≡◌, ◌∙◌, [], ap, subst, Some, true, refl}
 use Rattle.sr_ask.specs.declared.ask.Ask.{Ask}
 use Rattle.sr_ask.specs.declared.ask.Asks.TheVariants.{Asked, OverTicks}
 use Rattle.sr_classes.specs.Classes.{class_of}
@@ -11,7 +11,7 @@ use Rattle.sr_plain.proofs.CrewLemmas.{written-itself}
 use Rattle.sr_plain.proofs.MemberLemmas.{begun_lives, looked_member}
 use Rattle.sr_plain.proofs.PassLemmas.{left-by}
 use Rattle.sr_plain.proofs.TurnLemmas.{kept-is}
-use Rattle.sr_plain.proofs.pass.Plain.member_is_left.Goals as goal
+use Rattle.sr_plain.proofs.plain.Plain.member_is_left.Goals as goal
 
 pub returns-in-Asked-clause-left : goal.returns-in-Asked-clause-left
 returns-in-Asked-clause-left g c = λ limit state events engine.

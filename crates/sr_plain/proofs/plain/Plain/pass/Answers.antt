@@ -1,9 +1,7 @@
-use Rattle.std.proofs.Common.{◌≡◌, ◌++◌, ◌∙◌, ap, refl, List}
-use Rattle.sr_ask.specs.declared.item.Item.{Item}
 use Rattle.sr_classes.specs.Classes.{class_of}
 use Rattle.sr_plain.proofs.PassLemmas.{passed-into}
 use Rattle.sr_plain.proofs.SettleLemmas.{ok_then}
-use Rattle.sr_plain.proofs.pass.Plain.pass.Goals as goal
+use Rattle.sr_plain.proofs.plain.Plain.pass.Goals as goal
 
 pub returns-clause-passed : goal.returns-clause-passed
 returns-clause-passed g c = ok_then c.push_all.result c.push_all.ensures.ok (λ pushed limit state events engine.
