@@ -2,6 +2,7 @@ pub mod Actors
 pub mod Advancing
 pub mod Begun
 pub mod Events
+pub mod Following
 pub mod Known
 pub mod Reached
 pub mod Stepped

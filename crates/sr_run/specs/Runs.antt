@@ -4,7 +4,8 @@ use Rattle.std.specs.Io.KnownBytes.{append_known, prepend_known}
 use Rattle.sr_ask.specs.declared.item.Item.{Item}
 use Rattle.sr_ask.specs.declared.start.Start.{Start}
 use Rattle.sr_core.specs.declared.component.Core.{Core}
-use Rattle.sr_plain.specs.Turns.{IsRotation, last_after, turn}
+use Rattle.sr_plain.specs.Turns.{last_after, turn}
+use Rattle.sr_run.specs.Arranged.{Arrangement, IsArranged}
 use Rattle.sr_world.specs.Laws.{closes}
 use Rattle.sr_world.specs.Runs.{Event, Goes, State, bytes_in, ending_of, is_legal, items_in, led, output_of, run}
 use Rattle.sr_world.specs.declared.ends.End.{End}
@@ -28,12 +29,13 @@ pub record Call : Type 0 where
 
 -- ---- the items
 
--- The items are a run of the machine with this input, in rotation; this is its ending, where it has one, and its output.
-pub record IsRun (core : Core) (ticks : ℕ) (input : List ℕ) (items : List Item) (ending : Option End) (output : List ℕ) : Type 0 where
-  pub legal : is_legal (run core ticks input items) ≡ true
-  pub ends : ending_of (run core ticks input items) ≡ ending
-  pub writes : output_of (run core ticks input items) ≡ output
-  pub rotates : IsRotation core ticks input items
+-- The items of a call are a run of the machine with this input, arranged so; this is its ending, where it has one, and its
+-- output.
+pub record IsRun (arrangement : Arrangement) (call : Call) (cut : Bool) (input : List ℕ) (ending : Option End) (output : List ℕ) : Type 0 where
+  pub legal : is_legal (run call.core call.ticks input call.items) ≡ true
+  pub ends : ending_of (run call.core call.ticks input call.items) ≡ ending
+  pub writes : output_of (run call.core call.ticks input call.items) ≡ output
+  pub arranged : IsArranged arrangement call.core call.ticks call.steps cut input call.items
 
 -- ---- the input
 
@@ -45,10 +47,10 @@ pub record Took (call : Call) (taken : List ℕ) (ended : Bool) : Type 0 where
 
 -- The items are a run with all of the input, where it tells what it holds. Where it tells nothing, they are a run with
 -- every input of which the bytes that were taken are the beginning, or the whole, where it said that there are no more.
-pub record Runs (call : Call) (taken : List ℕ) (ended : Bool) (ending : Option End) (output : List ℕ) : Type 0 where
+pub record Runs (arrangement : Arrangement) (call : Call) (cut : Bool) (taken : List ℕ) (ended : Bool) (ending : Option End) (output : List ℕ) : Type 0 where
   pub took : Took call taken ended
-  pub told : IfSome call.before.left (λ input. IsRun call.core call.ticks input call.items ending output)
-  pub untold : (more : List ℕ) → (ended ≡ true → more ≡ []) → IsRun call.core call.ticks (taken ++ more) call.items ending output
+  pub told : IfSome call.before.left (λ input. IsRun arrangement call cut input ending output)
+  pub untold : (more : List ℕ) → (ended ≡ true → more ≡ []) → IsRun arrangement call cut (taken ++ more) ending output
 
 -- ---- where the items lead
 
@@ -65,7 +67,7 @@ abbrev pub turn_after : Call → State → Option Start
 turn_after call state = turn call.core call.ticks state (fold last_after 0 call.items)
 
 -- The items are a run that hasn't ended and lead to this state, and all its output was put.
-pub record GoesOn (call : Call) (taken : List ℕ) (ended : Bool) (state : State) : Type 0 where
-  pub runs : Runs call taken ended None state.world.output
+pub record GoesOn (arrangement : Arrangement) (call : Call) (cut : Bool) (taken : List ℕ) (ended : Bool) (state : State) : Type 0 where
+  pub runs : Runs arrangement call cut taken ended None state.world.output
   pub reaches : Reaches call call.items taken ended state
   pub put : call.now.held ≡ append_known call.before.held state.world.output

@@ -25,11 +25,31 @@ as_of call core now items = record call { core = core; now = now; items = items 
 
 -- ---- a run that goes on
 
--- Events lead to this state, each item in its turn; they make the items and give the bytes that were taken; and all
--- output was put.
-pub record HasCome (call : Call) (intake : Intake) (state : State) (events : List Event) : Type 0 where
+-- where a run of several workers is: before a plain step, or after one, whose stretch isn't made yet
+pub data Stage : Type 0 where
+  Whole : Stage
+  Open : Stage
+
+-- all items but the last are arranged so, whatever input still comes
+pub record LacksLast (class : ℕ → ℕ) (workers : ℕ) (stretches : List Stretch) (call : Call) (events : List Event) : Type 0 where
+  pub before : List Item
+  pub item : Item
+  pub last : call.items ≡ before ++ item ∷ []
+  pub state : State
+  pub leads : (more : List ℕ) → (closes events ≡ true → more ≡ []) → run call.core call.ticks (bytes_in events ++ more) before ≡ Goes (with_all_in more state)
+  pub arranged : (more : List ℕ) → (closes events ≡ true → more ≡ []) → IsArranged (InRounds class workers stretches) call.core call.ticks call.steps false (bytes_in events ++ more) before
+
+-- the items that events made are arranged so, as far as they have come
+abbrev pub ArrangedSoFar : Arrangement → Stage → Call → List Event → Type 0
+ArrangedSoFar InTurn stage call events = AreInTurn call.core call.ticks events
+ArrangedSoFar (InRounds class workers stretches) Whole call events = (more : List ℕ) → (closes events ≡ true → more ≡ [])
+    → IsArranged (InRounds class workers stretches) call.core call.ticks call.steps false (bytes_in events ++ more) call.items
+ArrangedSoFar (InRounds class workers stretches) Open call events = LacksLast class workers stretches call events
+
+-- Events lead to this state; they make the items, arranged so, and give the bytes that were taken; and all output was put.
+pub record HasCome (arrangement : Arrangement) (stage : Stage) (call : Call) (intake : Intake) (state : State) (events : List Event) : Type 0 where
   pub leads : led call.core call.ticks events ≡ Goes state
-  pub in_turn : AreInTurn call.core call.ticks events
+  pub arranged : ArrangedSoFar arrangement stage call events
   pub makes : items_in events ≡ call.items
   pub took : Took call (bytes_in events) intake.ended
   pub count : length (bytes_in events) ≡ intake.taken
