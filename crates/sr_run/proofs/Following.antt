@@ -76,10 +76,10 @@ module _ (core : Core) (class : ℕ → ℕ) (ticks steps workers : ℕ) where
     are.2,
     subst (IsStretchFrom core class ticks steps workers (run_from core ticks now (b ∷ []))) (sym (take-within s.count bs (item ∷ tail) are.1)) are.3,
     subst (λ is. AreStretches core class ticks steps workers cut (run_from core ticks now (b ∷ is)) (made + 1 + s.count) (drop s.count (bs ++ item ∷ tail)) (ss ++ more)) (sym (take-within s.count bs (item ∷ tail) are.1))
-    (subst (λ is. AreStretches core class ticks steps workers cut (run_from core ticks now (b ∷ take s.count bs)) (made + 1 + s.count) is (ss ++ more)) (sym (drop-within s.count bs (item ∷ tail) are.1))
-    (then cut (drop s.count bs) ss (run_from core ticks now (b ∷ take s.count bs)) (made + 1 + s.count) state item tail more are.4
-    (sym (run-append core ticks now (b ∷ take s.count bs) (drop s.count bs)) ∙ ap (λ is. run_from core ticks now (b ∷ is)) (both-parts s.count bs) ∙ leads)
-    (subst (λ m. AreStretches core class ticks steps workers cut (Goes state) m (item ∷ tail) more) (let rest = rest-length s.count bs are.1 in omega (arith, rest)) last))),
+        (subst (λ is. AreStretches core class ticks steps workers cut (run_from core ticks now (b ∷ take s.count bs)) (made + 1 + s.count) is (ss ++ more)) (sym (drop-within s.count bs (item ∷ tail) are.1))
+        (then cut (drop s.count bs) ss (run_from core ticks now (b ∷ take s.count bs)) (made + 1 + s.count) state item tail more are.4
+        (sym (run-append core ticks now (b ∷ take s.count bs) (drop s.count bs)) ∙ ap (λ is. run_from core ticks now (b ∷ is)) (both-parts s.count bs) ∙ leads)
+        (subst (λ m. AreStretches core class ticks steps workers cut (Goes state) m (item ∷ tail) more) (let rest = rest-length s.count bs are.1 in omega (arith, rest)) last))),
   )
 
   module _ (items : List Item) (stretches : List Stretch) (now : Next) (state : State) (are : AreStretches core class ticks steps workers false now 0 items stretches) (leads : run_from core ticks now items ≡ Goes state) (item : Item) where

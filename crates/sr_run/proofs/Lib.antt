@@ -1,5 +1,6 @@
 pub mod Actors
 pub mod Advancing
+pub mod Arranging
 pub mod Begun
 pub mod Events
 pub mod Following

@@ -1,5 +1,5 @@
 -- A run that is under way, as the code carries it on.
-use Rattle.std.specs.Prelude.{◌≡◌, ◌⊎◌, ◌+◌, ◌-◌, ◌<◌, ◌≤◌, ◌++◌, ◌∷◌, ℕ, List, [], length, Option, None, Some, if◌then◌else◌}
+use Rattle.std.specs.Prelude.{◌≡◌, ◌⊎◌, ◌+◌, true, false, ◌-◌, ◌<◌, ◌≤◌, ◌++◌, ◌∷◌, ℕ, List, [], length, Option, None, Some, if◌then◌else◌}
 use Rattle.std.specs.Io.KnownBytes.{append_known}
 use Rattle.sr_ask.specs.declared.answer.Answer.{Answer}
 use Rattle.sr_ask.specs.declared.ask.Asks.{Asks}
@@ -10,13 +10,15 @@ use Rattle.sr_plain.specs.Rotation.{AreInTurn}
 use Rattle.sr_plain.specs.declared.plain.Plain.{Plain}
 use Rattle.sr_ports.specs.Faults.{Rose}
 use Rattle.sr_ports.specs.Streams.{PutInPart}
-use Rattle.sr_run.specs.Causes.{HasCause, NoFaults}
+use Rattle.sr_run.specs.Arranged.{Arrangement, InTurn, InRounds, IsArranged}
+use Rattle.sr_run.specs.Causes.{HasCauseIn, NoFaults}
 use Rattle.sr_run.specs.Runs.{Call, Devices, Took, turn_after}
 use Rattle.sr_run.specs.declared.end.RunEnd.{RunEnd}
 use Rattle.sr_run.specs.declared.end.RunEnd.TheVariants as end
 use Rattle.sr_run.specs.declared.intake.Intake.{Intake}
-use Rattle.sr_world.specs.Laws.{closes}
-use Rattle.sr_world.specs.Runs.{Event, Goes, State, bytes_in, items_in, led}
+use Rattle.sr_run.specs.declared.stretch.Stretch.{Stretch}
+use Rattle.sr_world.specs.Laws.{closes, with_all_in}
+use Rattle.sr_world.specs.Runs.{Event, Goes, State, bytes_in, items_in, led, run}
 use Rattle.sr_world.specs.declared.ends.End.{End}
 
 -- a call as far as it has come: over this core, with the devices and the items as they are now
@@ -31,25 +33,25 @@ pub data Stage : Type 0 where
   Open : Stage
 
 -- all items but the last are arranged so, whatever input still comes
-pub record LacksLast (class : ℕ → ℕ) (workers : ℕ) (stretches : List Stretch) (call : Call) (events : List Event) : Type 0 where
+pub record LacksLast (class : ℕ → ℕ) (workers : ℕ) (stretches : List Stretch) (core : Core) (ticks steps : ℕ) (events : List Event) (items : List Item) : Type 0 where
   pub before : List Item
   pub item : Item
-  pub last : call.items ≡ before ++ item ∷ []
+  pub last : items ≡ before ++ item ∷ []
   pub state : State
-  pub leads : (more : List ℕ) → (closes events ≡ true → more ≡ []) → run call.core call.ticks (bytes_in events ++ more) before ≡ Goes (with_all_in more state)
-  pub arranged : (more : List ℕ) → (closes events ≡ true → more ≡ []) → IsArranged (InRounds class workers stretches) call.core call.ticks call.steps false (bytes_in events ++ more) before
+  pub leads : (more : List ℕ) → (closes events ≡ true → more ≡ []) → run core ticks (bytes_in events ++ more) before ≡ Goes (with_all_in more state)
+  pub arranged : (more : List ℕ) → (closes events ≡ true → more ≡ []) → IsArranged (InRounds class workers stretches) core ticks steps false (bytes_in events ++ more) before
 
--- the items that events made are arranged so, as far as they have come
-abbrev pub ArrangedSoFar : Arrangement → Stage → Call → List Event → Type 0
-ArrangedSoFar InTurn stage call events = AreInTurn call.core call.ticks events
-ArrangedSoFar (InRounds class workers stretches) Whole call events = (more : List ℕ) → (closes events ≡ true → more ≡ [])
-    → IsArranged (InRounds class workers stretches) call.core call.ticks call.steps false (bytes_in events ++ more) call.items
-ArrangedSoFar (InRounds class workers stretches) Open call events = LacksLast class workers stretches call events
+-- the items that events made are arranged so, as far as they have come, whatever input still comes
+abbrev pub ArrangedSoFar : Arrangement → Stage → Core → ℕ → ℕ → List Event → List Item → Type 0
+ArrangedSoFar InTurn stage core ticks steps events items = AreInTurn core ticks events
+ArrangedSoFar (InRounds class workers stretches) Whole core ticks steps events items = (more : List ℕ) → (closes events ≡ true → more ≡ [])
+    → IsArranged (InRounds class workers stretches) core ticks steps false (bytes_in events ++ more) items
+ArrangedSoFar (InRounds class workers stretches) Open core ticks steps events items = LacksLast class workers stretches core ticks steps events items
 
 -- Events lead to this state; they make the items, arranged so, and give the bytes that were taken; and all output was put.
 pub record HasCome (arrangement : Arrangement) (stage : Stage) (call : Call) (intake : Intake) (state : State) (events : List Event) : Type 0 where
   pub leads : led call.core call.ticks events ≡ Goes state
-  pub arranged : ArrangedSoFar arrangement stage call events
+  pub arranged : ArrangedSoFar arrangement stage call.core call.ticks call.steps events call.items
   pub makes : items_in events ≡ call.items
   pub took : Took call (bytes_in events) intake.ended
   pub count : length (bytes_in events) ≡ intake.taken
@@ -58,25 +60,27 @@ pub record HasCome (arrangement : Arrangement) (stage : Stage) (call : Call) (in
   pub put : call.now.held ≡ append_known call.before.held state.world.output
 
 -- no device has failed, and an engine stands for the state that the run has come to
-pub record IsUnderWay {A : Type 0} (after : A → List Answer → Asks) (can_feed : A → Type 0) (call : Call) (intake : Intake) (plain : Plain A) : Type 0 where
+pub record IsUnderWay {A : Type 0} (after : A → List Answer → Asks) (can_feed : A → Type 0) (arrangement : Arrangement) (stage : Stage) (call : Call) (intake : Intake) (plain : Plain A) : Type 0 where
   pub state : State
   pub events : List Event
-  pub come : HasCome call intake state events
+  pub come : HasCome arrangement stage call intake state events
   pub no_faults : NoFaults call
   pub engine : IsEngine after can_feed call.core call.ticks state events plain
 
 -- it is under way, and whose turn it is reads what the bytes that were taken don't decide
-pub record IsWaiting {A : Type 0} (after : A → List Answer → Asks) (can_feed : A → Type 0) (call : Call) (intake : Intake) (plain : Plain A) : Type 0 where
-  pub under_way : IsUnderWay after can_feed call intake plain
+pub record IsWaiting {A : Type 0} (after : A → List Answer → Asks) (can_feed : A → Type 0) (arrangement : Arrangement) (call : Call) (intake : Intake) (plain : Plain A) : Type 0 where
+  pub under_way : IsUnderWay after can_feed arrangement Whole call intake plain
   pub fewer : length call.items < call.steps
   pub waits : WaitsForInput call.core call.ticks under_way.state (turn_after call under_way.state)
 
 -- ---- what each turn brings
 
--- the run goes on, or it ends so
-abbrev pub Advances : {A : Type 0} → (A → List Answer → Asks) → (A → Type 0) → Call → Intake → Plain A → Option RunEnd → Type 0
-Advances after can_feed call intake plain None = IsUnderWay after can_feed call intake plain
-Advances after can_feed call intake plain (Some ending) = HasCause call ending
+-- the run goes on, with more input or with an item, or it ends so
+abbrev pub Advances : {A : Type 0} → (A → List Answer → Asks) → (A → Type 0) → Arrangement → List Item → Call → Intake → Plain A → Option RunEnd → Type 0
+Advances after can_feed arrangement items call intake plain None =
+    ((call.items ≡ items) × IsUnderWay after can_feed arrangement Whole call intake plain)
+    ⊎ ((length items < length call.items) × IsUnderWay after can_feed arrangement Open call intake plain)
+Advances after can_feed arrangement items call intake plain (Some ending) = HasCauseIn arrangement call ending
 
 -- how many bytes of input may still come, and its end
 abbrev pub open_input : Intake → ℕ
