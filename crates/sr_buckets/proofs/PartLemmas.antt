@@ -278,3 +278,29 @@ module _ {F B : Type 0} (g : Mut F (ℕ × Unit {0}) B) (P : B → Type 0) where
       let there : slice_get ys i ≡ Some (get_or ys i b) = slice_get-get_or ys i b inside in
       let same : get_or ys i b ≡ b = cc in
       subst P same (made call.0 call.1 i (get_or ys i b) call.2)
+
+-- ---- copies that are put in their places one by one
+
+module _ {A B : Type 0} (IsCopy : A → B → Type 0) (from : List A) (to : List B) (place : ℕ) (a : A) (b : B) where
+  pub put-long : (n : ℕ) → length to ≡ n → length (slice_set to place b) ≡ n
+  put-long n long = length-set to place b ∙ long
+
+  pub put-copied : ((k : ℕ) (x : A) (y : B) → k < place → slice_get from k ≡ Some x → slice_get to k ≡ Some y → IsCopy x y) → a ≡ get_or from place a → IsCopy a b
+      → (k : ℕ) (x : A) (y : B) → k < place + 1 → slice_get from k ≡ Some x → slice_get (slice_set to place b) k ≡ Some y → IsCopy x y
+  put-copied before is here k x y less at copy = by (k == place) refl
+    where
+      by : (c : Bool) → (k == place) ≡ c → IsCopy x y
+      by true same =
+          let there : k ≡ place = eqb-true k place same in
+          let inside : k < length (slice_set to place b) = slice_get_within (slice_set to place b) k y copy in
+          let within : place < length to = (let long = length-set to place b in omega (arith, inside, long, there)) in
+          let put : slice_get (slice_set to place b) place ≡ Some b = get-set to place b within in
+          let copy-there : slice_get (slice_set to place b) place ≡ Some y = ap (slice_get (slice_set to place b)) (sym there) ∙ copy in
+          let copy-is : b ≡ y = cc in
+          let read : slice_get from k ≡ Some (get_or from k a) = slice_get-get_or from k a (slice_get_within from k x at) in
+          let read-there : get_or from k a ≡ a = ap (λ n. get_or from n a) there ∙ sym is in
+          let from-is : a ≡ x = cc in
+          subst (λ v. IsCopy v y) from-is (subst (λ v. IsCopy a v) copy-is here)
+      by false off =
+          let ne : k ≡ place → ⊥ = λ e. true≢false (sym (eq-eqb k place e) ∙ off) in
+          before k x y (omega (arith, less, ne)) at (sym (get-set_other to place k b off) ∙ copy)

@@ -1,6 +1,6 @@
 use Rattle.std.proofs.Common.{refl, ◌∙◌}
 use Rattle.sr_calls.proofs.StepLemmas.{absent, reply-found, held-stays, if_none, keeps-answers, keeps-holds, lent, lent-same, takes}
-use Rattle.sr_calls.proofs.calls.Calls.taken.Goals as goal
+use Rattle.sr_calls.proofs.bucket.Bucket.taken.Goals as goal
 
 pub returns-in_err-process_calls-clause-found : goal.returns-in_err-process_calls-clause-found
 returns-in_err-process_calls-clause-found c =

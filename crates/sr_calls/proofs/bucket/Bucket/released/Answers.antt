@@ -1,6 +1,6 @@
 use Rattle.std.proofs.Common.{refl, ◌∙◌}
 use Rattle.sr_calls.proofs.StepLemmas.{absent, held-found, replies-stay, if_none, keeps-answers, keeps-holds, lent, lent-same, releases}
-use Rattle.sr_calls.proofs.calls.Calls.released.Goals as goal
+use Rattle.sr_calls.proofs.bucket.Bucket.released.Goals as goal
 
 pub returns-in_err-process_calls-clause-found : goal.returns-in_err-process_calls-clause-found
 returns-in_err-process_calls-clause-found c =
