@@ -2,7 +2,7 @@ use Rattle.std.proofs.Common.{ap, ◌∙◌, arith}
 use Rattle.std.specs.FinMap as map
 use Rattle.sr_store.specs.Kept.{stored_on}
 use Rattle.sr_store.proofs.KeptLemmas.{Step, at_err, could-place, keeps, keeps-other, lent, made, no-room, no_block, on_err, on_ok, placed, same-room, stays}
-use Rattle.sr_store.proofs.blocks.Blocks.set.Goals as goal
+use Rattle.sr_store.proofs.bucket.Bucket.set.Goals as goal
 
 some : (c : goal.After-self-in-Some-1) → Step c.self.inside.tables.entries (c.get_mut.follows.lender c.set.new.self).entries c.args.self.now c.args.block c.in-Some.kept.now c.set.new.self
 some c =

@@ -6,7 +6,7 @@ use Rattle.std.specs.Map.{keys_of, lookup}
 use Rattle.std.specs.Ordering.{eq_by_cmp, nat_cmp}
 use Rattle.sr_store.specs.Variables.{block_of}
 use Rattle.sr_store.proofs.KeptLemmas.{listed}
-use Rattle.sr_store.proofs.blocks.Blocks.add_copies.Given as goal
+use Rattle.sr_store.proofs.bucket.Bucket.add_copies.Given as goal
 
 abbrev pub invariant-loop-block : goal.invariant-loop-block
 invariant-loop-block l = record {

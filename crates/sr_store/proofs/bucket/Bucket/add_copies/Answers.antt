@@ -1,5 +1,5 @@
 use Rattle.sr_store.proofs.CopyLemmas.{blocks-left-first, blocks-left-more, blocks-left-none, blocks-more, distinct-blocks, none-empty-first, none-empty-more}
-use Rattle.sr_store.proofs.blocks.Blocks.add_copies.Goals as goal
+use Rattle.sr_store.proofs.bucket.Bucket.add_copies.Goals as goal
 
 pub loop-block-init : goal.loop-block-init
 loop-block-init c =
