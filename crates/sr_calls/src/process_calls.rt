@@ -1,4 +1,4 @@
-ghost use Rattle.std.specs.Prelude.{◌≡◌, ◌+◌, ◌<◌, ◌≤◌, [], ◌∷◌, ◌++◌, IfNone, IsOk, OnErr, OnOk, OnSome, Some, find, is_some, position, remove, slice_index_or};
+ghost use Rattle.std.specs.Prelude.{◌≡◌, ◌+◌, ◌<◌, ◌≤◌, [], ◌∷◌, ◌++◌, IfNone, IfOk, IsOk, OnErr, OnOk, OnSome, Some, find, is_some, position, remove, slice_index_or};
 ghost use Rattle.std.specs.List.{list_any};
 ghost use Rattle.sr_calls.specs.Calls.{answers_one, is_held_as, without_first};
 ghost use Rattle.sr_calls.specs.PerProcess.{KeepsRoom};
@@ -6,7 +6,7 @@ ghost use Rattle.sr_calls.specs.declared.held.Reply.{Reply};
 ghost use Rattle.std.specs.VecDeque.{deque_capacity, deque_len};
 
 use crate::held::{Held, Reply};
-use sr_value::{NoMemory, Row};
+use sr_value::{Duplicate, NoMemory, Row};
 use std::alloc::Global;
 use std::collections::VecDeque;
 use std::marker::Model;
@@ -148,6 +148,39 @@ impl ProcessCalls {
         let at = place_among(&self.replies, ids.as_slice())?;
         take_at(&mut self.replies, at)
     }
+
+    /// A copy, without the room.
+    pub fn copy(&self, alloc: Global) -> Result<ProcessCalls, NoMemory>
+        ensures held { IfOk result (λ copy. copy.held ≡ self.now.held) }
+        ensures replies { IfOk result (λ copy. copy.replies ≡ self.now.replies) }
+    {
+        let held = copied_holds(alloc, self.held.as_slice())?;
+        let replies = copied_replies(alloc, &self.replies)?;
+        Ok(ProcessCalls { held, replies })
+    }
+}
+
+/// A copy of invocations that are held.
+fn copied_holds(alloc: Global, held: &[Held]) -> Result<Vec<Held>, NoMemory>
+    ensures { IfOk result (λ copies. copies.items ≡ held.now) }
+{
+    let mut copies = Vec::new(alloc);
+    for invocation in held {
+        copies.push(*invocation)?;
+    }
+    Ok(copies)
+}
+
+/// A copy of replies.
+fn copied_replies(alloc: Global, replies: &VecDeque<Reply>) -> Result<VecDeque<Reply>, NoMemory>
+    ensures { IfOk result (λ copies. copies.items ≡ replies.now.items) }
+{
+    let mut copies = VecDeque::new(alloc);
+    for reply in replies {
+        let copy = reply.copy(alloc)?;
+        copies.push_back(copy)?;
+    }
+    Ok(copies)
 }
 
 /// An invocation among those that are held.
