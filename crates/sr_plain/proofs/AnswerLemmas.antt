@@ -11,7 +11,6 @@ use Rattle.sr_core.specs.declared.component.Core.{Core}
 use Rattle.sr_world.proofs.StepLemmas.{same-step}
 use Rattle.sr_world.specs.Acting.{Acts}
 use Rattle.sr_world.specs.Does.{Does, Did, Makes, Cannot, Ends, Undecided, comes_to, is_possible}
-use Rattle.sr_world.specs.Names.{IsLeastUnused}
 use Rattle.sr_world.specs.Runs.{Event, Makes_item, Goes, Over as run_over, State, asks_for, asks_next, is_blocked, next, step_of, stepped, where_true, with_answer}
 use Rattle.sr_world.specs.Sound.{times_used}
 use Rattle.sr_world.specs.Steps.{does}
@@ -25,9 +24,9 @@ use Rattle.sr_plain.specs.Changes.{change_of, gone_by}
 use Rattle.sr_plain.specs.Crew.{Answers, AreLiving, member_of}
 use Rattle.sr_plain.specs.Engine.{Comes, IsCarried, IsEngine, Tries, WaitsForInput}
 use Rattle.sr_plain.specs.Leaving.{Leaves, LeavesIf, LiveOn, LiveOnIf, written_by}
-use Rattle.sr_plain.specs.Order.{IsOrdered}
+use Rattle.sr_plain.specs.Order.{IsNext, IsNumbered, IsOrdered}
 use Rattle.sr_plain.specs.Ready.{AreAside, me_at}
-use Rattle.sr_plain.specs.Turns.{IsName, takes_turn}
+use Rattle.sr_plain.specs.Turns.{takes_turn}
 use Rattle.sr_plain.specs.declared.change.Woken.{Woken}
 use Rattle.sr_actor.specs.declared.member.Member.{Member}
 use Rattle.sr_plain.specs.declared.plain.Plain.{Plain}
@@ -35,15 +34,15 @@ use Rattle.sr_plain.specs.declared.plainly.Plainly.{Plainly}
 use Rattle.sr_plain.specs.declared.plainly.Plainly.TheVariants as plainly
 use Rattle.sr_plain.proofs.AsideLemmas.{aside_step}
 use Rattle.sr_plain.proofs.LeaveLemmas.{leaves}
-use Rattle.sr_plain.proofs.LedLemmas.{last-more, least-new, least-unused, led-more, sound}
+use Rattle.sr_plain.proofs.LedLemmas.{last-more, led-more, next-new, next-unused, sound}
 use Rattle.sr_plain.proofs.LivingLemmas.{living-after, living-at}
 use Rattle.sr_plain.proofs.OrderLemmas.{ordered-after}
 use Rattle.sr_plain.proofs.StayLemmas.{live_on}
 use Rattle.sr_plain.proofs.TurnLemmas.{answered-stands, kept-is}
 
-pub least-name : (w : World) (name : ℕ) → IsLeastUnused w.used name → IsName w name
-least-name w zero least = tt
-least-name w (suc n) least = least
+pub next-name : (w : World) (name : ℕ) → IsNext w.used name → IsNumbered w name
+next-name w zero next = tt
+next-name w (suc n) next = next
 
 -- whose turn it is, of one
 pub one-turn : (core : Core) (limit : ℕ) (state : State) (start : Start) → takes_turn core limit state start ≡ true → find (takes_turn core limit state) (start ∷ []) ≡ Some start
@@ -68,7 +67,7 @@ module _ {A : Type 0} (after : A → List Answer → Asks) (can_feed : A → Typ
     -- a step that was done
     record Finished (w' : World) (a : Answer) : Type 0 where
       goes : next core limit state (Step start.process name) ≡ Goes (record { world = w'; given = with_answer start.process a state.given })
-      named : IsName state.world name
+      named : IsNumbered state.world name
       left : Leaves name (written_by asks.request) state.world w'
       live : LiveOn (change_of core (me_at start) asks a) (gone_by asks.request start.process) state.world w'
       new : times_used state.world name ≡ 0
@@ -91,19 +90,19 @@ module _ {A : Type 0} (after : A → List Answer → Asks) (can_feed : A → Typ
     finished zero_unused w' a (Did w g) e acts none = record {
       goes = goes-to w w' g a acts.0 acts.1
           (next-is (Did w g) e ∙ ap (λ b. where_true b (Goes (record { world = w; given = with_answer start.process g state.given }))) (eq-eqb name 0 none));
-      named = subst (IsName state.world) (sym none) tt;
+      named = subst (IsNumbered state.world) (sym none) tt;
       left = subst (λ v. Leaves name (written_by asks.request) state.world v) (sym acts.0) (left-by (Did w g) e);
       live = subst (λ v. LiveOn (change_of core (me_at start) asks a) (gone_by asks.request start.process) state.world v) (sym acts.0) (on-by a (Did w g) e);
       new = subst (λ n. times_used state.world n ≡ 0) (sym none) zero_unused;
       turn = takes-is (Did w g) e;
     }
-    finished zero_unused w' a (Makes w g) e acts least = record {
+    finished zero_unused w' a (Makes w g) e acts following = record {
       goes = goes-to w w' g a acts.0 acts.1
-          (next-is (Makes w g) e ∙ ap (λ b. where_true b (Goes (record { world = w; given = with_answer start.process g state.given }))) (least-new state.world name least));
-      named = least-name state.world name least;
+          (next-is (Makes w g) e ∙ ap (λ b. where_true b (Goes (record { world = w; given = with_answer start.process g state.given }))) (next-new state.world name following));
+      named = next-name state.world name following;
       left = subst (λ v. Leaves name (written_by asks.request) state.world v) (sym acts.0) (left-by (Makes w g) e);
       live = subst (λ v. LiveOn (change_of core (me_at start) asks a) (gone_by asks.request start.process) state.world v) (sym acts.0) (on-by a (Makes w g) e);
-      new = least-unused state.world name least;
+      new = next-unused state.world name following;
       turn = takes-is (Makes w g) e;
     }
     finished zero_unused w' a Cannot e acts none = absurd acts
@@ -122,7 +121,7 @@ module _ {A : Type 0} (after : A → List Answer → Asks) (can_feed : A → Typ
     record Final (w' : World) (ending : End) : Type 0 where
       world : w' ≡ state.world
       ends : next core limit state (Step start.process name) ≡ run_over ending state
-      named : IsName state.world name
+      named : IsNumbered state.world name
       turn : takes_turn core limit state start ≡ true
 
     final : (w' : World) (given : End) (d : Does) → does core state.world start.process asks name ≡ d → Acts d state.world w' (Ok (acted.Ends given)) → Names d state.world name → Final w' given
@@ -132,7 +131,7 @@ module _ {A : Type 0} (after : A → List Answer → Asks) (can_feed : A → Typ
     final w' given (Ends ending) e acts none = record {
       world = acts.0;
       ends = next-is (Ends ending) e ∙ ap (λ b. where_true b (run_over ending state)) (eq-eqb name 0 none) ∙ ap (λ v. run_over v state) (sym acts.1);
-      named = subst (IsName state.world) (sym none) tt;
+      named = subst (IsNumbered state.world) (sym none) tt;
       turn = takes-is (Ends ending) e;
     }
     final w' given Undecided e acts none = absurd acts
@@ -178,7 +177,7 @@ module _ {A : Type 0} (after : A → List Answer → Asks) (can_feed : A → Typ
     answered_ends ending c =
         let f = final c.asks name (asked-is (acted.Ends ending) c) c.lives plain.world ending (does core state.world start.process c.asks name) refl c.acts c.names in
         with-turn (plainly.Ended (Step start.process name) ending) plain f.turn
-        (record { ends = f.ends; turn_of = (refl, f.named) }, engine-of (acted.Ends ending) c c.noted f.world)
+        (record { ends = f.ends; turn_of = refl; named = f.named }, engine-of (acted.Ends ending) c c.noted f.world)
 
     pub answered_wants : IsCarried after can_feed core limit state events start name acted.Undecided plain
         → Tries after can_feed core limit state events (find (takes_turn core limit state) (start ∷ [])) (Ok (Some plainly.Wants)) plain
@@ -194,7 +193,8 @@ module _ {A : Type 0} (after : A → List Answer → Asks) (can_feed : A → Typ
         with-turn (plainly.Stepped (Step start.process name) output) plain' f.turn (record {
           later = later;
           goes = f.goes;
-          turn_of = (refl, f.named);
+          turn_of = refl;
+          named = f.named;
           written = f.left.output ∙ ap (λ text. state.world.output ++ text) (sym wrote);
           engine = record {
             world = world;

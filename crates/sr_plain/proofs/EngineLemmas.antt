@@ -80,7 +80,7 @@ module _ {A : Type 0} (after : A → List Answer → Asks) (can_feed : A → Typ
       living = λ q s is. subst (λ o. StandsFor after (ask core s limit) [] o) (sym (nobody plain.crew empty q)) refl;
       unborn = λ q none. nobody plain.crew empty q;
       next = 2;
-      order = record { counted = (refl, refl); ascend = (omega arith, omega arith) };
+      order = record { rise = (omega arith, refl); ascend = (omega arith, omega arith); in_line = omega arith };
     };
     living = living-everyone first.world plain.crew plain.woken woken woken_is everything none_gone unnamed;
     aside = everyone core limit first plain.waiters plain.woken woken woken_is everything;
@@ -102,7 +102,7 @@ module _ {A : Type 0} (after : A → List Answer → Asks) (can_feed : A → Typ
         living = engine.stands.living;
         unborn = engine.stands.unborn;
         next = engine.stands.next;
-        order = record { counted = engine.stands.order.counted; ascend = engine.stands.order.ascend };
+        order = record { rise = engine.stands.order.rise; ascend = engine.stands.order.ascend; in_line = engine.stands.order.in_line };
       };
       living = living-same state.world (with_input bytes state.world) plain.woken plain.crew refl engine.living;
       aside = aside_input core limit state (state.world.rest ++ bytes) state.world.ended plain.waiters plain.woken engine.aside;
@@ -120,7 +120,7 @@ module _ {A : Type 0} (after : A → List Answer → Asks) (can_feed : A → Typ
         living = engine.stands.living;
         unborn = engine.stands.unborn;
         next = engine.stands.next;
-        order = record { counted = engine.stands.order.counted; ascend = engine.stands.order.ascend };
+        order = record { rise = engine.stands.order.rise; ascend = engine.stands.order.ascend; in_line = engine.stands.order.in_line };
       };
       living = living-same state.world (without_more state.world) plain.woken plain.crew refl engine.living;
       aside = aside_input core limit state state.world.rest true plain.waiters plain.woken engine.aside;

@@ -1,19 +1,24 @@
 -- What holds of every state that events lead to.
-use Rattle.std.proofs.Common.{◌≡◌, ◌≤◌, ◌==◌, ◌&&◌, ◌||◌, ℕ, zero, suc, Bool, true, false, not, cond, List, [], ◌∷◌, ◌++◌, Some, is_some, refl, ap, sym, ◌∙◌, arith, eq-eqb, eqb-true, true≢false, append_assoc}
+use Rattle.std.proofs.Common.{◌≡◌, ◌<◌, ◌≤◌, ◌==◌, ◌&&◌, ◌||◌, ℕ, zero, suc, Bool, true, false, not, cond, List, [], ◌∷◌, ◌++◌, Option, None, Some, is_some, refl, ap, sym, ◌∙◌, subst, arith, eq-eqb, eqb-true, true≢false, append_assoc}
 use Rattle.std.proofs.lemmas.List.Concat.{flat_map-append}
+use Rattle.std.proofs.lemmas.List.Elements.{All-contains}
 use Rattle.std.specs.Prelude.{count_by, find, fold, slice_get}
 use Rattle.std.specs.List.{Contains, list_any}
+use Rattle.sr_ask.specs.declared.item.Item.{Item}
+use Rattle.sr_ask.specs.declared.item.Item.TheVariants.{Step, Quiesce, Tick}
 use Rattle.sr_ask.specs.declared.start.Start.{Start}
 use Rattle.sr_core.specs.declared.component.Core.{Core}
 use Rattle.sr_processes.specs.Living.{is_process}
-use Rattle.sr_world.specs.Names.{IsLeastUnused}
-use Rattle.sr_world.specs.Runs.{Event, Goes, Next, State, after, after_event, and_then, first, is_new, is_used, item_in, items_in, led}
+use Rattle.sr_world.specs.Runs.{Event, Makes_item, Gives, Closes, Goes, Over, Illegal, Next, State, after, after_event, and_then, first, is_new, is_used, item_in, items_in, led, next as next_by, step_of, with_input, without_more}
 use Rattle.sr_world.specs.Sound.{IsSound, name_in, names_in, times_used}
 use Rattle.sr_world.specs.Worlds.{World, started}
+use Rattle.sr_world.specs.declared.ends.End.{End}
 use Rattle.sr_world.proofs.CountLemmas.{count-cons, one}
 use Rattle.sr_world.proofs.KeepLemmas.{live-counts}
-use Rattle.sr_world.proofs.RunLemmas.{new-number, sound-led}
+use Rattle.sr_world.proofs.RunLemmas.{goes-where, illegal-after, new-number, sound-first, sound-input, sound-led, sound-next}
 use Rattle.sr_plain.specs.Engine.{last_by, last_in}
+use Rattle.sr_plain.specs.Order.{IsNext}
+use Rattle.sr_plain.specs.Turns.{last_after}
 
 -- ---- one more event
 
@@ -101,13 +106,74 @@ any-contains (x ∷ xs) n is = by (x == n) refl is (any-contains xs n)
     by true same h more = (0, omega arith, eqb-true x n same)
     by false off h more = let found = more h in (suc found.0, omega (arith, found.1), found.2)
 
-pub least-new : (w : World) (name : ℕ) → IsLeastUnused w.used name → is_new w name ≡ true
-least-new w name least = by (name == 0) refl (is_used w name) refl
+pub next-new : (w : World) (name : ℕ) → IsNext w.used name → is_new w name ≡ true
+next-new w name next = by (name == 0) refl (is_used w name) refl
   where
     by : (b : Bool) → (name == 0) ≡ b → (d : Bool) → is_used w name ≡ d → (not b && not d) ≡ true
-    by true zeroed d is = absurd (let none = eqb-true name 0 zeroed in omega (arith, none, least.positive))
-    by false off true is = absurd (least.unused (any-contains w.used name is))
+    by true zeroed d is = absurd (let none = eqb-true name 0 zeroed in omega (arith, none, next.one_more))
+    by false off true is =
+        let within = All-contains (λ n. n ≤ next.greatest) w.used name next.is_greatest.bound (any-contains w.used name is) in absurd (omega (arith, within, next.one_more))
     by false off false is = refl
 
-pub least-unused : (w : World) (name : ℕ) → IsLeastUnused w.used name → times_used w name ≡ 0
-least-unused w name least = (new-number w name (least-new w name least)).1
+pub next-unused : (w : World) (name : ℕ) → IsNext w.used name → times_used w name ≡ 0
+next-unused w name next = (new-number w name (next-new w name next)).1
+
+-- what an item gives out comes after all that was given out before
+pub used-item : (items : List Item) (state later : State) (item : Item) → IsSound items state → IsSound (items ++ item ∷ []) later → later.world.used ≡ state.world.used ++ names_in (item ∷ [])
+used-item items state later item sound sound' =
+    sound'.used ∙ ap (λ names. 1 ∷ names) (flat_map-append name_in items (item ∷ [])) ∙ sym (ap (λ used. used ++ names_in (item ∷ [])) sound.used)
+
+-- ---- who made the last step
+
+pub over-never : (core : Core) (limit : ℕ) (ending : End) (state later : State) (events : List Event) → after core limit (Over ending state) events ≡ Goes later → ⊥
+over-never core limit ending state later [] is = absurd (cc)
+over-never core limit ending state later (event ∷ events) is = let stuck = illegal-after core limit events in absurd (cc)
+
+-- a process that makes a step lives
+pub stepped-lives : (core : Core) (limit : ℕ) (state later : State) (actor name : ℕ) → next_by core limit state (Step actor name) ≡ Goes later → (start : Start) × (started state.world actor ≡ Some start)
+stepped-lives core limit state later actor name goes = by (started state.world actor) refl goes
+  where
+    by : (o : Option Start) → started state.world actor ≡ o → step_of core limit state actor name o ≡ Goes later → (start : Start) × (started state.world actor ≡ Some start)
+    by None is h = absurd (cc)
+    by (Some start) is h = (start, is)
+
+-- the last actor was given out
+abbrev IsKnown : ℕ → State → Type 0
+IsKnown last state = 0 < last → 1 ≤ times_used state.world last
+
+known-after : (core : Core) (limit : ℕ) (items : List Item) (last : ℕ) (state later : State) (events : List Event) → IsSound items state → IsKnown last state
+    → after core limit (Goes state) events ≡ Goes later → IsKnown (fold last_by last events) later
+known-after core limit items last state later [] sound known is = let same : state ≡ later = cc in subst (IsKnown last) same known
+known-after core limit items last state later (event ∷ events) sound known is =
+    by event (after_event core limit state event) refl is (λ items' last' s sound' known' h. known-after core limit items' last' s later events sound' known' h)
+  where
+    by : (e : Event) (n : Next) → after_event core limit state e ≡ n → after core limit n events ≡ Goes later
+        → ((items' : List Item) (last' : ℕ) (s : State) → IsSound items' s → IsKnown last' s → after core limit (Goes s) events ≡ Goes later → IsKnown (fold last_by last' events) later)
+        → IsKnown (fold last_by (last_by last e) events) later
+    by e Illegal is' h more = let stuck = illegal-after core limit events in absurd (cc)
+    by e (Over ending s) is' h more = absurd (over-never core limit ending s later events h)
+    by (Makes_item item) (Goes s) is' h more =
+        let sound' : IsSound (items ++ item ∷ []) s = sound-next items state sound core limit item s is' in
+        more (items ++ item ∷ []) (last_after last item) s sound' (known-item item is' sound') h
+      where
+        grown : (i : Item) → IsSound (items ++ i ∷ []) s → (q : ℕ) → times_used state.world q ≤ times_used s.world q
+        grown i sound' q = omega (arith, count-grows (λ u. u == q) state.world.used (names_in (i ∷ [])), ap (count_by (λ u. u == q)) (used-item items state s i sound sound'))
+
+        known-item : (i : Item) → next_by core limit state i ≡ Goes s → IsSound (items ++ i ∷ []) s → IsKnown (last_after last i) s
+        known-item (Step actor name) goes sound' some =
+            let lives = stepped-lives core limit state s actor name goes in
+            let was : 1 ≤ times_used state.world actor = omega (arith, live-counts state.world.live actor (ap is_some lives.1), sound.numbers.processes actor) in
+            omega (arith, was, grown (Step actor name) sound' actor)
+        known-item (Quiesce name) goes sound' some = omega (arith, known some, grown (Quiesce name) sound' last)
+        known-item (Tick to) goes sound' some = omega (arith, known some, grown (Tick to) sound' last)
+    by (Gives bytes) (Goes s) is' h more =
+        let parts = goes-where (not state.world.ended) (Goes (record state { world = with_input bytes state.world })) s is' in
+        let same : record state { world = with_input bytes state.world } ≡ s = cc in
+        more items last s (subst (IsSound items) same (sound-input items state sound (state.world.rest ++ bytes) state.world.ended)) (subst (IsKnown last) same known) h
+    by Closes (Goes s) is' h more =
+        let parts = goes-where (not state.world.ended) (Goes (record state { world = without_more state.world })) s is' in
+        let same : record state { world = without_more state.world } ≡ s = cc in
+        more items last s (subst (IsSound items) same (sound-input items state sound state.world.rest true)) (subst (IsKnown last) same known) h
+
+pub last-used : (core : Core) (limit : ℕ) (events : List Event) (state : State) → led core limit events ≡ Goes state → 0 < last_in events → 1 ≤ times_used state.world (last_in events)
+last-used core limit events state leads = known-after core limit [] 0 first state events sound-first (λ none. absurd (omega (arith, none))) leads

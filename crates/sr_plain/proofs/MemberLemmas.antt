@@ -1,6 +1,7 @@
 -- The member of a crew whose request the machine carries out, and whose turn it is.
-use Rattle.std.proofs.Common.{◌≡◌, ℕ, Bool, true, false, cond, List, [], ◌∷◌, Option, Some, None, IsSome, refl, ap, sym, ◌∙◌, subst, true≢false}
+use Rattle.std.proofs.Common.{◌≡◌, ◌<◌, ◌==◌, ℕ, Bool, true, false, cond, List, [], ◌∷◌, Option, Some, None, IsSome, refl, ap, sym, ◌∙◌, subst, true≢false}
 use Rattle.std.specs.HashMap.{WritesThrough}
+use Rattle.std.specs.List.{list_any}
 use Rattle.std.specs.Prelude.{IfNone, Result, Ok, Err, find, nat_eq}
 use Rattle.sr_ask.specs.declared.answer.Answer.{Answer}
 use Rattle.sr_ask.specs.declared.ask.Ask.{Ask}
@@ -40,8 +41,10 @@ use Rattle.sr_plain.proofs.AnswerLemmas.{answered_done, answered_ends, answered_
 use Rattle.sr_plain.proofs.AsideLemmas.{aside_out, aside_promoted, find-number, noted_aside, noted_is}
 use Rattle.sr_plain.proofs.CrewLemmas.{answers-written, looks-written, written-itself, written-others}
 use Rattle.sr_plain.proofs.EngineLemmas.{looked_engine}
+use Rattle.sr_plain.proofs.LedLemmas.{last-used}
 use Rattle.sr_plain.proofs.LivingLemmas.{living-at}
 use Rattle.sr_plain.proofs.NextLemmas.{found-turn, no-turn-of, nobody-steps}
+use Rattle.sr_plain.proofs.OrderLemmas.{counts-any}
 use Rattle.sr_plain.proofs.TurnLemmas.{kept-is}
 
 module _ {A : Type 0} (after : A → List Answer → Asks) (can_feed : A → Type 0) (core : Core) (limit : ℕ) (state : State) (events : List Event) where
@@ -197,6 +200,9 @@ module _ {A : Type 0} (after : A → List Answer → Asks) (can_feed : A → Typ
     aside-now : AreAside core limit state plain.waiters None
     aside-now = subst (λ w. AreAside core limit state plain.waiters w) awake engine.aside
 
+    last-any : 0 < last_in events → list_any (λ u. u == last_in events) state.world.used ≡ true
+    last-any some = counts-any state.world.used (last_in events) (last-used core limit events state engine.stands.leads some)
+
     pub ready_steps : (p : ℕ) (plainly : Plainly) (plain' : Plain A) → IsNextAfter plain.waiters plain.last p → Tries after can_feed core limit state events (turn_of core limit state (started state.world p)) (Ok (Some plainly)) plain'
         → Steps after can_feed core limit state events (turn core limit state (last_in events)) (Ok plainly) plain'
     ready_steps p plainly plain' is tries = by (started state.world p) refl tries
@@ -208,7 +214,7 @@ module _ {A : Type 0} (after : A → List Answer → Asks) (can_feed : A → Typ
             → Comes after can_feed core limit state events (turn core limit state (last_in events)) plainly plain'
         taken s lives true takes h =
             subst (λ t. Comes after can_feed core limit state events t plainly plain')
-            (sym (found-turn core limit events state engine.stands.leads engine.stands.next engine.stands.order plain.waiters aside-now (last_in events) p s next-is lives takes)) h.1
+            (sym (found-turn core limit events state engine.stands.leads engine.stands.next engine.stands.order plain.waiters aside-now (last_in events) last-any p s next-is lives takes)) h.1
         taken s lives false takes h = absurd (true≢false (sym h.0))
 
         by : (o : Option Start) → started state.world p ≡ o → Tries after can_feed core limit state events (turn_of core limit state o) (Ok (Some plainly)) plain'
@@ -220,10 +226,10 @@ module _ {A : Type 0} (after : A → List Answer → Asks) (can_feed : A → Typ
         → Steps after can_feed core limit state events (turn core limit state (last_in events)) r plain'
     nobody_ready nobody r plain' steps =
         subst (λ t. Steps after can_feed core limit state events t r plain')
-        (sym (no-turn-of core limit events state engine.stands.leads engine.stands.next engine.stands.order plain.waiters aside-now (last_in events) nobody)) steps
+        (sym (no-turn-of core limit events state engine.stands.leads engine.stands.next engine.stands.order plain.waiters aside-now (last_in events) last-any nobody)) steps
 
     pub nobody_can : ((p : ℕ) → may_go plain.waiters p ≡ false) → no_step core limit state ≡ true
-    nobody_can nobody = nobody-steps core limit events state engine.stands.leads engine.stands.next engine.stands.order plain.waiters aside-now (last_in events) nobody
+    nobody_can nobody = nobody-steps core limit events state engine.stands.leads engine.stands.next engine.stands.order plain.waiters aside-now (last_in events) last-any nobody
 
 -- ---- a look at one that is ready
 

@@ -1,6 +1,7 @@
 -- Whose turn it is, among those that are ready.
 use Rattle.std.proofs.Common.{◌≡◌, ◌<◌, ◌≤◌, ◌==◌, ℕ, inl, inr, zero, suc, ◌||◌, Bool, true, false, not, cond, List, [], ◌∷◌, ◌++◌, take, drop, length, Option, None, Some, is_some, refl, ap, sym, ◌∙◌, subst, arith, eqb-true, true≢false}
 use Rattle.std.proofs.lemmas.Bool.{ltb-false, ltb-true}
+use Rattle.std.specs.List.{list_any}
 use Rattle.std.specs.Prelude.{filter, find, nat_lt, option_map, slice_get, unwrap_or}
 use Rattle.sr_ask.specs.declared.ask.Ask.{Ask}
 use Rattle.sr_ask.specs.declared.ask.Asks.TheVariants.{Asked}
@@ -25,8 +26,8 @@ use Rattle.sr_plain.specs.Waiting.{IsNextAfter, is_closed, is_open, is_open_at, 
 use Rattle.sr_plain.specs.declared.waiters.Waiters.{Waiters}
 use Rattle.sr_plain.proofs.IdleLemmas.{idle_cannot, open-at}
 use Rattle.sr_plain.proofs.LeaveLemmas.{within-ascend}
-use Rattle.sr_plain.proofs.LedLemmas.{place-started}
-use Rattle.sr_plain.proofs.OrderLemmas.{split-place}
+use Rattle.sr_plain.proofs.LedLemmas.{lives-used, place-started}
+use Rattle.sr_plain.proofs.OrderLemmas.{counts-any, split-place}
 use Rattle.sr_plain.proofs.WalkLemmas.{all_blocked, found_first, found_second}
 
 -- ---- each of a list
@@ -178,8 +179,9 @@ cut-of last low (x ∷ xs) high is = by (nat_lt last x.process) refl (cut-of las
         let within : x.process ≤ last = ltb-false last x.process under in
         record { at = suc more.at; fits = (let f = more.fits in omega arith); split = record { before = cut-earlier last x xs more within; after = cut-later last x xs more }; before = (within, more.before); after = more.after }
 
-cut-is : (world : World) (last next : ℕ) → IsOrdered world next → (cut : Cut last world.live) → cut.at ≡ made_after world last
-cut-is world zero next ordered cut = first cut.at cut.fits (λ s is. cut.split.before 0 s is)
+cut-is : (world : World) (last next : ℕ) → IsOrdered world next → (0 < last → list_any (λ u. u == last) world.used ≡ true)
+    → ((k : ℕ) (s : Start) → slice_get world.live k ≡ Some s → list_any (λ u. u == s.process) world.used ≡ true) → (cut : Cut last world.live) → cut.at ≡ made_after world last
+cut-is world zero next ordered known lives cut = first cut.at cut.fits (λ s is. cut.split.before 0 s is)
   where
     first : (at : ℕ) → at ≤ length world.live → ((s : Start) → slice_get world.live 0 ≡ Some s → 0 < at → s.process ≤ 0) → at ≡ 0
     first zero fits before = refl
@@ -188,7 +190,7 @@ cut-is world zero next ordered cut = first cut.at cut.fits (λ s is. cut.split.b
         by : (xs : List Start) → world.live ≡ xs → Ascend 0 xs next → suc at ≡ 0
         by [] same ascend = absurd (let l = ap (λ ys. length ys) same in omega arith)
         by (x ∷ xs) same ascend = absurd (let bound = before x (ap (λ ys. slice_get ys 0) same) (omega arith) in let first = ascend.0 in omega arith)
-cut-is world (suc n) next ordered cut = split-place world (suc n) next cut.at ordered (omega arith) cut.fits cut.split
+cut-is world (suc n) next ordered known lives cut = split-place world (suc n) next cut.at ordered (omega arith) (known (omega arith)) lives cut.fits cut.split
 
 -- ---- those that are aside
 
@@ -233,12 +235,15 @@ module _ (core : Core) (limit : ℕ) (events : List Event) (state : State) (lead
   all-off : Each (λ s. may_go waiters s.process ≡ false → takes_turn core limit state s ≡ false) state.world.live
   all-off = each-place (λ s. may_go waiters s.process ≡ false → takes_turn core limit state s ≡ false) state.world.live (λ k s is. off s (place-started core limit events state leads k s is))
 
-  module _ (last : ℕ) where
+  lives-any : (k : ℕ) (s : Start) → slice_get state.world.live k ≡ Some s → list_any (λ u. u == s.process) state.world.used ≡ true
+  lives-any k s is = counts-any state.world.used s.process (lives-used core limit events state leads s.process s (place-started core limit events state leads k s is))
+
+  module _ (last : ℕ) (known : 0 < last → list_any (λ u. u == last) state.world.used ≡ true) where
     cut : Cut last state.world.live
     cut = cut-of last 0 state.world.live next ordered.ascend
 
     walk-is : walk state.world last ≡ drop cut.at state.world.live ++ take cut.at state.world.live
-    walk-is = ap (λ k. drop k state.world.live ++ take k state.world.live) (sym (cut-is state.world last next ordered cut))
+    walk-is = ap (λ k. drop k state.world.live ++ take k state.world.live) (sym (cut-is state.world last next ordered known lives-any cut))
 
     pub found-turn : (p : ℕ) (start : Start) → IsNextAfter waiters last p → started state.world p ≡ Some start → takes_turn core limit state start ≡ true → find (takes_turn core limit state) (walk state.world last) ≡ Some start
     found-turn p start is lives t = ap (find (takes_turn core limit state)) walk-is ∙ by (nat_lt last p) refl

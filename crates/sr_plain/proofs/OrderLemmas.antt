@@ -1,87 +1,137 @@
 -- Where the numbers are given out in their order, who was made after one has a greater number.
 use Rattle.std.proofs.Common.{◌≡◌, ◌⊎◌, inl, inr, ◌<◌, ◌≤◌, ◌+◌, ◌==◌, ◌||◌, ℕ, zero, suc, Bool, true, false, not, cond, List, [], ◌∷◌, ◌++◌, length, None, Some, refl, ap, sym, ◌∙◌, subst, arith, eq-eqb, eqb-true, true≢false, append-nil}
-use Rattle.std.proofs.lemmas.Bool.{cases_eq, cases_order, ltb-false, or_parts}
+use Rattle.std.proofs.Math.Bool.{or-true}
+use Rattle.std.proofs.lemmas.Bool.{cases_lt, ltb-false, or_parts}
+use Rattle.std.proofs.lemmas.List.Elements.{All-contains}
 use Rattle.std.specs.Prelude.{count_by, nat_lt, position, slice_get, unwrap_or}
-use Rattle.std.specs.List.{list_any, position_or_len, slice_index_or}
+use Rattle.std.specs.List.{Contains, list_any, position_or_len, slice_index_or}
 use Rattle.sr_ask.specs.declared.start.Start.{Start}
 use Rattle.sr_processes.specs.Living.{is_among}
-use Rattle.sr_world.specs.Names.{IsLeastUnused, made_after, names_after}
+use Rattle.sr_queue.specs.declared.pending.Pending.{Pending}
+use Rattle.sr_world.specs.Names.{made_after, names_after}
 use Rattle.sr_world.specs.Worlds.{World}
 use Rattle.sr_core.specs.declared.component.Core.{Core}
 use Rattle.sr_ask.specs.declared.item.Item.{Item}
-use Rattle.sr_world.specs.Runs.{Event, Makes_item, Goes, State, led}
-use Rattle.sr_world.specs.Sound.{given_out, names_in}
+use Rattle.sr_world.specs.Runs.{Event, Makes_item, Goes, State, items_in, led}
+use Rattle.sr_world.specs.Sound.{IsSound, given_out, names_in}
+use Rattle.sr_world.specs.Spots.{ServiceOf, Waiting}
 use Rattle.sr_plain.proofs.LedLemmas.{any-contains, sound, used-grown}
-use Rattle.sr_world.proofs.CountLemmas.{count-cons, one}
-use Rattle.sr_plain.specs.Leaving.{Adds, Leaves}
-use Rattle.sr_plain.specs.Turns.{IsName}
-use Rattle.sr_plain.specs.Order.{AreCounted, Ascend, IsOrdered, IsSplit}
+use Rattle.sr_world.proofs.CountLemmas.{count-cons, count-push, one}
+use Rattle.sr_plain.specs.Leaving.{Adds, Arrives, Leaves}
+use Rattle.sr_plain.specs.Order.{AreInLine, Ascend, IsNext, IsNumbered, IsOrdered, IsSplit, Rise}
 
 -- ---- numbers that were given out in their order
 
-reach : (low : ℕ) (names : List ℕ) (high : ℕ) → AreCounted low names high → low ≤ high
-reach low [] high is = omega arith
-reach low (n ∷ ns) high is = let more = reach (suc low) ns high is.1 in omega arith
-
-next-low : (n low q : ℕ) → low ≤ q → n ≡ low → (n == q) ≡ false → suc low ≤ q
-next-low n low q from first off = by (cases_eq q low)
+-- one that was given out stands in the list
+pub contains-any : (names : List ℕ) (q : ℕ) → Contains names q → list_any (λ n. n == q) names ≡ true
+contains-any names q found = by (list_any (λ n. n == q) names) refl
   where
-    by : (q ≡ low) ⊎ (q ≡ low → ⊥) → suc low ≤ q
-    by (inl same) = absurd (true≢false (sym (eq-eqb n q (first ∙ sym same)) ∙ off))
-    by (inr apart) = omega arith
+    none-contains : (ns : List ℕ) → list_any (λ n. n == q) ns ≡ false → (k : ℕ) → k < length ns → slice_index_or ns k q ≡ q → ⊥
+    none-contains [] none k inside at = absurd (omega arith)
+    none-contains (n ∷ ns) none zero inside at = true≢false (sym (ap (λ b. b || list_any (λ m. m == q) ns) (eq-eqb n q at)) ∙ none)
+    none-contains (n ∷ ns) none (suc k) inside at = none-contains ns (or_parts (n == q) (list_any (λ m. m == q) ns) none).1 k (omega arith) at
 
--- a number in between is among them
-within : (low : ℕ) (names : List ℕ) (high q : ℕ) → AreCounted low names high → low ≤ q → q < high → list_any (λ n. n == q) names ≡ true
-within low [] high q is from to = absurd (omega arith)
-within low (n ∷ ns) high q is from to = by (n == q) refl (λ off. within (suc low) ns high q is.1 (next-low n low q from is.0 off) to)
+    by : (b : Bool) → list_any (λ n. n == q) names ≡ b → b ≡ true
+    by true is = refl
+    by false is = absurd (none-contains names is found.0 found.1 found.2)
+
+-- so does one that was given out once or more
+pub counts-any : (names : List ℕ) (q : ℕ) → 1 ≤ count_by (λ n. n == q) names → list_any (λ n. n == q) names ≡ true
+counts-any [] q some = absurd (omega arith)
+counts-any (n ∷ ns) q some = by (n == q) refl (counts-any ns q)
   where
-    by : (b : Bool) → (n == q) ≡ b → ((n == q) ≡ false → list_any (λ m. m == q) ns ≡ true) → (b || list_any (λ m. m == q) ns) ≡ true
-    by true here more = refl
-    by false off more = more off
+    by : (b : Bool) → (n == q) ≡ b → (1 ≤ count_by (λ m. m == q) ns → list_any (λ m. m == q) ns ≡ true) → (b || list_any (λ m. m == q) ns) ≡ true
+    by true is more = refl
+    by false is more = let counts = ap one is in more (omega (arith, count-cons (λ m. m == q) n ns, counts, some))
 
--- none below is
-without : (low : ℕ) (names : List ℕ) (high q : ℕ) → AreCounted low names high → q < low → list_any (λ n. n == q) names ≡ false
-without low [] high q is below = refl
-without low (n ∷ ns) high q is below = by (n == q) refl (without (suc low) ns high q is.1 (omega arith))
+rise-below : (low : ℕ) (names : List ℕ) (next : ℕ) → Rise low names next → low < next
+rise-below low [] next is = omega (arith, is)
+rise-below low (n ∷ ns) next is = let more = rise-below n ns next is.1 in let first = is.0 in omega arith
+
+-- one that stands in the list is in between
+rise-between : (low : ℕ) (names : List ℕ) (next q : ℕ) → Rise low names next → list_any (λ n. n == q) names ≡ true → (low < q) × (q < next)
+rise-between low [] next q is found = absurd (true≢false (sym found))
+rise-between low (n ∷ ns) next q is found = by (n == q) refl found (rise-between n ns next q is.1)
   where
-    by : (b : Bool) → (n == q) ≡ b → list_any (λ m. m == q) ns ≡ false → (b || list_any (λ m. m == q) ns) ≡ false
-    by true here more = let same : n ≡ q = eqb-true n q here in let first = is.0 in absurd (omega arith)
-    by false off more = more
+    by : (b : Bool) → (n == q) ≡ b → (b || list_any (λ m. m == q) ns) ≡ true → (list_any (λ m. m == q) ns ≡ true → (n < q) × (q < next)) → (low < q) × (q < next)
+    by true here h more =
+        let same : n ≡ q = eqb-true n q here in
+        let first = is.0 in
+        let below = rise-below n ns next is.1 in
+        (omega arith, omega arith)
+    by false off h more =
+        let rest = more h in
+        let first = is.0 in
+        let above = rest.0 in
+        (omega arith, rest.1)
 
--- none beyond is
-beyond : (low : ℕ) (names : List ℕ) (high q : ℕ) → AreCounted low names high → high ≤ q → list_any (λ n. n == q) names ≡ false
-beyond low [] high q is over = refl
-beyond low (n ∷ ns) high q is over = by (n == q) refl (beyond (suc low) ns high q is.1 over)
+-- the one before the next stands in the list, unless the list is empty
+rise-last : (low : ℕ) (names : List ℕ) (next : ℕ) → Rise low names next → (m : ℕ) × (next ≡ suc m) × ((m ≡ low) ⊎ (list_any (λ n. n == m) names ≡ true))
+rise-last low [] next is = (low, is, inl refl)
+rise-last low (n ∷ ns) next is = by (rise-last n ns next is.1)
   where
-    by : (b : Bool) → (n == q) ≡ b → list_any (λ m. m == q) ns ≡ false → (b || list_any (λ m. m == q) ns) ≡ false
-    by true here more = let same : n ≡ q = eqb-true n q here in let first = is.0 in let far = reach (suc low) ns high is.1 in absurd (omega arith)
-    by false off more = more
+    here : (m : ℕ) → (m ≡ n) ⊎ (list_any (λ k. k == m) ns ≡ true) → ((n == m) || list_any (λ k. k == m) ns) ≡ true
+    here m (inl same) = ap (λ b. b || list_any (λ k. k == m) ns) (eq-eqb n m (sym same))
+    here m (inr found) = ap (λ b. (n == m) || b) found ∙ or-true (n == m)
 
-none-contains : (names : List ℕ) (q : ℕ) → list_any (λ n. n == q) names ≡ false → (k : ℕ) → k < length names → slice_index_or names k q ≡ q → ⊥
-none-contains [] q none k inside at = absurd (omega arith)
-none-contains (n ∷ ns) q none zero inside at = true≢false (sym (ap (λ b. b || list_any (λ m. m == q) ns) (eq-eqb n q at)) ∙ none)
-none-contains (n ∷ ns) q none (suc k) inside at = none-contains ns q (or_parts (n == q) (list_any (λ m. m == q) ns) none).1 k (omega arith) at
+    by : ((m : ℕ) × (next ≡ suc m) × ((m ≡ n) ⊎ (list_any (λ k. k == m) ns ≡ true))) → (m : ℕ) × (next ≡ suc m) × ((m ≡ low) ⊎ (list_any (λ k. k == m) (n ∷ ns) ≡ true))
+    by last = (last.0, last.1, inr (here last.0 last.2))
+
+-- the number that is given out next
+pub next-is : (names : List ℕ) (next name : ℕ) → Rise 0 names next → IsNext names name → name ≡ next
+next-is names next name rise is =
+    let last = rise-last 0 names next rise in
+    let after : next ≡ suc last.0 = last.1 in
+    let low : last.0 ≤ is.greatest = least last.0 last.2 in
+    let high : is.greatest ≤ last.0 = most last.0 after (cases_lt 0 is.greatest) in
+    omega (arith, after, low, high, is.one_more)
+  where
+    least : (m : ℕ) → (m ≡ 0) ⊎ (list_any (λ n. n == m) names ≡ true) → m ≤ is.greatest
+    least m (inl none) = omega (arith, none)
+    least m (inr found) = All-contains (λ n. n ≤ is.greatest) names m is.is_greatest.bound (any-contains names m found)
+
+    most : (m : ℕ) → next ≡ suc m → (0 < is.greatest) ⊎ (is.greatest ≤ 0) → is.greatest ≤ m
+    most m after (inl some) =
+        let under = rise-between 0 names next is.greatest rise (contains-any names is.greatest (is.is_greatest.found some)) in
+        let below = under.1 in
+        omega (arith, after)
+    most m after (inr none) = omega (arith, none)
 
 -- what was given out after one is what is greater
-pub greater-among : (low : ℕ) (names : List ℕ) (high p q : ℕ) → AreCounted low names high → low ≤ p → p < q → q < high → list_any (λ n. n == q) (names_after names p) ≡ true
-greater-among low [] high p q is from apart to = absurd (omega arith)
-greater-among low (n ∷ ns) high p q is from apart to =
-    by (n == p) refl (λ here. let same : n ≡ p = eqb-true n p here in let first = is.0 in within (suc low) ns high q is.1 (omega arith) to)
-    (λ off. greater-among (suc low) ns high p q is.1 (next-low n low p from is.0 off) apart to)
+greater-among : (low : ℕ) (names : List ℕ) (next p q : ℕ) → Rise low names next → list_any (λ n. n == p) names ≡ true → list_any (λ n. n == q) names ≡ true → p < q
+    → list_any (λ n. n == q) (names_after names p) ≡ true
+greater-among low [] next p q is has-p has-q apart = absurd (true≢false (sym has-p))
+greater-among low (n ∷ ns) next p q is has-p has-q apart = by (n == p) refl (n == q) refl has-p has-q (greater-among n ns next p q is.1)
   where
-    by : (b : Bool) → (n == p) ≡ b → ((n == p) ≡ true → list_any (λ m. m == q) ns ≡ true) → ((n == p) ≡ false → list_any (λ m. m == q) (names_after ns p) ≡ true) → list_any (λ m. m == q) (cond b ns (names_after ns p)) ≡ true
-    by true here now more = now here
-    by false off now more = more off
+    by : (b : Bool) → (n == p) ≡ b → (d : Bool) → (n == q) ≡ d → (b || list_any (λ m. m == p) ns) ≡ true → (d || list_any (λ m. m == q) ns) ≡ true
+        → (list_any (λ m. m == p) ns ≡ true → list_any (λ m. m == q) ns ≡ true → p < q → list_any (λ m. m == q) (names_after ns p) ≡ true)
+        → list_any (λ m. m == q) (cond b ns (names_after ns p)) ≡ true
+    by true here true there hp hq more =
+        let same : n ≡ p = eqb-true n p here in
+        let equal : n ≡ q = eqb-true n q there in
+        absurd (omega arith)
+    by true here false there hp hq more = hq
+    by false here true there hp hq more =
+        let equal : n ≡ q = eqb-true n q there in
+        let bounds = rise-between n ns next p is.1 hp in
+        let above = bounds.0 in
+        absurd (omega arith)
+    by false here false there hp hq more = more hp hq apart
 
-pub less-among : (low : ℕ) (names : List ℕ) (high p q : ℕ) → AreCounted low names high → low ≤ p → q ≤ p → list_any (λ n. n == q) (names_after names p) ≡ false
-less-among low [] high p q is from under = refl
-less-among low (n ∷ ns) high p q is from under =
-    by (n == p) refl (λ here. let same : n ≡ p = eqb-true n p here in let first = is.0 in without (suc low) ns high q is.1 (omega arith))
-    (λ off. less-among (suc low) ns high p q is.1 (next-low n low p from is.0 off) under)
+less-among : (low : ℕ) (names : List ℕ) (next p q : ℕ) → Rise low names next → q ≤ p → list_any (λ n. n == q) (names_after names p) ≡ false
+less-among low [] next p q is under = refl
+less-among low (n ∷ ns) next p q is under = by (n == p) refl (less-among n ns next p q is.1 under)
   where
-    by : (b : Bool) → (n == p) ≡ b → ((n == p) ≡ true → list_any (λ m. m == q) ns ≡ false) → ((n == p) ≡ false → list_any (λ m. m == q) (names_after ns p) ≡ false) → list_any (λ m. m == q) (cond b ns (names_after ns p)) ≡ false
-    by true here now more = now here
-    by false off now more = more off
+    none : n ≡ p → (b : Bool) → list_any (λ m. m == q) ns ≡ b → b ≡ false
+    none same true found =
+        let bounds = rise-between n ns next q is.1 found in
+        let above = bounds.0 in
+        absurd (omega (arith, same))
+    none same false found = refl
+
+    by : (b : Bool) → (n == p) ≡ b → list_any (λ m. m == q) (names_after ns p) ≡ false → list_any (λ m. m == q) (cond b ns (names_after ns p)) ≡ false
+    by true here more = none (eqb-true n p here) (list_any (λ m. m == q) ns) refl
+    by false off more = more
 
 -- ---- the first that was made after one
 
@@ -108,45 +158,33 @@ never_outside [] at inside none = absurd (omega arith)
 never_outside (x ∷ xs) zero inside none = absurd (cc)
 never_outside (x ∷ xs) (suc at) inside none = never_outside xs at (omega arith) none
 
--- who stands in order has a number below the next one
-below-next : (low : ℕ) (live : List Start) (high k : ℕ) (s : Start) → Ascend low live high → slice_get live k ≡ Some s → (low < s.process) × (s.process < high)
-below-next low [] high k s is there = absurd (cc)
-below-next low (x ∷ xs) high zero s is there =
-    let same : x ≡ s = cc in
-    let number : x.process ≡ s.process = ap (λ (y : Start). y.process) same in
-    let first = is.0 in
-    let rest = reaches x.process xs high is.1 in
-    (omega arith, omega arith)
-  where
-    reaches : (l : ℕ) (ys : List Start) (h : ℕ) → Ascend l ys h → l < h
-    reaches l [] h a = a
-    reaches l (y ∷ ys) h a = let more = reaches y.process ys h a.1 in let first = a.0 in omega arith
-below-next low (x ∷ xs) high (suc k) s is there =
-    let more = below-next x.process xs high k s is.1 there in
-    let first = is.0 in
-    let a = more.0 in
-    let b = more.1 in
-    (omega arith, omega arith)
-
 -- where both places are one, it is that of the first that was made after the last actor
-pub split-place : (world : World) (last next at : ℕ) → IsOrdered world next → 0 < last → at ≤ length world.live → IsSplit last world.live at at → at ≡ made_after world last
-split-place world zero next at ordered positive fits split = absurd (omega arith)
-split-place world (suc n) next at ordered positive fits split =
+pub split-place : (world : World) (last next at : ℕ) → IsOrdered world next → 0 < last → list_any (λ u. u == last) world.used ≡ true
+    → ((k : ℕ) (s : Start) → slice_get world.live k ≡ Some s → list_any (λ u. u == s.process) world.used ≡ true)
+    → at ≤ length world.live → IsSplit last world.live at at → at ≡ made_after world last
+split-place world zero next at ordered positive known lives fits split = absurd (omega arith)
+split-place world (suc n) next at ordered positive known lives fits split =
     sym (place-or-all (is_among (names_after world.used (suc n))) world.live at fits (first-at (is_among (names_after world.used (suc n))) world.live at fits before after))
   where
     before : (k : ℕ) (s : Start) → slice_get world.live k ≡ Some s → k < at → is_among (names_after world.used (suc n)) s ≡ false
-    before k s there under = less-among 1 world.used next (suc n) s.process ordered.counted (omega arith) (split.before k s there under)
+    before k s there under = less-among 0 world.used next (suc n) s.process ordered.rise (split.before k s there under)
 
     after : (k : ℕ) (s : Start) → slice_get world.live k ≡ Some s → at ≤ k → is_among (names_after world.used (suc n)) s ≡ true
-    after k s there over =
-        let bounds = below-next 0 world.live next k s ordered.ascend there in
-        greater-among 1 world.used next (suc n) s.process ordered.counted (omega arith) (split.after k s there over) bounds.1
+    after k s there over = greater-among 0 world.used next (suc n) s.process ordered.rise known (lives k s there) (split.after k s there over)
 
 -- ---- one step more
 
-counted-more : (low : ℕ) (names : List ℕ) (high : ℕ) → AreCounted low names high → AreCounted low (names ++ high ∷ []) (suc high)
-counted-more low [] high is = (sym is, ap suc is)
-counted-more low (n ∷ ns) high is = (is.0, counted-more (suc low) ns high is.1)
+rise-more : (low : ℕ) (names : List ℕ) (next : ℕ) → Rise low names next → Rise low (names ++ next ∷ []) (suc next)
+rise-more low [] next is = (omega (arith, is), refl)
+rise-more low (n ∷ ns) next is = (is.0, rise-more n ns next is.1)
+
+line-more : (low : ℕ) (ps : List Pending) (high : ℕ) (p : Pending) → AreInLine low ps high → p.id ≡ high → AreInLine low (ps ++ p ∷ []) (suc high)
+line-more low [] high p is same = (omega (arith, same, is), omega (arith, same))
+line-more low (x ∷ xs) high p is same = (is.0, line-more x.id xs high p is.1 same)
+
+higher-line : (low : ℕ) (ps : List Pending) (high over : ℕ) → high ≤ over → AreInLine low ps high → AreInLine low ps over
+higher-line low [] high over less is = omega arith
+higher-line low (x ∷ xs) high over less is = (is.0, higher-line x.id xs high over less is.1)
 
 ascend-more : (low : ℕ) (live : List Start) (high : ℕ) (start : Start) → Ascend low live high → start.process ≡ high → Ascend low (live ++ start ∷ []) (suc high)
 ascend-more low [] high start is same = (omega (arith, same, is), omega (arith, same))
@@ -156,60 +194,62 @@ pub higher-ascend : (low : ℕ) (live : List Start) (high over : ℕ) → high �
 higher-ascend low [] high over less is = omega arith
 higher-ascend low (x ∷ xs) high over less is = (is.0, higher-ascend x.process xs high over less is.1)
 
--- the least unused number is the next one
-pub least-is-next : (names : List ℕ) (next name : ℕ) → AreCounted 1 names next → IsLeastUnused names name → name ≡ next
-least-is-next names next name counted least = by (cases_order name next)
-  where
-    by : (name ≡ next) ⊎ ((name < next) ⊎ (next < name)) → name ≡ next
-    by (inl same) = same
-    by (inr (inl less)) = absurd (least.unused (any-contains names name (within 1 names next name counted (omega (arith, least.positive)) less)))
-    by (inr (inr more)) =
-        let from = reach 1 names next counted in
-        let found = least.least next (omega arith) more in
-        absurd (none-contains names next (beyond 1 names next next counted (omega arith)) found.0 found.1 found.2)
-
 -- after a step the order is as before, and what it made is the last
-pub ordered-step : (old new : World) (next name : ℕ) → IsOrdered old next → (new.used ≡ old.used ++ name ∷ []) → name ≡ next → (stay : List Start) → Ascend 0 stay next → (new.live ≡ stay) ⊎ Adds name stay new.live
-    → IsOrdered new (suc next)
-ordered-step old new next name ordered used is stay ascend live = record {
-  counted = subst (λ names. AreCounted 1 names (suc next)) (sym used) (subst (λ n. AreCounted 1 (old.used ++ n ∷ []) (suc next)) (sym is) (counted-more 1 old.used next ordered.counted));
+ordered-step : (old new : World) (next name : ℕ) → IsOrdered old next → (new.used ≡ old.used ++ name ∷ []) → name ≡ next → (stay : List Start) → Ascend 0 stay next → (new.live ≡ stay) ⊎ Adds name stay new.live
+    → (wait : List Pending) → AreInLine 0 wait next → (new.pending ≡ wait) ⊎ Arrives name wait new.pending → IsOrdered new (suc next)
+ordered-step old new next name ordered used is stay ascend live wait in_line pending = record {
+  rise = subst (λ names. Rise 0 names (suc next)) (sym used) (subst (λ n. Rise 0 (old.used ++ n ∷ []) (suc next)) (sym is) (rise-more 0 old.used next ordered.rise));
   ascend = by live;
+  in_line = by-line pending;
 }
   where
     by : (new.live ≡ stay) ⊎ Adds name stay new.live → Ascend 0 new.live (suc next)
     by (inl same) = subst (λ xs. Ascend 0 xs (suc next)) (sym same) (higher-ascend 0 stay next (suc next) (omega arith) ascend)
     by (inr adds) = subst (λ xs. Ascend 0 xs (suc next)) (sym adds.added) (ascend-more 0 stay next adds.start ascend (adds.named ∙ is))
 
+    by-line : (new.pending ≡ wait) ⊎ Arrives name wait new.pending → AreInLine 0 new.pending (suc next)
+    by-line (inl same) = subst (λ ps. AreInLine 0 ps (suc next)) (sym same) (higher-line 0 wait next (suc next) (omega arith) in_line)
+    by-line (inr arrives) = subst (λ ps. AreInLine 0 ps (suc next)) (sym arrives.added) (line-more 0 wait next arrives.invocation in_line (arrives.named ∙ is))
+
+-- the last isn't there where none is
+never-last : {A : Type 0} (test : A → Bool) (xs all : List A) (x : A) → count_by test all ≡ 0 → all ≡ xs ++ x ∷ [] → test x ≡ true → ⊥
+never-last test xs all x none is passes = let counts = ap one passes in absurd (omega (arith, count-push test xs x, counts, sym (ap (count_by test) is) ∙ none))
+
 -- a step without a number makes nothing
-pub ordered-same : (old new : World) (next : ℕ) → IsOrdered old next → new.used ≡ old.used → count_by (λ (s : Start). s.process == 0) new.live ≡ 0 → (stay : List Start) → Ascend 0 stay next
-    → (new.live ≡ stay) ⊎ Adds 0 stay new.live → IsOrdered new next
-ordered-same old new next ordered used none stay ascend live = record {
-  counted = subst (λ names. AreCounted 1 names next) (sym used) ordered.counted;
+ordered-same : (old new : World) (next : ℕ) → IsOrdered old next → new.used ≡ old.used → count_by (λ (s : Start). s.process == 0) new.live ≡ 0 → count_by (λ (p : Pending). p.id == 0) new.pending ≡ 0
+    → (stay : List Start) → Ascend 0 stay next → (new.live ≡ stay) ⊎ Adds 0 stay new.live → (wait : List Pending) → AreInLine 0 wait next → (new.pending ≡ wait) ⊎ Arrives 0 wait new.pending → IsOrdered new next
+ordered-same old new next ordered used none none-waits stay ascend live wait in_line pending = record {
+  rise = subst (λ names. Rise 0 names next) (sym used) ordered.rise;
   ascend = by live;
+  in_line = by-line pending;
 }
   where
     by : (new.live ≡ stay) ⊎ Adds 0 stay new.live → Ascend 0 new.live next
     by (inl same) = subst (λ xs. Ascend 0 xs next) (sym same) ascend
-    by (inr adds) = absurd (never_last stay adds.start (ap (count_by (λ (s : Start). s.process == 0)) (sym adds.added) ∙ none) (eq-eqb adds.start.process 0 adds.named))
-      where
-        never_last : (xs : List Start) (start : Start) → count_by (λ (s : Start). s.process == 0) (xs ++ start ∷ []) ≡ 0 → (start.process == 0) ≡ true → ⊥
-        never_last [] start is here = let counts = ap one here in absurd (omega (arith, count-cons (λ (s : Start). s.process == 0) start [], counts, is))
-        never_last (x ∷ xs) start is here = never_last xs start (omega (arith, count-cons (λ (s : Start). s.process == 0) x (xs ++ start ∷ []), is)) here
+    by (inr adds) = absurd (never-last (λ (s : Start). s.process == 0) stay new.live adds.start none adds.added (eq-eqb adds.start.process 0 adds.named))
+
+    by-line : (new.pending ≡ wait) ⊎ Arrives 0 wait new.pending → AreInLine 0 new.pending next
+    by-line (inl same) = subst (λ ps. AreInLine 0 ps next) (sym same) in_line
+    by-line (inr arrives) = absurd (never-last (λ (p : Pending). p.id == 0) wait new.pending arrives.invocation none-waits arrives.added (eq-eqb arrives.invocation.id 0 arrives.named))
 
 -- ---- one item more
 
 module _ (core : Core) (limit : ℕ) (events : List Event) (state later : State) (item : Item) (leads : led core limit events ≡ Goes state) (leads_later : led core limit (events ++ Makes_item item ∷ []) ≡ Goes later)
     (next : ℕ) (ordered : IsOrdered state.world next) where
-  pub ordered-after : (name : ℕ) (text : List ℕ) → names_in (item ∷ []) ≡ given_out name ++ [] → IsName state.world name → Leaves name text state.world later.world → (n : ℕ) × IsOrdered later.world n
+  sound' : IsSound (items_in (events ++ Makes_item item ∷ [])) later
+  sound' = sound core limit (events ++ Makes_item item ∷ []) later leads_later
+
+  pub ordered-after : (name : ℕ) (text : List ℕ) → names_in (item ∷ []) ≡ given_out name ++ [] → IsNumbered state.world name → Leaves name text state.world later.world → (n : ℕ) × IsOrdered later.world n
   ordered-after zero text made named left = (
     next,
     ordered-same state.world later.world next ordered
         (used-grown core limit events state leads (Makes_item item) later leads_later ∙ ap (λ names. state.world.used ++ names) made ∙ append-nil state.world.used)
-        (let sound' = sound core limit (events ++ Makes_item item ∷ []) later leads_later in omega (arith, sound'.numbers.processes 0, sound'.numbers.zero_never))
-        left.stay (left.ascend 0 next ordered.ascend) left.live,
+        (omega (arith, sound'.numbers.processes 0, sound'.numbers.zero_never))
+        (omega (arith, sound'.duties.numbers (ServiceOf 0) Waiting, sound'.numbers.zero_never))
+        left.stay (left.ascend 0 next ordered.ascend) left.live left.wait (left.in_line 0 next ordered.in_line) left.pending,
   )
   ordered-after (suc n) text made named left = (
     suc next,
     ordered-step state.world later.world next (suc n) ordered (used-grown core limit events state leads (Makes_item item) later leads_later ∙ ap (λ names. state.world.used ++ names) made)
-        (least-is-next state.world.used next (suc n) ordered.counted named) left.stay (left.ascend 0 next ordered.ascend) left.live,
+        (next-is state.world.used next (suc n) ordered.rise named) left.stay (left.ascend 0 next ordered.ascend) left.live left.wait (left.in_line 0 next ordered.in_line) left.pending,
   )

@@ -10,21 +10,21 @@ use Rattle.sr_value.specs.declared.memory.NoMemory.{NoMemory}
 use Rattle.sr_world.specs.Acting.{Acts}
 use Rattle.sr_world.specs.Does.{Does, Did, Makes, Cannot, Ends, Undecided}
 use Rattle.sr_world.specs.Endings.{close_or, main_instance, may_close, quiesce, rest_of}
-use Rattle.sr_world.specs.Names.{IsLeastUnused}
 use Rattle.sr_world.specs.Runs.{Event, Makes_item, Goes, Over as run_over, State, next, no_step, rested, where_true}
 use Rattle.sr_world.specs.Worlds.{World}
 use Rattle.sr_world.specs.declared.acted.Acted.TheVariants as acted
 use Rattle.sr_world.specs.declared.ends.End.{End}
 use Rattle.sr_plain.specs.Engine.{Comes, IsEngine}
 use Rattle.sr_plain.specs.Leaving.{Leaves, LeavesIf}
+use Rattle.sr_plain.specs.Order.{IsNext}
 use Rattle.sr_plain.specs.declared.plain.Plain.{Plain}
 use Rattle.sr_plain.specs.declared.plainly.Plainly.TheVariants as plainly
 use Rattle.sr_plain.specs.declared.change.Change.TheVariants.{Everything}
 use Rattle.sr_plain.specs.declared.change.Woken.{Woken}
-use Rattle.sr_plain.proofs.AnswerLemmas.{least-name}
+use Rattle.sr_plain.proofs.AnswerLemmas.{next-name}
 use Rattle.sr_plain.proofs.EngineLemmas.{everyone}
 use Rattle.sr_plain.proofs.LeaveLemmas.{leaves_at_rest}
-use Rattle.sr_plain.proofs.LedLemmas.{last-more, least-new, least-unused, led-more}
+use Rattle.sr_plain.proofs.LedLemmas.{last-more, led-more, next-new, next-unused}
 use Rattle.sr_plain.proofs.LivingLemmas.{living-everyone, named-after}
 use Rattle.sr_plain.proofs.OrderLemmas.{ordered-after}
 use Rattle.sr_plain.proofs.TurnLemmas.{rested-stands}
@@ -92,37 +92,38 @@ module _ {A : Type 0} (after : A → List Answer → Asks) (can_feed : A → Typ
   next-is name d e = ap (λ b. where_true b (rested state name (quiesce core name state.world))) none ∙ ap (rested state name) e
 
   module _ (name : ℕ) (plain : Plain A) (engine : IsEngine after can_feed core limit state events plain) where
-    begins : (w' : World) (a : Answer) (d : Does) → quiesce core name state.world ≡ d → AtRest d → Acts d state.world w' (Ok (acted.Done a)) → IsLeastUnused state.world.used name
+    begins : (w' : World) (a : Answer) (d : Does) → quiesce core name state.world ≡ d → AtRest d → Acts d state.world w' (Ok (acted.Done a)) → IsNext state.world.used name
         → (next core limit state (Quiesce name) ≡ Goes (record state { world = w' })) × Leaves name [] state.world w'
-    begins w' a (Did w g) e rest acts least = absurd rest
-    begins w' a (Makes w g) e rest acts least = (
-      next-is name (Makes w g) e ∙ ap (λ b. where_true b (Goes (record state { world = w }))) (least-new state.world name least) ∙ ap (λ v. Goes (record state { world = v })) (sym acts.0),
+    begins w' a (Did w g) e rest acts following = absurd rest
+    begins w' a (Makes w g) e rest acts following = (
+      next-is name (Makes w g) e ∙ ap (λ b. where_true b (Goes (record state { world = w }))) (next-new state.world name following) ∙ ap (λ v. Goes (record state { world = v })) (sym acts.0),
       subst (λ v. Leaves name [] state.world v) (sym acts.0) (subst (LeavesIf name [] state.world) e (leaves_at_rest name state.world core)),
     )
-    begins w' a Cannot e rest acts least = absurd rest
-    begins w' a (Ends ending) e rest acts least = absurd acts
-    begins w' a Undecided e rest acts least = absurd rest
+    begins w' a Cannot e rest acts following = absurd rest
+    begins w' a (Ends ending) e rest acts following = absurd acts
+    begins w' a Undecided e rest acts following = absurd rest
 
-    pub rest_begins : (w' : World) (a : Answer) → Acts (quiesce core name plain.world) plain.world w' (Ok (acted.Done a)) → IsLeastUnused plain.world.used name
+    pub rest_begins : (w' : World) (a : Answer) → Acts (quiesce core name plain.world) plain.world w' (Ok (acted.Done a)) → IsNext plain.world.used name
         → (woken : Woken) → woken.change ≡ Everything → woken.gone ≡ None → Comes after can_feed core limit state events None (plainly.Stepped (Quiesce name) []) (record plain { world = w'; woken = Some woken })
-    rest_begins w' a acts least woken all nobody =
+    rest_begins w' a acts following woken all nobody =
         let acts' : Acts (quiesce core name state.world) state.world w' (Ok (acted.Done a)) = subst (λ v. Acts (quiesce core name v) v w' (Ok (acted.Done a))) engine.world acts in
-        let least' : IsLeastUnused state.world.used name = subst (λ (v : World). IsLeastUnused v.used name) engine.world least in
-        let b = begins w' a (quiesce core name state.world) refl (at-rest core name state.world) acts' least' in
+        let following' : IsNext state.world.used name = subst (λ (v : World). IsNext v.used name) engine.world following in
+        let b = begins w' a (quiesce core name state.world) refl (at-rest core name state.world) acts' following' in
         let rested_state : State = record state { world = w' } in
         let order = ordered-after core limit events state rested_state (Quiesce name) engine.stands.leads (led-more core limit events state rested_state (Makes_item (Quiesce name)) engine.stands.leads b.0) engine.stands.next engine.stands.order name
-        [] refl (least-name state.world name least') b.1 in
+        [] refl (next-name state.world name following') b.1 in
         record {
           later = record state { world = w' };
           goes = b.0;
-          turn_of = least-name state.world name least';
+          turn_of = tt;
+          named = next-name state.world name following';
           written = b.1.output;
           engine = record {
             world = refl;
             ticks = engine.ticks;
             last = engine.last ∙ sym (last-more events (Makes_item (Quiesce name)));
-            stands = rested-stands after can_feed core limit state events plain.crew engine.stands (record state { world = w' }) name [] (Quiesce name) refl b.1 (least-unused state.world name least') b.0 order.0 order.1;
-            living = living-everyone w' plain.crew (Some woken) woken refl all nobody (named-after state.world w' plain.crew engine.stands.unborn name [] b.1 (least-unused state.world name least') plain.woken engine.living);
+            stands = rested-stands after can_feed core limit state events plain.crew engine.stands (record state { world = w' }) name [] (Quiesce name) refl b.1 (next-unused state.world name following') b.0 order.0 order.1;
+            living = living-everyone w' plain.crew (Some woken) woken refl all nobody (named-after state.world w' plain.crew engine.stands.unborn name [] b.1 (next-unused state.world name following') plain.woken engine.living);
             aside = everyone core limit rested_state plain.waiters (Some woken) woken refl all;
           };
         }
@@ -142,7 +143,7 @@ module _ {A : Type 0} (after : A → List Answer → Asks) (can_feed : A → Typ
     rest_ends w' ending acts woken all nobody =
         let acts' : Acts (quiesce core name state.world) state.world w' (Ok (acted.Ends ending)) = subst (λ v. Acts (quiesce core name v) v w' (Ok (acted.Ends ending))) engine.world acts in
         let f = ends w' ending (quiesce core name state.world) refl (at-rest core name state.world) acts' in (
-          record { ends = f.1; turn_of = tt },
+          record { ends = f.1; turn_of = tt; named = tt },
           record {
             world = f.0;
             ticks = engine.ticks;

@@ -199,10 +199,10 @@ gone-then w w' p loses none = by (started w' p) refl
     by (Some s) is = let was : started w p ≡ Some s = loses.lives p s is in absurd (cc)
 
 after-loses : (role : Role) (back p : ℕ) (w : World) → Loses (end_process p w) (end_after role back p w)
-after-loses Boot back p w = loses-same (end_process p w) (end_process p w) refl refl
-after-loses proc_role back p w = loses-same (end_process p w) (end_process p w) refl refl
+after-loses Boot back p w = loses-same (end_process p w) (end_process p w) refl refl refl
+after-loses proc_role back p w = loses-same (end_process p w) (end_process p w) refl refl refl
 after-loses Initial back p w = make_ready-loses (instance_of_process w p) (end_process p w)
-after-loses Final zero p w = loses-same (end_process p w) (end_process p w) refl refl
+after-loses Final zero p w = loses-same (end_process p w) (end_process p w) refl refl refl
 after-loses Final (suc caller) p w = end_instance-loses (instance_of_process w p) (end_process p w)
 
 after-lasts : (role : Role) (back p : ℕ) (w : World) → is_everything (change_of_end role back) ≡ false → Lasts (end_process p w) (end_after role back p w)

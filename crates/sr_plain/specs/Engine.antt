@@ -20,9 +20,9 @@ use Rattle.sr_world.specs.declared.acted.Acted.{Acted}
 use Rattle.sr_world.specs.declared.ends.End.{End}
 use Rattle.sr_plain.specs.Carrying.{Names}
 use Rattle.sr_plain.specs.Crew.{AreLiving, Plays, member_of}
-use Rattle.sr_plain.specs.Order.{IsOrdered}
+use Rattle.sr_plain.specs.Order.{IsNumbered, IsOrdered}
 use Rattle.sr_plain.specs.Ready.{AreAside, IsNoted}
-use Rattle.sr_plain.specs.Turns.{IsTurn, last_after}
+use Rattle.sr_plain.specs.Turns.{IsTurn, last_after, number_in}
 use Rattle.sr_actor.specs.declared.member.Member.{Member}
 use Rattle.sr_plain.specs.declared.plain.Plain.{Plain}
 use Rattle.sr_plain.specs.declared.plainly.Plainly.{Plainly}
@@ -84,19 +84,21 @@ pub record IsCarried {A : Type 0} (after : A → List Answer → Asks) (can_feed
 
 -- ---- what a step does
 
--- the item was made, in its turn, and this text was written
+-- the item was made, in its turn and with the next number, and this text was written
 pub record HasStepped {A : Type 0} (after : A → List Answer → Asks) (can_feed : A → Type 0) (core : Core) (limit : ℕ) (state : State) (events : List Event)
     (turn : Option Start) (item : Item) (output : List ℕ) (plain : Plain A) : Type 0 where
   pub later : State
   pub goes : next core limit state item ≡ Goes later
-  pub turn_of : IsTurn turn state.world item
+  pub turn_of : IsTurn turn item
+  pub named : IsNumbered state.world (number_in item)
   pub written : later.world.output ≡ state.world.output ++ output
   pub engine : IsEngine after can_feed core limit later (events ++ Makes_item item ∷ []) plain
 
 -- the item would end the run
 pub record IsLast (core : Core) (limit : ℕ) (state : State) (turn : Option Start) (item : Item) (ending : End) : Type 0 where
   pub ends : next core limit state item ≡ run_over ending state
-  pub turn_of : IsTurn turn state.world item
+  pub turn_of : IsTurn turn item
+  pub named : IsNumbered state.world (number_in item)
 
 -- whose turn it is reads, and bytes that may still come decide what
 abbrev pub WaitsForInput : Core → ℕ → State → Option Start → Type 0

@@ -27,16 +27,22 @@ turn_of core limit state (Some start) = find (takes_turn core limit state) (star
 
 -- ---- rotation
 
+-- a step is made by whose turn it is, and the machine comes to rest where there is none
+abbrev pub IsTurn : Option Start → Item → Type 0
+IsTurn (Some start) (Step actor name) = actor ≡ start.process
+IsTurn None (Quiesce name) = Unit {0}
+IsTurn turn item = ⊥
+
+-- the number of what an item makes, or 0
+abbrev pub number_in : Item → ℕ
+number_in (Step actor name) = name
+number_in (Quiesce name) = name
+number_in (Tick to) = 0
+
 -- a step that makes something gives it the least unused number
 abbrev pub IsName : World → ℕ → Type 0
 IsName world zero = Unit {0}
 IsName world (suc n) = IsLeastUnused world.used (suc n)
-
--- a step is made by whose turn it is, and the machine comes to rest where there is none
-abbrev pub IsTurn : Option Start → World → Item → Type 0
-IsTurn (Some start) world (Step actor name) = (actor ≡ start.process) × IsName world name
-IsTurn None world (Quiesce name) = IsName world name
-IsTurn turn world item = ⊥
 
 -- the last actor after one more item
 abbrev pub last_after : ℕ → Item → ℕ
@@ -44,11 +50,11 @@ last_after last (Step actor name) = actor
 last_after last (Quiesce name) = last
 last_after last (Tick to) = last
 
--- each item stands where its turn is
+-- each item stands where its turn is, and what it makes gets the least unused number
 abbrev pub Rotates : Core → ℕ → Next → ℕ → List Item → Type 0
 Rotates core limit now last [] = Unit {0}
 Rotates core limit (Goes state) last (item ∷ items) =
-    IsTurn (turn core limit state last) state.world item × Rotates core limit (next core limit state item) (last_after last item) items
+    IsTurn (turn core limit state last) item × IsName state.world (number_in item) × Rotates core limit (next core limit state item) (last_after last item) items
 Rotates core limit now last (item ∷ items) = ⊥
 
 -- the items of a run with this input are in rotation

@@ -1,10 +1,10 @@
 ghost use Rattle.std.specs.Prelude.{◌≡◌, ℕ, IfOk, OnErr, Ok};
 ghost use Rattle.sr_plain.specs.Carrying.{Names};
 ghost use Rattle.sr_plain.specs.Leaving.{written_by};
+ghost use Rattle.sr_plain.specs.Order.{IsNext};
 ghost use Rattle.sr_world.specs.Acting.{Acts, NeedsNew};
 ghost use Rattle.sr_world.specs.Callers.{caller_in};
 ghost use Rattle.sr_world.specs.Does.{Does as what};
-ghost use Rattle.sr_world.specs.Names.{IsLeastUnused};
 ghost use Rattle.sr_world.specs.Steps.{does};
 
 use sr_ask::{Ask, Request};
@@ -22,12 +22,12 @@ pub struct Carried {
     pub acted: Acted,
 }
 
-/// The least unused number. Where each number has been given out there is no memory for more.
+/// One more than the greatest number that was given out. Where that is the greatest of all there is no memory for more.
 pub fn new_name(world: &World) -> Result<u32, NoMemory>
-    ensures least { IfOk result (IsLeastUnused world.now.used) }
+    ensures next { IfOk result (IsNext world.now.used) }
     ensures needed { IfOk result (λ name. (meant : what) → NeedsNew meant world.now name) }
 {
-    match world.least_unused() {
+    match world.greatest_used().checked_add(1) {
         Some(name) => {
             if world.is_new(name) {
                 return Ok(name);

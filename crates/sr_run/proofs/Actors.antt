@@ -35,11 +35,11 @@ module _ (core : Core) (ticks : ℕ) where
     steps actor name None found legal = absurd (true≢false (sym legal))
     steps actor name (Some start) found legal = positive actor (ap is_some found)
 
-    no-tick : (turn : Option Start) (to : ℕ) → IsTurn turn state.world (Tick to) → ⊥
+    no-tick : (turn : Option Start) (to : ℕ) → IsTurn turn (Tick to) → ⊥
     no-tick None to here = here
     no-tick (Some start) to here = here
 
-    acts : (turn : Option Start) (item : Item) → IsTurn turn state.world item → is_legal (next core ticks state item) ≡ true → HasActor item
+    acts : (turn : Option Start) (item : Item) → IsTurn turn item → is_legal (next core ticks state item) ≡ true → HasActor item
     acts turn (Step actor name) here legal = steps actor name (started state.world actor) refl legal
     acts turn (Quiesce name) here legal = tt
     acts turn (Tick to) here legal = no-tick turn to here
@@ -55,7 +55,7 @@ module _ (core : Core) (ticks : ℕ) where
   from past last state [] sound rotates legal = tt
   from past last state (item ∷ items) sound rotates legal = (
     acts past state sound (turn core ticks state last) item rotates.0 (legal-now (next core ticks state item) items legal),
-    by (next core ticks state item) refl rotates.1 legal (λ before later sound' here h. from before (last_after last item) later items sound' here h),
+    by (next core ticks state item) refl rotates.2 legal (λ before later sound' here h. from before (last_after last item) later items sound' here h),
   )
     where
       by : (now : Next) → next core ticks state item ≡ now → Rotates core ticks now (last_after last item) items → is_legal (run_from core ticks now items) ≡ true

@@ -74,7 +74,7 @@ module _ {A : Type 0} (after : A → List Answer → Asks) (can_feed : A → Typ
     by_end : (ending : End) (result : RunEnd) → IsLast call.core call.ticks state_of turn_of item ending → EndsWith item ending call.items items result → HasCause last_call result
     by_end ending (end.Ended given) last ends =
         subst (λ e. HasCause last_call (end.Ended e)) (sym ends.1)
-        (ended_so call intake state_of events_of come item last.turn_of items ends.0 call.now.held call.now.write_faults ending last.ends refl (record { read = no_faults.read; write = no_faults.write }))
+        (ended_so call intake state_of events_of come item (last.turn_of, last.named) items ends.0 call.now.held call.now.write_faults ending last.ends refl (record { read = no_faults.read; write = no_faults.write }))
     by_end ending end.NoMemory last ends = subst (λ is. EndsEarly (record call { items = is })) (sym ends) out_of_memory
     by_end ending (end.Limit kind) last ends = absurd ends
     by_end ending end.ReadFault last ends = absurd ends
@@ -108,13 +108,13 @@ module _ {A : Type 0} (after : A → List Answer → Asks) (can_feed : A → Typ
 
       module _ (later : Plain A) (stepped : HasStepped after can_feed call.core call.ticks state_of events_of turn_of item text later) where
         cut : Adds item call.items items → PutInPart call.now.held held text → IsCutInWrite next_call
-        cut added part = cut_in_write call intake state_of events_of come item stepped.turn_of items added held write_faults stepped.later stepped.goes text stepped.written part
+        cut added part = cut_in_write call intake state_of events_of come item (stepped.turn_of, stepped.named) items added held write_faults stepped.later stepped.goes text stepped.written part
 
         goes_further : (result : Option RunEnd) → PutsItem item text call.items items call.now.held held call.now.write_faults write_faults result → Advances after can_feed next_call intake later result
         goes_further None puts = record {
           state = stepped.later;
           events = events_of ++ Makes_item item ∷ [];
-          come = made_come call intake state_of events_of come item stepped.turn_of items puts.0 held write_faults stepped.later stepped.goes text stepped.written puts.1;
+          come = made_come call intake state_of events_of come item (stepped.turn_of, stepped.named) items puts.0 held write_faults stepped.later stepped.goes text stepped.written puts.1;
           no_faults = next_faults puts.2;
           engine = stepped.engine;
         }

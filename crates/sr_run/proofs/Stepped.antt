@@ -12,8 +12,7 @@ use Rattle.sr_plain.proofs.RotationLemmas.{one_more_in_turn}
 use Rattle.sr_plain.specs.Carrying.{written_of}
 use Rattle.sr_plain.specs.Engine.{last_in}
 use Rattle.sr_plain.specs.Leaving.{LeavesIf, written_by}
-use Rattle.sr_plain.specs.Rotation.{AreInTurn}
-use Rattle.sr_plain.specs.Turns.{IsTurn, turn}
+use Rattle.sr_plain.specs.Rotation.{AreInTurn, IsInTurn}
 use Rattle.sr_ports.proofs.Growth.{append_known-append}
 use Rattle.sr_ports.specs.Streams.{PutInPart}
 use Rattle.sr_world.proofs.PieceLemmas.{ended-next}
@@ -108,7 +107,7 @@ module _ (core : Core) (ticks : ℕ) (state later : State) where
 -- ---- one item more
 
 module _ (call : Call) (intake : Intake) (state : State) (events : List Event) (come : HasCome call intake state events) (item : Item)
-    (turn_of : IsTurn (turn call.core call.ticks state (last_in events)) state.world item) (items : List Item) (added : items ≡ call.items ++ item ∷ []) (held : Option (List ℕ)) (write_faults : ℕ) where
+    (turn_of : IsInTurn call.core call.ticks state (last_in events) (Makes_item item)) (items : List Item) (added : items ≡ call.items ++ item ∷ []) (held : Option (List ℕ)) (write_faults : ℕ) where
   abbrev with_item : Call
   with_item = record call { items = items; now = record call.now { held = held; write_faults = write_faults } }
 

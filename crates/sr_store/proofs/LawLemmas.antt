@@ -11,7 +11,7 @@ use Rattle.sr_value.specs.Parts.{fitted_in, loaded_at, or_fault, stored_at, with
 use Rattle.sr_in_place.specs.Places.{shape_at}
 use Rattle.sr_in_place.proofs.PlaceLemmas.{others-stay as places-stay, stored-loaded}
 use Rattle.sr_in_place.proofs.ResultLemmas.{found-back, same-ok, step-back}
-use Rattle.sr_store.specs.Variables.{ByNumber, Variables, block_of, block_stored, loaded_in, stored_in, variable_at, with_block}
+use Rattle.sr_store.specs.Variables.{ByNumber, Variables, block_of, block_stored, loaded_in, stored_in, variable_at, with_block, with_variable}
 use Rattle.sr_store.specs.declared.variable.Variable.{Variable}
 use Rattle.sr_store.proofs.BlockLemmas.{apart, by_number, itself, turned}
 use Rattle.sr_store.proofs.KeptLemmas.{block-with_block, block-with_block_other}
@@ -40,6 +40,12 @@ change all new block var path value is =
       stored = inner.1.0;
       changed = sym whole ∙ ap (with_block all block) (sym table);
     }
+
+-- the variable that a store changes, and what it holds then
+pub store-named : (all new : Variables) (block var : ℕ) (path : List Sel) (value : Value) → stored_in all block var path value ≡ Ok new
+    → (variable : Variable) × (held : Value) × (variable_at all block var ≡ Some variable) × (stored_at variable.shape variable.value path value ≡ Ok held)
+    × (new ≡ with_variable all block var (record variable { value = held }))
+store-named all new block var path value is = let c = change all new block var path value is in (c.variable, c.held, c.there, c.stored, c.changed)
 
 here-after : (all new : Variables) (block var : ℕ) (path : List Sel) (value : Value) (c : Change all new block var path value) → variable_at new block var ≡ Some (record c.variable { value = c.held })
 here-after all new block var path value c =

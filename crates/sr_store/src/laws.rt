@@ -2,13 +2,16 @@ ghost use Rattle.std.specs.Prelude.{◌≡◌, ◌≢◌, ℕ, List, ◌++◌, O
 ghost use Rattle.std.specs.Option.{option_map};
 ghost use Rattle.sr_value.specs.declared.shape.Sel.{Sel};
 ghost use Rattle.sr_value.specs.declared.value.Value.{Value};
-ghost use Rattle.sr_value.specs.Parts.{fitted_in, with_ok};
+ghost use Rattle.sr_value.specs.Parts.{fitted_in, stored_at, with_ok};
 ghost use Rattle.sr_in_place.specs.Places.{shape_at};
 ghost use Rattle.sr_store.specs.declared.variable.Variable.{Variable};
-ghost use Rattle.sr_store.specs.Variables.{Variables, loaded_in, stored_in, variable_at};
+ghost use Rattle.sr_store.specs.Variables.{Variables, loaded_in, stored_in, variable_at, with_variable};
 
 /// A law of variables: a store changes one variable, which keeps its shape, and no other.
 pub fn store_is_to_one_variable()
+    ensures named { (all new : Variables) (block var : ℕ) (path : List Sel) (value : Value) → stored_in all block var path value ≡ Ok new
+        → (variable : Variable) × (held : Value) × (variable_at all block var ≡ Some variable) × (stored_at variable.shape variable.value path value ≡ Ok held)
+        × (new ≡ with_variable all block var (record variable { value = held })) }
     ensures shape { (all new : Variables) (block var : ℕ) (path : List Sel) (value : Value) → stored_in all block var path value ≡ Ok new
         → option_map (λ v. v.shape) (variable_at new block var) ≡ option_map (λ v. v.shape) (variable_at all block var) }
     ensures others { (all new : Variables) (block var other_block other : ℕ) (path : List Sel) (value : Value) → stored_in all block var path value ≡ Ok new

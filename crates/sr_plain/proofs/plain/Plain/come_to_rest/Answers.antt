@@ -50,7 +50,7 @@ returns g c = λ limit state events engine none.
           subst whole (sym w.result-is)
           (subst (λ (text : List ℕ). Comes after g.A.Actor.can_feed core limit state events None (plainly.Stepped (Quiesce name) text) rested) (sym w.new.ensures)
           (rest_begins after g.A.Actor.can_feed core limit state events none name c.args.self.now engine c.quiesce.new.self w.in-Done.field-0
-          (subst (λ (a : Acted). Acts (quiesce core name old) old c.quiesce.new.self (Ok a)) w.in-Done.is acts) c.in_ok-name.ensures.least c.everyone.result c.everyone.ensures.change c.everyone.ensures.gone))
+          (subst (λ (a : Acted). Acts (quiesce core name old) old c.quiesce.new.self (Ok a)) w.in-Done.is acts) c.in_ok-name.ensures.next c.everyone.result c.everyone.ensures.change c.everyone.ensures.gone))
       | in-Ends w ↦
           subst whole (sym w.result-is)
           (rest_ends after g.A.Actor.can_feed core limit state events none name c.args.self.now engine c.quiesce.new.self w.in-Ends.end
