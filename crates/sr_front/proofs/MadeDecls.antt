@@ -56,7 +56,7 @@ use Rattle.sr_core.specs.declared.statement.Setup.TheVariants as setup
 use Rattle.sr_core.specs.declared.statement.Statement.TheVariants as written
 use Rattle.sr_core.specs.Tests.{if_some}
 use Rattle.sr_front.proofs.MadeTests.{AllOne, MadeTests}
-use Rattle.sr_desugar.proofs.DeclNumbers.{dims_found}
+use Rattle.sr_desugar.proofs.DeclNumbers.{dims_found as dims_by}
 
 module _ (tests : MadeTests) where
   abbrev pub RangeFits : Range → Type 0
@@ -111,7 +111,7 @@ module _ (scene : Scene) (tests : MadeTests) (Sent : Spot → Type 0) (rules : D
   dims_pass policy tree = by tree.second
     where
       by : (second : Option RangeTree) → Names (range_names tree.first ++ where_some range_names second) → ErrorFree (range_found policy known tree.first ++ second_range_found policy known second)
-          → DimsFit tests (dims_found scene tree.first second)
+          → DimsFit tests (dims_by scene tree.first second)
       by None had whole = range_passes policy tree.first (each-left HadName (range_names tree.first) [] had) (error_free_first (range_found policy known tree.first) [] whole)
       by (Some second) had whole = (
         range_passes policy tree.first (each-left HadName (range_names tree.first) _ had) (error_free_first (range_found policy known tree.first) _ whole),
