@@ -1,25 +1,18 @@
 -- The law of orders.
-use Rattle.std.proofs.Common.{◌≡◌, ◌==◌, ℕ, Bool, true, false, ◌&&◌, List, [], ◌∷◌, ◌++◌, refl, ap, sym, ◌∙◌, subst, cond, eqb-true, true≢false}
+use Rattle.std.proofs.Common.{◌≡◌, ◌==◌, ℕ, Bool, true, false, List, [], ◌∷◌, ◌++◌, refl, ap, sym, ◌∙◌, subst, cond, eqb-true, true≢false}
 use Rattle.std.proofs.lemmas.Bool.{eq-eqb}
 use Rattle.std.proofs.lemmas.List.Elements.{filter-append}
 use Rattle.std.specs.List.{list_any}
-use Rattle.std.specs.Prelude.{filter, flat_map}
-use Rattle.sr_orders.specs.Acts.{AllReplay, AreLocal, OrdersAgree, PartsEnd, PartsReplay, after, replays}
+use Rattle.std.specs.Prelude.{◌↔◌, filter, flat_map}
+use Rattle.sr_orders.specs.Acts.{AllReplay, AreLocal, OrdersAgree, PartsEnd, PartsReplay, Replays, after}
 use Rattle.sr_orders.proofs.ListLemmas.{filter_none}
 
-and_parts : (a b : Bool) → (a && b) ≡ true → (a ≡ true) × (b ≡ true)
-and_parts true b h = (refl, h)
-and_parts false b h = absurd (true≢false (sym h))
-
-both : (a b : Bool) → a ≡ true → b ≡ true → (a && b) ≡ true
-both a b h k = ap (λ c. c && b) h ∙ k
-
-module _ {W A : Type 0} (count : ℕ) (part : A → ℕ) (mask : ℕ → W → W) (fits : A → W → Bool) (apply : A → W → W) (local : AreLocal count part mask fits apply) where
+module _ {W A : Type 0} (count : ℕ) (part : A → ℕ) (mask : ℕ → W → W) (fits : A → W → Type 0) (apply : A → W → W) (local : AreLocal count part mask fits apply) where
   abbrev on : ℕ → A → Bool
   on s act = part act == s
 
-  abbrev fit_all : List A → W → Bool
-  fit_all acts whole = replays count part mask fits apply acts whole
+  abbrev Fit : List A → W → Type 0
+  Fit acts whole = Replays count part mask fits apply acts whole
 
   abbrev end_of : List A → W → W
   end_of acts whole = after count part mask fits apply acts whole
@@ -27,43 +20,39 @@ module _ {W A : Type 0} (count : ℕ) (part : A → ℕ) (mask : ℕ → W → W
   moved : (s : ℕ) (act : A) (whole : W) → (part act == s) ≡ true → mask s (apply act whole) ≡ apply act (mask s whole)
   moved s act whole is = subst (λ t. mask t (apply act whole) ≡ apply act (mask t whole)) (eqb-true (part act) s is) (local.here act whole)
 
-  same_fit : (s : ℕ) (act : A) (whole : W) → (part act == s) ≡ true → fits act (mask s whole) ≡ fits act whole
-  same_fit s act whole is = subst (λ t. fits act (mask t whole) ≡ fits act whole) (eqb-true (part act) s is) (local.here_fits act whole)
+  same_fit : (s : ℕ) (act : A) (whole : W) → (part act == s) ≡ true → fits act (mask s whole) ↔ fits act whole
+  same_fit s act whole is = subst (λ t. fits act (mask t whole) ↔ fits act whole) (eqb-true (part act) s is) (local.here_fits act whole)
 
   -- ---- what parts tell of the whole
 
   -- a part after one more act, whether the act is on it or not
   part_step : (s : ℕ) (act : A) (acts : List A) (whole : W) (b : Bool) → (part act == s) ≡ b
-      → fit_all (cond b (act ∷ filter (on s) acts) (filter (on s) acts)) (mask s whole) ≡ true → fit_all (filter (on s) acts) (mask s (apply act whole)) ≡ true
-  part_step s act acts whole true is h =
-      ap (fit_all (filter (on s) acts)) (moved s act whole is) ∙ (and_parts (fits act (mask s whole)) (fit_all (filter (on s) acts) (apply act (mask s whole))) h).1
-  part_step s act acts whole false is h = ap (fit_all (filter (on s) acts)) (local.away s act whole is) ∙ h
+      → Fit (cond b (act ∷ filter (on s) acts) (filter (on s) acts)) (mask s whole) → Fit (filter (on s) acts) (mask s (apply act whole))
+  part_step s act acts whole true is h = subst (λ v. Fit (filter (on s) acts) v) (sym (moved s act whole is)) h.1
+  part_step s act acts whole false is h = subst (λ v. Fit (filter (on s) acts) v) (sym (local.away s act whole is)) h
 
   first_fits : (act : A) (acts : List A) (whole : W) (b : Bool) → (part act == part act) ≡ b
-      → fit_all (cond b (act ∷ filter (on (part act)) acts) (filter (on (part act)) acts)) (mask (part act) whole) ≡ true → fits act whole ≡ true
-  first_fits act acts whole true is h =
-      sym (local.here_fits act whole) ∙ (and_parts (fits act (mask (part act) whole)) (fit_all (filter (on (part act)) acts) (apply act (mask (part act) whole))) h).0
+      → Fit (cond b (act ∷ filter (on (part act)) acts) (filter (on (part act)) acts)) (mask (part act) whole) → fits act whole
+  first_fits act acts whole true is h = (local.here_fits act whole).0 h.0
   first_fits act acts whole false is h = absurd (true≢false (sym (eq-eqb (part act) (part act) refl) ∙ is))
 
   pub all_replay : AllReplay count part mask fits apply
-  all_replay [] whole parts = refl
-  all_replay (act ∷ acts) whole parts =
-      both (fits act whole) (fit_all acts (apply act whole)) (first_fits act acts whole (part act == part act) refl (parts (part act) (local.below act)))
-      (all_replay acts (apply act whole) (λ s lt. part_step s act acts whole (part act == s) refl (parts s lt)))
+  all_replay [] whole parts = tt
+  all_replay (act ∷ acts) whole parts = (
+    first_fits act acts whole (part act == part act) refl (parts (part act) (local.below act)),
+    all_replay acts (apply act whole) (λ s lt. part_step s act acts whole (part act == s) refl (parts s lt)),
+  )
 
   -- ---- what the whole tells of parts
 
-  kept_step : (s : ℕ) (act : A) (acts : List A) (whole : W) (b : Bool) → (part act == s) ≡ b → fits act whole ≡ true
-      → fit_all (filter (on s) acts) (mask s (apply act whole)) ≡ true → fit_all (cond b (act ∷ filter (on s) acts) (filter (on s) acts)) (mask s whole) ≡ true
-  kept_step s act acts whole true is fit h =
-      both (fits act (mask s whole)) (fit_all (filter (on s) acts) (apply act (mask s whole))) (same_fit s act whole is ∙ fit) (ap (fit_all (filter (on s) acts)) (sym (moved s act whole is)) ∙ h)
-  kept_step s act acts whole false is fit h = ap (fit_all (filter (on s) acts)) (sym (local.away s act whole is)) ∙ h
+  kept_step : (s : ℕ) (act : A) (acts : List A) (whole : W) (b : Bool) → (part act == s) ≡ b → fits act whole
+      → Fit (filter (on s) acts) (mask s (apply act whole)) → Fit (cond b (act ∷ filter (on s) acts) (filter (on s) acts)) (mask s whole)
+  kept_step s act acts whole true is fit h = ((same_fit s act whole is).1 fit, subst (λ v. Fit (filter (on s) acts) v) (moved s act whole is) h)
+  kept_step s act acts whole false is fit h = subst (λ v. Fit (filter (on s) acts) v) (local.away s act whole is) h
 
   pub parts_replay : PartsReplay count part mask fits apply
-  parts_replay [] whole h s = refl
-  parts_replay (act ∷ acts) whole h s =
-      let parts = and_parts (fits act whole) (fit_all acts (apply act whole)) h in
-      kept_step s act acts whole (part act == s) refl parts.0 (parts_replay acts (apply act whole) parts.1 s)
+  parts_replay [] whole h s = tt
+  parts_replay (act ∷ acts) whole h s = kept_step s act acts whole (part act == s) refl h.0 (parts_replay acts (apply act whole) h.1 s)
 
   end_step : (s : ℕ) (act : A) (acts : List A) (whole : W) (b : Bool) → (part act == s) ≡ b
       → end_of (filter (on s) acts) (mask s (apply act whole)) ≡ end_of (cond b (act ∷ filter (on s) acts) (filter (on s) acts)) (mask s whole)
@@ -97,7 +86,7 @@ module _ {W A : Type 0} (count : ℕ) (part : A → ℕ) (mask : ℕ → W → W
     pub orders_agree : OrdersAgree count part mask fits apply acts_of
     orders_agree entries others whole agree h = (
       all_replay (flat_map acts_of others) whole
-          (λ s lt. ap (λ (acts : List A). fit_all acts (mask s whole)) (sym (same_acts s entries others (agree s lt))) ∙ parts_replay (flat_map acts_of entries) whole h s),
+          (λ s lt. subst (λ acts. Fit acts (mask s whole)) (same_acts s entries others (agree s lt)) (parts_replay (flat_map acts_of entries) whole h s)),
       λ s lt. parts_end (flat_map acts_of others) whole s ∙ ap (λ (acts : List A). end_of acts (mask s whole)) (sym (same_acts s entries others (agree s lt)))
           ∙ sym (parts_end (flat_map acts_of entries) whole s),
     )

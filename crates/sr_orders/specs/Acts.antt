@@ -1,12 +1,12 @@
 -- Acts on a whole that has parts. Each act is on one part: that part alone says whether the act fits, and no other part
 -- is changed.
 use Rattle.std.specs.List.{list_any}
-use Rattle.std.specs.Prelude.{◌≡◌, ◌==◌, ℕ, ◌<◌, Bool, true, false, ◌&&◌, List, [], ◌∷◌, filter, flat_map}
+use Rattle.std.specs.Prelude.{◌≡◌, ◌↔◌, ◌==◌, ℕ, ◌<◌, Bool, false, List, [], ◌∷◌, filter, flat_map}
 
-module _ {W A : Type 0} (count : ℕ) (part : A → ℕ) (mask : ℕ → W → W) (fits : A → W → Bool) (apply : A → W → W) where
+module _ {W A : Type 0} (count : ℕ) (part : A → ℕ) (mask : ℕ → W → W) (fits : A → W → Type 0) (apply : A → W → W) where
   -- what a part has of the whole tells whether an act on it fits, and changes as the whole does; other parts don't change
   pub record AreLocal : Type 0 where
-    pub here_fits : (act : A) (whole : W) → fits act (mask (part act) whole) ≡ fits act whole
+    pub here_fits : (act : A) (whole : W) → fits act (mask (part act) whole) ↔ fits act whole
     pub here : (act : A) (whole : W) → mask (part act) (apply act whole) ≡ apply act (mask (part act) whole)
     pub away : (s : ℕ) (act : A) (whole : W) → (part act == s) ≡ false → mask s (apply act whole) ≡ mask s whole
     pub below : (act : A) → part act < count
@@ -14,9 +14,9 @@ module _ {W A : Type 0} (count : ℕ) (part : A → ℕ) (mask : ℕ → W → W
   -- ---- one act after another
 
   -- each act fits what those before it have left
-  abbrev pub replays : List A → W → Bool
-  replays [] whole = true
-  replays (act ∷ acts) whole = fits act whole && replays acts (apply act whole)
+  abbrev pub Replays : List A → W → Type 0
+  Replays [] whole = Unit {0}
+  Replays (act ∷ acts) whole = fits act whole × Replays acts (apply act whole)
 
   abbrev pub after : List A → W → W
   after [] whole = whole
@@ -29,11 +29,11 @@ module _ {W A : Type 0} (count : ℕ) (part : A → ℕ) (mask : ℕ → W → W
 
   -- acts replay where those on each part replay in that part by itself
   abbrev pub AllReplay : Type 0
-  AllReplay = (acts : List A) (whole : W) → ((s : ℕ) → s < count → replays (filter (is_on s) acts) (mask s whole) ≡ true) → replays acts whole ≡ true
+  AllReplay = (acts : List A) (whole : W) → ((s : ℕ) → s < count → Replays (filter (is_on s) acts) (mask s whole)) → Replays acts whole
 
   -- and only there
   abbrev pub PartsReplay : Type 0
-  PartsReplay = (acts : List A) (whole : W) → replays acts whole ≡ true → (s : ℕ) → replays (filter (is_on s) acts) (mask s whole) ≡ true
+  PartsReplay = (acts : List A) (whole : W) → Replays acts whole → (s : ℕ) → Replays (filter (is_on s) acts) (mask s whole)
 
   -- each part ends as it does by itself
   abbrev pub PartsEnd : Type 0
@@ -51,6 +51,6 @@ module _ {W A : Type 0} (count : ℕ) (part : A → ℕ) (mask : ℕ → W → W
 
     -- Where one order replays, so does every other in which each part finds its own in the same order; and each part ends as it did.
     abbrev pub OrdersAgree : Type 0
-    OrdersAgree = (entries others : List E) (whole : W) → AgreeInParts entries others → replays (flat_map acts_of entries) whole ≡ true
-        → (replays (flat_map acts_of others) whole ≡ true)
+    OrdersAgree = (entries others : List E) (whole : W) → AgreeInParts entries others → Replays (flat_map acts_of entries) whole
+        → Replays (flat_map acts_of others) whole
         × ((s : ℕ) → s < count → mask s (after (flat_map acts_of others) whole) ≡ mask s (after (flat_map acts_of entries) whole))

@@ -3,7 +3,7 @@ ghost use Rattle.sr_orders.specs.Acts.{AllReplay, AreLocal, OrdersAgree, PartsEn
 
 /// Acts on a whole `W` that has parts.
 pub trait Acting<W> {
-    ghost use Rattle.std.specs.Prelude.{ℕ, Bool};
+    ghost use Rattle.std.specs.Prelude.{ℕ};
 
     // the part that an act is on
     ghost part: { Self → ℕ };
@@ -11,7 +11,8 @@ pub trait Acting<W> {
     // what a part has of a whole
     ghost mask: { ℕ → W → W };
 
-    ghost fits: { Self → W → Bool };
+    // where an act fits a whole, or what a part has of it
+    ghost fits: { Self → W → Type 0 };
 
     ghost apply: { Self → W → W };
 }
