@@ -28,7 +28,7 @@ pub struct Invoked {
 
 impl World {
     /// Whether an owner has ended, or never was.
-    pub(crate) fn is_gone(&self, owner: Owner) -> bool
+    pub fn is_gone(&self, owner: Owner) -> bool
         ensures { result ≡ gone_in self.now owner }
     {
         match owner {
