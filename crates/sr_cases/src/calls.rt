@@ -1,5 +1,6 @@
 //! Calls of the top call with ports in memory.
 
+use crate::repeats::repeated;
 use crate::telling::told;
 use sr_case_files::{Case, Tally, cases_in};
 use sr_ports::{FreeGate, MemFiles, MemSink, MemSource};
@@ -62,8 +63,8 @@ fn called(
     ))
 }
 
-/// What is found of a case. Its items are told where the case tells items.
-fn found(alloc: Global, case: &Case) -> Result<String, NoMemory> {
+/// What is found of a case that has this program. Its items are told where the case tells items.
+fn found_of(alloc: Global, case: &Case, text: &str) -> Result<String, NoMemory> {
     let name = case.name.as_str();
     let file = format!(in alloc; "{name}.sr")?;
     let input = match case.texts.get(1) {
@@ -72,23 +73,28 @@ fn found(alloc: Global, case: &Case) -> Result<String, NoMemory> {
     };
     let mut output = empty_sink(alloc);
     let mut diag = empty_sink(alloc);
-    let report = called(
-        alloc,
-        file.as_str(),
-        case.text(),
-        input,
-        &mut output,
-        &mut diag,
-    )?;
+    let report = called(alloc, file.as_str(), text, input, &mut output, &mut diag)?;
     let tells_items = case.wanted.contains(" items\n");
     told(alloc, &report, output.held(), diag.held(), tells_items)
+}
+
+/// What is found of a case.
+fn found(alloc: Global, case: &Case) -> Result<String, NoMemory> {
+    let text = repeated(alloc, case.text())?;
+    found_of(alloc, case, text.as_str())
+}
+
+/// Notes in the tally what was found of a case.
+fn note_found(alloc: Global, case: &Case, found: &str, tally: &mut Tally) -> Result<(), NoMemory> {
+    let wanted = repeated(alloc, case.wanted.as_str())?;
+    tally.note(case.name.as_str(), wanted.as_str(), found)?;
+    Ok(())
 }
 
 /// Notes a case in the tally.
 fn note(alloc: Global, case: &Case, tally: &mut Tally) -> Result<(), NoMemory> {
     let found = found(alloc, case)?;
-    tally.note(case.name.as_str(), case.wanted.as_str(), found.as_str())?;
-    Ok(())
+    note_found(alloc, case, found.as_str(), tally)
 }
 
 /// What is reported of a file of cases.
