@@ -1,5 +1,5 @@
 -- `co`: its code makes all invocations, takes the replies, and does what each leads to.
-use Rattle.std.proofs.Common.{◌≡◌, ℕ, ℤ, zero, suc, ◌+◌, ◌≤◌, ◌<◌, ◌⊎◌, inl, inr, ◌==◌, if◌then◌else◌, Bool, true, List, [], ◌∷◌, ◌++◌, length, map, Option, Some, None, drop, get_or, is_some, ◌-◌, refl, sym, ◌∙◌, ap, subst, slice_get, arith}
+use Rattle.std.proofs.Common.{◌≡◌, ℕ, ℤ, zero, suc, ◌+◌, ◌≤◌, ◌<◌, ◌⊎◌, inl, inr, ◌==◌, Bool, true, List, [], ◌∷◌, ◌++◌, length, map, Option, Some, None, drop, get_or, is_some, ◌-◌, refl, sym, ◌∙◌, ap, subst, slice_get, arith}
 use Rattle.std.proofs.lemmas.Option.{slice_get_past}
 use Rattle.sr_value.specs.declared.capability.Cap.{Cap}
 use Rattle.sr_value.specs.declared.place.Place.{Place}
@@ -35,20 +35,19 @@ use Rattle.sr_meaning.specs.declared.ending.Ending.{Ending}
 use Rattle.sr_meaning.specs.declared.ending.Ending.TheVariants.{Through, Left, Turned}
 use Rattle.sr_meaning.specs.Expressions.{Meaning, give_back, place_of_expr}
 use Rattle.sr_meaning.specs.Here.{request}
-use Rattle.sr_meaning.specs.Pieces.{co_part_of}
+use Rattle.sr_meaning.specs.Pieces.{call_part, co_part_of}
 use Rattle.sr_meaning.specs.Statements.{CoPart, after_turn, co_arm_meaning, co_meaning, complete, complete_all, complete_outs, continue, guarded_meaning, left, meaning_of, optional_place, quantified, set_turn, start_call, start_calls, statement_meaning, store_value, through, turn_now, without_out}
 use Rattle.sr_gen_expr.specs.Emitting.{Gives, put_nothing, tree_here}
 use Rattle.sr_gen_expr.proofs.Calls.{stored_some}
 use Rattle.sr_gen_expr.proofs.Stretching.{follows_at, follows_last, follows_regroup, passes}
-use Rattle.sr_gen.specs.Blocks.{call_part}
 use Rattle.sr_gen.specs.Doing.{Acts, Completes, CompletesEach, Onward, Patches, Stores, one_way, pad_ways, put_placed, put_ready, ready_meaning, way}
 use Rattle.sr_gen.specs.declared.ways.Ways.{Ways}
 use Rattle.sr_gen.proofs.Actions.{follows_ready}
 use Rattle.sr_gen.proofs.Endings.{jumps, lower_of, onward_grown}
-use Rattle.sr_gen.proofs.Listed.{drop_all, drop_from}
 use Rattle.sr_gen.proofs.Loops.{acts_with, follows_one, same_way}
 use Rattle.sr_gen.proofs.Services.{appended, item_at, less_or_not, mapped_at, one_more_in}
 use Rattle.sr_gen.proofs.Patched.{patched_extends, patched_length, patched_lower, patched_upper, runs_patched}
+use Rattle.sr_gen_expr.proofs.Rows.{drop_all, drop_from}
 
 -- ---- one invocation
 

@@ -1,14 +1,15 @@
 ghost use Rattle.std.specs.Prelude.{◌≡◌, ◌<◌, ◌==◌, IfOk, OnOk, map, length, option_map, slice_get};
 ghost use Rattle.std.specs.List.{position};
 ghost use Rattle.sr_ask.specs.Behaviors.{Came};
-ghost use Rattle.sr_meaning.specs.Statements.{drop_out, optional_place, own_number, set_turn, start_call, store_value, turn_now};
-ghost use Rattle.sr_interpreter_parts.specs.StatementParts.{IsFirstOut, call_part, take_place, took_place};
+ghost use Rattle.sr_meaning.specs.Statements.{drop_out, optional_place, set_turn, start_call, store_value, turn_now};
+ghost use Rattle.sr_interpreter_parts.specs.StatementParts.{IsFirstOut, take_place, took_place};
 ghost use Rattle.sr_interpreter_expr.specs.Interpreters.{Agrees, here_of, stage_of};
 ghost use Rattle.sr_ask.specs.Replies.{push_out, set_out};
+ghost use Rattle.sr_meaning.specs.Pieces.{call_part};
 
-use crate::values::int_own;
 use sr_ask::{Answer, Located, Out, Request};
 use sr_core::{CoCall, PlaceExpr, Quantifier};
+use sr_frame::{number_held, number_own};
 use sr_interpreter_expr::{
     Interpreter, IsMade, Scene, Stop, Takes, ask, cap_of, evaluate_arguments, locate, places_in,
     put_own, store, values_in,
@@ -34,16 +35,6 @@ fn optional_place(
     }
 }
 
-/// The number that an own variable holds, or 0.
-fn own_number(interpreter: &Interpreter, var: u32) -> i32
-    ensures { result ≡ own_number interpreter.now.own var }
-{
-    match interpreter.own.get(var as usize) {
-        Some(Some(own)) => own.value.as_int().unwrap_or(0),
-        _ => 0,
-    }
-}
-
 /// The values of the quantifiers at this turn.
 fn turn_now(
     alloc: Global,
@@ -54,7 +45,7 @@ fn turn_now(
 {
     let mut turn = Row::new(alloc);
     for quantifier in quantifiers {
-        turn.push(own_number(interpreter, quantifier.var))?;
+        turn.push(number_held(&interpreter.own, quantifier.var))?;
     }
     Ok(turn)
 }
@@ -194,7 +185,7 @@ pub fn set_turn(interpreter: &mut Interpreter, quantifiers: &[Quantifier], turn:
         [quantifier, others @ ..] => match turn {
             [] => {}
             [value, rest @ ..] => {
-                put_own(interpreter, quantifier.var, int_own(*value));
+                put_own(interpreter, quantifier.var, number_own(*value));
                 set_turn(interpreter, others, rest);
             }
         },
