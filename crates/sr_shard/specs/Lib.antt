@@ -1,0 +1,4 @@
+pub mod Acts
+pub mod Entries
+pub mod Laws
+pub mod Masks
