@@ -8,6 +8,7 @@ use denote.Struct.Field.{bool-field, i32-field, u32-field, u64-field}
 use Rattle.std.specs.contracts.option.Option as option
 use Rattle.sr_ask.specs.contracts.answer.Answer as answer
 use Rattle.sr_ask.specs.contracts.ask.Ask as ask
+use Rattle.sr_ask.specs.contracts.ask.Asks as asks
 use Rattle.sr_ask.specs.contracts.ask.Role as role
 use Rattle.sr_ask.specs.contracts.entry.Entry as entry
 use Rattle.sr_ask.specs.contracts.entry.Seen as seen
@@ -117,6 +118,12 @@ ask-send = declared_send ask.the_type (place-send, (role-send, (request-send, tt
 
 pub ask-sync : IsSync ask.the_row
 ask-sync = declared_sync ask.the_type (place-sync, (role-sync, (request-sync, tt)))
+
+pub asks-send : IsSend asks.the_row
+asks-send = variants_send asks.enum ((ask-send, tt), (tt, tt))
+
+pub asks-sync : IsSync asks.the_row
+asks-sync = variants_sync asks.enum ((ask-sync, tt), (tt, tt))
 
 -- ---- entries
 

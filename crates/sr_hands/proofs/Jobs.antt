@@ -3,7 +3,7 @@ use Prim.Native.Nat.{ℕ}
 use mir.Syntax.{Ty}
 use denote.Exit.{no}
 use denote.Param.{arg, param}
-use denote.Param.Send.{IsSend, arg_send, param_send, sendable}
+use denote.Param.Send.{IsSend, IsSync, arg_send, arg_sync, param_send, param_sync, sendable}
 use denote.Param.SendFields.{as_row_send, declared_send, variants_send}
 use denote.RattleType.{RattleType}
 use denote.Struct.Field.{row_field}
@@ -21,9 +21,12 @@ use Rattle.sr_worker.specs.contracts.notes.Notes as notes
 use Rattle.sr_worker.specs.contracts.player.Player as player
 use Rattle.sr_worker.specs.contracts.notes.Worker as worker
 
--- what a function is passed by value as a type parameter
-passed-send : (place : ℕ) (layout : Ty) (R : RattleType) → IsSend R → IsSend (param place (arg layout no R))
+-- the same of a type as it stands for a type parameter of a function that is called
+pub passed-send : (place : ℕ) (layout : Ty) (R : RattleType) → IsSend R → IsSend (param place (arg layout no R))
 passed-send place layout R crosses = param_send place (arg layout no R) (arg_send layout no R crosses)
+
+pub passed-sync : (place : ℕ) (layout : Ty) (R : RattleType) → IsSync R → IsSync (param place (arg layout no R))
+passed-sync place layout R crosses = param_sync place (arg layout no R) (arg_sync layout no R crosses)
 
 worker-send : IsSend worker.the_row
 worker-send = declared_send worker.the_type (u32-send, (u32-send, (u32-send, (u32-send, tt))))
