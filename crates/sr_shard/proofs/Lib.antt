@@ -1,3 +1,4 @@
+pub mod ItemLemmas
 pub mod LawProofs
 pub mod ListLemmas
 pub mod LocalLemmas

@@ -1,3 +1,4 @@
+ghost use Rattle.sr_shard.specs.Items.{ActsLeaveNumbers, EntriesAreItems};
 ghost use Rattle.sr_shard.specs.Laws.{ActsAreLocal, EntriesAreSteps, EntriesInAnyOrder, OthersStay, OthersTellNothing, TouchedIsAll, ValidStatesStand};
 
 /// A law of acts: what a part has of a world tells whether an act on it fits, and changes as the world does; no other
@@ -11,6 +12,13 @@ pub fn acts_are_local()
 pub fn entries_are_steps()
     ensures steps { EntriesAreSteps }
     ensures valid { ValidStatesStand }
+{}
+
+/// A law of entries: an entry that its process asks for, and whose acts replay, is an item of the run. Acts leave the
+/// numbers alone that were given out, so the number of a step can be used before its acts or after them.
+pub fn entries_are_items()
+    ensures items { EntriesAreItems }
+    ensures numbers { ActsLeaveNumbers }
 {}
 
 /// The law of orders: entries in another order, where each part finds its own in the same order, replay too, and each
