@@ -18,7 +18,7 @@ use Rattle.sr_queue.specs.Classes.{same_class}
 use Rattle.sr_queue.specs.declared.class.Class.{Class}
 use Rattle.sr_store.proofs.BlockLemmas.{same-test}
 use Rattle.sr_plain.specs.Readiness.{IsPutIn, IsSole, holds, ready_len}
-use Rattle.sr_plain.specs.Waiting.{AreTakenUnder, HasLeft, HaveOpened, HoldsClass, HoldsNobody, HoldsProcess, IsFirst, IsNext, IsOpenedAt, IsPromoted, IsPutBack, IsShut, LeavesCrowd, StaysOpen, WaitsThere, crowds_len, is_among, is_closed, is_open, is_open_at, is_ready, may_go, same_variable, turns_len, waits}
+use Rattle.sr_plain.specs.Waiting.{AreTakenUnder, HasLeft, HaveOpened, HoldsClass, HoldsNobody, HoldsProcess, IsFirst, IsFirstUpTo, IsNext, IsOpenedAt, IsPromoted, IsPutBack, IsShut, LeavesCrowd, StaysOpen, WaitsThere, crowds_len, is_among, is_closed, is_open, is_open_at, is_ready, may_go, same_variable, turns_len, waits}
 use Rattle.sr_plain.specs.declared.crowd.Opened.{Opened}
 use Rattle.sr_plain.specs.declared.ready.Ready.{Ready}
 use Rattle.sr_plain.specs.declared.waiters.Place.{Place}
@@ -142,6 +142,19 @@ module _ (waiters : Waiters) (last : ℕ) where
   pub next-nobody : (r : Option ℕ) → IsFirst (λ q. nat_lt last q && may_go waiters q) None → IsFirst (may_go waiters) r → IsNext waiters last r
   next-nobody None none first = first
   next-nobody (Some p) none first = next-round p none first
+
+-- who is next of those up to a number
+module _ (waiters : Waiters) (low high : ℕ) where
+  pub first-within : (p : ℕ) → IsFirst (λ q. nat_lt low q && may_go waiters q) (Some p) → p ≤ high → IsFirstUpTo waiters low high (Some p)
+  first-within p first within =
+      let parts = both-true (nat_lt low p) (may_go waiters p) first.0 in
+      record { above = ltb-true low p parts.0; within = within; goes = parts.1; between = λ other over under. after-all waiters low other over (first.1 other under) }
+
+  pub none-beyond : (p : ℕ) → IsFirst (λ q. nat_lt low q && may_go waiters q) (Some p) → high < p → IsFirstUpTo waiters low high None
+  none-beyond p first beyond = λ other over under. after-all waiters low other over (first.1 other (omega (arith, beyond, under)))
+
+  pub none-within : IsFirst (λ q. nat_lt low q && may_go waiters q) None → IsFirstUpTo waiters low high None
+  none-within none = λ other over under. after-all waiters low other over (none other)
 
 -- where one alone is asked
 pub sole-next : (waiters : Waiters) (last process : ℕ) → waiters.opened ≡ [] → IsSole waiters.ready process → IsNext waiters last (Some process)

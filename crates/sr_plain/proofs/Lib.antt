@@ -14,11 +14,13 @@ pub mod LivingLemmas
 pub mod MemberLemmas
 pub mod NextLemmas
 pub mod OrderLemmas
+pub mod PassLemmas
 pub mod RestLemmas
 pub mod RotationLemmas
 pub mod SettleLemmas
 pub mod StayLemmas
 pub mod StoreLemmas
+pub mod StretchLemmas
 pub mod TurnLemmas
 pub mod WaitLemmas
 pub mod WakeLemmas

@@ -220,8 +220,9 @@ module _ (core : Core) (limit : ℕ) (events : List Event) (state : State) (lead
       subst (λ m. filter (is_of (owner_in selects.site.scope m) arm.op) state.world.pending ≡ []) (sym (me-of s lives))
       (aside.closed owner arm.op s.process (or-first (is_closed waiters (class_of owner arm.op) s.process) (is_open_at waiters.opened (class_of owner arm.op) s.process) (open-at waiters.opened (class_of owner arm.op) s.process shut) (idle.waiting.arms k arm is)) refl)))
 
-  off : (s : Start) → started state.world s.process ≡ Some s → may_go waiters s.process ≡ false → takes_turn core limit state s ≡ false
-  off s lives unready = by (both-off (is_ready waiters s.process) (is_open waiters.opened s.process) unready)
+  -- who isn't asked in turn couldn't take one
+  pub unready-off : (s : Start) → started state.world s.process ≡ Some s → may_go waiters s.process ≡ false → takes_turn core limit state s ≡ false
+  unready-off s lives unready = by (both-off (is_ready waiters s.process) (is_open waiters.opened s.process) unready)
     where
       blocked : (asks : Ask) → asks_next core limit state s ≡ Asked asks → comes_to (does core state.world s.process asks 0) ≡ IsNot → takes_turn core limit state s ≡ false
       blocked asks asked cannot = ap (λ x. not (is_blocked core state.world s.process x)) asked ∙ ap (λ o. not (not (is_possible o))) cannot
@@ -233,7 +234,7 @@ module _ (core : Core) (limit : ℕ) (events : List Event) (state : State) (lead
       ]
 
   all-off : Each (λ s. may_go waiters s.process ≡ false → takes_turn core limit state s ≡ false) state.world.live
-  all-off = each-place (λ s. may_go waiters s.process ≡ false → takes_turn core limit state s ≡ false) state.world.live (λ k s is. off s (place-started core limit events state leads k s is))
+  all-off = each-place (λ s. may_go waiters s.process ≡ false → takes_turn core limit state s ≡ false) state.world.live (λ k s is. unready-off s (place-started core limit events state leads k s is))
 
   lives-any : (k : ℕ) (s : Start) → slice_get state.world.live k ≡ Some s → list_any (λ u. u == s.process) state.world.used ≡ true
   lives-any k s is = counts-any state.world.used s.process (lives-used core limit events state leads s.process s (place-started core limit events state leads k s is))

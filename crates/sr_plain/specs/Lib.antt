@@ -6,9 +6,11 @@ pub mod Engine
 pub mod Leaving
 pub mod Noting
 pub mod Order
+pub mod Passing
 pub mod Readiness
 pub mod Ready
 pub mod Rotation
+pub mod Stretches
 pub mod Turns
 pub mod Waiting
 pub mod Waking

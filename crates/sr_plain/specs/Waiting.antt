@@ -346,3 +346,19 @@ pub record IsNextAfter (waiters : Waiters) (last process : ℕ) : Type 0 where
 abbrev pub IsNext : Waiters → ℕ → Option ℕ → Type 0
 IsNext waiters last None = (process : ℕ) → may_go waiters process ≡ false
 IsNext waiters last (Some process) = IsNextAfter waiters last process
+
+-- the first that may be asked, with a number above `low` and up to `high`
+pub record IsFirstWithin (waiters : Waiters) (low high process : ℕ) : Type 0 where
+  pub above : low < process
+  pub within : process ≤ high
+  pub goes : may_go waiters process ≡ true
+  pub between : (other : ℕ) → low < other → other < process → may_go waiters other ≡ false
+
+abbrev pub IsFirstUpTo : Waiters → ℕ → ℕ → Option ℕ → Type 0
+IsFirstUpTo waiters low high None = (other : ℕ) → low < other → other ≤ high → may_go waiters other ≡ false
+IsFirstUpTo waiters low high (Some process) = IsFirstWithin waiters low high process
+
+-- the same of a pass that has made so many items; it asks nobody where there is no room for one more
+abbrev pub IsNextToAsk : Waiters → ℕ → ℕ → ℕ → ℕ → Option ℕ → Type 0
+IsNextToAsk waiters low high room made None = made < room → IsFirstUpTo waiters low high None
+IsNextToAsk waiters low high room made (Some process) = (made < room) × IsFirstUpTo waiters low high (Some process)

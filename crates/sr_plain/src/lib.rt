@@ -8,9 +8,11 @@ mod crew;
 mod crowd;
 pub mod laws;
 mod member;
+mod pass;
 mod plain;
 mod plainly;
 mod ready;
+mod rounds;
 mod tried;
 mod variable;
 mod waiters;
@@ -18,3 +20,4 @@ mod waking;
 
 pub use plain::Plain;
 pub use plainly::Plainly;
+pub use rounds::{Passes, Rounds};

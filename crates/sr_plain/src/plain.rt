@@ -93,7 +93,7 @@ impl<A: Actor> Plain<A> {
     }
 
     /// Whether the last step was one after which its process often waits: a call, or the answer to one.
-    fn may_wait(&self) -> bool {
+    pub(crate) fn may_wait(&self) -> bool {
         match self.woken {
             Some(woken) => woken.caller != 0 || woken.change.is_arrival(),
             None => false,
@@ -103,7 +103,7 @@ impl<A: Actor> Plain<A> {
     /// Sets the last actor aside where it is to settle, and waits for a reply or an invocation that isn't there. It would be
     /// asked in vain.
     #[inline(always)]
-    fn settle(&mut self, program: &A::Program, settles: bool) -> Result<(), NoMemory>
+    pub(crate) fn settle(&mut self, program: &A::Program, settles: bool) -> Result<(), NoMemory>
         requires { self.old.woken ≡ None }
         ensures engine { OnOk result ((limit : ℕ) (state : State) (events : List Event) → IsEngine (A.asks_after program.now) A.can_feed (A.core_of program.now) limit state events self.old → IsEngine (A.asks_after program.now) A.can_feed (A.core_of program.now) limit state events self.new) }
         ensures awake { OnOk result (self.new.woken ≡ None) }
@@ -132,7 +132,7 @@ impl<A: Actor> Plain<A> {
     }
 
     /// Makes ready whom the last step woke, and lets go of those whom it ended.
-    fn wake_up(&mut self) -> Result<(), NoMemory>
+    pub(crate) fn wake_up(&mut self) -> Result<(), NoMemory>
         ensures engine { OnOk result ((program : A.Program) (limit : ℕ) (state : State) (events : List Event) → IsEngine (A.asks_after program) A.can_feed (A.core_of program) limit state events self.old → IsEngine (A.asks_after program) A.can_feed (A.core_of program) limit state events self.new) }
         ensures awake { OnOk result (self.new.woken ≡ None) }
         ensures world { self.new.world ≡ self.old.world }
@@ -165,7 +165,11 @@ impl<A: Actor> Plain<A> {
 
     /// Asks a process that is ready. It begins first, where it hasn't. It is ready no more where it makes no step.
     #[inline(always)]
-    fn try_ready(&mut self, program: &A::Program, process: u32) -> Result<Option<Plainly>, NoMemory>
+    pub(crate) fn try_ready(
+        &mut self,
+        program: &A::Program,
+        process: u32,
+    ) -> Result<Option<Plainly>, NoMemory>
         requires ready { is_ready self.old.waiters process ≡ true }
         requires awake { self.old.woken ≡ None }
         ensures tries { (limit : ℕ) (state : State) (events : List Event) → IsEngine (A.asks_after program.now) A.can_feed (A.core_of program.now) limit state events self.old → Tries (A.asks_after program.now) A.can_feed (A.core_of program.now) limit state events (turn_of (A.core_of program.now) limit state (started state.world process)) result self.new }
@@ -190,7 +194,7 @@ impl<A: Actor> Plain<A> {
     /// Has a process begin, where it lives, and says whether it does.
     #[cold]
     #[inline(never)]
-    fn begin_process(&mut self, process: u32) -> Result<bool, NoMemory>
+    pub(crate) fn begin_process(&mut self, process: u32) -> Result<bool, NoMemory>
         ensures lives { IfOk result (λ lives. lives ≡ is_some (started self.old.world process)) }
         ensures begun { IfOk result (λ lives. IsTrue lives → IsSome (member_of self.new.crew process)) }
         ensures engine { OnOk result ((program : A.Program) (limit : ℕ) (state : State) (events : List Event) → IsEngine (A.asks_after program) A.can_feed (A.core_of program) limit state events self.old → IsEngine (A.asks_after program) A.can_feed (A.core_of program) limit state events self.new) }

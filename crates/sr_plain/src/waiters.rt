@@ -1,7 +1,7 @@
 ghost use Rattle.std.specs.Prelude.{◌≡◌, ◌&&◌, ◌<◌, ℕ, [], IfOk, OnOk, false, nat_lt, true};
 ghost use Rattle.std.specs.BTreeSet.{contains};
 ghost use Rattle.std.specs.Ordering.{nat_cmp};
-ghost use Rattle.sr_plain.specs.Waiting.{AreTakenUnder, AreWokenUnder, HaveJoined, HaveOpened, HoldsProcess, IsFirst, IsJoined, IsMadeReady, IsNext, IsOpenedAt, IsPromoted, IsPutBack, IsShut, IsTakenOut, IsWokenAt, WaitsAlso, WaitsThere, WaitsUnder, is_closed, is_ready, may_go, turns_len};
+ghost use Rattle.sr_plain.specs.Waiting.{AreTakenUnder, AreWokenUnder, HaveJoined, HaveOpened, HoldsProcess, IsFirst, IsFirstUpTo, IsJoined, IsMadeReady, IsNext, IsOpenedAt, IsPromoted, IsPutBack, IsShut, IsTakenOut, IsWokenAt, WaitsAlso, WaitsThere, WaitsUnder, is_closed, is_ready, may_go, turns_len};
 ghost use Rattle.sr_plain.specs.declared.waiters.Place.TheVariants.{Idle, Served, Stored, Watched};
 ghost use Rattle.sr_plain.specs.declared.waiters.Waiting.TheVariants.{Many};
 ghost use Rattle.sr_queue.specs.declared.class.Class as served;
@@ -416,6 +416,16 @@ impl Waiters {
             self.ready.first_after(last),
             first_open_after(self.opened.as_slice(), last),
         )
+    }
+
+    /// The first that may be asked of those after one number and up to another.
+    pub(crate) fn first_up_to(&self, low: u32, high: u32) -> Option<u32>
+        ensures { IsFirstUpTo self.now low high result }
+    {
+        match self.first_after(low) {
+            Some(process) => { if process <= high { Some(process) } else { None } }
+            None => None,
+        }
     }
 
     fn first(&self) -> Option<u32>

@@ -1,0 +1,22 @@
+use Rattle.std.proofs.Common.{◌≤◌, ap, subst, arith, length, List}
+use Rattle.sr_ask.specs.declared.item.Item.{Item}
+use Rattle.sr_classes.specs.Classes.{class_of}
+use Rattle.sr_world.specs.Names.{IsGreatest}
+use Rattle.sr_world.specs.Worlds.{World}
+use Rattle.sr_plain.proofs.PassLemmas.{ok_both, round-passed}
+use Rattle.sr_plain.proofs.plain.Plain.pass_round.Goals as goal
+
+pub returns : goal.returns
+returns g c = ok_both c.pass_over-2.result c.pass_over-2.ensures.over c.pass_over-2.ensures.within (λ over within limit state events engine.
+    let after = g.A.Actor.asks_after c.args.program.now in
+    let core = g.A.Actor.core_of c.args.program.now in
+    let class = class_of c.args.classes.now.of in
+    let engine1 = c.in_ok-wake_up.ensures.engine c.args.program.now limit state events engine in
+    let greatest = c.greatest_used-greatest.result in
+    let is_greatest = subst (λ (w : World). IsGreatest w.used greatest) engine.world c.greatest_used-greatest.ensures in
+    let short : length c.args.made.now ≤ c.args.room = omega (arith, ap (λ (is : List Item). length is) c.requires) in
+    round-passed after g.A.Actor.can_feed core class limit state events c.wake_up.new.self engine1 c.args.room greatest c.args.self.now.last is_greatest engine.last
+    c.args.made.now c.pass_over.new.made c.pass_over-2.new.made c.requires c.pass_over.new.self c.pass_over-2.new.self
+    (λ passing. c.in_ok-pass_over.ensures.over limit state events greatest (omega arith) passing)
+    (λ below passing. over limit state events greatest below passing)
+    (within (c.in_ok-pass_over.ensures.within short)))
