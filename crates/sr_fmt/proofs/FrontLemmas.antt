@@ -1,5 +1,5 @@
 -- What begins at the front of some bytes: a gap, or a token.
-use Rattle.std.proofs.Common.{◌≡◌, ℕ, zero, suc, ◌+◌, ◌==◌, Bool, true, false, cond, not, ◌&&◌, ◌||◌, List, [], ◌∷◌, ◌++◌, length, take, drop, refl, ap, sym, subst, ◌∙◌, Option, Some, None, Result, Ok, Err, is_ok, nat_eq, codes, ◌⊎◌, inl, inr, eqb-true}
+use Rattle.std.proofs.Common.{◌≡◌, ℕ, zero, suc, ◌+◌, ◌==◌, Bool, true, false, cond, ◌&&◌, ◌||◌, List, [], ◌∷◌, ◌++◌, take, drop, refl, ap, sym, subst, ◌∙◌, Option, Some, None, Result, Ok, Err, is_ok, nat_eq, codes, ◌⊎◌, inl, inr, eqb-true}
 use Rattle.std.specs.List.{starts_with}
 use lib.Pointwise.{pointwise}
 use Rattle.sr_value.specs.declared.place.Span.{Span}
@@ -12,7 +12,7 @@ use Rattle.sr_lexer.specs.Symbols.{word_of, listed_sign, sign_at}
 use Rattle.sr_lexer.specs.Pieces.{run_len, close_of, closed_comment, name_kind, name_piece, is_number, number_piece, is_literal, quoted_piece, literal_piece, signed_piece, sign_piece, piece_of_class, piece_at}
 use Rattle.sr_lexer.specs.Separators.{Placed, separators, token_of, tokens_at}
 use Rattle.sr_fmt.specs.declared.gap.Gap.{Gap}
-use Rattle.sr_fmt.specs.Gaps.{closed_gap, comment_at, gap_at}
+use Rattle.sr_fmt.specs.Gaps.{closed_gap, gap_at}
 use Rattle.sr_fmt.specs.Layout.{is_comment}
 
 -- ---- words for results

@@ -4,7 +4,7 @@ use Rattle.sr_value.specs.declared.place.Span.{Span}
 use Rattle.sr_tree.specs.declared.component.File.{File}
 use Rattle.sr_order.specs.Spans.{statement_spans}
 use Rattle.sr_lexer.specs.Separators.{Placed}
-use Rattle.sr_lexer.specs.Tokens.{placed, BeginsAt, Chain}
+use Rattle.sr_lexer.specs.Tokens.{Chain}
 use Rattle.sr_fmt.specs.declared.pen.Pen.{Pen}
 use Rattle.sr_fmt.specs.declared.printer.Printer.{Printer}
 use Rattle.sr_fmt.specs.Canonical.{IsCanonical, begins_at}

@@ -1,5 +1,5 @@
 -- The tokens of a chain of pieces without the separators that newlines are.
-use Rattle.std.proofs.Common.{◌≡◌, ℕ, ◌<◌, ◌≤◌, Bool, true, false, cond, not, List, [], ◌∷◌, ◌++◌, length, take, drop, map, filter, refl, ap, sym, subst, ◌∙◌, Option, Some, None, is_ok, nat_eq, inl, inr}
+use Rattle.std.proofs.Common.{◌≡◌, ℕ, ◌<◌, Bool, true, false, cond, not, List, [], ◌∷◌, ◌++◌, length, take, drop, map, filter, refl, ap, sym, ◌∙◌, Option, Some, None, is_ok, nat_eq, inl, inr}
 use Rattle.std.proofs.Math.ListN.{drop_of_length-le}
 use Rattle.std.proofs.lemmas.Bool.{cases_lt}
 use Rattle.std.proofs.lemmas.List.{map-append}
@@ -10,14 +10,14 @@ use Rattle.sr_tree.specs.declared.token.Token.{Token}
 use Rattle.sr_tree.specs.declared.token.TokenKind.{TokenKind}
 use Rattle.sr_lexer.specs.Pieces.{piece_at}
 use Rattle.sr_lexer.specs.Separators.{Placed, newline_separator, separators, newline_after, token_of, tokens_at, tokens_after, tokens_of}
-use Rattle.sr_lexer.specs.Tokens.{placed, BeginsAt, Chain, Lexes}
+use Rattle.sr_lexer.specs.Tokens.{BeginsAt, Chain, Lexes}
 use Rattle.sr_fmt.specs.declared.gap.Gap.{Gap}
 use Rattle.sr_fmt.specs.declared.told.Told.{Told}
 use Rattle.sr_fmt.specs.Gaps.{gap_at}
 use Rattle.sr_fmt.specs.Layout.{kind_of, first_kind}
 use Rattle.sr_fmt.specs.Told.{is_told, brief, all_told, told_at, told_in}
 use Rattle.sr_fmt.specs.Printing.{IsToldOf}
-use Rattle.sr_fmt.proofs.FrontLemmas.{on_ok, along, len_front, tokens_front, told_after, FrontIs, GapFront, TokenFront, front_is, none_at_end}
+use Rattle.sr_fmt.proofs.FrontLemmas.{on_ok, along, len_front, tokens_front, told_after, FrontIs, front_is, none_at_end}
 
 -- ---- what a piece of a chain is
 

@@ -1,7 +1,7 @@
 -- The walk over a source, a piece each time.
 use Rattle.std.proofs.Common.{◌≡◌, ℕ, zero, suc, ◌+◌, ◌-◌, ◌<◌, ◌≤◌, Bool, true, false, cond, List, [], ◌∷◌, ◌++◌, length, take, drop, get_or, refl, ap, sym, subst, ◌∙◌, arith, add-one, append_assoc, Option, Some, None, Ok, length-take, length-drop}
 use Rattle.sr_tree.specs.declared.token.TokenKind.{TokenKind}
-use Rattle.sr_lexer.specs.Pieces.{piece_at, FitsIn}
+use Rattle.sr_lexer.specs.Pieces.{FitsIn}
 use Rattle.sr_lexer.specs.Roles.{opens_bracket, closes_bracket}
 use Rattle.sr_lexer.specs.Separators.{Placed}
 use Rattle.sr_lexer.specs.Tokens.{placed, BeginsAt, Chain}
@@ -16,7 +16,7 @@ use Rattle.sr_fmt.specs.Marks.{marked}
 use Rattle.sr_fmt.specs.Printing.{IsToldOf, Prints}
 use Rattle.sr_fmt.specs.Roles.{opens_level, closes_level}
 use Rattle.sr_fmt.specs.Told.{told_at, told_in}
-use Rattle.sr_fmt.proofs.FrontLemmas.{on_ok, along, FrontIs, GapFront, TokenFront}
+use Rattle.sr_fmt.proofs.FrontLemmas.{on_ok, along, FrontIs}
 use Rattle.sr_fmt.proofs.ToldLemmas.{begins_within, begins_front, begins_tokens}
 
 -- the text so far and the text of what is left are that of the whole source

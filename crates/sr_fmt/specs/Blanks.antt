@@ -1,5 +1,5 @@
 -- Which two tokens of a line have a blank between them.
-use Rattle.std.specs.Prelude.{Bool, true, false, ◌&&◌, ◌||◌, not}
+use Rattle.std.specs.Prelude.{Bool, true, false, ◌||◌, not}
 use Rattle.sr_tree.specs.declared.token.Sign.TheVariants as signs
 use Rattle.sr_tree.specs.declared.token.TokenKind.{TokenKind}
 use Rattle.sr_tree.specs.declared.token.TokenKind.TheVariants as kinds

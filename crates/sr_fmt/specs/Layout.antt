@@ -1,5 +1,5 @@
 -- The text in the one style, piece by piece.
-use Rattle.std.specs.Prelude.{ℕ, ◌+◌, ◌-◌, ◌*◌, ◌==◌, Bool, false, ◌&&◌, ◌||◌, if◌then◌else◌, List, [], ◌∷◌, ◌++◌, Option, Some, None, codes, replicate}
+use Rattle.std.specs.Prelude.{ℕ, ◌+◌, ◌-◌, ◌*◌, ◌==◌, Bool, ◌&&◌, ◌||◌, if◌then◌else◌, List, [], ◌∷◌, ◌++◌, Option, Some, None, codes, replicate}
 use Rattle.sr_tree.specs.declared.token.Sign.TheVariants.{NotEqual}
 use Rattle.sr_tree.specs.declared.token.Token.{Token}
 use Rattle.sr_tree.specs.declared.token.TokenKind.{TokenKind}

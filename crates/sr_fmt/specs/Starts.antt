@@ -1,5 +1,5 @@
 -- The first tokens of the statements in lists of parts.
-use Rattle.std.specs.Prelude.{List, [], map, Option, Some, None}
+use Rattle.std.specs.Prelude.{List, map}
 use Rattle.sr_value.specs.declared.place.Span.{Span}
 use Rattle.sr_tree.specs.declared.statement.Arm.{Arm}
 use Rattle.sr_tree.specs.declared.statement.BlockItem.{BlockItem}

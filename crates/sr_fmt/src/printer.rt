@@ -1,4 +1,4 @@
-ghost use Rattle.std.specs.Prelude.{◌≡◌, ◌++◌, ◌-◌, ◌^◌, ◌<◌, [], ◌∷◌, OnOk, IfOk};
+ghost use Rattle.std.specs.Prelude.{◌≡◌, ◌++◌, ◌-◌, ◌^◌, ◌<◌, [], OnOk, IfOk};
 ghost use Rattle.sr_fmt.specs.Gaps.{pen_past};
 ghost use Rattle.sr_fmt.specs.Layout.{begins_line, level_of, level_after, depth_after, indentation, line_end, line_start, blank_between, spelled, written, pen_after, first_pen};
 

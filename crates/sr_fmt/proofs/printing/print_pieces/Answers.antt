@@ -1,5 +1,5 @@
 -- A piece each time: a gap, or the next token.
-use Rattle.std.proofs.Common.{ℕ, ◌+◌, ◌<◌, ◌≤◌, List, ◌++◌, length, take, Some, slice_index_or, ap, sym, ◌∙◌, arith}
+use Rattle.std.proofs.Common.{◌+◌, ◌++◌, take, Some, slice_index_or, ap, sym, ◌∙◌, arith}
 use Rattle.sr_tree.specs.declared.token.TokenKind.TheVariants.{Name}
 use Rattle.sr_lexer.proofs.ChainLemmas.{rest_is}
 use Rattle.sr_fmt.specs.Gaps.{gap_at, pen_past}

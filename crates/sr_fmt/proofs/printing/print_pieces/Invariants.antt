@@ -1,5 +1,5 @@
 -- The text so far and the text of what is left are that of the whole source.
-use Rattle.std.proofs.Common.{◌≡◌, ◌-◌, length}
+use Rattle.std.proofs.Common.{◌-◌, length}
 use Rattle.sr_fmt.specs.Marks.{marked}
 use Rattle.sr_fmt.proofs.WalkLemmas.{Walk}
 use Rattle.sr_fmt.proofs.printing.print_pieces.Given as goal
