@@ -3,6 +3,7 @@ pub mod Advancing
 pub mod Begun
 pub mod Events
 pub mod Known
+pub mod OneCause
 pub mod Reached
 pub mod Stepped
 pub mod Taken

@@ -1,4 +1,5 @@
 pub mod Causes
 pub mod Numbers
+pub mod OneCause
 pub mod Runs
 pub mod UnderWay

@@ -5,8 +5,10 @@ mod advance;
 mod end;
 mod intake;
 mod items;
+mod laws;
 mod taking;
 mod whole;
 
 pub use end::{LimitKind, Run, RunEnd};
+pub use laws::one_cause;
 pub use whole::run;
