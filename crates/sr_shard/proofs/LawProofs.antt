@@ -7,13 +7,16 @@ use Rattle.sr_orders.proofs.OrderLemmas as order
 use Rattle.sr_touch.specs.Touched.{is_wide, parts_of}
 use Rattle.sr_shard.specs.Acts.{Act, Fits, apply, part}
 use Rattle.sr_shard.specs.Entries.{acts_of, me_in}
-use Rattle.sr_shard.specs.Laws.{EntriesInAnyOrder, OthersStay, OthersTellNothing, ReplaysIn, TouchedIsAll, world_after}
+use Rattle.sr_shard.specs.Laws.{EntriesInAnyOrder, JournalsInParts, OthersStay, OthersTellNothing, ReplaysIn, TouchedIsAll, world_after}
 use Rattle.sr_shard.specs.Masks.{mask}
 use Rattle.sr_shard.proofs.LocalLemmas.{acts_are_local}
 use Rattle.sr_shard.proofs.TouchedLemmas.{among, contained, touched_by}
 
 pub entries_in_any_order : EntriesInAnyOrder
 entries_in_any_order core class = order.orders_agree 32 (part class) (mask class) (Fits core class) (apply core) (acts_are_local core class) (acts_of core)
+
+pub journals_in_parts : JournalsInParts
+journals_in_parts core class = order.journals_replay 32 (part class) (mask class) (Fits core class) (apply core) (acts_are_local core class) (acts_of core)
 
 narrow : (b : Bool) (touched parts : List ℕ) → cond b None (Some touched) ≡ Some parts → (b ≡ false) × (touched ≡ parts)
 narrow true touched parts is = absurd (cc is)

@@ -5,7 +5,7 @@ use Rattle.sr_ask.specs.declared.entry.Entry.{Entry}
 use Rattle.sr_ask.specs.declared.request.Request.{Request}
 use Rattle.sr_ask.specs.declared.request.Request.TheVariants as request
 use Rattle.sr_core.specs.declared.component.Core.{Core}
-use Rattle.sr_orders.specs.Acts.{AreLocal, OrdersAgree, Replays, after, touches}
+use Rattle.sr_orders.specs.Acts.{AreLocal, JournalsReplay, OrdersAgree, Replays, after, touches}
 use Rattle.sr_touch.specs.Touched.{is_wide, touched}
 use Rattle.sr_world.specs.Does.{Does, Did, Makes}
 use Rattle.sr_world.specs.Runs.{IsValid, State}
@@ -30,6 +30,11 @@ world_after core class acts world = after 32 (part class) (mask class) (Fits cor
 -- every order of entries in which each part finds its own in the same order is the same run
 abbrev pub EntriesInAnyOrder : Type 0
 EntriesInAnyOrder = (core : Core) (class : ℕ → ℕ) → OrdersAgree 32 (part class) (mask class) (Fits core class) (apply core) (acts_of core)
+
+-- where each part's journal has its entries of one history, and replays in that part by itself, the history replays, and each part
+-- ends as its journal says
+abbrev pub JournalsInParts : Type 0
+JournalsInParts = (core : Core) (class : ℕ → ℕ) → JournalsReplay 32 (part class) (mask class) (Fits core class) (apply core) (acts_of core)
 
 -- an invocation uses the number of its step
 abbrev pub done_as : Request → ℕ → World → Answer → Does

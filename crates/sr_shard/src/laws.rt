@@ -1,5 +1,5 @@
 ghost use Rattle.sr_shard.specs.Items.{ActsLeaveNumbers, EntriesAreItems};
-ghost use Rattle.sr_shard.specs.Laws.{ActsAreLocal, EntriesAreSteps, EntriesInAnyOrder, OthersStay, OthersTellNothing, TouchedIsAll, ValidStatesStand};
+ghost use Rattle.sr_shard.specs.Laws.{ActsAreLocal, EntriesAreSteps, EntriesInAnyOrder, JournalsInParts, OthersStay, OthersTellNothing, TouchedIsAll, ValidStatesStand};
 
 /// A law of acts: what a part has of a world tells whether an act on it fits, and changes as the world does; no other
 /// part changes.
@@ -25,6 +25,12 @@ pub fn entries_are_items()
 /// part ends the same.
 pub fn entries_in_any_order()
     ensures { EntriesInAnyOrder }
+{}
+
+/// A law of journals: where each part has kept its entries of one history, and they replay there, the history replays,
+/// and each part ends as its journal says.
+pub fn journals_are_a_history()
+    ensures { JournalsInParts }
 {}
 
 /// A law of parts: what a request touches is all that its entry has acts on; every other part stays, and tells nothing.

@@ -5,5 +5,5 @@ mod laws;
 
 pub use laws::{
     acts_are_local, entries_are_items, entries_are_steps, entries_in_any_order,
-    touched_parts_are_all,
+    journals_are_a_history, touched_parts_are_all,
 };
