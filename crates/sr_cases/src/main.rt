@@ -5,6 +5,7 @@
 #![tactic(auto)]
 
 mod calls;
+mod divided;
 mod repeats;
 mod telling;
 
