@@ -8,6 +8,7 @@ use Rattle.sr_gen.specs.declared.inner.Inner.TheVariants.{Block, Call}
 use Rattle.sr_meaning.specs.declared.ending.Ending.{Ending}
 use Rattle.sr_meaning.specs.Expressions.{Meaning}
 use Rattle.sr_meaning.specs.Here.{settle}
+use Rattle.sr_meaning.specs.Pieces.{call_part}
 use Rattle.sr_meaning.specs.Statements.{block_meaning, block_of, left, number_expr, quantified, start_call}
 
 -- what stands after quantifiers
