@@ -82,6 +82,6 @@ fn found(alloc: Global, time: i32, moment: i32, count: u32) -> Result<Told, NoMe
 }
 
 /// What a process asks that writes the moment and then waits so long, after so many answers with this moment.
-pub fn told(alloc: Global, time: i32, moment: i32, count: u32) -> Told {
+pub fn what_is_asked(alloc: Global, time: i32, moment: i32, count: u32) -> Told {
     found(alloc, time, moment, count).unwrap_or(Told::Other)
 }

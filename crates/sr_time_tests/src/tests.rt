@@ -1,4 +1,4 @@
-use crate::asking::{Told, told};
+use crate::asking::{Told, what_is_asked};
 
 /// How long a process waits, the moment that it is told, how many answers it got, and what it asks then.
 const ROWS: [(i32, i32, u32, Told); 9] = [
@@ -16,6 +16,6 @@ const ROWS: [(i32, i32, u32, Told); 9] = [
 #[test]
 fn time_is_asked(rt: HostRuntime) {
     for (time, moment, count, wanted) in ROWS {
-        assert_eq!(rt; told(rt.alloc(), time, moment, count), wanted);
+        assert_eq!(rt; what_is_asked(rt.alloc(), time, moment, count), wanted);
     }
 }
