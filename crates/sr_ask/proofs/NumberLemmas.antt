@@ -1,5 +1,5 @@
 -- A list of numbers in blocks: where a number stands, and what is left once one is out.
-use Rattle.std.proofs.Common.{◌≡◌, ℕ, zero, suc, ◌+◌, ◌-◌, ◌<◌, ◌≤◌, ◌⊎◌, Bool, true, false, cond, ◌||◌, eqb, List, [], ◌∷◌, ◌++◌, Option, None, Some, length, get_or, set, take, refl, ap, sym, ◌∙◌, ⊎_elim, true≢false, zero-add, arith}
+use Rattle.std.proofs.Common.{◌≡◌, ℕ, zero, suc, ◌+◌, ◌-◌, ◌<◌, ◌≤◌, ◌⊎◌, Bool, true, false, cond, ◌||◌, eqb, List, [], ◌∷◌, ◌++◌, Option, None, Some, length, get_or, set, take, drop, refl, ap, sym, subst, ◌∙◌, ⊎_elim, true≢false, zero-add, arith}
 use Rattle.std.specs.Prelude.{unwrap_or}
 use Rattle.std.specs.List.{flat_map, list_any, position, position_from, remove, slice_get}
 use Rattle.std.specs.Option.{option_map}
@@ -109,14 +109,25 @@ module _ (test : ℕ → Bool) where
   pub search_begins : (blocks : List (List ℕ)) → Searches blocks 0 blocks
   search_begins blocks = (zero-add (length (joined blocks)), mapped_zero (position test (joined blocks)))
 
-  pub search_goes_on : (blocks : List (List ℕ)) (before : ℕ) (block : List ℕ) (others : List (List ℕ)) → Searches blocks before (block ∷ others) → position test block ≡ None → Searches blocks (before + length block) others
-  search_goes_on blocks before block others so_far none = (
+  goes_on : (blocks : List (List ℕ)) (before : ℕ) (block : List ℕ) (others : List (List ℕ)) → Searches blocks before (block ∷ others) → position test block ≡ None → Searches blocks (before + length block) others
+  goes_on blocks before block others so_far none = (
     omega (arith, so_far.0, length-append block (joined others)),
     so_far.1 ∙ ap (option_map (λ k. before + k)) (place_past block (joined others) none) ∙ mapped_twice before (length block) (position test (joined others)),
   )
 
-  pub search_ends : (blocks : List (List ℕ)) (before : ℕ) (block : List ℕ) (others : List (List ℕ)) (i : ℕ) → Searches blocks before (block ∷ others) → position test block ≡ Some i → position test (joined blocks) ≡ Some (before + i)
-  search_ends blocks before block others i so_far is = so_far.1 ∙ ap (option_map (λ k. before + k)) (place_front block (joined others) i is)
+  pub search_goes_on : (blocks : List (List ℕ)) (before : ℕ) (rest : List (List ℕ)) (block seen : List ℕ) → 1 ≤ length rest → block ≡ get_or rest 0 block → seen ≡ block → Searches blocks before rest → position test block ≡ None
+      → Searches blocks (before + length seen) (take (length rest - 1) (drop 1 rest))
+  search_goes_on blocks before [] block seen some is same so_far none = absurd (omega (arith, some))
+  search_goes_on blocks before (b ∷ bs) block seen some is same so_far none =
+      let all : take (length (b ∷ bs) - 1) bs ≡ bs = take_all (length (b ∷ bs) - 1) bs (omega arith) in
+      let first : Searches blocks before (block ∷ bs) = subst (λ x. Searches blocks before (x ∷ bs)) (sym is) so_far in
+      subst (λ xs. Searches blocks (before + length seen) xs) (sym all) (subst (λ x. Searches blocks (before + length x) bs) (sym same) (goes_on blocks before block bs first none))
+
+  pub search_ends : (blocks : List (List ℕ)) (before : ℕ) (rest : List (List ℕ)) (block : List ℕ) (i : ℕ) → 1 ≤ length rest → block ≡ get_or rest 0 block → Searches blocks before rest → position test block ≡ Some i
+      → position test (joined blocks) ≡ Some (before + i)
+  search_ends blocks before [] block i some is so_far found = absurd (omega (arith, some))
+  search_ends blocks before (b ∷ bs) block i some is so_far found =
+      so_far.1 ∙ ap (option_map (λ k. before + k)) (place_front b (joined bs) i (ap (position test) (sym is) ∙ found))
 
 -- ---- the number at a place
 
@@ -174,6 +185,12 @@ module _ (bs : List (List ℕ)) (b : List ℕ) (at i k : ℕ) (spot : IsSpot bs 
 
   pub spot_emptied : length b ≡ 1 → joined (remove bs i) ≡ remove (joined bs) at
   spot_emptied one = block_gone bs i k at spot.block_within spot.place_within spot.sum (ap length stands ∙ one)
+
+-- ---- how many there are
+
+-- other blocks with the same numbers
+pub kept_length : (bs cs : List (List ℕ)) (xs ys : List ℕ) (n : ℕ) → joined cs ++ ys ≡ joined bs ++ xs → n ≡ length (joined bs) + length xs → n ≡ length (joined cs) + length ys
+kept_length bs cs xs ys n same long = omega (arith, long, ap length same, length-append (joined bs) xs, length-append (joined cs) ys)
 
 -- ---- lists that agree at each place
 

@@ -1,4 +1,4 @@
-ghost use Rattle.std.specs.Prelude.{◌≡◌, ◌<◌, ◌≤◌, false, length, position, remove, slice_index, EachIndex, IfOk, IsTrue};
+ghost use Rattle.std.specs.Prelude.{◌≡◌, ◌<◌, ◌≤◌, false, length, position, remove, slice_get, slice_index, EachIndex, IfOk, IsTrue};
 ghost use Rattle.std.specs.List.{list_any};
 ghost use Rattle.sr_ask.specs.Numbers.{is_number};
 
@@ -48,6 +48,13 @@ impl Block {
         ensures { result.now ≡ self.now }
     {
         self.numbers.as_slice()
+    }
+
+    /// The number at a place, counted from 0.
+    pub fn get(&self, at: usize) -> Option<u32>
+        ensures { result ≡ slice_get self.now at }
+    {
+        self.numbers.get().get(at).copied()
     }
 
     /// Whether a number is among them.

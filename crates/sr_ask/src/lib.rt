@@ -19,6 +19,6 @@ pub use entry::{Entry, Seen};
 pub use environment::{Gives, Located, Out, Own, ReadTarget, Sent, Service, Spot};
 pub use forms::{InputItem, Pick, Selection, Taken};
 pub use item::Item;
-pub use numbers::Numbers;
+pub use numbers::SharedNumbers;
 pub use request::{ReadKind, Request};
 pub use start::Start;

@@ -17,14 +17,14 @@ const MOST_NUMBERS: usize = usize::MAX;
 ///
 /// Copies share the blocks.
 #[derive(Debug, Drop)]
-pub struct Numbers {
+pub struct SharedNumbers {
     blocks: Row<Block>,
     /// The numbers after those of the blocks, to which numbers are added.
     last: Row<u32>,
     len: usize,
 }
 
-impl Model for Numbers {
+impl Model for SharedNumbers {
     ghost use Rattle.std.specs.Prelude.{◌≡◌, ◌+◌, ◌++◌, ℕ, List, length};
     ghost use Rattle.std.specs.Coded.{coded_list, coded_ℕ};
     ghost use Rattle.sr_ask.specs.Numbers.{joined};
@@ -38,12 +38,12 @@ impl Model for Numbers {
     ghost invariant = { λ numbers. numbers.len ≡ length (joined numbers.blocks) + length numbers.last };
 }
 
-impl Numbers {
+impl SharedNumbers {
     /// The list of no numbers. It takes no memory.
     pub fn new(alloc: Global) -> Self
         ensures { result ≡ [] }
     {
-        Numbers {
+        SharedNumbers {
             blocks: Row::new(alloc),
             last: Row::new(alloc),
             len: 0,
@@ -56,7 +56,7 @@ impl Numbers {
     {
         let mut last = Row::new(alloc);
         last.push(number)?;
-        Ok(Numbers {
+        Ok(SharedNumbers {
             blocks: Row::new(alloc),
             last,
             len: 1,
@@ -108,9 +108,7 @@ impl Numbers {
         if len == MOST_NUMBERS {
             return Err(NoMemory);
         }
-        if self.last.len() >= BLOCK {
-            end_block(alloc, &mut self.blocks, &mut self.last)?;
-        }
+        make_room(alloc, &mut self.blocks, &mut self.last)?;
         self.last.push(number)?;
         self.len = len + 1;
         Ok(())
@@ -124,20 +122,21 @@ impl Numbers {
     {
         let len = self.len;
         let before = len - self.last.len();
-        if at >= before {
-            let _ = self.last.remove(at - before);
-        } else {
+        if at < before {
             remove_in(alloc, &mut self.blocks, at)?;
+            self.len = len - 1;
+            return Ok(());
         }
+        let _ = self.last.remove(at - before);
         self.len = len - 1;
         Ok(())
     }
 }
 
-impl Duplicate for Numbers {
-    fn copy(&self, alloc: Global) -> Result<Numbers, NoMemory> {
+impl Duplicate for SharedNumbers {
+    fn copy(&self, alloc: Global) -> Result<SharedNumbers, NoMemory> {
         let last = copied(alloc, self.last.as_slice())?;
-        Ok(Numbers {
+        Ok(SharedNumbers {
             blocks: self.blocks.copy(alloc)?,
             last,
             len: self.len,
@@ -145,14 +144,14 @@ impl Duplicate for Numbers {
     }
 }
 
-impl Compare for Numbers {
+impl Compare for SharedNumbers {
     fn same(&self, other: &Self) -> bool {
         self.len == other.len && agree(self, other)
     }
 }
 
 /// Whether the one list has the numbers of the other at all places of that.
-fn agree(mine: &Numbers, theirs: &Numbers) -> bool
+fn agree(mine: &SharedNumbers, theirs: &SharedNumbers) -> bool
     ensures { IsTrue result ↔ ((at : ℕ) → at < length mine.now → slice_get mine.now at ≡ slice_get theirs.now at) }
 {
     for at in 0..mine.len() {
@@ -193,7 +192,7 @@ fn get_in(blocks: &[Block], at: usize) -> Option<u32>
 {
     let spot = spot_of(blocks, at);
     let block = &blocks[spot.block];
-    block.as_slice().get(spot.place).copied()
+    block.get(spot.place)
 }
 
 /// Whether a number stands in a block.
@@ -246,10 +245,13 @@ fn remove_in(alloc: Global, blocks: &mut Row<Block>, at: usize) -> Result<(), No
     Ok(())
 }
 
-/// Makes a block of the last numbers.
-fn end_block(alloc: Global, blocks: &mut Row<Block>, last: &mut Row<u32>) -> Result<(), NoMemory>
-    ensures all { joined blocks.new ++ last.new ≡ joined blocks.old ++ last.old }
+/// Makes a block of the last numbers, where they are enough for one.
+fn make_room(alloc: Global, blocks: &mut Row<Block>, last: &mut Row<u32>) -> Result<(), NoMemory>
+    ensures { joined blocks.new ++ last.new ≡ joined blocks.old ++ last.old }
 {
+    if last.len() < BLOCK {
+        return Ok(());
+    }
     let block = Block::new(alloc, last.as_slice())?;
     blocks.push(block)?;
     last.truncate(0);

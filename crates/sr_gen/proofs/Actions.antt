@@ -4,7 +4,7 @@ use Rattle.sr_value.specs.declared.capability.Cap.{Cap}
 use Rattle.sr_value.specs.declared.place.Place.{Place}
 use Rattle.sr_value.specs.declared.value.Value.TheVariants.{Int}
 use Rattle.sr_value.specs.Operators.{value_of}
-use Rattle.sr_ask.specs.Asking.{done, made, moment, none_takes}
+use Rattle.sr_ask.specs.Asking.{done, made, moment, none_takes, until_moment}
 use Rattle.sr_ask.specs.Behaviors.{Stage, Outcome, Came, Stops, Doing, and_then, give, heard, ◌>>=◌}
 use Rattle.sr_ask.specs.Invocations.{values_sent}
 use Rattle.sr_ask.specs.declared.answer.Answer.{Answer}
@@ -18,7 +18,7 @@ use Rattle.sr_core.specs.declared.expression.Expr.{Expr}
 use Rattle.sr_core.specs.declared.expression.PlaceExpr.{PlaceExpr}
 use Rattle.sr_core.specs.declared.statement.Action.TheVariants as action
 use Rattle.sr_core.specs.declared.statement.Bump.{Bump}
-use Rattle.sr_code.specs.Acts.{point, goes, act, time_to_wait, until_moment}
+use Rattle.sr_code.specs.Acts.{point, goes, act, time_to_wait}
 use Rattle.sr_code.specs.Operands.{call_of, put_call, put_cap, put_list, put_name, put_number, put_place, put_value}
 use Rattle.sr_code.specs.Runs.{Machine, go, here_at, then_asks}
 use Rattle.sr_code.specs.Stretches.{Emits, Extends, Follows, Has}
@@ -31,7 +31,7 @@ use Rattle.sr_meaning.specs.declared.ending.Ending.TheVariants.{Through}
 use Rattle.sr_meaning.specs.Expressions.{argument_of, expr_meaning, in_order, place_of_expr, taken}
 use Rattle.sr_meaning.specs.Here.{Here, request, settle}
 use Rattle.sr_meaning.specs.Places.{load_place, store_place}
-use Rattle.sr_meaning.specs.Statements.{action_meaning, arguments, as_until, bump_operator, cap_expr, forward_meaning, number_expr, reply_meaning, status_meaning, through, time_of}
+use Rattle.sr_meaning.specs.Statements.{action_meaning, arguments, bump_operator, cap_expr, forward_meaning, number_expr, reply_meaning, status_meaning, through, time_of}
 use Rattle.sr_gen_expr.specs.Emitting.{Gives, join_all, join_sent, tree_here}
 use Rattle.sr_gen_expr.proofs.Joining.{joined_sent}
 use Rattle.sr_gen_expr.proofs.Stretching.{follows_last, gives_changed, gives_first, gives_then}
@@ -240,7 +240,7 @@ same_time : (n : ℤ) → time_of n ≡ time_to_wait n
 same_time (pos n) = refl
 same_time (negsuc n) = refl
 
-same_until : (n : ℤ) → as_until n ≡ until_moment n
+same_until : (n : ℤ) → until_moment n ≡ until_moment n
 same_until (pos n) = refl
 same_until (negsuc n) = refl
 
