@@ -1,26 +1,23 @@
 -- What each instruction does: what it asks, and to which address and operands it leads.
-use Rattle.std.specs.Prelude.{ℕ, zero, suc, ℤ, pos, negsuc, ◌+ℤ◌, min, Bool, true, false, List, [], ◌∷◌, length, map, Option, Some, None, Result, Ok, Err, ◌==◌, if◌then◌else◌, nat_le, unwrap_or, slice_get}
+use Rattle.std.specs.Prelude.{ℕ, zero, suc, ℤ, pos, negsuc, ◌+ℤ◌, min, Bool, true, false, List, [], ◌∷◌, length, map, Option, Some, None, Result, Ok, Err, ◌==◌, slice_get}
 use Rattle.sr_value.specs.declared.capability.Cap.TheVariants.{Op, Res as a_resource, Vm}
 use Rattle.sr_value.specs.declared.fault.Fault.{Fault}
-use Rattle.sr_value.specs.declared.fault.Fault.TheVariants.{Overflow, Range}
+use Rattle.sr_value.specs.declared.fault.Fault.TheVariants.{Range}
 use Rattle.sr_value.specs.declared.shape.Dims.TheVariants.{One as one_dim, Two as two_dims}
 use Rattle.sr_value.specs.declared.shape.Sel.TheVariants.{At as at_one, At2 as at_two, Field as at_field}
-use Rattle.sr_value.specs.declared.shape.Shape.{Shape}
-use Rattle.sr_value.specs.declared.shape.Shape.TheVariants.{Int as int_shape, Str as a_string, Arr as an_array}
+use Rattle.sr_value.specs.declared.shape.Shape.TheVariants.{Int as int_shape, Arr as an_array}
 use Rattle.sr_value.specs.declared.value.Value.{Value}
 use Rattle.sr_value.specs.declared.value.Value.TheVariants.{Int, Bool as truth_value, Capa}
-use Rattle.sr_value.specs.Operands.{int_in}
 use Rattle.sr_value.specs.Operators.{value_of, value_of_one}
 use Rattle.sr_value.specs.Parts.{part_of, with_ok}
 use Rattle.sr_ask.specs.Asking.{none_takes, done, made, number, moment, ready, read_item, selected, until_moment}
 use Rattle.sr_ask.specs.Behaviors.{Doing, Came, give, ◌>>=◌, tick}
 use Rattle.sr_ask.specs.Here.{Here, request, settle}
 use Rattle.sr_ask.specs.Invocations.{value_after, default_given, taken, instance_in, number_read, at_end}
-use Rattle.sr_ask.specs.Places.{nothing, own_at, own_or_nothing, declare_own, load_place, number_held, own_store, store_place, string_of_length, make, whole}
+use Rattle.sr_ask.specs.Places.{nothing, own_at, declare_own, load_place, number_held, own_store, store_place, string_of_length, make, whole}
 use Rattle.sr_ask.specs.Replies.{Completion, set_service, push_out, set_out, reply_meaning, forward_meaning, take_one, without_out}
 use Rattle.sr_ask.specs.declared.environment.Gives.TheVariants.{Values}
 use Rattle.sr_ask.specs.declared.environment.Located.{Located}
-use Rattle.sr_ask.specs.declared.environment.Out.{Out}
 use Rattle.sr_ask.specs.declared.environment.Own.{Own}
 use Rattle.sr_ask.specs.declared.environment.ReadTarget.{ReadTarget}
 use Rattle.sr_ask.specs.declared.environment.Service.{Service}

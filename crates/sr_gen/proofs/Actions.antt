@@ -240,10 +240,6 @@ same_time : (n : ℤ) → time_of n ≡ time_to_wait n
 same_time (pos n) = refl
 same_time (negsuc n) = refl
 
-same_until : (n : ℤ) → until_moment n ≡ until_moment n
-same_until (pos n) = refl
-same_until (negsuc n) = refl
-
 pub acts_until : {ways : Ways} {core : Core} {line : Place} (time : Expr) {c0 c1 c2 c3 c4 : List Coded} → Emits line Wake c0 c1 → Emits line Age c1 c2 → Emits line ToWait c2 c3
     → Gives put_number core line (number_expr time) c3 c4 → Acts ways core line (action_meaning (action.Until time)) c0 c4
 acts_until {ways = ways} {line = line} time {c0 = c0} {c2 = c2} {c3 = c3} wake age to_wait g = record {
@@ -255,7 +251,6 @@ acts_until {ways = ways} {line = line} time {c0 = c0} {c2 = c2} {c3 = c3} wake a
       follows_then (follows_as (ap (λ found. settle found (tree_here m line)) (same_time n))
       (runs_past m to_wait (upper_part to_age below) (put_number n on) (settle (time_to_wait n) (tree_here m line)) (λ wait. put_number wait on) refl)) (λ wait.
       follows_then (runs_past m age (upper_part (extends_one wake) waking) (put_number wait on) (request moment age_request (tree_here m line)) (λ now. put_number now (put_number wait on)) refl) (λ now.
-      follows_as (ap (λ found. settle found (tree_here m line) >>= λ until. through (request done (wake_request until) (tree_here m line))) (same_until (now +ℤ wait)))
       (runs_two ways m wake (lower_part (extends_one age) waking) (put_number now (put_number wait on)) on (settle (until_moment (now +ℤ wait)) (tree_here m line))
       (λ until. request done (wake_request until) (tree_here m line)) refl))));
 } where

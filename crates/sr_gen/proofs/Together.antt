@@ -165,10 +165,6 @@ same_values [] (n ∷ turn) = refl
 same_values (q ∷ quantifiers) [] = refl
 same_values (q ∷ quantifiers) (n ∷ turn) = ap (λ rest. declare_own q.var (number_own n) >>= λ _. rest) (same_values quantifiers turn)
 
-same_outs : (outs : List Out) (id : ℕ) → without_out outs id ≡ without_out outs id
-same_outs [] id = refl
-same_outs (out ∷ outs) id = ap (λ rest. if out.id == id then outs else out ∷ rest) (same_outs outs id)
-
 same_store : (place : Option Located) (value : Value) (m : Machine) (line : Place) → store_value place value (tree_here m line) ≡ store_if place value (here_at m line)
 same_store None value m line = refl
 same_store (Some place) value m line = refl
@@ -278,8 +274,7 @@ completes_more {ways = ways} {again = again} {core = core} {line = line} parts a
       (follows_as (ap (λ k. complete completion (slice_get parts k) (tree_here m line)) last.0 ∙ ap (λ found. complete completion found (tree_here m line)) part_is)
       (record {
         same = λ stage.
-            ap (λ outs. go m (point (length c2) (put_completed (record { out = completion.out; results = completion.results }) on)) (record stage { out = outs })) (same_outs stage.out completion.out.id)
-            ∙ (completes.runs (onward_grown onward each.grows) (let a = each.grows.above in omega arith) m same (upper_part each.grows h) completion on).same
+            (completes.runs (onward_grown onward each.grows) (let a = each.grows.above in omega arith) m same (upper_part each.grows h) completion on).same
             (record stage { out = without_out stage.out completion.out.id });
       }))
 

@@ -46,15 +46,11 @@ use Rattle.sr_gen_expr.proofs.Stretching.{gives_first, gives_then}
 pub gives_fixed : {core : Core} {line : Place} {shape : Shape} {c0 c1 : List Coded} → Emits line (FixedShape shape) c0 c1 → Gives put_shape core line (item_shape (fixed_item shape)) c0 c1
 gives_fixed {shape = shape} e = gives_first e (item_shape (fixed_item shape)) (λ m on. refl)
 
-same_length : (n : ℤ) → string_of_length n ≡ string_of_length n
-same_length (pos n) = refl
-same_length (negsuc n) = refl
-
 pub gives_string : {core : Core} {line : Place} (most : Expr) {c0 c1 c2 : List Coded} → Emits line StringShape c0 c1 → Gives put_number core line (number_expr most) c1 c2
     → Gives put_shape core line (item_shape (string_item most)) c0 c2
 gives_string {line = line} most {c0 = c0} e g =
     gives_then e g (λ n. settle (string_of_length n))
-    (λ m n on. ap (λ found. settle found (tree_here m line) >>= λ shape. goes (length c0) (put_shape shape on)) (same_length n))
+    (λ m n on. refl)
 
 pub gives_one : {core : Core} {line : Place} (range : Range) (item : ItemShape) {c0 c1 c2 c3 c4 : List Coded} → Emits line OneDimension c0 c1
     → Gives put_shape core line (item_shape item) c1 c2 → Gives put_number core line (number_expr range.hi) c2 c3 → Gives put_number core line (number_expr range.lo) c3 c4

@@ -1,23 +1,22 @@
 -- What a statement asks, and how it ends: of each node, from what its parts ask and how they end.
-use Rattle.std.specs.Prelude.{ℕ, zero, suc, ℤ, pos, negsuc, ◌+◌, ◌+ℤ◌, Bool, true, false, List, [], ◌∷◌, length, map, Option, Some, None, Result, Ok, Err, ◌==◌, if◌then◌else◌, nat_le, unwrap_or, slice_get}
+use Rattle.std.specs.Prelude.{ℕ, zero, suc, ℤ, pos, negsuc, ◌+◌, ◌+ℤ◌, Bool, true, false, List, [], ◌∷◌, length, map, Option, Some, None, Result, Ok, Err, ◌==◌, unwrap_or, slice_get}
 use Rattle.sr_value.specs.declared.capability.Cap.{Cap}
 use Rattle.sr_value.specs.declared.capability.Cap.TheVariants.{Vm}
 use Rattle.sr_value.specs.declared.fault.Fault.{Fault}
-use Rattle.sr_value.specs.declared.fault.Fault.TheVariants.{Overflow, Range}
+use Rattle.sr_value.specs.declared.fault.Fault.TheVariants.{Range}
 use Rattle.sr_value.specs.declared.operator.Operator.{Operator}
 use Rattle.sr_value.specs.declared.operator.Operator.TheVariants.{Add, Sub}
 use Rattle.sr_value.specs.declared.shape.Dims.TheVariants.{One as one_dim, Two as two_dims}
 use Rattle.sr_value.specs.declared.shape.Shape.{Shape}
-use Rattle.sr_value.specs.declared.shape.Shape.TheVariants.{Int as an_int, Str as a_string, Arr as an_array}
+use Rattle.sr_value.specs.declared.shape.Shape.TheVariants.{Int as an_int, Arr as an_array}
 use Rattle.sr_value.specs.declared.value.Value.{Value}
 use Rattle.sr_value.specs.declared.value.Value.TheVariants.{Int, Capa}
-use Rattle.sr_value.specs.Operands.{int_in}
 use Rattle.sr_value.specs.Operators.{value_of}
 use Rattle.sr_value.specs.Parts.{with_ok}
 use Rattle.sr_ask.specs.Asking.{none_takes, done, made, moment, selected, until_moment}
 use Rattle.sr_ask.specs.Behaviors.{Stage, Doing, Came, give, ◌>>=◌, ◌>>◌, tick, looped}
 use Rattle.sr_ask.specs.Invocations.{values_sent, places_back}
-use Rattle.sr_ask.specs.Places.{declare_own, number_held, string_of_length, whole, make as made_at}
+use Rattle.sr_ask.specs.Places.{own_at, declare_own, number_held, string_of_length, whole, make as made_at}
 use Rattle.sr_ask.specs.Replies.{Completion, without_out, set_service, push_out, set_out, reply_unless as reply_where, reply_meaning as reply_at, results_now as results_at, gives_now as gives_at, forward_unless as forward_where, forward_meaning as forward_at, take_one as take_at}
 use Rattle.sr_ask.specs.declared.forms.Pick.{Pick}
 use Rattle.sr_ask.specs.declared.forms.Selection.{Selection}
@@ -25,7 +24,6 @@ use Rattle.sr_ask.specs.declared.forms.Selection.TheVariants.{Otherwise}
 use Rattle.sr_ask.specs.declared.environment.Gives.{Gives}
 use Rattle.sr_ask.specs.declared.environment.Gives.TheVariants.{Values}
 use Rattle.sr_ask.specs.declared.environment.Located.{Located}
-use Rattle.sr_ask.specs.declared.environment.Out.{Out}
 use Rattle.sr_ask.specs.declared.environment.Own.{Own}
 use Rattle.sr_ask.specs.declared.environment.Sent.{Sent}
 use Rattle.sr_ask.specs.declared.environment.Service.{Service}

@@ -12,9 +12,7 @@ fn is_held(calls: &mut Calls) -> bool {
 
 /// Whether process 1 gets a reply that it waits for.
 fn is_answered(calls: &mut Calls, ids: &SharedNumbers) -> bool {
-    calls.answer(1, 20, None).is_ok()
-        && calls.has_reply(1, ids)
-        && calls.take(1, ids).is_some()
+    calls.answer(1, 20, None).is_ok() && calls.has_reply(1, ids) && calls.take(1, ids).is_some()
 }
 
 /// Whether replies to a process that is forgotten are gone.
