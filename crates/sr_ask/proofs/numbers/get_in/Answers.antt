@@ -5,4 +5,4 @@ use Rattle.sr_ask.proofs.numbers.get_in.Goals as goal
 pub returns : goal.returns
 returns c =
     let spot = c.spot_of-spot.result in
-    c.get.ensures ∙ sym (spot_number c.args.blocks.now c.index-block.result c.args.at spot.block spot.place c.spot_of-spot.ensures c.index-block.is)
+    c.get.ensures ∙ sym (spot_number c.args.blocks.now c.index-blocks-spot.result c.args.at spot.block spot.place c.spot_of-spot.ensures c.index-blocks-spot.is)
