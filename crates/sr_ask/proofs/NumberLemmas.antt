@@ -1,7 +1,7 @@
 -- A list of numbers in blocks: where a number stands, and what is left once one is out.
 use Rattle.std.proofs.Common.{◌≡◌, ℕ, zero, suc, ◌+◌, ◌-◌, ◌<◌, ◌≤◌, ◌⊎◌, Bool, true, false, cond, ◌||◌, eqb, List, [], ◌∷◌, ◌++◌, Option, None, Some, length, get_or, set, take, drop, refl, ap, sym, subst, ◌∙◌, ⊎_elim, true≢false, zero-add, arith}
 use Rattle.std.specs.Prelude.{unwrap_or}
-use Rattle.std.specs.List.{flat_map, list_any, position, position_from, remove, slice_get}
+use Rattle.std.specs.List.{list_any, position, position_from, remove, slice_get}
 use Rattle.std.specs.Option.{option_map}
 use Rattle.std.proofs.lemmas.Bool.{ne_eqb}
 use Rattle.std.proofs.lemmas.List.{get_or_default, length-append, take_all}

@@ -7,7 +7,7 @@ ghost use Rattle.std.specs.VecDeque.{deque_capacity, deque_len};
 
 use crate::held::{Held, Reply};
 use sr_ask::SharedNumbers;
-use sr_value::{Duplicate, NoMemory, Row};
+use sr_value::{Duplicate, NoMemory};
 use std::alloc::Global;
 use std::collections::VecDeque;
 use std::marker::Model;

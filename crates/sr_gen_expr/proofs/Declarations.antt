@@ -1,5 +1,5 @@
 -- Declarations and formals: their code asks what they ask.
-use Rattle.std.proofs.Common.{◌≡◌, ℕ, ℤ, pos, negsuc, List, [], ◌∷◌, length, Option, Some, None, refl, sym, ◌∙◌, ap}
+use Rattle.std.proofs.Common.{◌≡◌, ℕ, List, [], ◌∷◌, length, Option, Some, None, refl, sym, ◌∙◌, ap}
 use Rattle.sr_value.specs.declared.place.Place.{Place}
 use Rattle.sr_value.specs.declared.shape.Dims.TheVariants.{One as one_dim, Two as two_dims}
 use Rattle.sr_value.specs.declared.shape.Shape.{Shape}
@@ -25,7 +25,7 @@ use Rattle.sr_core.specs.declared.statement.Scope.{Scope}
 use Rattle.sr_core.specs.declared.statement.Scope.TheVariants.{Own as own_scope, Shared as shared_scope}
 use Rattle.sr_core.specs.declared.statement.Setup.{Setup}
 use Rattle.sr_core.specs.declared.statement.ShapeExpr.{ShapeExpr}
-use Rattle.sr_code.specs.Acts.{Point, point, goes, store_argument}
+use Rattle.sr_code.specs.Acts.{Point, point, store_argument}
 use Rattle.sr_code.specs.Operands.{put_list, put_number, put_shape, put_value}
 use Rattle.sr_code.specs.Owners.{variable_in}
 use Rattle.sr_code.specs.Runs.{Machine, go, here_at, then_asks}

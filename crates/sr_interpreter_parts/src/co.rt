@@ -1,5 +1,4 @@
-ghost use Rattle.std.specs.Prelude.{◌≡◌, ◌<◌, ◌==◌, IfOk, OnOk, map, length, option_map, slice_get};
-ghost use Rattle.std.specs.List.{position};
+ghost use Rattle.std.specs.Prelude.{◌≡◌, ◌<◌, IfOk, OnOk, map, length, option_map, slice_get};
 ghost use Rattle.sr_ask.specs.Behaviors.{Came};
 ghost use Rattle.sr_meaning.specs.Statements.{drop_out, optional_place, set_turn, start_call, store_value, turn_now};
 ghost use Rattle.sr_interpreter_parts.specs.StatementParts.{IsFirstOut, take_place, took_place};
