@@ -5,6 +5,7 @@ ghost use Rattle.sr_calls.specs.Calls.{CanAnswer, CanHold, KeepsAnswers, KeepsHo
 
 use crate::held::{Held, Reply};
 use crate::process_calls::ProcessCalls;
+use sr_ask::SharedNumbers;
 use sr_value::{NoMemory, Row, Value};
 use std::alloc::Global;
 use std::collections::HashMap;
@@ -150,7 +151,7 @@ impl Bucket {
     }
 
     /// Whether there is a reply to a caller whose number is among `ids`.
-    pub fn has_reply(&self, caller: u32, ids: &Row<u32>) -> bool
+    pub fn has_reply(&self, caller: u32, ids: &SharedNumbers) -> bool
         ensures { result ≡ is_some (earliest_reply self.now.replies caller ids.now) }
     {
         match self.by_process.get(&caller) {
@@ -160,7 +161,7 @@ impl Bucket {
     }
 
     /// Takes the earliest reply to a caller whose number is among `ids`.
-    pub fn take(&mut self, caller: u32, ids: &Row<u32>) -> Option<(u32, Option<Row<Value>>)>
+    pub fn take(&mut self, caller: u32, ids: &SharedNumbers) -> Option<(u32, Option<Row<Value>>)>
         ensures found { result ≡ option_map (λ reply. (reply.id, reply.results)) (earliest_reply self.old.replies caller ids.now) }
         ensures replies { self.new.replies ≡ without_reply self.old.replies caller ids.now }
         ensures held { self.new.held ≡ self.old.held }
@@ -172,7 +173,7 @@ impl Bucket {
         Some((id, results))
     }
 
-    fn taken(&mut self, caller: u32, ids: &Row<u32>) -> Option<Reply>
+    fn taken(&mut self, caller: u32, ids: &SharedNumbers) -> Option<Reply>
         ensures found { result ≡ earliest_reply self.old.replies caller ids.now }
         ensures replies { self.new.replies ≡ without_reply self.old.replies caller ids.now }
         ensures held { self.new.held ≡ self.old.held }

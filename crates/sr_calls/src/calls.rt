@@ -7,6 +7,7 @@ ghost use Rattle.sr_calls.specs.Calls.{Called, CanAnswer, CanHold, KeepsAnswers,
 
 use crate::bucket::Bucket;
 use crate::held::Held;
+use sr_ask::SharedNumbers;
 use sr_buckets::{PARTS, home};
 use sr_value::{NoMemory, Row, Value};
 use std::alloc::Global;
@@ -121,7 +122,7 @@ impl Calls {
     }
 
     /// Whether there is a reply to a caller whose number is among `ids`.
-    pub fn has_reply(&self, caller: u32, ids: &Row<u32>) -> bool
+    pub fn has_reply(&self, caller: u32, ids: &SharedNumbers) -> bool
         ensures { result ≡ is_some (earliest_reply self.now.replies caller ids.now) }
     {
         let bucket = &self.buckets[home(caller)];
@@ -129,7 +130,7 @@ impl Calls {
     }
 
     /// Takes the earliest reply to a caller whose number is among `ids`.
-    pub fn take(&mut self, caller: u32, ids: &Row<u32>) -> Option<(u32, Option<Row<Value>>)>
+    pub fn take(&mut self, caller: u32, ids: &SharedNumbers) -> Option<(u32, Option<Row<Value>>)>
         ensures found { result ≡ option_map (λ reply. (reply.id, reply.results)) (earliest_reply self.old.replies caller ids.now) }
         ensures replies { self.new.replies ≡ without_reply self.old.replies caller ids.now }
         ensures held { self.new.held ≡ self.old.held }

@@ -19,6 +19,7 @@ use Rattle.sr_value.proofs.row.Row.TheSendSync as row
 use Rattle.sr_value.proofs.shape.Dims.TheSendSync as dims
 use Rattle.sr_value.proofs.shape.Shape.TheLaws.TheKnot.{both_send-Shape, both_sync-Shape}
 use Rattle.sr_value.proofs.shared.Shared.TheSendSync as shared
+use Rattle.sr_ask.proofs.numbers.SharedNumbers.TheSendSync as shared_numbers
 use Rattle.sr_value.proofs.text.Text.TheSendSync as text
 use Rattle.sr_value.proofs.value.Value.TheLaws.TheKnot.{send-Value, sync-Value}
 use Rattle.sr_value.specs.contracts.fault.Fault as fault
@@ -108,10 +109,10 @@ pub read_kind-sync : IsSync read_kind.the_row
 read_kind-sync = variants_sync read_kind.enum (tt, (tt, (tt, (tt, tt))))
 
 pub request-send : IsSend request.the_row
-request-send = variants_send request.enum ((u32-send, (u32-send, (shape-send, tt))), ((u32-send, (u32-send, (row.the_send _ sel-send, tt))), ((u32-send, (u32-send, (row.the_send _ sel-send, (value-send, tt)))), ((cap.the_send, (row.the_send _ value-send, (bool-send, tt))), ((u32-send, (row.the_send _ value-send, tt)), ((row.the_send _ u32-send, tt), ((u32-send, (u32-send, (row.the_send _ value-send, tt))), ((u32-send, (u32-send, (cap.the_send, (row.the_send _ value-send, tt)))), ((u32-send, tt), ((text.the_send, tt), ((read_kind-send, tt), ((u32-send, (cap.the_send, tt)), ((u32-send, (row.the_send _ value-send, (cap.the_send, tt))), (tt, ((cap.the_send, tt), ((bool-send, (u32-send, (row.the_send _ value-send, tt))), ((i32-send, tt), ((fault-send, tt), (tt, ((u32-send, tt), tt))))))))))))))))))))
+request-send = variants_send request.enum ((u32-send, (u32-send, (shape-send, tt))), ((u32-send, (u32-send, (row.the_send _ sel-send, tt))), ((u32-send, (u32-send, (row.the_send _ sel-send, (value-send, tt)))), ((cap.the_send, (row.the_send _ value-send, (bool-send, tt))), ((u32-send, (row.the_send _ value-send, tt)), ((shared_numbers.the_send, tt), ((u32-send, (u32-send, (row.the_send _ value-send, tt))), ((u32-send, (u32-send, (cap.the_send, (row.the_send _ value-send, tt)))), ((u32-send, tt), ((text.the_send, tt), ((read_kind-send, tt), ((u32-send, (cap.the_send, tt)), ((u32-send, (row.the_send _ value-send, (cap.the_send, tt))), (tt, ((cap.the_send, tt), ((bool-send, (u32-send, (row.the_send _ value-send, tt))), ((i32-send, tt), ((fault-send, tt), (tt, ((u32-send, tt), tt))))))))))))))))))))
 
 pub request-sync : IsSync request.the_row
-request-sync = variants_sync request.enum ((u32-sync, (u32-sync, (shape-sync, tt))), ((u32-sync, (u32-sync, (row.the_sync _ sel-sync, tt))), ((u32-sync, (u32-sync, (row.the_sync _ sel-sync, (value-sync, tt)))), ((cap.the_sync, (row.the_sync _ value-sync, (bool-sync, tt))), ((u32-sync, (row.the_sync _ value-sync, tt)), ((row.the_sync _ u32-sync, tt), ((u32-sync, (u32-sync, (row.the_sync _ value-sync, tt))), ((u32-sync, (u32-sync, (cap.the_sync, (row.the_sync _ value-sync, tt)))), ((u32-sync, tt), ((text.the_sync, tt), ((read_kind-sync, tt), ((u32-sync, (cap.the_sync, tt)), ((u32-sync, (row.the_sync _ value-sync, (cap.the_sync, tt))), (tt, ((cap.the_sync, tt), ((bool-sync, (u32-sync, (row.the_sync _ value-sync, tt))), ((i32-sync, tt), ((fault-sync, tt), (tt, ((u32-sync, tt), tt))))))))))))))))))))
+request-sync = variants_sync request.enum ((u32-sync, (u32-sync, (shape-sync, tt))), ((u32-sync, (u32-sync, (row.the_sync _ sel-sync, tt))), ((u32-sync, (u32-sync, (row.the_sync _ sel-sync, (value-sync, tt)))), ((cap.the_sync, (row.the_sync _ value-sync, (bool-sync, tt))), ((u32-sync, (row.the_sync _ value-sync, tt)), ((shared_numbers.the_sync, tt), ((u32-sync, (u32-sync, (row.the_sync _ value-sync, tt))), ((u32-sync, (u32-sync, (cap.the_sync, (row.the_sync _ value-sync, tt)))), ((u32-sync, tt), ((text.the_sync, tt), ((read_kind-sync, tt), ((u32-sync, (cap.the_sync, tt)), ((u32-sync, (row.the_sync _ value-sync, (cap.the_sync, tt))), (tt, ((cap.the_sync, tt), ((bool-sync, (u32-sync, (row.the_sync _ value-sync, tt))), ((i32-sync, tt), ((fault-sync, tt), (tt, ((u32-sync, tt), tt))))))))))))))))))))
 
 pub ask-send : IsSend ask.the_row
 ask-send = declared_send ask.the_type (place-send, (role-send, (request-send, tt)))

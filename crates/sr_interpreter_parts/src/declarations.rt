@@ -2,9 +2,9 @@ ghost use Rattle.std.specs.Prelude.{◌≡◌};
 ghost use Rattle.sr_value.specs.Shapes.{default_value};
 ghost use Rattle.sr_meaning.specs.Here.{settle};
 ghost use Rattle.sr_meaning.specs.Places.{store_place};
-ghost use Rattle.sr_meaning.specs.Statements.{declaration_meaning, dims_shape, first_value, item_shape, make, setup_meaning, shape_meaning, spot_in, string_shape};
+ghost use Rattle.sr_meaning.specs.Statements.{declaration_meaning, dims_shape, first_value, item_shape, make, setup_meaning, shape_meaning, spot_in};
 ghost use Rattle.sr_interpreter_expr.specs.Interpreters.{Agrees, here_of, stage_of};
-ghost use Rattle.sr_ask.specs.Places.{whole};
+ghost use Rattle.sr_ask.specs.Places.{string_of_length, whole};
 
 use sr_ask::{Located, Own, Request, Spot};
 use sr_core::{Declaration, DimsExpr, Expr, ItemShape, Range, Scope, Setup, ShapeExpr};
@@ -16,7 +16,7 @@ use sr_value::{Dims, Duplicate, Fault, Row, Shape, Shared, Value, ValueFail, def
 
 /// A string of at most so many bytes; E6 below 0.
 fn string_shape(scene: &Scene, interpreter: &Interpreter, most: i32) -> Result<Shape, Stop>
-    ensures { Agrees (settle (string_shape most) (here_of scene.now) (stage_of interpreter.now)) result (stage_of interpreter.now) }
+    ensures { Agrees (settle (string_of_length most) (here_of scene.now) (stage_of interpreter.now)) result (stage_of interpreter.now) }
 {
     match u32::try_from(most) {
         Ok(most) => Ok(Shape::Str { most }),
