@@ -1,6 +1,8 @@
 -- Which answers a request takes, and what the process gets from them.
-use Rattle.std.specs.Prelude.{ℕ, ℤ, pos, negsuc, Bool, true, false, List, ◌==◌, Option, Some, None, nat_lt}
+use Rattle.std.specs.Prelude.{ℕ, ℤ, pos, negsuc, Bool, true, false, List, ◌==◌, Option, Some, None, Result, Ok, Err, nat_lt, nat_le, if◌then◌else◌}
 use Rattle.std.specs.List.{list_any}
+use Rattle.sr_value.specs.declared.fault.Fault.{Fault}
+use Rattle.sr_value.specs.declared.fault.Fault.TheVariants.{Overflow}
 use Rattle.sr_value.specs.declared.value.Value.{Value}
 use Rattle.sr_ask.specs.declared.answer.Answer.{Answer}
 use Rattle.sr_ask.specs.declared.answer.Answer.TheVariants.{Done, Got, Made, Ready, Picked, Else, Took, Number, Bad, End}
@@ -69,3 +71,8 @@ abbrev pub selected : ℕ → Bool → Answer → Option Selection
 selected arms has_else (Picked id arm args back) = when (nat_lt arm arms) (Service (record { id = id; arm = arm; args = args; back = back }))
 selected arms has_else Else = when has_else Otherwise
 selected arms has_else _ = None
+
+-- a moment over 2147483647 is E1
+abbrev pub until_moment : ℤ → Result ℕ Fault
+until_moment (pos n) = if nat_le n 2147483647 then Ok n else Err Overflow
+until_moment (negsuc n) = Err Overflow

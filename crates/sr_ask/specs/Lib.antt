@@ -2,5 +2,6 @@ pub mod Asking
 pub mod Behaviors
 pub mod Here
 pub mod Invocations
+pub mod Numbers
 pub mod Places
 pub mod Replies

@@ -1,11 +1,13 @@
 -- Variables and places: the process's own, and those that it shares.
-use Rattle.std.specs.Prelude.{ℕ, false, List, [], ◌∷◌, Option, Some, None, Result, Ok, Err, unwrap_or, slice_get, slice_set}
+use Rattle.std.specs.Prelude.{ℕ, ℤ, pos, negsuc, false, List, [], ◌∷◌, Option, Some, None, Result, Ok, Err, unwrap_or, slice_get, slice_set}
 use Rattle.sr_value.specs.declared.fault.Fault.{Fault}
-use Rattle.sr_value.specs.declared.fault.Fault.TheVariants.{Early}
+use Rattle.sr_value.specs.declared.fault.Fault.TheVariants.{Early, Range}
 use Rattle.sr_value.specs.declared.shape.Sel.{Sel}
 use Rattle.sr_value.specs.declared.shape.Shape.{Shape}
+use Rattle.sr_value.specs.declared.shape.Shape.TheVariants.{Str as a_string}
 use Rattle.sr_value.specs.declared.value.Value.{Value}
 use Rattle.sr_value.specs.declared.value.Value.TheVariants.{Bool as truth_value}
+use Rattle.sr_value.specs.Operands.{int_in}
 use Rattle.sr_value.specs.Parts.{or_fault, with_ok, loaded_at, stored_at}
 use Rattle.sr_value.specs.Shapes.{default_value}
 use Rattle.sr_ask.specs.Asking.{done, got}
@@ -48,6 +50,10 @@ abbrev pub own_store : ℕ → List Sel → Value → Here → Doing (Unit {0})
 own_store var path value here stage =
     (settle (with_ok (own_at stage.own var) (λ own. own_after own path value)) here >>= declare_own var) stage
 
+-- the number that a variable holds; one without a number, as in no accepted program, is 0
+abbrev pub number_held : List (Option Own) → ℕ → ℤ
+number_held own var = unwrap_or (int_in (own_or_nothing (own_at own var))) (pos 0)
+
 -- ---- places
 
 -- a shared place is loaded by one request, with its whole path
@@ -71,6 +77,11 @@ store_results (place ∷ places) (value ∷ values) here = store_place place val
 store_results places values here = give values
 
 -- ---- declarations
+
+-- a string of a length below 0 is E6
+abbrev pub string_of_length : ℤ → Result Shape Fault
+string_of_length (pos most) = Ok (a_string most)
+string_of_length (negsuc n) = Err Range
 
 -- an own variable is made with its default; a shared one is declared
 abbrev pub make : Spot → Shape → Here → Doing (Unit {0})

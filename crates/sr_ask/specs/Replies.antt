@@ -1,5 +1,5 @@
 -- The invocation in service, and the replies that a `co` waits for.
-use Rattle.std.specs.Prelude.{Bool, true, false, List, [], ◌∷◌, ◌++◌, map, Option, Some, None, ◌==◌}
+use Rattle.std.specs.Prelude.{ℕ, Bool, true, false, List, [], ◌∷◌, ◌++◌, map, Option, Some, None, ◌==◌, if◌then◌else◌}
 use Rattle.std.specs.List.{find}
 use Rattle.sr_value.specs.declared.capability.Cap.{Cap}
 use Rattle.sr_value.specs.declared.value.Value.{Value}
@@ -58,6 +58,11 @@ push_out out stage = Came tt (record stage { out = stage.out ++ out ∷ [] })
 
 abbrev pub set_out : List Out → Doing (Unit {0})
 set_out out stage = Came tt (record stage { out = out })
+
+-- those that are out, without the first of this number
+abbrev pub without_out : List Out → ℕ → List Out
+without_out [] id = []
+without_out (out ∷ outs) id = if out.id == id then outs else out ∷ without_out outs id
 
 -- A reply to one of the invocations that are out.
 pub record Completion : Type 0 where

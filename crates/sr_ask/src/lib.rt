@@ -4,10 +4,12 @@
 
 mod answer;
 mod ask;
+mod block;
 mod entry;
 mod environment;
 mod forms;
 mod item;
+mod numbers;
 mod request;
 mod start;
 
@@ -17,5 +19,6 @@ pub use entry::{Entry, Seen};
 pub use environment::{Gives, Located, Out, Own, ReadTarget, Sent, Service, Spot};
 pub use forms::{InputItem, Pick, Selection, Taken};
 pub use item::Item;
+pub use numbers::SharedNumbers;
 pub use request::{ReadKind, Request};
 pub use start::Start;

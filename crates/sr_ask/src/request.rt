@@ -1,5 +1,6 @@
 ghost use Rattle.std.specs.Prelude.{◌≡◌, IfOk};
 
+use crate::numbers::SharedNumbers;
 use sr_value::{Cap, Compare, Duplicate, Fault, NoMemory, Row, Sel, Shape, Text, Value};
 use std::alloc::Global;
 
@@ -54,7 +55,7 @@ pub enum Request {
     },
     /// For the earliest reply to one of these invocations.
     Take {
-        ids: Row<u32>,
+        ids: SharedNumbers,
     },
     /// To answer the invocation that the process holds as `held`, whose caller is `back`, or nobody where
     /// `back` is 0.

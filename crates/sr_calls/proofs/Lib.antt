@@ -1,3 +1,5 @@
+pub mod BucketLemmas
+pub mod CopyLemmas
 pub mod ProcessCallsLemmas
 pub mod FirstLemmas
 pub mod StepLemmas

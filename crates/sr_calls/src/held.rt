@@ -1,4 +1,7 @@
-use sr_value::{Row, Value};
+ghost use Rattle.std.specs.Prelude.{◌≡◌, IfOk};
+
+use sr_value::{Duplicate, NoMemory, Row, Value};
+use std::alloc::Global;
 
 /// An invocation that a process has taken over and not answered yet.
 #[derive(Clone, Copy)]
@@ -17,4 +20,27 @@ pub struct Reply {
     /// The number under which the caller waits.
     pub id: u32,
     pub results: Option<Row<Value>>,
+}
+
+impl Duplicate for Reply {
+    fn copy(&self, alloc: Global) -> Result<Reply, NoMemory> {
+        let results = copied_results(alloc, &self.results)?;
+        Ok(Reply {
+            id: self.id,
+            results,
+        })
+    }
+}
+
+/// A copy of the results in a reply.
+fn copied_results(
+    alloc: Global,
+    results: &Option<Row<Value>>,
+) -> Result<Option<Row<Value>>, NoMemory>
+    ensures { IfOk result (λ copy. copy ≡ results.now) }
+{
+    match results {
+        Some(values) => Ok(Some(values.copy(alloc)?)),
+        None => Ok(None),
+    }
 }

@@ -1,4 +1,4 @@
-ghost use Rattle.std.specs.Prelude.{◌≡◌, ◌+◌, ◌<◌, ◌≤◌, [], ◌∷◌, ◌++◌, IfNone, IsOk, OnErr, OnOk, OnSome, Some, find, is_some, position, remove, slice_index_or};
+ghost use Rattle.std.specs.Prelude.{◌≡◌, ◌+◌, ◌<◌, ◌≤◌, [], ◌∷◌, ◌++◌, IfNone, IfOk, IsOk, OnErr, OnOk, OnSome, Some, find, is_some, position, remove, slice_index_or};
 ghost use Rattle.std.specs.List.{list_any};
 ghost use Rattle.sr_calls.specs.Calls.{answers_one, is_held_as, without_first};
 ghost use Rattle.sr_calls.specs.PerProcess.{KeepsRoom};
@@ -6,7 +6,8 @@ ghost use Rattle.sr_calls.specs.declared.held.Reply.{Reply};
 ghost use Rattle.std.specs.VecDeque.{deque_capacity, deque_len};
 
 use crate::held::{Held, Reply};
-use sr_value::{NoMemory, Row};
+use sr_ask::SharedNumbers;
+use sr_value::{Duplicate, NoMemory};
 use std::alloc::Global;
 use std::collections::VecDeque;
 use std::marker::Model;
@@ -131,23 +132,56 @@ impl ProcessCalls {
 
     /// Whether there is a reply whose number is among `ids`.
     #[tactic(auto, using(crate::proofs::FirstLemmas::some_found))]
-    pub fn has_reply(&self, ids: &Row<u32>) -> bool
+    pub fn has_reply(&self, ids: &SharedNumbers) -> bool
         ensures { result ≡ is_some (find (answers_one ids.now) self.now.replies) }
     {
-        is_any_among(&self.replies, ids.as_slice())
+        is_any_among(&self.replies, ids)
     }
 
     /// Takes the earliest reply out whose number is among `ids`.
-    pub fn take(&mut self, ids: &Row<u32>) -> Option<Reply>
+    pub fn take(&mut self, ids: &SharedNumbers) -> Option<Reply>
         ensures found { result ≡ find (answers_one ids.now) self.old.replies }
         ensures replies { self.new.replies ≡ without_first (answers_one ids.now) self.old.replies }
         ensures held { self.new.held ≡ self.old.held }
         ensures none { IfNone result (self.new ≡ self.old) }
         ensures kept { KeepsRoom self.old.room self.new.room }
     {
-        let at = place_among(&self.replies, ids.as_slice())?;
+        let at = place_among(&self.replies, ids)?;
         take_at(&mut self.replies, at)
     }
+
+    /// A copy, without the room.
+    pub fn copy(&self, alloc: Global) -> Result<ProcessCalls, NoMemory>
+        ensures held { IfOk result (λ copy. copy.held ≡ self.now.held) }
+        ensures replies { IfOk result (λ copy. copy.replies ≡ self.now.replies) }
+    {
+        let held = copied_holds(alloc, self.held.as_slice())?;
+        let replies = copied_replies(alloc, &self.replies)?;
+        Ok(ProcessCalls { held, replies })
+    }
+}
+
+/// A copy of invocations that are held.
+fn copied_holds(alloc: Global, held: &[Held]) -> Result<Vec<Held>, NoMemory>
+    ensures { IfOk result (λ copies. copies.items ≡ held.now) }
+{
+    let mut copies = Vec::new(alloc);
+    for invocation in held {
+        copies.push(*invocation)?;
+    }
+    Ok(copies)
+}
+
+/// A copy of replies.
+fn copied_replies(alloc: Global, replies: &VecDeque<Reply>) -> Result<VecDeque<Reply>, NoMemory>
+    ensures { IfOk result (λ copies. copies.items ≡ replies.now.items) }
+{
+    let mut copies = VecDeque::new(alloc);
+    for reply in replies {
+        let copy = reply.copy(alloc)?;
+        copies.push_back(copy)?;
+    }
+    Ok(copies)
 }
 
 /// An invocation among those that are held.
@@ -172,10 +206,10 @@ fn place_of(held: &[Held], id: u32) -> Option<usize>
 }
 
 /// Where the earliest reply stands whose number is among `ids`.
-fn place_among(replies: &VecDeque<Reply>, ids: &[u32]) -> Option<usize>
+fn place_among(replies: &VecDeque<Reply>, ids: &SharedNumbers) -> Option<usize>
     ensures { result ≡ position (answers_one ids.now) replies.now.items }
 {
-    replies.iter().position(|reply| ids.contains(&reply.id))
+    replies.iter().position(|reply| ids.contains(reply.id))
 }
 
 /// Takes the reply at a place out. The first leaves without a move of the others.
@@ -193,8 +227,8 @@ fn take_at(replies: &mut VecDeque<Reply>, place: usize) -> Option<Reply>
 }
 
 /// Whether the number of a reply is among `ids`.
-fn is_any_among(replies: &VecDeque<Reply>, ids: &[u32]) -> bool
+fn is_any_among(replies: &VecDeque<Reply>, ids: &SharedNumbers) -> bool
     ensures { result ≡ list_any (answers_one ids.now) replies.now.items }
 {
-    replies.iter().any(|reply| ids.contains(&reply.id))
+    replies.iter().any(|reply| ids.contains(reply.id))
 }

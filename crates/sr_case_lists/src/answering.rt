@@ -3,7 +3,7 @@ use crate::kept::Kept;
 use crate::picks::Picks;
 use crate::replies::Reply;
 use crate::values::some_arguments;
-use sr_ask::{Answer, ReadKind, Request};
+use sr_ask::{Answer, ReadKind, Request, SharedNumbers};
 use sr_core::{Core, Site};
 use sr_value::{NoMemory, Row, Text, Value};
 use std::alloc::Global;
@@ -71,7 +71,7 @@ impl Answerer {
     fn right(&mut self, core: &Core, request: &Request) -> Result<Answer, NoMemory> {
         match request {
             Request::Select { site, env: _ } => self.chosen(core.sites.get(*site as usize)),
-            Request::Take { ids } => self.taken(core, ids.as_slice()),
+            Request::Take { ids } => self.taken(core, ids),
             Request::Count { op: _ } => Ok(Answer::Number(self.picks.int_below(3))),
             Request::Read { kind } => self.read(*kind),
             Request::Age => Ok(Answer::Number(self.picks.int_below(100))),
@@ -167,10 +167,10 @@ impl Answerer {
     }
 
     /// The reply to one of these invocations.
-    fn taken(&mut self, core: &Core, ids: &[u32]) -> Result<Answer, NoMemory> {
+    fn taken(&mut self, core: &Core, ids: &SharedNumbers) -> Result<Answer, NoMemory> {
         let count = u32::try_from(ids.len()).unwrap_or(0);
         let at = self.picks.below(count);
-        let id = ids.get(at as usize).copied().unwrap_or(0);
+        let id = ids.get(at as usize).unwrap_or(0);
         let reply = self.reply_to(id);
         let results = reply.results(self.alloc, core, &mut self.picks)?;
         Ok(Answer::Took { id, results })

@@ -1,6 +1,6 @@
 //! What a process asks, as text.
 
-use sr_ask::{Ask, ReadKind, Request, Role};
+use sr_ask::{Ask, ReadKind, Request, Role, SharedNumbers};
 use sr_case_values::{print_cap, print_quoted, print_shape, print_value, print_values};
 use sr_value::{Cap, Place, Sel, Value};
 use std::alloc::AllocError;
@@ -52,14 +52,13 @@ fn print_store(
 }
 
 /// `(3 4)`
-fn print_numbers(out: &mut String, numbers: &[u32]) -> Result<(), AllocError> {
-    let mut is_first = true;
+fn print_numbers(out: &mut String, numbers: &SharedNumbers) -> Result<(), AllocError> {
     out.push('(')?;
-    for number in numbers {
-        if !is_first {
+    for at in 0..numbers.len() {
+        if at > 0 {
             out.push(' ')?;
         }
-        is_first = false;
+        let number = numbers.get(at).unwrap_or(0);
         write!(out, "{number}")?;
     }
     out.push(')')
@@ -135,7 +134,7 @@ fn print_of_invocations(out: &mut String, request: &Request) -> Result<(), Alloc
         }
         Request::Take { ids } => {
             out.push_str("take ")?;
-            print_numbers(out, ids.as_slice())
+            print_numbers(out, ids)
         }
         Request::Reply {
             held,

@@ -1,5 +1,7 @@
 //! Calls of the top call with ports in memory.
 
+use crate::divided::goes_the_same;
+use crate::repeats::repeated;
 use crate::telling::told;
 use sr_case_files::{Case, Tally, cases_in};
 use sr_ports::{FreeGate, MemFiles, MemSink, MemSource};
@@ -9,6 +11,9 @@ use std::alloc::Global;
 
 /// The most bytes of one take and of one put.
 const PIECE: usize = 4_096;
+
+/// What is told of a run that goes another way on a world that is divided.
+const OTHERWISE: &str = "another run where the world is divided\n";
 
 /// The words `run` and the name of the file.
 fn words_for(alloc: Global, file: &str) -> Result<Vec<String>, NoMemory> {
@@ -62,8 +67,26 @@ fn called(
     ))
 }
 
-/// What is found of a case. Its items are told where the case tells items.
-fn found(alloc: Global, case: &Case) -> Result<String, NoMemory> {
+/// What a run of a case with this program did. Its items are told where the case tells items. It has to go the same way
+/// on a world that is divided.
+fn told_of(
+    alloc: Global,
+    case: &Case,
+    text: &str,
+    input: &str,
+    report: &Report,
+    output: &[u8],
+    diag: &[u8],
+) -> Result<String, NoMemory> {
+    if !goes_the_same(alloc, text, input, report.items.as_slice(), output)? {
+        return Ok(String::from_str(alloc, OTHERWISE)?);
+    }
+    let tells_items = case.wanted.contains(" items\n");
+    told(alloc, report, output, diag, tells_items)
+}
+
+/// What is found of a case that has this program.
+fn found_of(alloc: Global, case: &Case, text: &str) -> Result<String, NoMemory> {
     let name = case.name.as_str();
     let file = format!(in alloc; "{name}.sr")?;
     let input = match case.texts.get(1) {
@@ -72,23 +95,35 @@ fn found(alloc: Global, case: &Case) -> Result<String, NoMemory> {
     };
     let mut output = empty_sink(alloc);
     let mut diag = empty_sink(alloc);
-    let report = called(
+    let report = called(alloc, file.as_str(), text, input, &mut output, &mut diag)?;
+    told_of(
         alloc,
-        file.as_str(),
-        case.text(),
+        case,
+        text,
         input,
-        &mut output,
-        &mut diag,
-    )?;
-    let tells_items = case.wanted.contains(" items\n");
-    told(alloc, &report, output.held(), diag.held(), tells_items)
+        &report,
+        output.held(),
+        diag.held(),
+    )
+}
+
+/// What is found of a case.
+fn found(alloc: Global, case: &Case) -> Result<String, NoMemory> {
+    let text = repeated(alloc, case.text())?;
+    found_of(alloc, case, text.as_str())
+}
+
+/// Notes in the tally what was found of a case.
+fn note_found(alloc: Global, case: &Case, found: &str, tally: &mut Tally) -> Result<(), NoMemory> {
+    let wanted = repeated(alloc, case.wanted.as_str())?;
+    tally.note(case.name.as_str(), wanted.as_str(), found)?;
+    Ok(())
 }
 
 /// Notes a case in the tally.
 fn note(alloc: Global, case: &Case, tally: &mut Tally) -> Result<(), NoMemory> {
     let found = found(alloc, case)?;
-    tally.note(case.name.as_str(), case.wanted.as_str(), found.as_str())?;
-    Ok(())
+    note_found(alloc, case, found.as_str(), tally)
 }
 
 /// What is reported of a file of cases.

@@ -1,10 +1,12 @@
 //! The program `sr_cases`: compares what the parts of the compiler say of the cases in files, and what programs do, with
 //! what is written there. Its words are the names of the files. It prints a line for each file, and each case that
-//! differs. In the files of `runs` are programs with what they do. A word `NAME.sr` is a program by itself, whose output
-//! stands in `NAME.out`.
+//! differs. In the files of `runs` are programs with what they do; long lists in them are written short. A word
+//! `NAME.sr` is a program by itself, whose output stands in `NAME.out`.
 #![tactic(auto)]
 
 mod calls;
+mod divided;
+mod repeats;
 mod telling;
 
 use sr_case_reports::Subject;

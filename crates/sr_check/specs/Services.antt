@@ -25,6 +25,7 @@ use Rattle.sr_check_decl.specs.Variables.{variable}
 use Rattle.sr_check_decl.specs.Declaring.{declare_name}
 use Rattle.sr_check.specs.declared.operation.Operation.{Operation}
 use Rattle.sr_check.specs.Procs.{Procs, proc_of}
+use Rattle.sr_check_expr.specs.Meanings.{params_in, returned_in}
 
 abbrev pub operation_by : Spot → Option Info → Option Operation
 operation_by spot (Some (info.Operation ty component is_local)) = Some (record { spot = spot; ty = ty; component = component; is_local = is_local })
@@ -61,19 +62,11 @@ is_shared_name facts name = is_shared_info (decl_info facts.infos (decl_named fa
 
 -- ---- what an operation has
 
-abbrev pub params_in : Option Signature → List Param
-params_in None = []
-params_in (Some signature) = signature.params
-
 abbrev pub params_of : List Signature → Ty → List Param
 params_of signatures ty = params_in (signature_of signatures ty)
 
-abbrev pub returns_in : Option Signature → Option Ty
-returns_in None = None
-returns_in (Some signature) = signature.returns
-
 abbrev pub returns_of : List Signature → Ty → Option Ty
-returns_of signatures ty = returns_in (signature_of signatures ty)
+returns_of signatures ty = returned_in (signature_of signatures ty)
 
 abbrev pub both_or_none : Bool → Bool → Bool
 both_or_none true other = other

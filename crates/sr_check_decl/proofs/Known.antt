@@ -20,7 +20,7 @@ use Rattle.sr_check_decl.specs.NamesIn.{is_named_declared, is_declared, is_ready
 use Rattle.sr_check_decl.specs.Needs.{needed_by, needs_among, needs_in, is_known, are_known, row_is_known, known_at, FirstAreKnown}
 use Rattle.sr_check_decl.specs.Variables.{declare}
 use Rattle.sr_check_decl.specs.Waiting.{Waiting}
-use Rattle.sr_check_decl.proofs.Tests.{and_left, and_right, either, or_left, or_right, true_or_false, not_true, none_some, any-filter, all-weaker, one-fails}
+use Rattle.sr_check_decl.proofs.Tests.{and_parts, either, or_left, or_right, true_or_false, not_true, none_some, any-filter, all-weaker, one-fails}
 
 -- uses stay as they are
 pub uses_stay : (ws : List Waiting) (facts : Facts) → (all_settled ws facts).uses ≡ facts.uses
@@ -170,10 +170,10 @@ unknown_before vs facts spot e = by (true_or_false (is_known facts spot))
 later_names : (vs : List Waiting) (facts : Facts) (w : Waiting) → can_settle facts w ≡ false → can_settle (all_settled vs facts) w ≡ true
     → (spot : Spot) × (list_any (same_spot spot) (needs_in facts.uses w) ≡ true) × (list_any (λ v. same_spot spot v.spot) vs ≡ true)
 later_names vs facts w before can =
-    let unknown = not_true (is_known (all_settled vs facts) w.spot) (and_left _ _ can) in
+    let unknown = not_true (is_known (all_settled vs facts) w.spot) (and_parts (not (is_known (all_settled vs facts) w.spot)) _ can).0 in
     let unready : is_ready facts w.value ≡ false = sym (ap (λ b. not b && is_ready facts w.value) (unknown_before vs facts w.spot unknown)) ∙ before in
     let fails : are_known facts (needs_in facts.uses w) ≡ false = sym (ready-known facts (names_in w.value)) ∙ unready in
-    let ready : is_ready (all_settled vs facts) w.value ≡ true = and_right (not (is_known (all_settled vs facts) w.spot)) _ can in
+    let ready : is_ready (all_settled vs facts) w.value ≡ true = (and_parts (not (is_known (all_settled vs facts) w.spot)) _ can).1 in
     let holds : are_known (all_settled vs facts) (needs_in facts.uses w) ≡ true =
     ap (λ uses. are_known (all_settled vs facts) (needs_among uses (names_in w.value))) (sym (uses_stay vs facts)) ∙ sym (ready-known (all_settled vs facts) (names_in w.value)) ∙ ready in
     let new = one-fails (is_known facts) (is_known (all_settled vs facts)) (needs_in facts.uses w) fails holds in
@@ -190,7 +190,7 @@ names_settled waiting facts i w is can = by (true_or_false (can_settle facts w))
     by (inl now) =
         let among = any-filter (λ (v : Waiting). same_spot w.spot v.spot) (can_settle facts) waiting i w is now (same_spot-refl w.spot) in
         let known = settled_are_known (filter (can_settle facts) waiting) facts w.spot among in
-        let unknown = not_true (is_known (all_settled (filter (can_settle facts) waiting) facts) w.spot) (and_left _ _ can) in
+        let unknown = not_true (is_known (all_settled (filter (can_settle facts) waiting) facts) w.spot) (and_parts (not (is_known (all_settled (filter (can_settle facts) waiting) facts) w.spot)) _ can).0 in
         absurd (true≢false (sym known ∙ unknown))
     by (inr later) =
         let found = later_names (filter (can_settle facts) waiting) facts w later can in record { spot = found.0; named = found.1; settles = found.2 }

@@ -1,30 +1,7 @@
 -- Tests over lists.
 use Rattle.std.proofs.Common.{◌≡◌, ◌⊎◌, inl, inr, ℕ, ◌<◌, suc, zero, Bool, true, false, not, ◌&&◌, ◌||◌, cond, true≢false, List, [], ◌∷◌, ◌++◌, length, get_or, Some, None, refl, sym, ◌∙◌, ap, arith}
+pub use Rattle.std.proofs.lemmas.Bool.{and_from as both, and_parts, or_cases as either, or_left, or_right}
 use Rattle.std.specs.List.{filter, list_any, list_all, slice_get}
-
-pub and_left : (a b : Bool) → (a && b) ≡ true → a ≡ true
-and_left true b e = refl
-and_left false b e = e
-
-pub and_right : (a b : Bool) → (a && b) ≡ true → b ≡ true
-and_right true b e = e
-and_right false b e = absurd (true≢false (sym e))
-
-pub both : (a b : Bool) → a ≡ true → b ≡ true → (a && b) ≡ true
-both true b e f = f
-both false b e f = e
-
-pub either : (a b : Bool) → (a || b) ≡ true → (a ≡ true) ⊎ (b ≡ true)
-either true b e = inl refl
-either false b e = inr e
-
-pub or_left : (a b : Bool) → a ≡ true → (a || b) ≡ true
-or_left true b e = refl
-or_left false b e = absurd (true≢false (sym e))
-
-pub or_right : (a b : Bool) → b ≡ true → (a || b) ≡ true
-or_right true b e = refl
-or_right false b e = e
 
 pub true_or_false : (a : Bool) → (a ≡ true) ⊎ (a ≡ false)
 true_or_false true = inl refl
@@ -68,7 +45,7 @@ module _ {A : Type 0} (p : A → Bool) where
 
   pub all-weaker : (q : A → Bool) → ((x : A) → p x ≡ true → q x ≡ true) → (xs : List A) → list_all p xs ≡ true → list_all q xs ≡ true
   all-weaker q weaker [] e = refl
-  all-weaker q weaker (x ∷ xs) e = both (q x) _ (weaker x (and_left _ _ e)) (all-weaker q weaker xs (and_right (p x) _ e))
+  all-weaker q weaker (x ∷ xs) e = both (q x) _ (weaker x (and_parts (p x) _ e).0) (all-weaker q weaker xs (and_parts (p x) _ e).1)
 
 -- one of those for all of which q holds, for which p fails
 pub record Fails {A : Type 0} (p q : A → Bool) (xs : List A) : Type 0 where
@@ -79,10 +56,10 @@ pub record Fails {A : Type 0} (p q : A → Bool) (xs : List A) : Type 0 where
 
 pub one-fails : {A : Type 0} (p q : A → Bool) → (xs : List A) → list_all p xs ≡ false → list_all q xs ≡ true → Fails p q xs
 one-fails p q [] fails holds = absurd (true≢false fails)
-one-fails p q (x ∷ xs) fails holds = by (true_or_false (p x)) (λ e. one-fails p q xs e (and_right (q x) _ holds))
+one-fails p q (x ∷ xs) fails holds = by (true_or_false (p x)) (λ e. one-fails p q xs e (and_parts (q x) _ holds).1)
   where
     by : (p x ≡ true) ⊎ (p x ≡ false) → (list_all p xs ≡ false → Fails p q xs) → Fails p q (x ∷ xs)
     by (inl e) more =
         let rest = more (sym (ap (λ b. b && list_all p xs) e) ∙ fails) in
         record { one = rest.one; fails = rest.fails; holds = rest.holds; among = λ test h. or_right (test x) _ (rest.among test h) }
-    by (inr e) more = record { one = x; fails = e; holds = and_left _ _ holds; among = λ test h. or_left _ _ h }
+    by (inr e) more = record { one = x; fails = e; holds = (and_parts (q x) _ holds).0; among = λ test h. or_left _ _ h }

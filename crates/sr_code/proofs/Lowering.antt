@@ -7,7 +7,7 @@ use Rattle.sr_value.specs.declared.shape.Shape.{Shape}
 use Rattle.sr_value.specs.declared.value.Value.{Value}
 use Rattle.sr_value.specs.Parts.{with_ok, loaded_at}
 use Rattle.sr_value.specs.Shapes.{default_value}
-use Rattle.sr_ask.specs.Asking.{none_takes, done, got, made, took, read_item, selected}
+use Rattle.sr_ask.specs.Asking.{done, got, made, none_takes, read_item, selected, took, until_moment}
 use Rattle.sr_ask.specs.Behaviors.{Stage, Outcome, Came, Stops, Doing, and_then, give, ◌>>=◌, hear, heard, asking, room, tick, ticked}
 use Rattle.sr_ask.specs.Here.{Here, ask_of, request, settle}
 use Rattle.sr_ask.specs.Invocations.{default_given, taken, at_end}
@@ -28,7 +28,7 @@ use Rattle.sr_core.specs.Values.{formal_shape, texts_of, written}
 use Rattle.sr_core.specs.declared.component.Core.{Core}
 use Rattle.sr_core.specs.declared.site.Named.{Named}
 use Rattle.sr_core.specs.declared.site.Named.TheVariants.{Own as named_own, Home as named_home, Machine as named_machine}
-use Rattle.sr_code.specs.Acts.{Point, point, goes, act, and_skip, or_skip, store_one, store_some, after_item, ask_item, store_item, store_argument, until_moment, number_own, each_of, repeat_of, unless, named_held, after_choice, turn_held, place_if, drop_place_if, after_completion, reply_of, set_vars, given_back, store_if}
+use Rattle.sr_code.specs.Acts.{Point, point, goes, act, and_skip, or_skip, store_one, store_some, after_item, ask_item, store_item, store_argument, number_own, each_of, repeat_of, unless, named_held, after_choice, turn_held, place_if, drop_place_if, after_completion, reply_of, set_vars, given_back, store_if}
 use Rattle.sr_code.specs.Laws.{Falls, InstructionsFall}
 use Rattle.sr_code.specs.Operands.{call_on, completed_on, count_on, drop_call, drop_completed, drop_count, drop_list, drop_number, drop_numbers, drop_reading, drop_value, join_value, list_on, number_on, numbers_on, put_count, put_numbers, put_list, put_targets, put_value, reading_on, value_on}
 use Rattle.sr_code.specs.Owners.{variable_in}

@@ -19,7 +19,7 @@ Less m (Came at stage) most = work m at.address stage < most
 Less m (Stops asks) most = Unit {0}
 
 -- less room outweighs any address
-less_room : (before after size address : ℕ) → after < before → after * suc size + min address size < before * suc size
+pub less_room : (before after size address : ℕ) → after < before → after * suc size + min address size < before * suc size
 less_room before after size address less =
     let more = mul-le-mul_right {m = suc after} {n = before} (suc size) less in
     omega arith

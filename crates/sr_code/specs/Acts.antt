@@ -1,26 +1,23 @@
 -- What each instruction does: what it asks, and to which address and operands it leads.
-use Rattle.std.specs.Prelude.{ℕ, zero, suc, ℤ, pos, negsuc, ◌+ℤ◌, min, Bool, true, false, List, [], ◌∷◌, length, map, Option, Some, None, Result, Ok, Err, ◌==◌, if◌then◌else◌, nat_le, unwrap_or, slice_get}
+use Rattle.std.specs.Prelude.{ℕ, zero, suc, ℤ, pos, negsuc, ◌+ℤ◌, min, Bool, true, false, List, [], ◌∷◌, length, map, Option, Some, None, Result, Ok, Err, slice_get}
 use Rattle.sr_value.specs.declared.capability.Cap.TheVariants.{Op, Res as a_resource, Vm}
 use Rattle.sr_value.specs.declared.fault.Fault.{Fault}
-use Rattle.sr_value.specs.declared.fault.Fault.TheVariants.{Overflow, Range}
+use Rattle.sr_value.specs.declared.fault.Fault.TheVariants.{Range}
 use Rattle.sr_value.specs.declared.shape.Dims.TheVariants.{One as one_dim, Two as two_dims}
 use Rattle.sr_value.specs.declared.shape.Sel.TheVariants.{At as at_one, At2 as at_two, Field as at_field}
-use Rattle.sr_value.specs.declared.shape.Shape.{Shape}
-use Rattle.sr_value.specs.declared.shape.Shape.TheVariants.{Int as int_shape, Str as a_string, Arr as an_array}
+use Rattle.sr_value.specs.declared.shape.Shape.TheVariants.{Int as int_shape, Arr as an_array}
 use Rattle.sr_value.specs.declared.value.Value.{Value}
 use Rattle.sr_value.specs.declared.value.Value.TheVariants.{Int, Bool as truth_value, Capa}
-use Rattle.sr_value.specs.Operands.{int_in}
 use Rattle.sr_value.specs.Operators.{value_of, value_of_one}
 use Rattle.sr_value.specs.Parts.{part_of, with_ok}
-use Rattle.sr_ask.specs.Asking.{none_takes, done, made, number, moment, ready, read_item, selected}
+use Rattle.sr_ask.specs.Asking.{none_takes, done, made, number, moment, ready, read_item, selected, until_moment}
 use Rattle.sr_ask.specs.Behaviors.{Doing, Came, give, ◌>>=◌, tick}
 use Rattle.sr_ask.specs.Here.{Here, request, settle}
 use Rattle.sr_ask.specs.Invocations.{value_after, default_given, taken, instance_in, number_read, at_end}
-use Rattle.sr_ask.specs.Places.{nothing, own_at, own_or_nothing, declare_own, load_place, own_store, store_place, make, whole}
-use Rattle.sr_ask.specs.Replies.{Completion, set_service, push_out, set_out, reply_meaning, forward_meaning, take_one}
+use Rattle.sr_ask.specs.Places.{nothing, own_at, declare_own, load_place, number_held, own_store, store_place, string_of_length, make, whole}
+use Rattle.sr_ask.specs.Replies.{Completion, set_service, push_out, set_out, reply_meaning, forward_meaning, take_one, without_out}
 use Rattle.sr_ask.specs.declared.environment.Gives.TheVariants.{Values}
 use Rattle.sr_ask.specs.declared.environment.Located.{Located}
-use Rattle.sr_ask.specs.declared.environment.Out.{Out}
 use Rattle.sr_ask.specs.declared.environment.Own.{Own}
 use Rattle.sr_ask.specs.declared.environment.ReadTarget.{ReadTarget}
 use Rattle.sr_ask.specs.declared.environment.Service.{Service}
@@ -102,11 +99,6 @@ abbrev pub store_item : List ReadTarget → Value → Here → Doing (Unit {0})
 store_item [] value here = give tt
 store_item (target ∷ targets) value here = store_place target.place value here
 
--- a string of a length below 0 is E6
-abbrev pub string_of_length : ℤ → Result Shape Fault
-string_of_length (pos most) = Ok (a_string most)
-string_of_length (negsuc n) = Err Range
-
 -- an argument goes to its formal
 abbrev pub store_argument : Option Value → Spot → Here → Doing (Unit {0})
 store_argument None spot here = give tt
@@ -121,11 +113,6 @@ unless false to next on = point (min to next) on
 abbrev pub time_to_wait : ℤ → Result ℤ Fault
 time_to_wait (pos n) = Ok (pos n)
 time_to_wait (negsuc n) = Err Range
-
--- a moment over 2147483647 is E1
-abbrev pub until_moment : ℤ → Result ℕ Fault
-until_moment (pos n) = if nat_le n 2147483647 then Ok n else Err Overflow
-until_moment (negsuc n) = Err Overflow
 
 abbrev pub number_own : ℤ → Own
 number_own n = record { shape = int_shape; value = Int n }
@@ -170,9 +157,6 @@ abbrev pub counting : ℕ → Operands → Doing Point
 counting next on stage = Came (point next (put_count (length stage.out) on)) stage
 
 -- the present values of the quantifiers' variables
-abbrev pub number_held : List (Option Own) → ℕ → ℤ
-number_held own var = unwrap_or (int_in (own_or_nothing (own_at own var))) (pos 0)
-
 abbrev pub turn_held : List ℕ → Doing (List ℤ)
 turn_held vars stage = Came (map (λ var. number_held stage.own var) vars) stage
 
@@ -184,14 +168,9 @@ abbrev pub drop_place_if : Bool → Operands → Operands
 drop_place_if true on = drop_place on
 drop_place_if false on = on
 
--- those that are out, without the first of this number
-abbrev pub still_out : List Out → ℕ → List Out
-still_out [] id = []
-still_out (out ∷ outs) id = if out.id == id then outs else out ∷ still_out outs id
-
 -- the invocation that a reply answers is out no more
 abbrev pub no_longer_out : ℕ → Doing (Unit {0})
-no_longer_out id stage = Came tt (record stage { out = still_out stage.out id })
+no_longer_out id stage = Came tt (record stage { out = without_out stage.out id })
 
 -- after a reply of a `co`: its arm; where there is none, the next reply
 abbrev pub after_completion : Option ℕ → Completion → ℕ → Operands → Doing Point

@@ -1,8 +1,8 @@
 ghost use Rattle.std.specs.Prelude.{◌≡◌, ◌∷◌, ◌++◌, ◌<◌, ◌==◌, [], IfOk, OnOk, Some, length, map, option_map, position, remove, slice_get};
 
-use sr_ask::Out;
+use sr_ask::{Out, SharedNumbers};
 use sr_line::Line;
-use sr_value::{NoMemory, Row};
+use sr_value::{Duplicate, NoMemory};
 use std::alloc::Global;
 use std::marker::Model;
 
@@ -11,7 +11,8 @@ use std::marker::Model;
 /// Their numbers are kept beside them, so that a look for one goes over numbers alone.
 #[derive(Drop)]
 pub struct Outs {
-    ids: Vec<u32>,
+    alloc: Global,
+    ids: SharedNumbers,
     outs: Line<Out>,
 }
 
@@ -27,7 +28,7 @@ impl Model for Outs {
 
     ghost view = { λ outs. outs.outs.items };
 
-    ghost invariant = { λ outs. outs.ids.items ≡ map (λ out. out.id) outs.outs.items };
+    ghost invariant = { λ outs. outs.ids ≡ map (λ out. out.id) outs.outs.items };
 }
 
 impl Outs {
@@ -36,7 +37,8 @@ impl Outs {
         ensures { result ≡ [] }
     {
         Outs {
-            ids: Vec::new(alloc),
+            alloc,
+            ids: SharedNumbers::new(alloc),
             outs: Line::new(alloc),
         }
     }
@@ -52,27 +54,24 @@ impl Outs {
     pub fn push(&mut self, out: Out) -> Result<(), NoMemory>
         ensures { OnOk result (self.new ≡ self.old ++ out ∷ []) }
     {
-        self.ids.reserve(1)?;
         self.outs.reserve()?;
-        self.ids.push_reserved(out.id);
+        self.ids.push(self.alloc, out.id)?;
         self.outs.push_reserved(out);
         Ok(())
     }
 
     /// Their numbers.
-    pub fn ids(&self, alloc: Global) -> Result<Row<u32>, NoMemory>
+    pub fn ids(&self, alloc: Global) -> Result<SharedNumbers, NoMemory>
         ensures { IfOk result (λ ids. ids ≡ map (λ out. out.id) self.now) }
     {
-        let mut ids = Vec::with_capacity(alloc, self.ids.len())?;
-        ids.extend_from_slice(self.ids.as_slice())?;
-        Ok(Row::from_vec(ids))
+        self.ids.copy(alloc)
     }
 
     /// Where an invocation is among them.
     pub fn place_of(&self, id: u32) -> Option<usize>
         ensures { result ≡ position (λ out. out.id == id) self.now }
     {
-        place_among(self.ids.as_slice(), id)
+        self.ids.position(id)
     }
 
     /// The one at a place.
@@ -92,21 +91,15 @@ impl Outs {
     }
 
     /// Takes the one at a place out.
-    pub fn take(&mut self, at: usize) -> Out
+    pub fn take(&mut self, at: usize) -> Result<Out, NoMemory>
         requires { at < length self.old }
-        ensures item { slice_get self.old at ≡ Some result }
-        ensures others { self.new ≡ remove self.old at }
+        ensures item { IfOk result (λ out. slice_get self.old at ≡ Some out) }
+        ensures others { OnOk result (self.new ≡ remove self.old at) }
     {
-        let _ = self.ids.remove(at);
+        self.ids.remove(self.alloc, at)?;
         match self.outs.remove(at) {
-            Some(out) => out,
+            Some(out) => Ok(out),
             None => unreachable!(),
         }
     }
-}
-
-fn place_among(ids: &[u32], id: u32) -> Option<usize>
-    ensures { result ≡ position (λ other. other == id) ids.now }
-{
-    ids.iter().position(|other| *other == id)
 }

@@ -46,7 +46,7 @@ abbrev pub RoomFor : Scene → Scope → Type 0
 RoomFor scene Own = 0 < length scene.own
 RoomFor scene Shared = Unit {0}
 
-abbrev dims_found : Scene → RangeTree → Option RangeTree → DimsExpr
+abbrev pub dims_found : Scene → RangeTree → Option RangeTree → DimsExpr
 dims_found scene first None = dims.One (range_core scene first)
 dims_found scene first (Some second) = dims.Two (range_core scene first) (range_core scene second)
 

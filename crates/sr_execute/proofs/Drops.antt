@@ -6,8 +6,8 @@ use Rattle.std.proofs.lemmas.Bool.Decides.{nat_tests}
 use Rattle.std.proofs.lemmas.List.Sums.{passes_at_first}
 use Rattle.std.proofs.lemmas.Option.{slice_get_cases}
 use Rattle.sr_ask.specs.declared.environment.Out.{Out}
-use Rattle.sr_code.specs.Acts.{still_out}
 use Rattle.sr_execute.specs.Replies.{IsFirstOut}
+use Rattle.sr_ask.specs.Replies.{without_out}
 
 position_at : (b : Bool) (n m at : ℕ) → ltb n m ≡ b → Some at ≡ cond b (Some n) None → (at ≡ n) × (at < m)
 position_at true n m at e found = let same : at ≡ n = cc in (same, grind (arith, nat_tests))
@@ -51,17 +51,17 @@ one_more n = omega arith
 
 -- without the first of a number all others are there
 without_first : (id : ℕ) (outs : List Out) → position_or_len (λ (out : Out). eqb out.id id) outs < length outs
-    → still_out outs id ≡ remove outs (position_or_len (λ (out : Out). eqb out.id id) outs)
+    → without_out outs id ≡ remove outs (position_or_len (λ (out : Out). eqb out.id id) outs)
 without_first id [] h = absurd (omega arith)
 without_first id (out ∷ outs) h =
     (elim (eqb out.id id) as (λ b. cond (not b) (1 + position_or_len (λ (other : Out). eqb other.id id) outs) 0 < length (out ∷ outs)
-    → cond b outs (out ∷ still_out outs id) ≡ remove (out ∷ outs) (cond (not b) (1 + position_or_len (λ (other : Out). eqb other.id id) outs) 0)) [
+    → cond b outs (out ∷ without_out outs id) ≡ remove (out ∷ outs) (cond (not b) (1 + position_or_len (λ (other : Out). eqb other.id id) outs) 0)) [
       | true ↦ λ h'. refl
       | false ↦ λ h'. ap (λ rest. out ∷ rest) (without_first id outs (omega arith)) ∙ ap (remove (out ∷ outs)) (one_more (position_or_len (λ (other : Out). eqb other.id id) outs))
     ]) h
 
 -- the first of its number is taken out
-pub dropped : (outs rest : List Out) (at : ℕ) (out : Out) → IsFirstOut outs at → slice_get outs at ≡ Some out → rest ≡ remove outs at → still_out outs out.id ≡ rest
+pub dropped : (outs rest : List Out) (at : ℕ) (out : Out) → IsFirstOut outs at → slice_get outs at ≡ Some out → rest ≡ remove outs at → without_out outs out.id ≡ rest
 dropped outs rest at out first is e =
     let found = position_found (λ (other : Out). eqb other.id out.id) outs at (sym (first.first out is)) in
     let place : position_or_len (λ (other : Out). eqb other.id out.id) outs ≡ at = sym found.0 in

@@ -10,11 +10,11 @@ use Rattle.sr_value.specs.declared.shape.Sel.TheVariants.{At as at_one, At2 as a
 use Rattle.sr_value.specs.Operators.{int_result, value_of, value_of_one}
 use Rattle.sr_value.specs.Parts.{part_of, with_ok}
 use Rattle.sr_value.specs.Shapes.{default_value}
-use Rattle.sr_ask.specs.Asking.{none_takes, done, got, made, moment, number, read_item, ready, selected, took}
+use Rattle.sr_ask.specs.Asking.{done, got, made, moment, none_takes, number, read_item, ready, selected, took, until_moment}
 use Rattle.sr_ask.specs.Behaviors.{◌>>=◌, Stage, Outcome, Came, Stops, Doing, and_then, give, hear, heard, ticked}
 use Rattle.sr_ask.specs.Here.{Here, ask_of, request, fail, settle}
 use Rattle.sr_ask.specs.Invocations.{default_given, taken, at_end, instance_in}
-use Rattle.sr_ask.specs.Places.{own_at, own_after, declare_own, load_at, store_at, make}
+use Rattle.sr_ask.specs.Places.{declare_own, load_at, make, own_after, own_at, store_at, string_of_length}
 use Rattle.sr_ask.specs.Replies.{Completion, gives_now, mark_answered, reply_unless, forward_unless, push_out, took_one}
 use Rattle.sr_ask.specs.declared.answer.Answer.{Answer}
 use Rattle.sr_ask.specs.declared.ask.Asks.{Asks}
@@ -27,7 +27,7 @@ use Rattle.sr_ask.specs.declared.request.Request.{Request}
 use Rattle.sr_ask.specs.declared.request.Request.TheVariants.{Declare, Load as load_request, Store as store_request, Take as take_request, Read as read_request, Reply as reply_request, Forward as forward_request, Invoke as invoke_request, Stop as stop_request, Write as write_request, Wake as wake_request, Fail}
 use Rattle.sr_core.specs.declared.site.Named.{Named}
 use Rattle.sr_core.specs.declared.site.Named.TheVariants.{Own as named_own, Home as named_home, Machine as named_machine}
-use Rattle.sr_code.specs.Acts.{Point, point, goes, act, after_item, ask_item, store_one, store_some, store_item, store_argument, store_if, number_own, each_of, repeat_of, named_held, place_if, drop_place_if, after_completion, reply_of, set_vars, turn_held, after_choice, after_reply, second_place, until_moment, and_skip, or_skip, string_of_length, time_to_wait, unless}
+use Rattle.sr_code.specs.Acts.{Point, point, goes, act, after_item, ask_item, store_one, store_some, store_item, store_argument, store_if, number_own, each_of, repeat_of, named_held, place_if, drop_place_if, after_completion, reply_of, set_vars, turn_held, after_choice, after_reply, second_place, and_skip, or_skip, time_to_wait, unless}
 use Rattle.sr_core.specs.Applied.{applied}
 use Rattle.sr_core.specs.Formals.{sent_to, sent_after}
 use Rattle.sr_core.specs.Values.{truth_of, number_of, cap_of, member_of, count_of, array_of, values_of, written, texts_of, bounded_by, formal_shape}

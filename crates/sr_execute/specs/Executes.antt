@@ -12,11 +12,11 @@ use Rattle.sr_value.specs.declared.value.Value.TheVariants.{Int, Capa}
 use Rattle.sr_value.specs.Operators.{int_result, value_of, value_of_one}
 use Rattle.sr_value.specs.Shapes.{default_value}
 use Rattle.sr_value.specs.Parts.{part_of, with_ok}
-use Rattle.sr_ask.specs.Asking.{done, got, made, number, moment, ready, read_item, selected, took}
+use Rattle.sr_ask.specs.Asking.{done, got, made, moment, number, read_item, ready, selected, took, until_moment}
 use Rattle.sr_ask.specs.Here.{Here}
 use Rattle.sr_ask.specs.Invocations.{value_after, instance_in}
-use Rattle.sr_ask.specs.Places.{nothing, own_at, whole}
-use Rattle.sr_ask.specs.Replies.{Completion, gives_now, took_one}
+use Rattle.sr_ask.specs.Places.{nothing, number_held, own_at, string_of_length, whole}
+use Rattle.sr_ask.specs.Replies.{Completion, gives_now, took_one, without_out}
 use Rattle.sr_ask.specs.declared.environment.Located.{Located}
 use Rattle.sr_ask.specs.declared.environment.Out.{Out}
 use Rattle.sr_ask.specs.declared.environment.Own.{Own}
@@ -31,7 +31,7 @@ use Rattle.sr_core.specs.Formals.{sent_to, sent_after}
 use Rattle.sr_core.specs.Values.{truth_of, number_of, cap_of, member_of, count_of, array_of, values_of, texts_of, written, bounded_by, formal_shape}
 use Rattle.sr_core.specs.declared.site.Named.{Named}
 use Rattle.sr_core.specs.declared.site.Named.TheVariants.{Own as named_own, Home as named_home, Machine as named_machine}
-use Rattle.sr_code.specs.Acts.{Point, and_skip, or_skip, after_reply, after_item, string_of_length, unless, time_to_wait, until_moment, number_own, after_choice, service_of, number_held, place_if, drop_place_if, still_out, given_back, second_place}
+use Rattle.sr_code.specs.Acts.{Point, and_skip, or_skip, after_reply, after_item, unless, time_to_wait, number_own, after_choice, service_of, place_if, drop_place_if, given_back, second_place}
 use Rattle.sr_code.specs.Operands.{value_on, drop_value, put_value, number_on, drop_number, put_number, cap_on, drop_cap, put_cap, name_on, drop_name, put_name, place_on, drop_place, put_place, join_sel, shape_on, drop_shape, put_shape, list_on, drop_list, put_list, join_value, pieces_on, drop_pieces, put_pieces, join_piece, call_of, call_on, drop_call, put_call, join_argument, join_place, targets_on, drop_targets, put_targets, no_reading, reading_on, drop_reading, put_reading, join_target, one_read, numbers_on, drop_numbers, put_numbers, count_on, drop_count, put_count, pick_on, drop_pick, service_on, drop_service, put_service, outs_on, drop_outs, put_outs, completed_on, drop_completed, put_completed}
 use Rattle.sr_code.specs.Stacks.{first}
 use Rattle.sr_code.specs.Owners.{home_at, owner_in, root_in, variable_in, kind_asked}
@@ -340,7 +340,7 @@ started id arm vars has_place next on frame =
 abbrev pub completing : Option ℕ → Completion → ℕ → Operands → Frame → Moved
 completing None completion next on frame = moved (suc next) on frame
 completing (Some arm) completion next on frame =
-    moved arm (put_completed (record { out = completion.out; results = completion.results }) on) (record frame { out = still_out frame.out completion.out.id })
+    moved arm (put_completed (record { out = completion.out; results = completion.results }) on) (record frame { out = without_out frame.out completion.out.id })
 
 -- What an answer leads to in a process that holds this and waits at an instruction. An answer that the request
 -- doesn't take leads nowhere.

@@ -10,7 +10,7 @@ use crate::places::{copied_place, take_place};
 use crate::putting::put_value;
 use crate::step::Step;
 use crate::tops::top_or;
-use sr_ask::{Located, Request, Spot};
+use sr_ask::{Located, Request, SharedNumbers, Spot};
 use sr_code::{Call, Fifo, Operands};
 use sr_core::capability;
 use sr_frame::{Scene, own_value};
@@ -149,8 +149,7 @@ pub fn wanted(frame: &Frame) -> u32
 pub fn take_reply_to(alloc: Global, frame: &mut Frame) -> Result<Step, NoMemory>
     ensures { Does result frame.new (waits (request.Take (name_on frame.old.operands ∷ [])) frame.old.operands frame.old) }
 {
-    let mut ids = Row::new(alloc);
-    ids.push(wanted(frame))?;
+    let ids = SharedNumbers::one(alloc, wanted(frame))?;
     Ok(Step::Asks(Request::Take { ids }))
 }
 

@@ -250,7 +250,7 @@ fn complete_at(
 {
     match arms.get(frame.out.arm_at(at) as usize) {
         Some(arm) => {
-            let out = frame.out.take(at);
+            let out = frame.out.take(at)?;
             frame.operands.completed.push(Completed { out, results })?;
             Ok(Some(*arm))
         }

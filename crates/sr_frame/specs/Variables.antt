@@ -1,13 +1,12 @@
 -- The own variables of a process.
-use Rattle.std.specs.Prelude.{ℕ, ℤ, pos, List, ◌∷◌, Option, Some, Result, Ok, slice_set, unwrap_or}
+use Rattle.std.specs.Prelude.{ℕ, ℤ, List, ◌∷◌, Option, Some, Result, Ok, slice_set}
 use Rattle.sr_value.specs.declared.fault.Fault.{Fault}
 use Rattle.sr_value.specs.declared.shape.Sel.{Sel}
 use Rattle.sr_value.specs.declared.shape.Shape.TheVariants.{Int as int_shape}
 use Rattle.sr_value.specs.declared.value.Value.{Value}
 use Rattle.sr_value.specs.declared.value.Value.TheVariants.{Int}
-use Rattle.sr_value.specs.Operands.{int_in}
 use Rattle.sr_value.specs.Parts.{loaded_at, with_ok}
-use Rattle.sr_ask.specs.Places.{own_at, own_after, own_or_nothing}
+use Rattle.sr_ask.specs.Places.{own_at, own_after}
 use Rattle.sr_ask.specs.declared.environment.Own.{Own}
 
 -- what a part of an own variable holds
@@ -24,10 +23,6 @@ own_stored own var path value =
 -- a variable that holds a number
 abbrev pub number_own : ℤ → Own
 number_own n = record { shape = int_shape; value = Int n }
-
--- the number that a variable holds
-abbrev pub number_held : List (Option Own) → ℕ → ℤ
-number_held own var = unwrap_or (int_in (own_or_nothing (own_at own var))) (pos 0)
 
 -- variables get numbers, in order
 abbrev pub vars_set : List ℕ → List ℤ → List (Option Own) → List (Option Own)

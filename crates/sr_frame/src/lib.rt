@@ -19,7 +19,7 @@ pub use scene::Scene;
 pub use services::{results_now, service_with, whole};
 pub use shapes::bounded_by;
 pub use variables::{
-    number_held, number_own, own_copy, own_stored, own_value, set_number, set_own, set_vars,
-    turn_held, undeclared,
+    number_held, number_own, own_copies, own_copy, own_stored, own_value, set_number, set_own,
+    set_vars, turn_held, undeclared,
 };
 pub use writing::{joined, texts_in};

@@ -1,6 +1,6 @@
 ghost use Rattle.std.specs.Prelude.{◌≡◌, [], IfOk, None as none, Some, false, map, option_map, replicate, slice_set, true};
-ghost use Rattle.sr_ask.specs.Places.{own_at, own_or_nothing};
-ghost use Rattle.sr_frame.specs.Variables.{number_held, number_own, own_stored, own_value, vars_set};
+ghost use Rattle.sr_ask.specs.Places.{number_held, own_at, own_or_nothing};
+ghost use Rattle.sr_frame.specs.Variables.{number_own, own_stored, own_value, vars_set};
 ghost use Rattle.sr_in_place.specs.Puts.{Wrote};
 ghost use Rattle.sr_value.specs.Operators.{Answers};
 

@@ -26,6 +26,7 @@ use Rattle.sr_lower_expr.specs.declared.scene.Lowered.TheVariants as lowered
 use Rattle.sr_lower_expr.specs.declared.scene.Scene.{Scene}
 use Rattle.sr_lower_expr.specs.Places.{further, naming, nothing, operation_at, operation_number, part_of, place_at, value_of}
 use Rattle.sr_names.specs.declared.spot.Spot.{Spot}
+use Rattle.sr_lower_expr.proofs.PlaceNumbers.{operation_found}
 
 -- ---- the parts of an expression
 
@@ -160,10 +161,6 @@ part_of_effect_free (lowered.Value value) step effect_free effect_free_step = of
 
 pub nothing_effect_free : IsTrue (is_effect_free nothing)
 nothing_effect_free = leaf_rule (leaf.Constant _) refl
-
-abbrev operation_found : Scene → Spot → (Operation → ℕ → Expr) → Option Operation → Expr
-operation_found scene spot made None = nothing
-operation_found scene spot made (Some operation) = made operation (operation_number scene spot)
 
 pub naming_effect_free : (scene : Scene) (spot : Spot) (made : Operation → ℕ → Expr) → ((operation : Operation) (number : ℕ) → IsTrue (is_effect_free (made operation number)))
     → IsTrue (is_effect_free (naming scene spot made))

@@ -221,6 +221,7 @@ pub mod UsesVisible
 pub mod UsesWithin
 pub mod VariablesReads
 pub mod VariablesStand
+pub mod Verdicts
 pub mod WaitApart
 pub mod Waiting
 pub mod WaitingChecked

@@ -56,6 +56,7 @@ use Rattle.sr_core.specs.declared.statement.Setup.TheVariants as setup
 use Rattle.sr_core.specs.declared.statement.Statement.TheVariants as written
 use Rattle.sr_core.specs.Tests.{if_some}
 use Rattle.sr_front.proofs.MadeTests.{AllOne, MadeTests}
+use Rattle.sr_desugar.proofs.DeclNumbers.{dims_found as dims_by}
 
 module _ (tests : MadeTests) where
   abbrev pub RangeFits : Range → Type 0
@@ -80,11 +81,6 @@ pub record DeclRules (scene : Scene) (tests : MadeTests) (Sent : Spot → Type 0
   pub none : IsTrue (tests.expr nothing)
   pub declare_rule : (place : Place) (declaration : Declaration) → SetupFits tests declaration.setup → IsTrue (tests.one (written.Declare place declaration))
   pub sends_rule : (place : Place) (spot : Spot) (count : CoreExpr) → Sent spot → IsTrue (tests.expr count) → IsTrue (tests.one (written.Sends place (operation_expr scene spot) count))
-
--- what the dimensions of a declaration are
-abbrev dims_by : Scene → RangeTree → Option RangeTree → DimsExpr
-dims_by scene first None = dims.One (range_core scene first)
-dims_by scene first (Some second) = dims.Two (range_core scene first) (range_core scene second)
 
 module _ (scene : Scene) (tests : MadeTests) (Sent : Spot → Type 0) (rules : DeclRules scene tests Sent) (known : Facts) (HadName : Span → Type 0)
     (value_at : (tree : Expr) → Each HadName (expr_names tree) → ErrorFree (valued (infer_expr tree known)) → IsTrue (tests.expr (core_value scene tree))) where

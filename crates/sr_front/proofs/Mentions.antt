@@ -65,6 +65,7 @@ use Rattle.sr_lower_expr.proofs.LowerFold.{lowering}
 use Rattle.sr_front.proofs.MentionRules.{and_rule, apply_rule, argument_passes, array_rule, at2_rule, at_rule, binary_rule, call_rule, create_rule, expr_passes, field_rule, further_rule, leaf_rule, load_rule, member_rule, of_rule, one_rule, or_rule, part_passes, place_passes, place_rule, read_rule, reading_passes, reading_rule, repeated_rule, res_rule, step_passes, unary_rule, val_rule, var_rule}
 use Rattle.sr_lower_expr.specs.declared.scene.Lowered.TheVariants as lowered
 use Rattle.sr_lower_expr.proofs.Trees.{of_create, of_invocation, of_part}
+use Rattle.sr_lower_expr.proofs.PlaceNumbers.{operation_found}
 
 -- What a scene names passes a test of what is mentioned.
 pub record Means (scene : Scene) (test : Mention → Bool) : Type 0 where
@@ -73,10 +74,6 @@ pub record Means (scene : Scene) (test : Mention → Bool) : Type 0 where
   pub operations : (scope : Scope) (component : ℕ) → IsTrue (test (mention.Operation (whose_by scene scope component)))
   pub machine : IsTrue (test mention.Machine)
   pub counts : (spot : Spot) (operation : Operation) → operation_at scene spot ≡ Some operation → IsTrue (test (mention.Count (operation_number scene spot)))
-
-abbrev operation_found : Scene → Spot → (Operation → ℕ → Expr) → Option Operation → Expr
-operation_found scene spot made None = nothing
-operation_found scene spot made (Some operation) = made operation (operation_number scene spot)
 
 module _ (scene : Scene) (test : Mention → Bool) (means : Means scene test) where
   abbrev pub lowered_passes : Lowered → Bool

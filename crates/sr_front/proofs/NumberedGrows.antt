@@ -32,9 +32,6 @@ Grown old new = (number : ℕ) → IsTrue (is_some (signature_at old number)) �
 pub grown_itself : (table : List Signature) → Grown table table
 grown_itself table number h = h
 
-pub grown_through : (first second third : List Signature) → Grown first second → Grown second third → Grown first third
-grown_through first second third a b number h = b number (a number h)
-
 pushed_grown : (table : List Signature) (one : Signature) → Grown table (table ++ one ∷ [])
 pushed_grown [] one number h = absurd (false≢true h)
 pushed_grown (signature ∷ table) one zero h = refl

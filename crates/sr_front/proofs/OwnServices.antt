@@ -12,14 +12,14 @@ use Rattle.sr_check.specs.ErrorFree.{ErrorFree}
 use Rattle.sr_check.specs.Invoking.{call_found, called_found, named_operation, p_found, semaphore_found}
 use Rattle.sr_check.specs.Procs.{Procs}
 use Rattle.sr_check.specs.Receiving.{receive_by, receive_found, takes_all}
-use Rattle.sr_check.specs.Services.{both_or_none, decl_named, head_found, head_rule, heads_by, operation_named, params_in, params_of}
+use Rattle.sr_check.specs.Services.{both_or_none, decl_named, head_found, head_rule, heads_by, operation_named, params_of}
 use Rattle.sr_check.specs.Servicing.{expr_meant}
 use Rattle.sr_check_decl.specs.Variables.{typings_of}
 use Rattle.sr_check_expr.specs.declared.facts.Facts.{Facts}
 use Rattle.sr_check_expr.specs.declared.typed_expr.TypedExpr.{TypedExpr}
 use Rattle.sr_check_expr.specs.Arguments.{all_found, all_valued, as_many, takes_as_many, takes_by}
 use Rattle.sr_check_expr.specs.Exprs.{CalledInferrer, Inferrer, PartInferrer, create_step, expr_step, infer_create, infer_expr, infer_invocation, infer_part, invocation_step, part_step}
-use Rattle.sr_check_expr.specs.Meanings.{function_called, layer_function, meant_by, predefined_in, returned_by, type_at}
+use Rattle.sr_check_expr.specs.Meanings.{function_called, layer_function, meant_by, params_in, predefined_in, returned_by, type_at}
 use Rattle.sr_check_expr.specs.Naming.{meaning_typing}
 use Rattle.sr_check_expr.specs.Typings.{broken_unless, typed_exprs_of}
 use Rattle.sr_core.specs.declared.component.Operation.{Operation}

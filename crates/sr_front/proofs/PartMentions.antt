@@ -22,7 +22,6 @@ use Rattle.sr_core.specs.declared.expression.Expr.{Expr as CoreExpr}
 use Rattle.sr_core.specs.declared.expression.Expr.TheVariants as core
 use Rattle.sr_core.specs.declared.expression.Leaf.TheVariants.{Constant}
 use Rattle.sr_core.specs.declared.statement.Action.{Action}
-use Rattle.sr_core.specs.declared.statement.DimsExpr.{DimsExpr}
 use Rattle.sr_core.specs.declared.statement.DimsExpr.TheVariants as dims
 use Rattle.sr_core.specs.declared.statement.Scope.{Scope}
 use Rattle.sr_core.specs.declared.statement.Setup.{Setup}
@@ -55,11 +54,7 @@ use Rattle.sr_front.proofs.CodeRules.{act_rule, action_passes, block_rule, decla
 use Rattle.sr_front.proofs.MentionRules.{all_pass, expr_passes, leaf_rule, load_rule, rows}
 use Rattle.sr_front.proofs.Mentions.{Means, NamePasses, NamesPass, all_told_passes, call_passes, core_place_passes, core_value_passes, create_passes, nothing_passes, operation_expr_passes, own_place_passes, sending_passes, sent_passes, value_of_passes}
 use Rattle.sr_tree.specs.declared.expr.Create.{Create}
-
--- what the dimensions of a declaration are
-abbrev dims_found : Scene → RangeTree → Option RangeTree → DimsExpr
-dims_found scene first None = dims.One (range_core scene first)
-dims_found scene first (Some second) = dims.Two (range_core scene first) (range_core scene second)
+use Rattle.sr_desugar.proofs.DeclNumbers.{dims_found}
 
 module _ (scene : Scene) (test : Mention → Bool) (means : Means scene test) where
   abbrev Pass : List Mention → Type 0

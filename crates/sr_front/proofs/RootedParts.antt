@@ -56,6 +56,7 @@ use Rattle.sr_lower_expr.specs.Shapes.{shape_of_type}
 use Rattle.sr_lower_expr.proofs.Each.{one_taken, turned_passes}
 use Rattle.sr_front.proofs.MentionRules.{and_rule, apply_rule, argument_passes, binary_rule, create_rule, expr_passes, further_rule, leaf_rule, load_rule, of_rule, or_rule, place_passes, place_rule, read_rule, reading_passes, reading_rule, res_rule, step_passes, val_rule, var_rule}
 use Rattle.sr_front.proofs.TypedPlaces.{IsPlace, Placed}
+use Rattle.sr_lower_expr.proofs.PlaceNumbers.{operation_found}
 
 -- What a scene names, other than variables, passes a test of what is mentioned.
 pub record Others (scene : Scene) (test : Mention → Bool) : Type 0 where
@@ -77,10 +78,6 @@ HadAt scene test spot =
 
 abbrev pub Had : Scene → (Mention → Bool) → Span → Type 0
 Had scene test span = HadAt scene test (spot_of span)
-
-abbrev operation_found : Scene → Spot → (Operation → ℕ → Expr) → Option Operation → Expr
-operation_found scene spot made None = nothing
-operation_found scene spot made (Some operation) = made operation (operation_number scene spot)
 
 module _ (scene : Scene) (test : Mention → Bool) where
   abbrev pub lowered_passes : Lowered → Bool

@@ -38,7 +38,7 @@ use Rattle.sr_check_decl.specs.Variables.{declare, has_no_dims, no_kind, typings
 use Rattle.sr_check.specs.Components.{quantifiers_formal, signed_declared}
 use Rattle.sr_check.specs.ErrorFree.{ErrorFree}
 use Rattle.sr_check.specs.Quantifying.{quantified, quantifiers_known}
-use Rattle.sr_check.specs.Services.{both_or_none, heads_by, names_bound, params_in, returned_bound, returns_in, service_bound, type_or_none}
+use Rattle.sr_check.specs.Services.{both_or_none, heads_by, names_bound, returned_bound, service_bound, type_or_none}
 use Rattle.sr_check.specs.Statements.{const_read, var_read}
 use Rattle.sr_check.proofs.Each.{Each}
 use Rattle.sr_check.proofs.Entered.{keeps_type}
@@ -48,6 +48,7 @@ use Rattle.sr_front.proofs.PassingExprs.{expr_passes, value_passes, valued_passe
 use Rattle.sr_front.proofs.TypedTypes.{MaybeParam, ParamsTyped, SignedTyped, decl_typed, later_itself, type_typed, types_typed}
 use Rattle.sr_front.proofs.PassingTypes.{int_passes, signed_passes}
 use Rattle.sr_front.proofs.Put.{put_holds}
+use Rattle.sr_check_expr.specs.Meanings.{params_in, returned_in}
 
 -- ---- one more name
 
@@ -189,7 +190,7 @@ pub service_typed : (formals : List Name) (returned : Option Name) (type : Ty) (
 service_typed formals returned type facts signature is head all =
     let typed : SignatureTyped signature = subst FoundSigned is (signed_passes typed_test facts all type) in
     let fits : IsTrue (as_many formals signature.params && both_or_none (is_some returned) (is_some signature.returns)) = subst (λ found. IsTrue (heads_by found formals (is_some returned))) is head in
-    subst (λ found. AllTyped (returned_bound returned (type_or_none (returns_in found)) (names_bound formals (params_in found) facts))) (sym is)
+    subst (λ found. AllTyped (returned_bound returned (type_or_none (returned_in found)) (names_bound formals (params_in found) facts))) (sym is)
     (returned_typed returned signature.returns (names_bound formals signature.params facts) (and_parts (as_many formals signature.params) _ fits).1 typed.returns
     (names_typed formals signature.params facts (and_parts (as_many formals signature.params) _ fits).0 typed.params all))
 

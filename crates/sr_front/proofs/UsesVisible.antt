@@ -37,6 +37,7 @@ use Rattle.sr_tree.specs.declared.name.Name.{Name}
 use Rattle.sr_tree.specs.Parts.{spec_of}
 use Rattle.sr_front.proofs.Globals.{declared_component}
 use Rattle.sr_front.proofs.UsesInExprs as exprs
+pub use Rattle.sr_scope.proofs.Meant.{own_meaning, visible_meaning}
 
 -- ---- the components that are visible
 
@@ -135,15 +136,6 @@ pub specs_known : (files : List File) (spot : Spot) (spec : Entries) → lookup 
 specs_known files = collected_files (components_in files) files no_place (λ one k. k) (λ spot spec e. absurd (none-some _ e))
 
 -- ---- what names mean
-
--- what a name means outside of blocks, by the component that it names and by what the component declares it as
-abbrev pub visible_meaning : Place → List ℕ → Spot → Option Decl → Option Meaning
-visible_meaning place text at (Some component) = Some (Declared component)
-visible_meaning place text at None = from_imports place.within text at (counted (candidates place.specs place.visible text))
-
-abbrev pub own_meaning : Place → List ℕ → Spot → Option Decl → Option Meaning
-own_meaning place text at (Some decl) = ready place.within at decl
-own_meaning place text at None = visible_meaning place text at (visible_named place text)
 
 -- what is found at a spot is among them
 pub found_visible : (visible : List Decl) (spot : Spot) (d : Decl) → component_at visible spot ≡ Some d → IsIn d visible

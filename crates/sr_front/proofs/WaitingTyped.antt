@@ -5,7 +5,7 @@ use Rattle.std.proofs.lemmas.Option.{none-some}
 use Rattle.std.specs.List.{filter, list_all}
 use Rattle.std.specs.Option.{option_and_then}
 use Rattle.sr_check.specs.ErrorFree.{ErrorFree}
-use Rattle.sr_check_decl.proofs.Tests.{and_left, and_right, not_true}
+use Rattle.sr_check_decl.proofs.Tests.{and_parts, not_true}
 use Rattle.sr_check_decl.specs.Constants.{type_of_value}
 use Rattle.sr_check_decl.specs.Declaring.{standing}
 use Rattle.sr_check_decl.specs.Inferring.{all_settled, can_settle, info_by, is_settled, settled, waiting_info, wave, waves}
@@ -76,7 +76,7 @@ unknown_at before waiting = by (info_at before.infos waiting.spot)
 
 -- what can be settled isn't known
 can_unknown : (before : Facts) (waiting : Waiting) → can_settle before waiting ≡ true → info_at before.infos waiting.spot ≡ None
-can_unknown before waiting can = unknown_at before waiting (not_true (is_settled before waiting) (and_left _ _ can))
+can_unknown before waiting can = unknown_at before waiting (not_true (is_settled before waiting) (and_parts (not (is_settled before waiting)) _ can).0)
 
 module _ (first : Facts) where
   pub added_first : Added first first
@@ -164,8 +164,8 @@ module _ (first : Facts) where
 
   ready_at : (names : List Span) (before : Facts) → list_all (is_named_declared before) names ≡ true → (used : Span) → IsIn used names → is_named_declared before used ≡ true
   ready_at [] before ready used k = absurd k
-  ready_at (name ∷ names) before ready used (inl e) = ap (is_named_declared before) (sym e) ∙ and_left _ _ ready
-  ready_at (name ∷ names) before ready used (inr k) = ready_at names before (and_right (is_named_declared before name) _ ready) used k
+  ready_at (name ∷ names) before ready used (inl e) = ap (is_named_declared before) (sym e) ∙ (and_parts (is_named_declared before name) _ ready).0
+  ready_at (name ∷ names) before ready used (inr k) = ready_at names before (and_parts (is_named_declared before name) _ ready).1 used k
 
   -- what is known where a wave begins is known of both
   pub ready_same : (before now end : Facts) (component : Decl) (a : Added first now) (b : Added first end) → before.uses ≡ now.uses → Extends before now → Extends before end → (names : List Span) → list_all (is_named_declared before) names ≡ true
@@ -248,7 +248,7 @@ module _ (first : Facts) where
           let here = can waiting (inl refl) in
           let none = can_unknown before waiting here.1 in
           within_all some before (settled facts waiting) added (λ other k. can other (inr k)) in_end
-          (settled_within before facts waiting none (unknown_first before added waiting.spot none) in_end (and_right (not (is_settled before waiting)) _ here.1) (fine waiting here.0) within)
+          (settled_within before facts waiting none (unknown_first before added waiting.spot none) in_end (and_parts (not (is_settled before waiting)) _ here.1).1 (fine waiting here.0) within)
 
       extends_all : (some : List Waiting) (before facts : Facts) → ((waiting : Waiting) → IsIn waiting some → can_settle before waiting ≡ true) → Extends before facts → Extends before (all_settled some facts)
       extends_all [] before facts can extends = extends

@@ -4,7 +4,7 @@ use Rattle.std.specs.List.{filter, list_any}
 use Rattle.std.proofs.lemmas.Bool.{false≢true}
 use Rattle.sr_check_expr.specs.declared.facts.Facts.{Facts}
 use Rattle.sr_check_decl.proofs.Known.{known_stays, settled_are_known}
-use Rattle.sr_check_decl.proofs.Tests.{and_left, or_left, or_right}
+use Rattle.sr_check_decl.proofs.Tests.{and_parts, or_left, or_right}
 use Rattle.sr_check_decl.proofs.Waves.{waves_stay}
 use Rattle.sr_check_decl.specs.Inferring.{all_settled, can_settle, is_settled, wave, waves}
 use Rattle.sr_check_decl.specs.NamesIn.{is_ready}
@@ -103,7 +103,7 @@ module _ (all : List Waiting) where
 
   one_less : (facts : Facts) (waiting : Waiting) → IsIn waiting all → can_settle facts waiting ≡ true → count (wave all facts) < count facts
   one_less facts waiting k can =
-      less_left (is_left facts) (is_left (wave all facts)) (left_before facts) all waiting k (and_left _ _ can) (not_left (wave all facts) waiting (settled_after facts waiting k can))
+      less_left (is_left facts) (is_left (wave all facts)) (left_before facts) all waiting k (and_parts (is_left facts waiting) _ can).0 (not_left (wave all facts) waiting (settled_after facts waiting k can))
 
   none_can : (facts : Facts) → filter (can_settle facts) all ≡ [] → (waiting : Waiting) → IsIn waiting all → can_settle facts waiting ≡ false
   none_can facts none waiting k = by (can_settle facts waiting) refl

@@ -11,7 +11,7 @@ mod sources;
 
 pub use compiling::compile;
 pub use cores::core_of;
-pub use laws::spots_apart;
+pub use laws::{one_verdict, spots_apart};
 pub use phases::MOST_BYTES;
 pub use program::{Checked, accept};
 pub use sources::read;

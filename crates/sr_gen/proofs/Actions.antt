@@ -4,7 +4,7 @@ use Rattle.sr_value.specs.declared.capability.Cap.{Cap}
 use Rattle.sr_value.specs.declared.place.Place.{Place}
 use Rattle.sr_value.specs.declared.value.Value.TheVariants.{Int}
 use Rattle.sr_value.specs.Operators.{value_of}
-use Rattle.sr_ask.specs.Asking.{done, made, moment, none_takes}
+use Rattle.sr_ask.specs.Asking.{done, made, moment, none_takes, until_moment}
 use Rattle.sr_ask.specs.Behaviors.{Stage, Outcome, Came, Stops, Doing, and_then, give, heard, ◌>>=◌}
 use Rattle.sr_ask.specs.Invocations.{values_sent}
 use Rattle.sr_ask.specs.declared.answer.Answer.{Answer}
@@ -18,7 +18,7 @@ use Rattle.sr_core.specs.declared.expression.Expr.{Expr}
 use Rattle.sr_core.specs.declared.expression.PlaceExpr.{PlaceExpr}
 use Rattle.sr_core.specs.declared.statement.Action.TheVariants as action
 use Rattle.sr_core.specs.declared.statement.Bump.{Bump}
-use Rattle.sr_code.specs.Acts.{point, goes, act, time_to_wait, until_moment}
+use Rattle.sr_code.specs.Acts.{point, goes, act, time_to_wait}
 use Rattle.sr_code.specs.Operands.{call_of, put_call, put_cap, put_list, put_name, put_number, put_place, put_value}
 use Rattle.sr_code.specs.Runs.{Machine, go, here_at, then_asks}
 use Rattle.sr_code.specs.Stretches.{Emits, Extends, Follows, Has}
@@ -31,7 +31,7 @@ use Rattle.sr_meaning.specs.declared.ending.Ending.TheVariants.{Through}
 use Rattle.sr_meaning.specs.Expressions.{argument_of, expr_meaning, in_order, place_of_expr, taken}
 use Rattle.sr_meaning.specs.Here.{Here, request, settle}
 use Rattle.sr_meaning.specs.Places.{load_place, store_place}
-use Rattle.sr_meaning.specs.Statements.{action_meaning, arguments, as_until, bump_operator, cap_expr, forward_meaning, number_expr, reply_meaning, status_meaning, through, time_of}
+use Rattle.sr_meaning.specs.Statements.{action_meaning, arguments, bump_operator, cap_expr, forward_meaning, number_expr, reply_meaning, status_meaning, through, time_of}
 use Rattle.sr_gen_expr.specs.Emitting.{Gives, join_all, join_sent, tree_here}
 use Rattle.sr_gen_expr.proofs.Joining.{joined_sent}
 use Rattle.sr_gen_expr.proofs.Stretching.{follows_last, gives_changed, gives_first, gives_then}
@@ -240,10 +240,6 @@ same_time : (n : ℤ) → time_of n ≡ time_to_wait n
 same_time (pos n) = refl
 same_time (negsuc n) = refl
 
-same_until : (n : ℤ) → as_until n ≡ until_moment n
-same_until (pos n) = refl
-same_until (negsuc n) = refl
-
 pub acts_until : {ways : Ways} {core : Core} {line : Place} (time : Expr) {c0 c1 c2 c3 c4 : List Coded} → Emits line Wake c0 c1 → Emits line Age c1 c2 → Emits line ToWait c2 c3
     → Gives put_number core line (number_expr time) c3 c4 → Acts ways core line (action_meaning (action.Until time)) c0 c4
 acts_until {ways = ways} {line = line} time {c0 = c0} {c2 = c2} {c3 = c3} wake age to_wait g = record {
@@ -255,7 +251,6 @@ acts_until {ways = ways} {line = line} time {c0 = c0} {c2 = c2} {c3 = c3} wake a
       follows_then (follows_as (ap (λ found. settle found (tree_here m line)) (same_time n))
       (runs_past m to_wait (upper_part to_age below) (put_number n on) (settle (time_to_wait n) (tree_here m line)) (λ wait. put_number wait on) refl)) (λ wait.
       follows_then (runs_past m age (upper_part (extends_one wake) waking) (put_number wait on) (request moment age_request (tree_here m line)) (λ now. put_number now (put_number wait on)) refl) (λ now.
-      follows_as (ap (λ found. settle found (tree_here m line) >>= λ until. through (request done (wake_request until) (tree_here m line))) (same_until (now +ℤ wait)))
       (runs_two ways m wake (lower_part (extends_one age) waking) (put_number now (put_number wait on)) on (settle (until_moment (now +ℤ wait)) (tree_here m line))
       (λ until. request done (wake_request until) (tree_here m line)) refl))));
 } where

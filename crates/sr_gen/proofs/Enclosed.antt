@@ -19,9 +19,9 @@ use Rattle.sr_gen.specs.Quantifiers.{Encloses, Opened, Opens, OpensAt}
 use Rattle.sr_gen.specs.declared.turns.Turns.{Turns}
 use Rattle.sr_gen.specs.declared.ways.Ways.{Ways}
 use Rattle.sr_gen.proofs.Endings.{acts_as}
-use Rattle.sr_gen.proofs.Listed.{drop_all, drop_from}
 use Rattle.sr_gen.proofs.Loops.{acts_quantified, acts_with, checks_with, patches_with}
 use Rattle.sr_gen.proofs.Services.{item_at}
+use Rattle.sr_gen_expr.proofs.Rows.{drop_all, drop_from}
 
 -- ---- opened
 

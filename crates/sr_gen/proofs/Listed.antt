@@ -1,6 +1,5 @@
 -- Statements and guarded blocks that are emitted from the last to the first.
-use Rattle.std.proofs.Common.{◌≡◌, ℕ, zero, ◌+◌, ◌-◌, ◌<◌, ◌≤◌, List, [], ◌∷◌, drop, length, map, refl, sym, subst, ◌∙◌, ap, get_or, arith}
-use Rattle.std.proofs.lemmas.List.{drop_more}
+use Rattle.std.proofs.Common.{◌≡◌, ℕ, ◌-◌, ◌<◌, ◌≤◌, List, drop, length, map, sym, subst, ap, get_or, arith}
 use Rattle.sr_value.specs.declared.place.Place.{Place}
 use Rattle.sr_core.specs.declared.component.Core.{Core}
 use Rattle.sr_core.specs.declared.statement.Guarded.{Guarded}
@@ -8,23 +7,11 @@ use Rattle.sr_core.specs.declared.statement.Statement.{Statement}
 use Rattle.sr_code.specs.declared.code.Coded.{Coded}
 use Rattle.sr_meaning.specs.Pieces.{guarded_of}
 use Rattle.sr_meaning.specs.Statements.{block_meaning, first_true, meaning_of}
+use Rattle.sr_gen_expr.proofs.Rows.{drop_all, drop_from, drop_none}
 use Rattle.sr_gen.specs.Doing.{Acts, Tries}
 use Rattle.sr_gen.specs.declared.ways.Ways.{Ways}
 use Rattle.sr_gen.proofs.Blocks.{tries_more, tries_none}
 use Rattle.sr_gen.proofs.Endings.{acts_as, acts_more, acts_skip}
-
-pub drop_all : {A : Type 0} (xs : List A) → drop (length xs) xs ≡ []
-drop_all [] = refl
-drop_all (x ∷ xs) = drop_all xs
-
--- what is left from an item on is that item and the rest
-pub drop_from : {A : Type 0} (xs : List A) (at : ℕ) (x : A) → 0 < at → at ≤ length xs → x ≡ get_or xs (at - 1) x → drop (at - 1) xs ≡ x ∷ drop at xs
-drop_from xs at x low high is =
-    let back : at - 1 + 1 ≡ at = omega arith in
-    drop_more xs (at - 1) x (omega arith) ∙ ap (λ y. y ∷ drop (at - 1 + 1) xs) (sym is) ∙ ap (λ n. x ∷ drop n xs) back
-
-pub drop_none : {A : Type 0} (xs : List A) (at : ℕ) → at ≤ 0 → drop at xs ≡ xs
-drop_none xs at h = let is : at ≡ zero = omega arith in ap (λ n. drop n xs) is
 
 -- ---- blocks
 

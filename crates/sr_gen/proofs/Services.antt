@@ -36,10 +36,10 @@ use Rattle.sr_meaning.specs.Here.{Here, request}
 use Rattle.sr_meaning.specs.Statements.{block_meaning, in_meaning, make_formals, make_returned, meaning_of, named_value, reply_meaning, selection_meaning, served, service_for, service_meaning}
 use Rattle.sr_gen_expr.specs.Emitting.{Gives, Takes, put_nothing, put_only, tree_here}
 use Rattle.sr_gen_expr.proofs.Stretching.{emits_as, follows_at, follows_last, gives_first}
-use Rattle.sr_gen.specs.Blocks.{each_block}
 use Rattle.sr_gen.specs.Doing.{Acts, Closes, Onward, Serves, ServesEach, pad_ways, site_in, way}
 use Rattle.sr_gen.specs.declared.ways.Ways.{Ways}
 use Rattle.sr_gen.proofs.Endings.{jumps, onward_grown}
+use Rattle.sr_meaning.specs.Pieces.{each_block}
 
 -- ---- the end of a service
 

@@ -1,5 +1,5 @@
 -- `co`: its code makes all invocations, takes the replies, and does what each leads to.
-use Rattle.std.proofs.Common.{◌≡◌, ℕ, ℤ, zero, suc, ◌+◌, ◌≤◌, ◌<◌, ◌⊎◌, inl, inr, ◌==◌, if◌then◌else◌, Bool, true, List, [], ◌∷◌, ◌++◌, length, map, Option, Some, None, drop, get_or, is_some, ◌-◌, refl, sym, ◌∙◌, ap, subst, slice_get, arith}
+use Rattle.std.proofs.Common.{◌≡◌, ℕ, ℤ, zero, suc, ◌+◌, ◌≤◌, ◌<◌, ◌⊎◌, inl, inr, ◌==◌, Bool, true, List, [], ◌∷◌, ◌++◌, length, map, Option, Some, None, drop, get_or, is_some, ◌-◌, refl, sym, ◌∙◌, ap, subst, slice_get, arith, if◌then◌else◌}
 use Rattle.std.proofs.lemmas.Option.{slice_get_past}
 use Rattle.sr_value.specs.declared.capability.Cap.{Cap}
 use Rattle.sr_value.specs.declared.place.Place.{Place}
@@ -8,8 +8,8 @@ use Rattle.sr_value.specs.declared.value.Value.{Value}
 use Rattle.sr_ask.specs.Asking.{made}
 use Rattle.sr_ask.specs.Behaviors.{Stage, Outcome, Came, Stops, Doing, and_then, give, ◌>>=◌}
 use Rattle.sr_ask.specs.Invocations.{default_given, places_back, values_sent}
-use Rattle.sr_ask.specs.Places.{declare_own}
-use Rattle.sr_ask.specs.Replies.{Completion, push_out, set_out}
+use Rattle.sr_ask.specs.Places.{declare_own, number_held}
+use Rattle.sr_ask.specs.Replies.{Completion, push_out, set_out, without_out}
 use Rattle.sr_ask.specs.declared.ask.Asks.{Asks}
 use Rattle.sr_ask.specs.declared.environment.Located.{Located}
 use Rattle.sr_ask.specs.declared.environment.Out.{Out}
@@ -21,7 +21,7 @@ use Rattle.sr_core.specs.declared.statement.CoArm.{CoArm, out-CoArm}
 use Rattle.sr_core.specs.declared.statement.Quantifier.{Quantifier}
 use Rattle.sr_core.specs.declared.statement.Statement.{Statement}
 use Rattle.sr_core.specs.declared.statement.Statement.TheFolds.{fold_out-CoArm}
-use Rattle.sr_code.specs.Acts.{Point, point, act, after_completion, drop_place_if, given_back, number_held, number_own, place_if, set_vars, still_out, store_if, turn_held}
+use Rattle.sr_code.specs.Acts.{Point, point, act, after_completion, drop_place_if, given_back, number_own, place_if, set_vars, store_if, turn_held}
 use Rattle.sr_code.specs.Operands.{completed_on, put_completed, put_count, put_list, put_outs, put_place, put_targets, put_value}
 use Rattle.sr_code.specs.Runs.{Machine, go, here_at, then_asks}
 use Rattle.sr_code.specs.Stretches.{Emits, Extends, Follows, Has}
@@ -35,20 +35,19 @@ use Rattle.sr_meaning.specs.declared.ending.Ending.{Ending}
 use Rattle.sr_meaning.specs.declared.ending.Ending.TheVariants.{Through, Left, Turned}
 use Rattle.sr_meaning.specs.Expressions.{Meaning, give_back, place_of_expr}
 use Rattle.sr_meaning.specs.Here.{request}
-use Rattle.sr_meaning.specs.Pieces.{co_part_of}
-use Rattle.sr_meaning.specs.Statements.{CoPart, after_turn, co_arm_meaning, co_meaning, complete, complete_all, complete_outs, continue, guarded_meaning, left, meaning_of, optional_place, quantified, set_turn, start_call, start_calls, statement_meaning, store_value, through, turn_now, without_out}
+use Rattle.sr_meaning.specs.Pieces.{call_part, co_part_of}
+use Rattle.sr_meaning.specs.Statements.{CoPart, after_turn, co_arm_meaning, co_meaning, complete, complete_all, complete_outs, continue, guarded_meaning, left, meaning_of, optional_place, quantified, set_turn, start_call, start_calls, statement_meaning, store_value, through, turn_now}
 use Rattle.sr_gen_expr.specs.Emitting.{Gives, put_nothing, tree_here}
 use Rattle.sr_gen_expr.proofs.Calls.{stored_some}
 use Rattle.sr_gen_expr.proofs.Stretching.{follows_at, follows_last, follows_regroup, passes}
-use Rattle.sr_gen.specs.Blocks.{call_part}
 use Rattle.sr_gen.specs.Doing.{Acts, Completes, CompletesEach, Onward, Patches, Stores, one_way, pad_ways, put_placed, put_ready, ready_meaning, way}
 use Rattle.sr_gen.specs.declared.ways.Ways.{Ways}
 use Rattle.sr_gen.proofs.Actions.{follows_ready}
 use Rattle.sr_gen.proofs.Endings.{jumps, lower_of, onward_grown}
-use Rattle.sr_gen.proofs.Listed.{drop_all, drop_from}
 use Rattle.sr_gen.proofs.Loops.{acts_with, follows_one, same_way}
 use Rattle.sr_gen.proofs.Services.{appended, item_at, less_or_not, mapped_at, one_more_in}
 use Rattle.sr_gen.proofs.Patched.{patched_extends, patched_length, patched_lower, patched_upper, runs_patched}
+use Rattle.sr_gen_expr.proofs.Rows.{drop_all, drop_from}
 
 -- ---- one invocation
 
@@ -166,10 +165,6 @@ same_values [] (n ∷ turn) = refl
 same_values (q ∷ quantifiers) [] = refl
 same_values (q ∷ quantifiers) (n ∷ turn) = ap (λ rest. declare_own q.var (number_own n) >>= λ _. rest) (same_values quantifiers turn)
 
-same_outs : (outs : List Out) (id : ℕ) → still_out outs id ≡ without_out outs id
-same_outs [] id = refl
-same_outs (out ∷ outs) id = ap (λ rest. if out.id == id then outs else out ∷ rest) (same_outs outs id)
-
 same_store : (place : Option Located) (value : Value) (m : Machine) (line : Place) → store_value place value (tree_here m line) ≡ store_if place value (here_at m line)
 same_store None value m line = refl
 same_store (Some place) value m line = refl
@@ -279,8 +274,7 @@ completes_more {ways = ways} {again = again} {core = core} {line = line} parts a
       (follows_as (ap (λ k. complete completion (slice_get parts k) (tree_here m line)) last.0 ∙ ap (λ found. complete completion found (tree_here m line)) part_is)
       (record {
         same = λ stage.
-            ap (λ outs. go m (point (length c2) (put_completed (record { out = completion.out; results = completion.results }) on)) (record stage { out = outs })) (same_outs stage.out completion.out.id)
-            ∙ (completes.runs (onward_grown onward each.grows) (let a = each.grows.above in omega arith) m same (upper_part each.grows h) completion on).same
+            (completes.runs (onward_grown onward each.grows) (let a = each.grows.above in omega arith) m same (upper_part each.grows h) completion on).same
             (record stage { out = without_out stage.out completion.out.id });
       }))
 

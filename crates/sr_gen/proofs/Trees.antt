@@ -1,5 +1,5 @@
 -- A statement means what its node means.
-use Rattle.std.proofs.Common.{◌≡◌, ℕ, List, map, Option, Some, None, sym, ◌∙◌, ap}
+use Rattle.std.proofs.Common.{◌≡◌, ℕ, List, map, Option, sym, ◌∙◌, ap}
 use Rattle.sr_value.specs.declared.place.Place.{Place}
 use Rattle.sr_core.specs.declared.expression.Expr.{Expr}
 use Rattle.sr_core.specs.declared.statement.Action.{Action}
@@ -10,12 +10,12 @@ use Rattle.sr_core.specs.declared.statement.Quantifier.{Quantifier}
 use Rattle.sr_core.specs.declared.statement.Statement.{Statement}
 use Rattle.sr_core.specs.declared.statement.Statement.TheFolds.{fold-roll-Statement, fold_out-Guarded}
 use Rattle.sr_core.specs.declared.statement.Statement.TheOpen.{Statement-F}
-use Rattle.sr_core.specs.declared.statement.Statement.TheVariants.{Act, Co, Declare, Do, Fa, If, In, Sends, rolls-Act, rolls-Co, rolls-Declare, rolls-Do, rolls-Fa, rolls-If, rolls-In, rolls-Sends}
+use Rattle.sr_core.specs.declared.statement.Statement.TheVariants.{Act, Co, Declare, Do, Fa, If, In, Sends, rolls-Act, rolls-Co, rolls-Declare, rolls-Fa, rolls-If, rolls-In, rolls-Sends}
 use Rattle.sr_meaning.specs.declared.ending.Ending.{Ending}
+use Rattle.sr_meaning.proofs.Nodes.{meaning_of_do}
 use Rattle.sr_meaning.specs.Expressions.{Meaning}
-use Rattle.sr_meaning.specs.Pieces.{co_part_of, guarded_of, optional_block}
+use Rattle.sr_meaning.specs.Pieces.{co_part_of, each_block, guarded_of, optional_block}
 use Rattle.sr_meaning.specs.Statements.{CoPart, co_arm_meaning, guarded_meaning, meaning_of, statement_meaning}
-use Rattle.sr_gen.specs.Blocks.{each_block}
 
 pub meaning_declare : (statement : Statement) (place : Place) (declaration : Declaration) → statement ≡ Declare place declaration → meaning_of statement ≡ statement_meaning (Statement-F.Declare place declaration)
 meaning_declare statement place declaration is =
@@ -40,18 +40,10 @@ meaning_if statement place guards gs otherwise os is gs_are os_are =
     ∙ ap (λ g. statement_meaning (Statement-F.If place (map guarded_of g) (map meaning_of otherwise))) (sym gs_are)
     ∙ ap (λ o. statement_meaning (Statement-F.If place (map guarded_of gs) (map meaning_of o))) (sym os_are)
 
-do_node : (place : Place) (guards : List Guarded) (otherwise : Option (List Statement)) → meaning_of (Do place guards otherwise) ≡ statement_meaning (Statement-F.Do place (map guarded_of guards) (optional_block otherwise))
-do_node place guards None =
-    ap meaning_of (sym (rolls-Do place guards None))
-    ∙ fold-roll-Statement (Meaning Ending) CoPart (Meaning (Option Ending)) statement_meaning co_arm_meaning guarded_meaning (Statement-F.Do place guards None)
-do_node place guards (Some block) =
-    ap meaning_of (sym (rolls-Do place guards (Some block)))
-    ∙ fold-roll-Statement (Meaning Ending) CoPart (Meaning (Option Ending)) statement_meaning co_arm_meaning guarded_meaning (Statement-F.Do place guards (Some block))
-
 pub meaning_do : (statement : Statement) (place : Place) (guards gs : List Guarded) (otherwise : Option (List Statement)) → statement ≡ Do place guards otherwise → gs ≡ guards
     → meaning_of statement ≡ statement_meaning (Statement-F.Do place (map guarded_of gs) (optional_block otherwise))
 meaning_do statement place guards gs otherwise is gs_are =
-    ap meaning_of is ∙ do_node place guards otherwise ∙ ap (λ g. statement_meaning (Statement-F.Do place (map guarded_of g) (optional_block otherwise))) (sym gs_are)
+    ap meaning_of is ∙ meaning_of_do place guards otherwise ∙ ap (λ g. statement_meaning (Statement-F.Do place (map guarded_of g) (optional_block otherwise))) (sym gs_are)
 
 pub meaning_fa : (statement : Statement) (place : Place) (quantifiers qs : List Quantifier) (body bs : List Statement) → statement ≡ Fa place quantifiers body → qs ≡ quantifiers → bs ≡ body
     → meaning_of statement ≡ statement_meaning (Statement-F.Fa place qs (map meaning_of bs))

@@ -1,25 +1,15 @@
 -- Blocks, and what stands after quantifiers, as code is emitted for them.
-use Rattle.std.specs.Prelude.{ℤ, List, map}
+use Rattle.std.specs.Prelude.{ℤ, List}
 use Rattle.sr_ask.specs.Behaviors.{give, ◌>>=◌}
 use Rattle.sr_core.specs.Values.{values_of}
-use Rattle.sr_core.specs.declared.statement.CoCall.{CoCall}
 use Rattle.sr_core.specs.declared.statement.Quantifier.{Quantifier}
-use Rattle.sr_core.specs.declared.statement.Statement.{Statement}
 use Rattle.sr_gen.specs.declared.inner.Inner.{Inner}
 use Rattle.sr_gen.specs.declared.inner.Inner.TheVariants.{Block, Call}
 use Rattle.sr_meaning.specs.declared.ending.Ending.{Ending}
-use Rattle.sr_meaning.specs.declared.ending.Ending.TheVariants.{Through}
 use Rattle.sr_meaning.specs.Expressions.{Meaning}
 use Rattle.sr_meaning.specs.Here.{settle}
-use Rattle.sr_meaning.specs.Statements.{CoPart, block_meaning, block_of, left, meaning_of, number_expr, quantified, start_call}
-
--- what the blocks of the arms of an `in` mean
-abbrev pub each_block : List (List Statement) → List (List (Meaning Ending))
-each_block blocks = map (map meaning_of) blocks
-
--- the quantifiers and the invocation of an arm of a `co`
-abbrev pub call_part : List Quantifier → CoCall → CoPart
-call_part quantifiers call = record { quantifiers = quantifiers; call = call; body = λ here. give Through }
+use Rattle.sr_meaning.specs.Pieces.{call_part}
+use Rattle.sr_meaning.specs.Statements.{block_meaning, block_of, left, number_expr, quantified, start_call}
 
 -- what stands after quantifiers
 abbrev pub inner_meaning : Inner → Meaning Ending

@@ -2,15 +2,15 @@ ghost use Rattle.std.specs.Prelude.{◌≡◌, IfOk, OnOk, filter, map};
 ghost use Rattle.sr_core.specs.Formals.{is_back, result_vars};
 ghost use Rattle.sr_core.specs.declared.component.Core.{Core};
 ghost use Rattle.sr_meaning.specs.Statements.{optional_place, start_call};
-ghost use Rattle.sr_gen.specs.Blocks.{call_part};
 ghost use Rattle.sr_gen.specs.Doing.{Acts, Stores, put_placed};
 ghost use Rattle.sr_gen.specs.declared.ways.Ways.{Ways};
 ghost use Rattle.sr_gen_expr.specs.Emitting.{Gives};
+ghost use Rattle.sr_meaning.specs.Pieces.{call_part};
 
 use crate::action::gen_ready;
 use sr_code::{Coded, Instruction};
 use sr_core::{CoCall, Core, Formal, Mode, PlaceExpr, Quantifier, Returned};
-use sr_gen_expr::{emit, gen_place};
+use sr_gen_expr::{default_of, emit, gen_place};
 use sr_value::{Duplicate, NoMemory, Place, Row, Shape};
 use std::alloc::Global;
 
@@ -140,14 +140,4 @@ pub fn gen_stored(
     emit(place, Instruction::StoreResults { to }, out)?;
     emit(place, Instruction::GiveBack { none }, out)?;
     Ok(())
-}
-
-/// The instruction that puts the default of a type.
-fn default_of(alloc: Global, returns: &Option<Shape>) -> Result<Instruction, NoMemory>
-    ensures { IfOk result (λ i. i ≡ Instruction.Default returns.now) }
-{
-    match returns {
-        None => Ok(Instruction::Default(None)),
-        Some(shape) => Ok(Instruction::Default(Some(shape.copy(alloc)?))),
-    }
 }

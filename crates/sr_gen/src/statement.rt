@@ -1,9 +1,9 @@
 ghost use Rattle.std.specs.Prelude.{◌≡◌, [], OnOk, min, length, map};
 ghost use Rattle.sr_core.specs.declared.component.Core.{Core};
 ghost use Rattle.sr_core.specs.declared.statement.Statement.TheOpen.{Statement-F};
-ghost use Rattle.sr_meaning.specs.Pieces.{co_part_of, guarded_of, optional_block};
+ghost use Rattle.sr_meaning.specs.Pieces.{co_part_of, each_block, guarded_of, optional_block};
 ghost use Rattle.sr_meaning.specs.Statements.{block_of, co_meaning, do_meaning, first_true, if_meaning, in_meaning, meaning_of, no_guard, quantified, start_calls, statement_meaning};
-ghost use Rattle.sr_gen.specs.Blocks.{each_block, fa_meaning, inner_meaning};
+ghost use Rattle.sr_gen.specs.Blocks.{fa_meaning, inner_meaning};
 ghost use Rattle.sr_gen_expr.specs.Emitting.{Gives, put_nothing};
 ghost use Rattle.sr_gen.specs.Doing.{Acts, Completes, CompletesEach, Rests, Serves, ServesEach, Tries};
 ghost use Rattle.sr_gen.specs.declared.ways.Ways.{Ways};

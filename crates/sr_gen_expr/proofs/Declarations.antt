@@ -1,12 +1,12 @@
 -- Declarations and formals: their code asks what they ask.
-use Rattle.std.proofs.Common.{◌≡◌, ℕ, ℤ, pos, negsuc, List, [], ◌∷◌, length, Option, Some, None, refl, sym, ◌∙◌, ap}
+use Rattle.std.proofs.Common.{◌≡◌, ℕ, List, [], ◌∷◌, length, Option, Some, None, refl, sym, ◌∙◌, ap}
 use Rattle.sr_value.specs.declared.place.Place.{Place}
 use Rattle.sr_value.specs.declared.shape.Dims.TheVariants.{One as one_dim, Two as two_dims}
 use Rattle.sr_value.specs.declared.shape.Shape.{Shape}
 use Rattle.sr_value.specs.declared.shape.Shape.TheVariants.{Arr as an_array}
 use Rattle.sr_value.specs.declared.value.Value.{Value}
 use Rattle.sr_ask.specs.Behaviors.{Stage, Outcome, Came, Stops, Doing, and_then, give, ◌>>=◌}
-use Rattle.sr_ask.specs.Places.{make as make_at, store_place as place_store, whole}
+use Rattle.sr_ask.specs.Places.{make as make_at, store_place as place_store, string_of_length, whole}
 use Rattle.sr_ask.specs.declared.ask.Asks.{Asks}
 use Rattle.sr_ask.specs.declared.environment.Spot.{Spot}
 use Rattle.sr_ask.specs.declared.environment.Spot.TheVariants.{Own as an_own}
@@ -25,7 +25,7 @@ use Rattle.sr_core.specs.declared.statement.Scope.{Scope}
 use Rattle.sr_core.specs.declared.statement.Scope.TheVariants.{Own as own_scope, Shared as shared_scope}
 use Rattle.sr_core.specs.declared.statement.Setup.{Setup}
 use Rattle.sr_core.specs.declared.statement.ShapeExpr.{ShapeExpr}
-use Rattle.sr_code.specs.Acts.{Point, point, goes, store_argument, string_of_length}
+use Rattle.sr_code.specs.Acts.{Point, point, store_argument}
 use Rattle.sr_code.specs.Operands.{put_list, put_number, put_shape, put_value}
 use Rattle.sr_code.specs.Owners.{variable_in}
 use Rattle.sr_code.specs.Runs.{Machine, go, here_at, then_asks}
@@ -37,7 +37,7 @@ use Rattle.sr_code.proofs.Stretches.{extends_one, extends_self, extends_then, fo
 use Rattle.sr_meaning.specs.Expressions.{expr_meaning}
 use Rattle.sr_meaning.specs.Here.{settle}
 use Rattle.sr_meaning.specs.Places.{store_place}
-use Rattle.sr_meaning.specs.Statements.{declaration_meaning, dims_shape, first_value, item_shape, make, make_formals, make_returned, number_expr, setup_meaning, shape_meaning, spot_in, store_sent, string_shape}
+use Rattle.sr_meaning.specs.Statements.{declaration_meaning, dims_shape, first_value, item_shape, make, make_formals, make_returned, number_expr, setup_meaning, shape_meaning, spot_in, store_sent}
 use Rattle.sr_gen_expr.specs.Emitting.{Gives, Takes, put_nothing, put_only, tree_here}
 use Rattle.sr_gen_expr.proofs.Stretching.{gives_first, gives_then}
 
@@ -46,15 +46,11 @@ use Rattle.sr_gen_expr.proofs.Stretching.{gives_first, gives_then}
 pub gives_fixed : {core : Core} {line : Place} {shape : Shape} {c0 c1 : List Coded} → Emits line (FixedShape shape) c0 c1 → Gives put_shape core line (item_shape (fixed_item shape)) c0 c1
 gives_fixed {shape = shape} e = gives_first e (item_shape (fixed_item shape)) (λ m on. refl)
 
-same_length : (n : ℤ) → string_of_length n ≡ string_shape n
-same_length (pos n) = refl
-same_length (negsuc n) = refl
-
 pub gives_string : {core : Core} {line : Place} (most : Expr) {c0 c1 c2 : List Coded} → Emits line StringShape c0 c1 → Gives put_number core line (number_expr most) c1 c2
     → Gives put_shape core line (item_shape (string_item most)) c0 c2
 gives_string {line = line} most {c0 = c0} e g =
-    gives_then e g (λ n. settle (string_shape n))
-    (λ m n on. ap (λ found. settle found (tree_here m line) >>= λ shape. goes (length c0) (put_shape shape on)) (same_length n))
+    gives_then e g (λ n. settle (string_of_length n))
+    (λ m n on. refl)
 
 pub gives_one : {core : Core} {line : Place} (range : Range) (item : ItemShape) {c0 c1 c2 c3 c4 : List Coded} → Emits line OneDimension c0 c1
     → Gives put_shape core line (item_shape item) c1 c2 → Gives put_number core line (number_expr range.hi) c2 c3 → Gives put_number core line (number_expr range.lo) c3 c4

@@ -17,17 +17,17 @@ use Rattle.sr_gen_expr.proofs.Calls.{ensures_more, ensures_none}
 use Rattle.sr_gen_expr.proofs.Declarations.{formals_more, formals_none}
 use Rattle.sr_gen_expr.proofs.Stretching.{joins_more, joins_none}
 
-drop_all : {A : Type 0} (xs : List A) → drop (length xs) xs ≡ []
+pub drop_all : {A : Type 0} (xs : List A) → drop (length xs) xs ≡ []
 drop_all [] = refl
 drop_all (x ∷ xs) = drop_all xs
 
 -- what is left from an item on is that item and the rest
-drop_from : {A : Type 0} (xs : List A) (at : ℕ) (x : A) → 0 < at → at ≤ length xs → x ≡ get_or xs (at - 1) x → drop (at - 1) xs ≡ x ∷ drop at xs
+pub drop_from : {A : Type 0} (xs : List A) (at : ℕ) (x : A) → 0 < at → at ≤ length xs → x ≡ get_or xs (at - 1) x → drop (at - 1) xs ≡ x ∷ drop at xs
 drop_from xs at x low high is =
     let back : at - 1 + 1 ≡ at = omega arith in
     drop_more xs (at - 1) x (omega arith) ∙ ap (λ y. y ∷ drop (at - 1 + 1) xs) (sym is) ∙ ap (λ n. x ∷ drop n xs) back
 
-drop_none : {A : Type 0} (xs : List A) (at : ℕ) → at ≤ 0 → drop at xs ≡ xs
+pub drop_none : {A : Type 0} (xs : List A) (at : ℕ) → at ≤ 0 → drop at xs ≡ xs
 drop_none xs at h = let is : at ≡ zero = omega arith in ap (λ n. drop n xs) is
 
 -- ---- parts that join the operand on top

@@ -27,7 +27,7 @@ pub fn gen_answer(
 }
 
 /// The instruction that puts the default of a type.
-fn default_of(alloc: Global, returns: &Option<Shape>) -> Result<Instruction, NoMemory>
+pub fn default_of(alloc: Global, returns: &Option<Shape>) -> Result<Instruction, NoMemory>
     ensures { IfOk result (λ i. i ≡ Instruction.Default returns.now) }
 {
     match returns {

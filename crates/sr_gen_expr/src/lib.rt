@@ -15,7 +15,7 @@ mod reading;
 mod shape;
 mod typed;
 
-pub use call::gen_answer;
+pub use call::{default_of, gen_answer};
 pub use create::{gen_ensured, needs};
 pub use declaration::gen_declaration;
 pub use emitting::emit;

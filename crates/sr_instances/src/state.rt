@@ -1,5 +1,5 @@
 /// How far an instance has come.
-#[derive(Clone, Copy, Debug, PartialEq, Eq)]
+#[derive(Clone, Copy, PartialEq, Eq)]
 pub enum State {
     /// Its initial code runs.
     Starting,

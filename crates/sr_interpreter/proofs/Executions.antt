@@ -22,9 +22,9 @@ use Rattle.sr_interpreter_expr.specs.declared.stop.Stop.{Stop}
 use Rattle.sr_interpreter_expr.specs.declared.stop.Stop.TheVariants.{Asks as stopped, NoMemory as out_of_memory}
 use Rattle.sr_meaning.specs.Expressions.{Meaning}
 use Rattle.sr_meaning.specs.Here.{Here, ask_of, at_line, fail}
-use Rattle.sr_meaning.specs.Pieces.{co_part_of}
-use Rattle.sr_interpreter_parts.specs.StatementParts.{call_part, choosing}
-use Rattle.sr_interpreter.specs.Blocks.{completing, each_block}
+use Rattle.sr_meaning.specs.Pieces.{call_part, co_part_of, each_block}
+use Rattle.sr_interpreter_parts.specs.StatementParts.{choosing}
+use Rattle.sr_interpreter.specs.Blocks.{completing}
 use Rattle.sr_meaning.specs.Statements.{do_meaning, do_turn, for_values, in_meaning, meaning_of, number_expr, quantified, selection_meaning, service_meaning, site_at, start_call, start_calls}
 use Rattle.sr_core.specs.Values.{values_of}
 use Rattle.sr_interpreter_expr.specs.Interpreters.{Agrees}

@@ -1,9 +1,8 @@
 -- Pieces of work, one after the other.
-use Rattle.std.proofs.Common.{◌≡◌, ◌≢◌, ℕ, zero, suc, ◌+◌, ◌-◌, ◌*◌, ◌<◌, ℤ, List, [], ◌∷◌, length, map, Option, option_map, Some, None, refl, sym, ap, ◌∙◌, arith}
+use Rattle.std.proofs.Common.{◌≡◌, ◌≢◌, ℕ, zero, suc, ◌+◌, ◌-◌, ◌*◌, ◌<◌, ℤ, List, [], ◌∷◌, length, map, Option, option_map, refl, sym, ap, ◌∙◌, arith}
 use Rattle.std.specs.List.{slice_get}
 use Rattle.std.proofs.lemmas.List.{length-map}
 use Rattle.std.proofs.lemmas.Option.{slice_get-map}
-use Rattle.sr_value.specs.declared.place.Place.{Place}
 use Rattle.sr_ask.specs.Asking.{selected}
 use Rattle.sr_ask.specs.Behaviors.{Stage, Outcome, Came, Stops, Doing, give, and_then, tick, turned, turns}
 use Rattle.sr_ask.specs.declared.forms.Selection.{Selection}
@@ -11,11 +10,8 @@ use Rattle.sr_ask.specs.declared.request.Request.TheVariants.{Select}
 use Rattle.sr_core.specs.declared.expression.Expr.{Expr}
 use Rattle.sr_core.specs.declared.statement.Action.TheVariants.{Send}
 use Rattle.sr_core.specs.declared.statement.CoArm.{CoArm, out-CoArm}
-use Rattle.sr_core.specs.declared.statement.Guarded.{Guarded}
 use Rattle.sr_core.specs.declared.statement.Statement.{Statement}
-use Rattle.sr_core.specs.declared.statement.Statement.TheFolds.{fold-roll-Statement, fold_out-CoArm}
-use Rattle.sr_core.specs.declared.statement.Statement.TheOpen.{Statement-F}
-use Rattle.sr_core.specs.declared.statement.Statement.TheVariants.{Do, rolls-Do}
+use Rattle.sr_core.specs.declared.statement.Statement.TheFolds.{fold_out-CoArm}
 use Rattle.sr_meaning.specs.declared.ending.Ending.{Ending}
 use Rattle.sr_meaning.specs.declared.ending.Ending.TheVariants.{Through, Left, Turned, Returned as returned}
 use Rattle.sr_meaning.specs.Expressions.{Meaning, choice, in_order}
@@ -23,9 +19,9 @@ use Rattle.sr_meaning.specs.Here.{Here, request}
 use Rattle.sr_meaning.specs.Statements.{CoPart, action_meaning, before, block_meaning, co_arm_meaning, complete, complete_all, condition_meaning, continue, for_values, guarded_meaning, in_meaning, int_own, meaning_of, named_value, quantified, selection_meaning, sends, site_at, start_call, start_calls, statement_meaning, take_one}
 use Rattle.sr_interpreter_parts.specs.Turns.{listed_from, value_from}
 use Rattle.sr_interpreter_parts.specs.declared.values.Values.{Values}
-use Rattle.sr_meaning.specs.Pieces.{co_part_of, guarded_of, optional_block}
-use Rattle.sr_interpreter_parts.specs.StatementParts.{call_part, choosing}
-use Rattle.sr_interpreter.specs.Blocks.{each_block, next_completion, value_turn}
+use Rattle.sr_meaning.specs.Pieces.{call_part, co_part_of, each_block}
+use Rattle.sr_interpreter_parts.specs.StatementParts.{choosing}
+use Rattle.sr_interpreter.specs.Blocks.{next_completion, value_turn}
 use Rattle.sr_ask.specs.Places.{set_own}
 
 pub regroup : {A B C : Type 0} (o : Outcome A) (f : A → Doing B) (g : B → Doing C) → and_then (and_then o f) g ≡ and_then o (λ a stage. and_then (f a stage) g)
@@ -97,16 +93,6 @@ before_other Through next stage other = absurd (other refl)
 before_other Left next stage other = refl
 before_other Turned next stage other = refl
 before_other returned next stage other = refl
-
--- what a `do` means
-pub meaning_of_do : (place : Place) (guards : List Guarded) (otherwise : Option (List Statement))
-    → meaning_of (Do place guards otherwise) ≡ statement_meaning (Statement-F.Do place (map guarded_of guards) (optional_block otherwise))
-meaning_of_do place guards None =
-    ap meaning_of (sym (rolls-Do place guards None))
-    ∙ fold-roll-Statement (Meaning Ending) CoPart (Meaning (Option Ending)) statement_meaning co_arm_meaning guarded_meaning (Statement-F.Do place guards None)
-meaning_of_do place guards (Some block) =
-    ap meaning_of (sym (rolls-Do place guards (Some block)))
-    ∙ fold-roll-Statement (Meaning Ending) CoPart (Meaning (Option Ending)) statement_meaning co_arm_meaning guarded_meaning (Statement-F.Do place guards (Some block))
 
 -- an `in` chooses, and then does what was chosen
 pub in_step : (site : ℕ) (blocks : List (List Statement)) (otherwise : List (Meaning Ending)) (here : Here) (stage : Stage)

@@ -1,22 +1,17 @@
 -- Blocks, and what runs them, as the reference interpreter carries them out.
-use Rattle.std.specs.Prelude.{ℕ, ℤ, List, map, Option, slice_get}
+use Rattle.std.specs.Prelude.{ℕ, ℤ, List, Option, slice_get}
 use Rattle.sr_value.specs.declared.value.Value.{Value}
 use Rattle.sr_ask.specs.Behaviors.{give, ◌>>=◌, tick}
 use Rattle.sr_ask.specs.declared.environment.Out.{Out}
 use Rattle.sr_core.specs.declared.expression.Expr.{Expr}
-use Rattle.sr_core.specs.declared.statement.Statement.{Statement}
 use Rattle.sr_meaning.specs.declared.ending.Ending.{Ending}
 use Rattle.sr_meaning.specs.declared.ending.Ending.TheVariants.{Through}
 use Rattle.sr_interpreter.specs.declared.inner.Inner.{Inner}
 use Rattle.sr_interpreter.specs.declared.inner.Inner.TheVariants.{Block, Call}
 use Rattle.sr_meaning.specs.Expressions.{Meaning, choice}
-use Rattle.sr_meaning.specs.Statements.{CoPart, after_turn, block_of, complete, condition_meaning, int_own, meaning_of, start_call, take_one}
-use Rattle.sr_interpreter_parts.specs.StatementParts.{call_part}
+use Rattle.sr_meaning.specs.Statements.{CoPart, after_turn, block_of, complete, condition_meaning, int_own, start_call, take_one}
 use Rattle.sr_ask.specs.Places.{declare_own}
-
--- what the blocks of the arms of an `in` mean
-abbrev pub each_block : List (List Statement) → List (List (Meaning Ending))
-each_block blocks = map (map meaning_of) blocks
+use Rattle.sr_meaning.specs.Pieces.{call_part}
 
 -- one value of a quantifier, with its tick: whether the loop ends, and how
 abbrev pub value_turn : ℕ → Option Expr → Meaning Ending → ℤ → Meaning (Option Ending)

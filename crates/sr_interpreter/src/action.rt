@@ -5,11 +5,12 @@ ghost use Rattle.sr_interpreter_expr.specs.Interpreters.{Agrees, here_of, stage_
 
 use sr_ask::Request;
 use sr_core::{Action, Argument, Bump, Expr, PlaceExpr};
+use sr_frame::joined;
 use sr_interpreter_expr::{
     Interpreter, IsDone, IsMade, IsMoment, Scene, Stop, ask, cap_of, evaluate, evaluate_all,
     evaluate_arguments, failed, load, locate, number_of, operated, reply_to, store, values_in,
 };
-use sr_interpreter_parts::{ask_for_good, forward, joined, reply, settle_texts};
+use sr_interpreter_parts::{ask_for_good, forward, reply, settle_texts};
 use sr_meaning::Ending;
 use sr_value::{Fault, Operator, Value};
 

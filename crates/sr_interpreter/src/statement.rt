@@ -2,8 +2,8 @@ ghost use Rattle.std.specs.Prelude.{◌≡◌, IfOk, map, option_map, slice_get}
 ghost use Rattle.sr_ask.specs.Behaviors.{looped};
 ghost use Rattle.sr_ask.specs.declared.environment.Out.{Out};
 ghost use Rattle.sr_core.specs.declared.statement.Statement.TheOpen.{Statement-F};
-ghost use Rattle.sr_meaning.specs.Pieces.{co_part_of, guarded_of, optional_block};
-ghost use Rattle.sr_interpreter.specs.Blocks.{completing, each_block, inner_meaning, next_completion, value_turn};
+ghost use Rattle.sr_meaning.specs.Pieces.{co_part_of, each_block, guarded_of, optional_block};
+ghost use Rattle.sr_interpreter.specs.Blocks.{completing, inner_meaning, next_completion, value_turn};
 ghost use Rattle.sr_meaning.specs.Statements.{block_of, complete_outs, do_turn, first_true, for_values, meaning_of, quantified, service_meaning, site_at, start_calls, statement_meaning};
 ghost use Rattle.sr_interpreter_parts.specs.StatementParts.{IsFirstOut};
 ghost use Rattle.sr_interpreter_parts.specs.Turns.{AllFit, listed};
@@ -15,21 +15,22 @@ use crate::inner::Inner;
 use crate::sends::run_sends;
 use sr_ask::{Asks, Pick, Selection};
 use sr_core::{Action, Arm, CoArm, Declaration, Guarded, Quantifier, Scope, Statement};
+use sr_frame::number_own;
 use sr_interpreter_expr::{
     Interpreter, Scene, Stop, at_line, failed, give_back, holds, number_of, put_own, room, tick,
     truth_of,
 };
 use sr_interpreter_parts::{
-    PlacedReply, Values, arm_at, arm_out, choose, declare, int_own, make_formals, make_returned,
-    reply, service_for, set_out, set_service, set_turn, start_call, store_value, take_out,
-    take_reply, value_at, values_of,
+    PlacedReply, Values, arm_at, arm_out, choose, declare, make_formals, make_returned, reply,
+    service_for, set_out, set_service, set_turn, start_call, store_value, take_out, take_reply,
+    value_at, values_of,
 };
 use sr_meaning::Ending;
 use sr_value::{NoMemory, Place, Row};
 
 /// What a statement asks, and how it ends.
 #[cycle(execution)]
-#[tactic(auto, using(sr_meaning::proofs::Weights::weight_if, sr_meaning::proofs::Weights::weight_do, sr_meaning::proofs::Weights::weight_fa, sr_meaning::proofs::Weights::weight_in, sr_meaning::proofs::Weights::weight_co, crate::proofs::Steps::meaning_of_do))]
+#[tactic(auto, using(sr_meaning::proofs::Weights::weight_if, sr_meaning::proofs::Weights::weight_do, sr_meaning::proofs::Weights::weight_fa, sr_meaning::proofs::Weights::weight_in, sr_meaning::proofs::Weights::weight_co, sr_meaning::proofs::Nodes::meaning_of_do))]
 pub fn run(
     scene: &Scene,
     interpreter: &mut Interpreter,
@@ -349,7 +350,7 @@ fn run_value(
     ensures { Agrees (value_turn first.now.var first.now.condition (quantified rest.now (inner_meaning inner.now)) value (here_of scene.now) (stage_of interpreter.old)) result (stage_of interpreter.new) }
 {
     tick(interpreter)?;
-    put_own(interpreter, first.var, int_own(value));
+    put_own(interpreter, first.var, number_own(value));
     if holds(scene, interpreter, &first.condition)? {
         let ending = run_quantified(scene, interpreter, rest, inner)?;
         Ok(after_turn(ending))

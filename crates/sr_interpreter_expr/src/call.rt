@@ -2,7 +2,7 @@ ghost use Rattle.std.specs.Prelude.{◌≡◌, IfOk};
 ghost use Rattle.sr_meaning.specs.Expressions.{give_back};
 ghost use Rattle.sr_meaning.specs.Laws.{after_arguments};
 ghost use Rattle.sr_interpreter_expr.specs.Interpreters.{Agrees, here_of, stage_of};
-ghost use Rattle.sr_ask.specs.Invocations.{places_back, value_after, values_sent};
+ghost use Rattle.sr_ask.specs.Invocations.{places_back, values_sent};
 
 use crate::interpreter::Interpreter;
 use crate::invoke::{default_value, reply_to, store_from};
@@ -10,6 +10,7 @@ use crate::listening::{IsMade, ask};
 use crate::scene::Scene;
 use crate::stop::Stop;
 use sr_ask::{Located, Request, Sent};
+use sr_frame::value_after;
 use sr_value::{Cap, Duplicate, NoMemory, Row, Shape, Value};
 use std::alloc::Global;
 
@@ -37,17 +38,6 @@ pub fn places_in(alloc: Global, sent: &[Sent]) -> Result<Row<Located>, NoMemory>
         }
     }
     Ok(places)
-}
-
-/// The value after the results.
-fn value_after(mut left: Row<Value>) -> Value
-    ensures { result ≡ value_after left }
-{
-    if left.is_empty() {
-        Value::Bool(false)
-    } else {
-        left.remove(0)
-    }
 }
 
 /// Stores the results of a reply, and gives the value.

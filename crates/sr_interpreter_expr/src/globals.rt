@@ -1,7 +1,6 @@
 ghost use Rattle.std.specs.Prelude.{◌≡◌};
 ghost use Rattle.sr_meaning.specs.Expressions.{created, ensured, needs_of};
 ghost use Rattle.sr_interpreter_expr.specs.Interpreters.{Agrees, here_of, stage_of};
-ghost use Rattle.sr_ask.specs.Invocations.{instance_in};
 
 use crate::interpreter::Interpreter;
 use crate::invoke::reply_to;
@@ -10,6 +9,7 @@ use crate::scene::Scene;
 use crate::stop::Stop;
 use sr_ask::Request;
 use sr_core::Core;
+use sr_frame::instance_in;
 use sr_value::{Cap, Row, Value};
 
 /// Each global is asked for until it is ready.
@@ -42,22 +42,6 @@ pub fn needs(core: &Core, component: u32) -> &[u32]
     match core.components.get(component as usize) {
         Some(found) => found.needs.as_slice(),
         None => &[],
-    }
-}
-
-/// The capability that a new instance answers with.
-fn instance_in(reply: Option<Row<Value>>) -> Value
-    ensures { result ≡ instance_in reply }
-{
-    match reply {
-        None => Value::Capa(Cap::Null),
-        Some(mut values) => {
-            if values.is_empty() {
-                Value::Capa(Cap::Null)
-            } else {
-                values.remove(0)
-            }
-        }
     }
 }
 

@@ -9,7 +9,7 @@ use crate::places::store;
 use crate::scene::Scene;
 use crate::settle::failed;
 use crate::stop::Stop;
-use sr_ask::{Located, Request};
+use sr_ask::{Located, Request, SharedNumbers};
 use sr_value::{Duplicate, Row, Shape, Value, ValueFail, default_of};
 
 /// The reply to one invocation.
@@ -20,8 +20,7 @@ pub fn reply_to(
 ) -> Result<Option<Row<Value>>, Stop>
     ensures { Agrees (taken id (here_of scene.now) (stage_of interpreter.old)) result (stage_of interpreter.new) }
 {
-    let mut ids = Row::new(scene.alloc);
-    ids.push(id)?;
+    let ids = SharedNumbers::one(scene.alloc, id)?;
     let reply = ask(scene, interpreter, &IsReply { id }, Request::Take { ids })?;
     Ok(reply.results)
 }

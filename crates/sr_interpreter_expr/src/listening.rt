@@ -1,6 +1,6 @@
 ghost use Rattle.std.specs.Prelude.{◌≡◌, Option};
 ghost use Rattle.sr_ask.specs.declared.answer.Answer.{Answer};
-ghost use Rattle.sr_ask.specs.Asking.{done, got, made, ready, number, moment, as_moment, read_item, took};
+ghost use Rattle.sr_ask.specs.Asking.{done, got, made, ready, number, moment, read_item, took};
 ghost use Rattle.sr_ask.specs.Behaviors.{asking};
 ghost use Rattle.sr_meaning.specs.Here.{request as ask_by};
 ghost use Rattle.sr_interpreter_expr.specs.Interpreters.{Agrees, HearsAnswer, UsesNextAnswer, here_of, stage_of};
@@ -9,6 +9,7 @@ use crate::interpreter::Interpreter;
 use crate::scene::Scene;
 use crate::stop::Stop;
 use sr_ask::{Answer, Ask, Asks, InputItem, Request, Taken};
+use sr_frame::{done, got, made, moment, number, read_item, ready, took};
 use sr_value::Value;
 
 /// A form of answer that a request takes.
@@ -27,10 +28,7 @@ impl Takes<()> for IsDone {
     ghost takes = { λ form. done };
 
     fn take(&self, answer: Answer) -> Option<()> {
-        match answer {
-            Answer::Done => Some(()),
-            _ => None,
-        }
+        done(answer)
     }
 }
 
@@ -41,10 +39,7 @@ impl Takes<Value> for IsGot {
     ghost takes = { λ form. got };
 
     fn take(&self, answer: Answer) -> Option<Value> {
-        match answer {
-            Answer::Got(value) => Some(value),
-            _ => None,
-        }
+        got(answer)
     }
 }
 
@@ -55,10 +50,7 @@ impl Takes<u32> for IsMade {
     ghost takes = { λ form. made };
 
     fn take(&self, answer: Answer) -> Option<u32> {
-        match answer {
-            Answer::Made(name) => Some(name),
-            _ => None,
-        }
+        made(answer)
     }
 }
 
@@ -69,10 +61,7 @@ impl Takes<()> for IsReady {
     ghost takes = { λ form. ready };
 
     fn take(&self, answer: Answer) -> Option<()> {
-        match answer {
-            Answer::Ready => Some(()),
-            _ => None,
-        }
+        ready(answer)
     }
 }
 
@@ -83,10 +72,7 @@ impl Takes<i32> for IsNumber {
     ghost takes = { λ form. number };
 
     fn take(&self, answer: Answer) -> Option<i32> {
-        match answer {
-            Answer::Number(number) => Some(number),
-            _ => None,
-        }
+        number(answer)
     }
 }
 
@@ -97,17 +83,8 @@ impl Takes<i32> for IsMoment {
     ghost takes = { λ form. moment };
 
     fn take(&self, answer: Answer) -> Option<i32> {
-        match answer {
-            Answer::Number(number) => moment_of(number),
-            _ => None,
-        }
+        moment(answer)
     }
-}
-
-fn moment_of(number: i32) -> Option<i32>
-    ensures { result ≡ as_moment number }
-{
-    if number < 0 { None } else { Some(number) }
 }
 
 /// `Got`, `Bad` or `End`.
@@ -117,12 +94,7 @@ impl Takes<InputItem> for IsItem {
     ghost takes = { λ form. read_item };
 
     fn take(&self, answer: Answer) -> Option<InputItem> {
-        match answer {
-            Answer::Got(value) => Some(InputItem::Value(value)),
-            Answer::Bad => Some(InputItem::NotOfKind),
-            Answer::End => Some(InputItem::NoMore),
-            _ => None,
-        }
+        read_item(answer)
     }
 }
 
@@ -138,16 +110,7 @@ impl Takes<Taken> for IsReply {
     ghost takes = { λ form. took (form.id ∷ []) };
 
     fn take(&self, answer: Answer) -> Option<Taken> {
-        match answer {
-            Answer::Took { id, results } => {
-                if self.id == id {
-                    Some(Taken { id, results })
-                } else {
-                    None
-                }
-            }
-            _ => None,
-        }
+        took(self.id, answer)
     }
 }
 

@@ -8,7 +8,8 @@ use Rattle.std.proofs.lemmas.Option.{slice_get_cases}
 use Rattle.sr_ask.specs.Behaviors.{Stage, Outcome, Came}
 use Rattle.sr_ask.specs.declared.environment.Out.{Out}
 use Rattle.sr_interpreter_parts.specs.StatementParts.{IsFirstOut}
-use Rattle.sr_meaning.specs.Statements.{drop_out, without_out}
+use Rattle.sr_meaning.specs.Statements.{drop_out}
+use Rattle.sr_ask.specs.Replies.{without_out}
 
 position_at : (b : Bool) (n m at : ℕ) → ltb n m ≡ b → Some at ≡ cond b (Some n) None → (at ≡ n) × (at < m)
 position_at true n m at e found = let same : at ≡ n = cc in (same, grind (arith, nat_tests))

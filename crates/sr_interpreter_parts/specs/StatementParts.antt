@@ -2,29 +2,22 @@
 use Rattle.std.specs.Prelude.{◌≡◌, ℕ, ◌<◌, ◌==◌, List, length, map, Option, Some, None, option_map, slice_get}
 use Rattle.std.specs.List.{position}
 use Rattle.sr_ask.specs.Asking.{selected}
-use Rattle.sr_ask.specs.Behaviors.{give, ◌>>=◌}
+use Rattle.sr_ask.specs.Behaviors.{◌>>=◌}
 use Rattle.sr_ask.specs.declared.answer.Answer.{Answer}
 use Rattle.sr_ask.specs.declared.answer.Answer.TheVariants.{Took}
 use Rattle.sr_ask.specs.declared.environment.Out.{Out}
 use Rattle.sr_ask.specs.declared.forms.Selection.{Selection}
 use Rattle.sr_ask.specs.declared.request.Request.TheVariants.{Select, Take}
-use Rattle.sr_core.specs.declared.statement.CoCall.{CoCall}
-use Rattle.sr_core.specs.declared.statement.Quantifier.{Quantifier}
 use Rattle.sr_interpreter_parts.specs.declared.co.PlacedReply.{PlacedReply}
-use Rattle.sr_meaning.specs.declared.ending.Ending.TheVariants.{Through}
 use Rattle.sr_meaning.specs.Expressions.{Meaning, in_order}
 use Rattle.sr_meaning.specs.Here.{request}
-use Rattle.sr_meaning.specs.Statements.{CoPart, named_value, site_at}
+use Rattle.sr_meaning.specs.Statements.{named_value, site_at}
 
 -- the request for the arm of an `in` that is to run, out of so many
 abbrev pub choosing : ℕ → ℕ → Meaning Selection
 choosing site arms here =
     in_order (map named_value (site_at site here).names) here >>= λ env.
     request (selected arms (site_at site here).has_else) (Select site env) here
-
--- what an invocation of a `co` needs of its arm
-abbrev pub call_part : List Quantifier → CoCall → CoPart
-call_part quantifiers call = record { quantifiers = quantifiers; call = call; body = λ here. give Through }
 
 -- `Took`, of one of these invocations, by its place among them
 abbrev pub took_place : List ℕ → Answer → Option PlacedReply

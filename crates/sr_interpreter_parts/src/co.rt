@@ -1,14 +1,14 @@
-ghost use Rattle.std.specs.Prelude.{◌≡◌, ◌<◌, ◌==◌, IfOk, OnOk, map, length, option_map, slice_get};
-ghost use Rattle.std.specs.List.{position};
+ghost use Rattle.std.specs.Prelude.{◌≡◌, ◌<◌, IfOk, OnOk, map, length, option_map, slice_get};
 ghost use Rattle.sr_ask.specs.Behaviors.{Came};
-ghost use Rattle.sr_meaning.specs.Statements.{drop_out, optional_place, own_number, set_turn, start_call, store_value, turn_now};
-ghost use Rattle.sr_interpreter_parts.specs.StatementParts.{IsFirstOut, call_part, take_place, took_place};
+ghost use Rattle.sr_meaning.specs.Statements.{drop_out, optional_place, set_turn, start_call, store_value, turn_now};
+ghost use Rattle.sr_interpreter_parts.specs.StatementParts.{IsFirstOut, take_place, took_place};
 ghost use Rattle.sr_interpreter_expr.specs.Interpreters.{Agrees, here_of, stage_of};
 ghost use Rattle.sr_ask.specs.Replies.{push_out, set_out};
+ghost use Rattle.sr_meaning.specs.Pieces.{call_part};
 
-use crate::values::int_own;
-use sr_ask::{Answer, Located, Out, Request};
+use sr_ask::{Answer, Located, Out, Request, SharedNumbers};
 use sr_core::{CoCall, PlaceExpr, Quantifier};
+use sr_frame::{number_held, number_own};
 use sr_interpreter_expr::{
     Interpreter, IsMade, Scene, Stop, Takes, ask, cap_of, evaluate_arguments, locate, places_in,
     put_own, store, values_in,
@@ -34,16 +34,6 @@ fn optional_place(
     }
 }
 
-/// The number that an own variable holds, or 0.
-fn own_number(interpreter: &Interpreter, var: u32) -> i32
-    ensures { result ≡ own_number interpreter.now.own var }
-{
-    match interpreter.own.get(var as usize) {
-        Some(Some(own)) => own.value.as_int().unwrap_or(0),
-        _ => 0,
-    }
-}
-
 /// The values of the quantifiers at this turn.
 fn turn_now(
     alloc: Global,
@@ -54,7 +44,7 @@ fn turn_now(
 {
     let mut turn = Row::new(alloc);
     for quantifier in quantifiers {
-        turn.push(own_number(interpreter, quantifier.var))?;
+        turn.push(number_held(&interpreter.own, quantifier.var))?;
     }
     Ok(turn)
 }
@@ -114,7 +104,7 @@ pub struct PlacedReply {
 /// `Took`, of one of the invocations that are out.
 #[derive(Drop)]
 struct IsReplyToAny {
-    ids: Row<u32>,
+    ids: SharedNumbers,
 }
 
 impl Takes<PlacedReply> for IsReplyToAny {
@@ -122,36 +112,29 @@ impl Takes<PlacedReply> for IsReplyToAny {
 
     fn take(&self, answer: Answer) -> Option<PlacedReply> {
         match answer {
-            Answer::Took { id, results } => placed(self.ids.as_slice(), id, results),
+            Answer::Took { id, results } => placed(&self.ids, id, results),
             _ => None,
         }
     }
 }
 
 /// A reply by the place of its invocation, where that is out.
-fn placed(ids: &[u32], id: u32, results: Option<Row<Value>>) -> Option<PlacedReply>
+fn placed(ids: &SharedNumbers, id: u32, results: Option<Row<Value>>) -> Option<PlacedReply>
     ensures { result ≡ took_place ids.now (Answer.Took id results) }
 {
-    match place_of(ids, id) {
+    match ids.position(id) {
         Some(at) => Some(PlacedReply { at, results }),
         None => None,
     }
 }
 
-/// The first place of a number.
-fn place_of(ids: &[u32], id: u32) -> Option<usize>
-    ensures { result ≡ position (λ i. i == id) ids.now }
-{
-    ids.iter().position(|i| *i == id)
-}
-
 /// The numbers of the invocations that are out.
-fn ids_out(alloc: Global, outs: &[Out]) -> Result<Row<u32>, NoMemory>
+fn ids_out(alloc: Global, outs: &[Out]) -> Result<SharedNumbers, NoMemory>
     ensures { IfOk result (λ ids. ids ≡ map (λ out. out.id) outs.now) }
 {
-    let mut ids = Row::new(alloc);
+    let mut ids = SharedNumbers::new(alloc);
     for out in outs {
-        ids.push(out.id)?;
+        ids.push(alloc, out.id)?;
     }
     Ok(ids)
 }
@@ -194,7 +177,7 @@ pub fn set_turn(interpreter: &mut Interpreter, quantifiers: &[Quantifier], turn:
         [quantifier, others @ ..] => match turn {
             [] => {}
             [value, rest @ ..] => {
-                put_own(interpreter, quantifier.var, int_own(*value));
+                put_own(interpreter, quantifier.var, number_own(*value));
                 set_turn(interpreter, others, rest);
             }
         },

@@ -1,25 +1,22 @@
-ghost use Rattle.std.specs.Prelude.{◌≡◌, IfOk};
+ghost use Rattle.std.specs.Prelude.{◌≡◌};
 ghost use Rattle.sr_value.specs.Shapes.{default_value};
 ghost use Rattle.sr_meaning.specs.Here.{settle};
 ghost use Rattle.sr_meaning.specs.Places.{store_place};
-ghost use Rattle.sr_meaning.specs.Statements.{declaration_meaning, dims_shape, first_value, item_shape, make, setup_meaning, shape_meaning, spot_in, string_shape};
-ghost use Rattle.sr_core.specs.Values.{bounded_by};
+ghost use Rattle.sr_meaning.specs.Statements.{declaration_meaning, dims_shape, first_value, item_shape, make, setup_meaning, shape_meaning, spot_in};
 ghost use Rattle.sr_interpreter_expr.specs.Interpreters.{Agrees, here_of, stage_of};
-ghost use Rattle.sr_ask.specs.Places.{whole};
+ghost use Rattle.sr_ask.specs.Places.{string_of_length, whole};
 
 use sr_ask::{Located, Own, Request, Spot};
 use sr_core::{Declaration, DimsExpr, Expr, ItemShape, Range, Scope, Setup, ShapeExpr};
+use sr_frame::bounded_by;
 use sr_interpreter_expr::{
     Interpreter, IsDone, Scene, Stop, ask, evaluate, failed, number_of, put_own, store,
 };
-use sr_value::{
-    Dims, Duplicate, Fault, NoMemory, Row, Shape, Shared, Value, ValueFail, default_of,
-};
-use std::alloc::Global;
+use sr_value::{Dims, Duplicate, Fault, Row, Shape, Shared, Value, ValueFail, default_of};
 
 /// A string of at most so many bytes; E6 below 0.
 fn string_shape(scene: &Scene, interpreter: &Interpreter, most: i32) -> Result<Shape, Stop>
-    ensures { Agrees (settle (string_shape most) (here_of scene.now) (stage_of interpreter.now)) result (stage_of interpreter.now) }
+    ensures { Agrees (settle (string_of_length most) (here_of scene.now) (stage_of interpreter.now)) result (stage_of interpreter.now) }
 {
     match u32::try_from(most) {
         Ok(most) => Ok(Shape::Str { most }),
@@ -181,22 +178,6 @@ fn store_first(
             let value = evaluate(scene, interpreter, expr)?;
             store_whole(scene, interpreter, spot, value)
         }
-    }
-}
-
-/// The type of a value, with the value's bounds.
-fn bounded_by(alloc: Global, shape: &Shape, value: &Value) -> Result<Shape, NoMemory>
-    ensures { IfOk result (λ s. s ≡ bounded_by shape.now value.now) }
-{
-    match shape {
-        Shape::Arr { dims: _, item } => match value {
-            Value::Arr { dims, items: _ } => Ok(Shape::Arr {
-                dims: *dims,
-                item: item.copy(alloc)?,
-            }),
-            _ => shape.copy(alloc),
-        },
-        _ => shape.copy(alloc),
     }
 }
 

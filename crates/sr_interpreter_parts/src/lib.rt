@@ -18,5 +18,5 @@ pub use formals::{make_formals, make_returned, result_vars};
 pub use lasting::ask_for_good;
 pub use select::{arm_at, choose, service_for, set_service};
 pub use service::{forward, reply, results};
-pub use values::{Values, int_own, value_at, values_of};
-pub use writing::{joined, settle_texts};
+pub use values::{Values, value_at, values_of};
+pub use writing::settle_texts;

@@ -11,6 +11,7 @@ ghost use Rattle.sr_ask.specs.Replies.{set_service};
 use crate::formals::result_vars;
 use sr_ask::{Answer, Gives, Pick, Request, Selection, Service};
 use sr_core::{Arm, Named};
+use sr_frame::selected;
 use sr_interpreter_expr::{Interpreter, Scene, Stop, Takes, ask, failed};
 use sr_value::{Cap, Duplicate, Fault, NoMemory, Row, Value};
 use std::alloc::Global;
@@ -26,33 +27,7 @@ impl Takes<Selection> for IsSelected {
     ghost takes = { λ form. selected form.arms form.has_else };
 
     fn take(&self, answer: Answer) -> Option<Selection> {
-        match answer {
-            Answer::Picked {
-                id,
-                arm,
-                args,
-                back,
-            } => {
-                if (arm as usize) < self.arms {
-                    Some(Selection::Service(Pick {
-                        id,
-                        arm,
-                        args,
-                        back,
-                    }))
-                } else {
-                    None
-                }
-            }
-            Answer::Else => {
-                if self.has_else {
-                    Some(Selection::Otherwise)
-                } else {
-                    None
-                }
-            }
-            _ => None,
-        }
+        selected(self.arms, self.has_else, answer)
     }
 }
 

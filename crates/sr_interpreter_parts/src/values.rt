@@ -1,11 +1,9 @@
 ghost use Rattle.std.specs.Prelude.{◌≡◌, ◌-◌, ◌*◌, ◌<◌, ◌-ℤ◌, MatchResult, IfOk};
-ghost use Rattle.sr_meaning.specs.Statements.{int_own};
 ghost use Rattle.sr_core.specs.Values.{steps_within, values_of};
 ghost use Rattle.sr_interpreter_parts.specs.Turns.{AllFit, listed, value_from};
 
-use sr_ask::Own;
 use sr_core::Direction;
-use sr_value::{Fault, Shape, Value};
+use sr_value::Fault;
 
 /// The values of a quantifier: this many, each one step after the one before.
 #[derive(Clone, Copy)]
@@ -59,15 +57,5 @@ pub fn value_at(values: &Values, at: u64) -> i32
     match values.direction {
         Direction::Up => (i64::from(values.from) + far as i64) as i32,
         Direction::Down => (i64::from(values.from) - far as i64) as i32,
-    }
-}
-
-/// The variable of a quantifier at a value.
-pub fn int_own(value: i32) -> Own
-    ensures { result ≡ int_own value }
-{
-    Own {
-        shape: Shape::Int,
-        value: Value::Int(value),
     }
 }

@@ -2,7 +2,7 @@ ghost use Rattle.std.specs.Prelude.{◌≡◌};
 ghost use Rattle.sr_lexer.specs.Bytes.{class_of, is_letter, is_digit, is_name_byte, is_text_byte, is_quoting_byte, is_escape, is_blank};
 
 /// What a piece of a source text can be, by its first byte.
-#[derive(Clone, Copy, Debug, PartialEq, Eq)]
+#[derive(Clone, Copy, PartialEq, Eq)]
 pub(crate) enum Class {
     Blank,
     Newline,

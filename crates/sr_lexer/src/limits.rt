@@ -13,7 +13,7 @@ const GREATEST_DEPTH: usize = 64;
 const GREATEST_RUN: usize = 64;
 
 /// What was counted of the tokens so far.
-#[derive(Clone, Copy, Debug, PartialEq, Eq)]
+#[derive(Clone, Copy, PartialEq, Eq)]
 pub(crate) struct Tally {
     /// The tokens that open a level of nesting.
     pub openers: usize,

@@ -15,7 +15,7 @@ use sr_tree::TokenKind;
 const GREATEST: u64 = 2_147_483_647;
 
 /// What a piece of a source text is.
-#[derive(Clone, Copy, Debug, PartialEq, Eq)]
+#[derive(Clone, Copy, PartialEq, Eq)]
 pub(crate) enum PieceKind {
     Blank,
     Newline,
@@ -24,7 +24,7 @@ pub(crate) enum PieceKind {
 }
 
 /// A piece at the front of some bytes.
-#[derive(Clone, Copy, Debug, PartialEq, Eq)]
+#[derive(Clone, Copy, PartialEq, Eq)]
 pub(crate) struct Piece {
     pub kind: PieceKind,
     /// How many bytes it has.
@@ -32,7 +32,7 @@ pub(crate) struct Piece {
 }
 
 /// Why no piece begins at the front of some bytes.
-#[derive(Clone, Copy, Debug, PartialEq, Eq)]
+#[derive(Clone, Copy, PartialEq, Eq)]
 pub(crate) struct Fault {
     pub kind: Kind,
     /// The byte that shows it, counted from the first.

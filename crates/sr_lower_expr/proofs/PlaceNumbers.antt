@@ -66,7 +66,7 @@ abbrev root_found : Scene → Spot → Option SharedVariable → Root
 root_found scene spot (Some variable) = root.Shared (home_of scene variable.component) variable.var
 root_found scene spot None = own_root scene spot
 
-abbrev operation_found : Scene → Spot → (Operation → ℕ → Expr) → Option Operation → Expr
+abbrev pub operation_found : Scene → Spot → (Operation → ℕ → Expr) → Option Operation → Expr
 operation_found scene spot made None = nothing
 operation_found scene spot made (Some operation) = made operation (operation_number scene spot)
 

@@ -1,5 +1,6 @@
 pub mod Forever
 pub mod LawProofs
+pub mod Nodes
 pub mod Regular
 pub mod RegularExpressions
 pub mod RegularProcesses

@@ -49,14 +49,14 @@ use Rattle.sr_meaning.specs.declared.ending.Ending.{Ending}
 use Rattle.sr_meaning.specs.declared.ending.Ending.TheVariants.{Through, Left, Turned, Returned as returned}
 use Rattle.sr_meaning.specs.Expressions.{Meaning, choice}
 use Rattle.sr_meaning.specs.Here.{Here, request, settle}
-use Rattle.sr_meaning.specs.Statements.{forward_unless, gives_now, CoPart, action_meaning, after_turn, arguments, before, block_meaning, bump_operator, cap_expr, complete, complete_all, complete_outs, condition_meaning, continue, declaration_meaning, dims_shape, drop_out, first_true, first_value, for_values, forward_meaning, in_meaning, int_own, item_shape, make, make_formals, make_returned, named_value, no_guard, do_meaning, do_turn, co_meaning, if_meaning, left, number_expr, optional_place, or_try, own_number, quantified, reply_meaning, reply_unless, selection_meaning, sends, sends_meaning, served, service_for, service_meaning, set_turn, setup_meaning, site_at, spot_in, start_call, start_calls, status_meaning, store_sent, store_value, string_shape, take_one, through, time_of, truth_expr, turn_end, turn_now, wake_at, without_out}
+use Rattle.sr_meaning.specs.Statements.{forward_unless, gives_now, CoPart, action_meaning, after_turn, arguments, before, block_meaning, bump_operator, cap_expr, complete, complete_all, complete_outs, condition_meaning, continue, declaration_meaning, dims_shape, drop_out, first_true, first_value, for_values, forward_meaning, in_meaning, int_own, item_shape, make, make_formals, make_returned, named_value, no_guard, do_meaning, do_turn, co_meaning, if_meaning, left, number_expr, optional_place, or_try, quantified, reply_meaning, reply_unless, selection_meaning, sends, sends_meaning, served, service_for, service_meaning, set_turn, setup_meaning, site_at, spot_in, start_call, start_calls, status_meaning, store_sent, store_value, take_one, through, time_of, truth_expr, turn_end, turn_now, wake_at}
 use Rattle.sr_core.specs.Values.{truth_of, number_of, cap_of, count_of, values_of, texts_of, written, bounded_by, formal_shape}
 use Rattle.sr_meaning.proofs.Regular.{Regular, RegularMeaning, AllRegular, with_limit, regular_then, regular_give, regular_equal, regular_choice, regular_service, regular_out, regular_by, regular_tick, regular_request, regular_last, regular_settle, regular_looped, regular_in_order}
 use Rattle.sr_meaning.proofs.RegularExpressions.{regular_declare, regular_load, regular_store, regular_give_back, regular_taken}
 use Rattle.sr_meaning.proofs.RegularTrees.{regular_expr, regular_exprs, regular_place, regular_arguments}
 use Rattle.sr_ask.specs.Invocations.{values_sent, places_back}
-use Rattle.sr_ask.specs.Places.{own_at, whole}
-use Rattle.sr_ask.specs.Replies.{Completion, mark_answered, push_out, set_out, set_service, took_one}
+use Rattle.sr_ask.specs.Places.{number_held, own_at, string_of_length, whole}
+use Rattle.sr_ask.specs.Replies.{Completion, mark_answered, push_out, set_out, set_service, took_one, without_out}
 use Rattle.sr_core.specs.Formals.{sent_after, sent_to}
 
 -- ---- endings
@@ -96,7 +96,7 @@ regular_sent args here = regular_in_order _ here (regular_arguments args)
 
 regular_item_shape : (item : ItemShape) (here : Here) → Regular (λ limit. item_shape item (with_limit limit here))
 regular_item_shape (fixed_item shape) here = regular_give shape
-regular_item_shape (string_item most) here = regular_then (regular_number most here) (λ n. regular_settle here (string_shape n))
+regular_item_shape (string_item most) here = regular_then (regular_number most here) (λ n. regular_settle here (string_of_length n))
 
 regular_dims_shape : (dims : DimsExpr) (item : ItemShape) (here : Here) → Regular (λ limit. dims_shape dims item (with_limit limit here))
 regular_dims_shape no_dims item here = regular_item_shape item here
@@ -371,7 +371,7 @@ regular_set_out : (outs : List Out) → Regular (λ limit. set_out outs)
 regular_set_out outs = regular_out (λ _. outs)
 
 regular_turn_now : (quantifiers : List Quantifier) → Regular (λ limit. turn_now quantifiers)
-regular_turn_now quantifiers = regular_by (λ own service out limit. give (map (λ q. own_number own q.var) quantifiers)) (λ own service out. regular_give _)
+regular_turn_now quantifiers = regular_by (λ own service out limit. give (map (λ q. number_held own q.var) quantifiers)) (λ own service out. regular_give _)
 
 regular_start_call : (arm : ℕ) (part : CoPart) → RegularMeaning (start_call arm part)
 regular_start_call arm part = record {

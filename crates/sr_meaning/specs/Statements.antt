@@ -1,31 +1,29 @@
 -- What a statement asks, and how it ends: of each node, from what its parts ask and how they end.
-use Rattle.std.specs.Prelude.{ℕ, zero, suc, ℤ, pos, negsuc, ◌+◌, ◌+ℤ◌, Bool, true, false, List, [], ◌∷◌, length, map, Option, Some, None, Result, Ok, Err, ◌==◌, if◌then◌else◌, nat_le, unwrap_or, slice_get}
+use Rattle.std.specs.Prelude.{ℕ, zero, suc, ℤ, pos, negsuc, ◌+◌, ◌+ℤ◌, Bool, true, false, List, [], ◌∷◌, length, map, Option, Some, None, Result, Ok, Err, unwrap_or, slice_get}
 use Rattle.sr_value.specs.declared.capability.Cap.{Cap}
 use Rattle.sr_value.specs.declared.capability.Cap.TheVariants.{Vm}
 use Rattle.sr_value.specs.declared.fault.Fault.{Fault}
-use Rattle.sr_value.specs.declared.fault.Fault.TheVariants.{Overflow, Range}
+use Rattle.sr_value.specs.declared.fault.Fault.TheVariants.{Range}
 use Rattle.sr_value.specs.declared.operator.Operator.{Operator}
 use Rattle.sr_value.specs.declared.operator.Operator.TheVariants.{Add, Sub}
 use Rattle.sr_value.specs.declared.shape.Dims.TheVariants.{One as one_dim, Two as two_dims}
 use Rattle.sr_value.specs.declared.shape.Shape.{Shape}
-use Rattle.sr_value.specs.declared.shape.Shape.TheVariants.{Int as an_int, Str as a_string, Arr as an_array}
+use Rattle.sr_value.specs.declared.shape.Shape.TheVariants.{Int as an_int, Arr as an_array}
 use Rattle.sr_value.specs.declared.value.Value.{Value}
 use Rattle.sr_value.specs.declared.value.Value.TheVariants.{Int, Capa}
-use Rattle.sr_value.specs.Operands.{int_in}
 use Rattle.sr_value.specs.Operators.{value_of}
 use Rattle.sr_value.specs.Parts.{with_ok}
-use Rattle.sr_ask.specs.Asking.{none_takes, done, made, moment, selected}
+use Rattle.sr_ask.specs.Asking.{none_takes, done, made, moment, selected, until_moment}
 use Rattle.sr_ask.specs.Behaviors.{Stage, Doing, Came, give, ◌>>=◌, ◌>>◌, tick, looped}
 use Rattle.sr_ask.specs.Invocations.{values_sent, places_back}
-use Rattle.sr_ask.specs.Places.{own_at, own_or_nothing, declare_own, whole, make as made_at}
-use Rattle.sr_ask.specs.Replies.{Completion, set_service, push_out, set_out, reply_unless as reply_where, reply_meaning as reply_at, results_now as results_at, gives_now as gives_at, forward_unless as forward_where, forward_meaning as forward_at, take_one as take_at}
+use Rattle.sr_ask.specs.Places.{own_at, declare_own, number_held, string_of_length, whole, make as made_at}
+use Rattle.sr_ask.specs.Replies.{Completion, without_out, set_service, push_out, set_out, reply_unless as reply_where, reply_meaning as reply_at, results_now as results_at, gives_now as gives_at, forward_unless as forward_where, forward_meaning as forward_at, take_one as take_at}
 use Rattle.sr_ask.specs.declared.forms.Pick.{Pick}
 use Rattle.sr_ask.specs.declared.forms.Selection.{Selection}
 use Rattle.sr_ask.specs.declared.forms.Selection.TheVariants.{Otherwise}
 use Rattle.sr_ask.specs.declared.environment.Gives.{Gives}
 use Rattle.sr_ask.specs.declared.environment.Gives.TheVariants.{Values}
 use Rattle.sr_ask.specs.declared.environment.Located.{Located}
-use Rattle.sr_ask.specs.declared.environment.Out.{Out}
 use Rattle.sr_ask.specs.declared.environment.Own.{Own}
 use Rattle.sr_ask.specs.declared.environment.Sent.{Sent}
 use Rattle.sr_ask.specs.declared.environment.Service.{Service}
@@ -112,14 +110,9 @@ arguments args here = in_order (map argument_of args) here
 
 -- ---- variables
 
--- a string of a length below 0 is E6
-abbrev pub string_shape : ℤ → Result Shape Fault
-string_shape (pos most) = Ok (a_string most)
-string_shape (negsuc n) = Err Range
-
 abbrev pub item_shape : ItemShape → Meaning Shape
 item_shape (ItemShape.Fixed shape) here = give shape
-item_shape (ItemShape.Str most) here = number_expr most here >>= λ n. settle (string_shape n) here
+item_shape (ItemShape.Str most) here = number_expr most here >>= λ n. settle (string_of_length n) here
 
 -- the bounds from left to right, and then the length of a string
 abbrev pub dims_shape : DimsExpr → ItemShape → Meaning Shape
@@ -214,13 +207,8 @@ abbrev pub time_of : ℤ → Result ℤ Fault
 time_of (pos n) = Ok (pos n)
 time_of (negsuc n) = Err Range
 
--- a moment over 2147483647 is E1
-abbrev pub as_until : ℤ → Result ℕ Fault
-as_until (pos n) = if nat_le n 2147483647 then Ok n else Err Overflow
-as_until (negsuc n) = Err Overflow
-
 abbrev pub wake_at : ℤ → ℤ → Result ℕ Fault
-wake_at now time = as_until (now +ℤ time)
+wake_at now time = until_moment (now +ℤ time)
 
 abbrev pub through : {A : Type 0} → Doing A → Doing Ending
 through doing = doing >>= λ _. give Through
@@ -379,12 +367,9 @@ abbrev pub optional_place : Option PlaceExpr → Meaning (Option Located)
 optional_place None here = give None
 optional_place (Some place) here = place_of_expr place here >>= λ at. give (Some at)
 
--- the values of the quantifiers at this turn; one without a number, as in no accepted program, is 0
-abbrev pub own_number : List (Option Own) → ℕ → ℤ
-own_number own var = unwrap_or (int_in (own_or_nothing (own_at own var))) (pos 0)
-
+-- the values of the quantifiers at this turn
 abbrev pub turn_now : List Quantifier → Doing (List ℤ)
-turn_now quantifiers stage = Came (map (λ q. own_number stage.own q.var) quantifiers) stage
+turn_now quantifiers stage = Came (map (λ q. number_held stage.own q.var) quantifiers) stage
 
 -- one invocation: its place, its target, its arguments
 abbrev pub start_call : ℕ → CoPart → Meaning Ending
@@ -403,11 +388,6 @@ start_calls arm (part ∷ parts) here = quantified part.quantifiers (start_call 
 
 abbrev pub take_one : Meaning Completion
 take_one here = take_at (asker here)
-
--- those that are out, without the first of this number
-abbrev pub without_out : List Out → ℕ → List Out
-without_out [] id = []
-without_out (out ∷ outs) id = if out.id == id then outs else out ∷ without_out outs id
 
 abbrev pub drop_out : ℕ → Doing (Unit {0})
 drop_out id stage = Came tt (record stage { out = without_out stage.out id })

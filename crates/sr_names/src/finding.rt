@@ -6,7 +6,7 @@ use crate::spot::Spot;
 use sr_value::Span;
 
 /// The rules of names, types and kinds that a program can break.
-#[derive(Clone, Copy, Debug, PartialEq, Eq)]
+#[derive(Clone, Copy, PartialEq, Eq)]
 pub enum Rule {
     /// S4: a name that is unknown, ambiguous or not yet usable.
     Name,
@@ -42,7 +42,7 @@ impl Rule {
 }
 
 /// A rule that is broken, and the first token of the construct that breaks it.
-#[derive(Clone, Copy, Debug, PartialEq, Eq)]
+#[derive(Clone, Copy, PartialEq, Eq)]
 pub struct Diagnostic {
     pub rule: Rule,
     pub span: Span,
@@ -60,7 +60,7 @@ impl Diagnostic {
 }
 
 /// What is found out about a name.
-#[derive(Clone, Copy, Debug, PartialEq, Eq)]
+#[derive(Clone, Copy, PartialEq, Eq)]
 pub enum Finding {
     /// The name at a spot means this.
     Use { spot: Spot, meaning: Meaning },

@@ -3,7 +3,7 @@ ghost use Rattle.sr_names.specs.Links.{ConnectsAlongWays};
 use crate::spot::Spot;
 
 /// A link of a graph of spots.
-#[derive(Clone, Copy, Debug, PartialEq, Eq)]
+#[derive(Clone, Copy, PartialEq, Eq)]
 pub struct Link {
     pub from: Spot,
     pub to: Spot,

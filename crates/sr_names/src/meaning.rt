@@ -5,7 +5,7 @@ use crate::predefined::Predefined;
 use crate::spot::Spot;
 
 /// What is declared.
-#[derive(Clone, Copy, Debug, PartialEq, Eq)]
+#[derive(Clone, Copy, PartialEq, Eq)]
 pub enum Sort {
     Constant,
     /// A literal of an enumeration.
@@ -37,14 +37,14 @@ impl Sort {
 }
 
 /// A declaration: what it declares, and the spot of its name.
-#[derive(Clone, Copy, Debug, PartialEq, Eq)]
+#[derive(Clone, Copy, PartialEq, Eq)]
 pub struct Decl {
     pub sort: Sort,
     pub spot: Spot,
 }
 
 /// What a name means where it is used.
-#[derive(Clone, Copy, Debug, PartialEq, Eq)]
+#[derive(Clone, Copy, PartialEq, Eq)]
 pub enum Meaning {
     Predefined(Predefined),
     Declared(Decl),

@@ -2,7 +2,7 @@ ghost use Rattle.std.specs.Prelude.{◌≡◌};
 ghost use Rattle.sr_names.specs.Predefined.{spelling_of, predefined_named};
 
 /// The predefined names. They aren't reserved: a declaration hides them.
-#[derive(Clone, Copy, Debug, PartialEq, Eq)]
+#[derive(Clone, Copy, PartialEq, Eq)]
 pub enum Predefined {
     Write,
     Writes,

@@ -4,7 +4,7 @@ ghost use Rattle.sr_names.specs.Spots.{spot_of, spot_before};
 use sr_value::Span;
 
 /// Where a name stands. It is what a declaration or a use is known by.
-#[derive(Clone, Copy, Debug, PartialEq, Eq, Hash)]
+#[derive(Clone, Copy, PartialEq, Eq, Hash)]
 pub struct Spot {
     /// The file, counted from 0 in the order in which the files are given.
     pub file: u32,

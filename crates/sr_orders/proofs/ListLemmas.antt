@@ -51,6 +51,15 @@ module _ {E : Type 0} where
       one false true fx gx more = ap (λ b. cond b (x ∷ filter f (filter g xs)) (filter f (filter g xs))) fx ∙ more
       one false false fx gx more = more
 
+  -- a test that was made changes nothing
+  pub filter_twice : (f : E → Bool) (xs : List E) → filter f (filter f xs) ≡ filter f xs
+  filter_twice f [] = refl
+  filter_twice f (x ∷ xs) = one (f x) refl (filter_twice f xs)
+    where
+      one : (b : Bool) → f x ≡ b → filter f (filter f xs) ≡ filter f xs → filter f (cond b (x ∷ filter f xs) (filter f xs)) ≡ cond b (x ∷ filter f xs) (filter f xs)
+      one true fx more = ap (λ b. cond b (x ∷ filter f (filter f xs)) (filter f (filter f xs))) fx ∙ ap (λ l. x ∷ l) more
+      one false fx more = more
+
   -- nothing is left of a list in which nothing passes
   pub filter_none : (f : E → Bool) (xs : List E) → list_any f xs ≡ false → filter f xs ≡ []
   filter_none f [] none = refl

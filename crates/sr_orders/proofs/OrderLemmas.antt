@@ -1,11 +1,11 @@
 -- The law of orders.
-use Rattle.std.proofs.Common.{◌≡◌, ◌==◌, ℕ, Bool, true, false, List, [], ◌∷◌, ◌++◌, refl, ap, sym, ◌∙◌, subst, cond, eqb-true, true≢false}
+use Rattle.std.proofs.Common.{◌≡◌, ◌==◌, ℕ, ◌<◌, Bool, true, false, List, [], ◌∷◌, ◌++◌, refl, ap, sym, ◌∙◌, subst, cond, eqb-true, true≢false}
 use Rattle.std.proofs.lemmas.Bool.{eq-eqb}
 use Rattle.std.proofs.lemmas.List.Elements.{filter-append}
 use Rattle.std.specs.List.{list_any}
 use Rattle.std.specs.Prelude.{◌↔◌, filter, flat_map}
-use Rattle.sr_orders.specs.Acts.{AllReplay, AreLocal, OrdersAgree, PartsEnd, PartsReplay, Replays, after}
-use Rattle.sr_orders.proofs.ListLemmas.{filter_none}
+use Rattle.sr_orders.specs.Acts.{AllReplay, AreLocal, JournalsReplay, OrdersAgree, PartsEnd, PartsReplay, Replays, after}
+use Rattle.sr_orders.proofs.ListLemmas.{filter_none, filter_twice}
 
 module _ {W A : Type 0} (count : ℕ) (part : A → ℕ) (mask : ℕ → W → W) (fits : A → W → Type 0) (apply : A → W → W) (local : AreLocal count part mask fits apply) where
   abbrev on : ℕ → A → Bool
@@ -90,3 +90,12 @@ module _ {W A : Type 0} (count : ℕ) (part : A → ℕ) (mask : ℕ → W → W
       λ s lt. parts_end (flat_map acts_of others) whole s ∙ ap (λ (acts : List A). end_of acts (mask s whole)) (sym (same_acts s entries others (agree s lt)))
           ∙ sym (parts_end (flat_map acts_of entries) whole s),
     )
+
+    pub journals_replay : JournalsReplay count part mask fits apply acts_of
+    journals_replay history journals whole parts fit = (
+      all_replay (flat_map acts_of history) whole (λ s lt. subst (λ acts. Fit acts (mask s whole)) (journal_acts s lt) (fit s lt)),
+      λ s lt. parts_end (flat_map acts_of history) whole s ∙ ap (λ (acts : List A). end_of acts (mask s whole)) (sym (journal_acts s lt)),
+    )
+      where
+        journal_acts : (s : ℕ) → s < count → filter (on s) (flat_map acts_of (journals s)) ≡ filter (on s) (flat_map acts_of history)
+        journal_acts s lt = same_acts s (journals s) history (ap (filter (has s)) (parts s lt) ∙ filter_twice (has s) history)

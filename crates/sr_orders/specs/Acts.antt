@@ -54,3 +54,11 @@ module _ {W A : Type 0} (count : ℕ) (part : A → ℕ) (mask : ℕ → W → W
     OrdersAgree = (entries others : List E) (whole : W) → AgreeInParts entries others → Replays (flat_map acts_of entries) whole
         → Replays (flat_map acts_of others) whole
         × ((s : ℕ) → s < count → mask s (after (flat_map acts_of others) whole) ≡ mask s (after (flat_map acts_of entries) whole))
+
+    -- Where each part's journal has its entries of one history, and replays in that part by itself, the history replays, and each
+    -- part ends as its journal says.
+    abbrev pub JournalsReplay : Type 0
+    JournalsReplay = (history : List E) (journals : ℕ → List E) (whole : W) → ((s : ℕ) → s < count → journals s ≡ filter (touches s) history)
+        → ((s : ℕ) → s < count → Replays (filter (is_on s) (flat_map acts_of (journals s))) (mask s whole))
+        → Replays (flat_map acts_of history) whole
+        × ((s : ℕ) → s < count → mask s (after (flat_map acts_of history) whole) ≡ after (filter (is_on s) (flat_map acts_of (journals s))) (mask s whole))

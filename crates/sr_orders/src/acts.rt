@@ -1,5 +1,5 @@
 ghost use Rattle.std.specs.Prelude.{ℕ};
-ghost use Rattle.sr_orders.specs.Acts.{AllReplay, AreLocal, OrdersAgree, PartsEnd, PartsReplay};
+ghost use Rattle.sr_orders.specs.Acts.{AllReplay, AreLocal, JournalsReplay, OrdersAgree, PartsEnd, PartsReplay};
 
 /// Acts on a whole `W` that has parts.
 pub trait Acting<W> {
@@ -35,4 +35,9 @@ pub fn parts_decide<W, A: Acting<W>>()
 /// the same in each part.
 pub fn orders_agree<W, A: Acting<W>, E: Recorded<A>>()
     ensures { (count : ℕ) → AreLocal count A.part A.mask A.fits A.apply → OrdersAgree count A.part A.mask A.fits A.apply E.acts }
+{}
+
+/// A law of journals: where each part has kept its entries of one history, and they replay there, the history replays.
+pub fn journals_replay<W, A: Acting<W>, E: Recorded<A>>()
+    ensures { (count : ℕ) → AreLocal count A.part A.mask A.fits A.apply → JournalsReplay count A.part A.mask A.fits A.apply E.acts }
 {}

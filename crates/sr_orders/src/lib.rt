@@ -6,6 +6,6 @@ mod acts;
 mod ascending;
 mod merged;
 
-pub use acts::{Acting, Recorded, orders_agree, parts_decide};
+pub use acts::{Acting, Recorded, journals_replay, orders_agree, parts_decide};
 pub use ascending::{Placed, places_give_all};
 pub use merged::{Entered, merge_is_one, merge_keeps_parts};

@@ -63,7 +63,7 @@ fn string_shape(alloc: Global, length: &Option<Expr>, facts: &Facts) -> Result<S
 }
 
 /// The bounds of one dimension; `*` is none.
-#[derive(Clone, Copy, Debug, PartialEq, Eq)]
+#[derive(Clone, Copy, PartialEq, Eq)]
 pub struct Ends {
     pub lo: i32,
     pub hi: Option<i32>,

@@ -11,7 +11,7 @@ use sr_value::{Duplicate, NoMemory, Span};
 use std::alloc::Global;
 
 /// Why nothing was read.
-#[derive(Clone, Copy, Debug, PartialEq, Eq)]
+#[derive(Clone, Copy, PartialEq, Eq)]
 pub enum ReadFail {
     /// A token doesn't fit, or the tokens end too early. This many tokens are left, counting that one.
     Unexpected { left: usize },

@@ -1,3 +1,4 @@
 pub mod ArmReaders
+pub mod Commas
 pub mod Programs
 pub mod Reads

@@ -28,30 +28,6 @@ fn next_is_proc_item(tokens: &[Token]) -> bool
         || next_is_statement(tokens)
 }
 
-/// Reads an item of the block of a proc, procedure or process, or of final code.
-#[tactic(auto, unfolding(sr_program_reader::specs::ComponentReaders::proc_item_at))]
-fn proc_item(alloc: Global, tokens: &[Token]) -> Result<(ProcItem, &[Token]), ReadFail>
-    ensures reads { ReadsStatementUpTo (λ x. (x.0, x.1.now)) tokens.now result (λ r. proc_item_at r) }
-    ensures shorter { IfOk result (λ x. length x.1.now < length tokens.now) }
-{
-    if next_is_word(tokens, Word::Const) {
-        let (decl, rest) = const_decl(alloc, tokens)?;
-        Ok((ProcItem::Const(decl), rest))
-    } else if next_is_word(tokens, Word::Var) {
-        let (decl, rest) = var_decl(alloc, tokens)?;
-        Ok((ProcItem::Var(decl), rest))
-    } else if next_is_word(tokens, Word::Op) {
-        let (decl, rest) = op_decl(alloc, tokens)?;
-        Ok((ProcItem::Op(decl), rest))
-    } else if next_is_word(tokens, Word::Sem) {
-        let (decl, rest) = sem_decl(alloc, tokens)?;
-        Ok((ProcItem::Sem(decl), rest))
-    } else {
-        let (statement, rest) = statement(alloc, tokens)?;
-        Ok((ProcItem::Statement(statement), rest))
-    }
-}
-
 /// What may stand in the block of a proc, procedure or process, and in final code.
 struct BlockOfProc;
 
@@ -71,21 +47,29 @@ impl Listed<ProcItem> for BlockOfProc {
         next_is_proc_item(tokens)
     }
 
+    #[tactic(auto, unfolding(sr_program_reader::specs::ComponentReaders::proc_item_at))]
     fn item(alloc: Global, tokens: &[Token]) -> Result<(ProcItem, &[Token]), ReadFail> {
-        proc_item(alloc, tokens)
+        if next_is_word(tokens, Word::Const) {
+            let (decl, rest) = const_decl(alloc, tokens)?;
+            Ok((ProcItem::Const(decl), rest))
+        } else if next_is_word(tokens, Word::Var) {
+            let (decl, rest) = var_decl(alloc, tokens)?;
+            Ok((ProcItem::Var(decl), rest))
+        } else if next_is_word(tokens, Word::Op) {
+            let (decl, rest) = op_decl(alloc, tokens)?;
+            Ok((ProcItem::Op(decl), rest))
+        } else if next_is_word(tokens, Word::Sem) {
+            let (decl, rest) = sem_decl(alloc, tokens)?;
+            Ok((ProcItem::Sem(decl), rest))
+        } else {
+            let (statement, rest) = statement(alloc, tokens)?;
+            Ok((ProcItem::Statement(statement), rest))
+        }
     }
 }
 
-/// Reads the block of a proc, procedure or process, or of final code.
+/// Reads the block of a proc, procedure or process, or of final code, after a tree.
 #[tactic(auto, unfolding(sr_program_reader::specs::ComponentReaders::proc_block_at))]
-fn proc_block(alloc: Global, tokens: &[Token]) -> Result<(Row<ProcItem>, &[Token]), ReadFail>
-    ensures reads { ReadsStatementUpTo (λ x. (x.0, x.1.now)) tokens.now result (λ r. proc_block_at r) }
-    ensures shorter { IfOk result (λ x. length x.1.now ≤ length tokens.now) }
-{
-    list::<ProcItem, BlockOfProc>(alloc, tokens)
-}
-
-/// Reads such a block after a tree.
 fn proc_block_after<T: Drop>(
     alloc: Global,
     tree: T,
@@ -95,7 +79,7 @@ fn proc_block_after<T: Drop>(
     ensures kept { IfOk result (λ x. x.0 ≡ tree) }
     ensures shorter { IfOk result (λ x. length x.2.now ≤ length tokens.now) }
 {
-    let (block, rest) = proc_block(alloc, tokens)?;
+    let (block, rest) = list::<ProcItem, BlockOfProc>(alloc, tokens)?;
     Ok((tree, block, rest))
 }
 
@@ -168,14 +152,19 @@ pub fn process_decl(alloc: Global, tokens: &[Token]) -> Result<(Process, &[Token
     ))
 }
 
-/// Reads final code.
+/// Reads final code after a tree.
 #[tactic(auto, unfolding(sr_program_reader::specs::ComponentReaders::final_at))]
-pub fn final_code(alloc: Global, tokens: &[Token]) -> Result<(FinalCode, &[Token]), ReadFail>
-    ensures reads { ReadsStatementUpTo (λ x. (x.0, x.1.now)) tokens.now result (λ r. final_at r) }
-    ensures shorter { IfOk result (λ x. length x.1.now < length tokens.now) }
+pub fn final_code_after<T: Drop>(
+    alloc: Global,
+    tree: T,
+    tokens: &[Token],
+) -> Result<(T, FinalCode, &[Token]), ReadFail>
+    ensures reads { ReadsStatementUpTo (λ x. (x.1, x.2.now)) tokens.now result (λ r. final_at r) }
+    ensures kept { IfOk result (λ x. x.0 ≡ tree) }
+    ensures shorter { IfOk result (λ x. length x.2.now < length tokens.now) }
 {
     let (span, rest) = word(tokens, Word::Final)?;
-    let (block, rest) = proc_block(alloc, rest)?;
-    let (_, block, rest) = word_after(block, rest, Word::End)?;
-    Ok((FinalCode { span, block }, rest))
+    let (tree, block, rest) = proc_block_after(alloc, tree, rest)?;
+    let (_, (tree, block), rest) = word_after((tree, block), rest, Word::End)?;
+    Ok((tree, FinalCode { span, block }, rest))
 }

@@ -1,8 +1,9 @@
 ghost use Rattle.std.specs.Prelude.{◌≡◌, ◌<◌, ◌≤◌, length, IfOk};
 ghost use Rattle.sr_parse_expr.specs.Reads.{ReadsTypeUpTo, ReadsUpTo};
-ghost use Rattle.sr_program_reader.specs.DeclarationReaders.{const_at, import_at, initial_at, more_op_items_at, more_semaphores_at, next_op_item_at, next_semaphore_at, op_at, op_item_at, optional_type_at, optype_at, sem_at, semaphore_at, type_decl_at, values_at, var_at};
+ghost use Rattle.sr_program_reader.specs.DeclarationReaders.{const_at, import_at, initial_at, op_at, op_item_at, optional_type_at, optype_at, sem_at, semaphore_at, type_decl_at, values_at, var_at};
 
-use crate::after::{expression_after, let_go, pushed, row_of};
+use crate::after::{expression_after, row_of};
+use crate::commas::{Joined, list_from};
 use sr_parse_expr::declared::{decls, names};
 use sr_parse_expr::expression::{LOOSEST, more_arguments, operand};
 use sr_parse_expr::pieces::qualified_name;
@@ -96,81 +97,50 @@ pub fn optype_decl(alloc: Global, tokens: &[Token]) -> Result<(OpTypeDecl, &[Tok
     ))
 }
 
-/// Reads the declaration of one operation.
-#[tactic(auto, unfolding(sr_program_reader::specs::DeclarationReaders::op_item_at))]
-fn op_item(alloc: Global, tokens: &[Token]) -> Result<(OpItem, &[Token]), ReadFail>
-    ensures reads { ReadsTypeUpTo (λ x. (x.0, x.1.now)) tokens.now result (λ r. op_item_at r) }
-    ensures shorter { IfOk result (λ x. length x.1.now < length tokens.now) }
-{
-    let (name, rest) = name(alloc, tokens)?;
-    let span = name.span;
-    if next_is_sign(rest, Sign::Colon) {
-        let (_, rest) = sign(rest, Sign::Colon)?;
-        let (optype, rest) = qualified_name(alloc, rest)?;
-        Ok((OpItem::Typed { span, name, optype }, rest))
-    } else {
-        let (signature, rest) = signature(alloc, rest)?;
-        Ok((
-            OpItem::Signed {
-                span,
-                name,
-                signature,
-            },
-            rest,
-        ))
-    }
-}
+/// Operations with commas between.
+struct OpItemList;
 
-/// Reads further operations, each after a comma.
-#[tactic(auto, unfolding(sr_program_reader::specs::DeclarationReaders::more_op_items_at))]
-fn more_op_items(
-    alloc: Global,
-    first: Row<OpItem>,
-    tokens: &[Token],
-) -> Result<(Row<OpItem>, &[Token]), ReadFail>
-    ensures reads { ReadsTypeUpTo (λ x. (x.0, x.1.now)) tokens.now result (λ r. more_op_items_at r first) }
-    ensures shorter { IfOk result (λ x. length x.1.now ≤ length tokens.now) }
-{
-    let mut items = first;
-    let mut rest = tokens;
-    'more: while next_is_sign(rest, Sign::Comma) {
-        let (more, after) = next_op_item(alloc, items, rest)?;
-        items = more;
-        rest = after;
-    }
-    Ok((items, rest))
-}
+impl Joined<OpItem> for OpItemList {
+    ghost use Rattle.sr_expr_reader.proofs.Yields.{steps-readers};
+    ghost use Rattle.sr_expr_reader.specs.TypeReaders.{type_readers};
 
-/// Reads a comma and an operation, and appends it.
-#[tactic(auto, unfolding(sr_program_reader::specs::DeclarationReaders::next_op_item_at))]
-fn next_op_item(
-    alloc: Global,
-    items: Row<OpItem>,
-    tokens: &[Token],
-) -> Result<(Row<OpItem>, &[Token]), ReadFail>
-    ensures reads { ReadsTypeUpTo (λ x. (x.0, x.1.now)) tokens.now result (λ r. next_op_item_at r items) }
-    ensures shorter { IfOk result (λ x. length x.1.now < length tokens.now) }
-{
-    let (_, items, rest) = sign_after(items, tokens, Sign::Comma)?;
-    match op_item(alloc, rest) {
-        Ok((next, rest)) => Ok((pushed(items, next)?, rest)),
-        Err(fail) => {
-            let_go(items);
-            Err(fail)
+    ghost reader = { λ k. op_item_at (type_readers k) };
+
+    ghost steps = { λ k. (type_readers k).expressions.steps };
+
+    ghost bounded = { steps-readers };
+
+    #[tactic(auto, unfolding(sr_program_reader::specs::DeclarationReaders::op_item_at))]
+    fn item(alloc: Global, tokens: &[Token]) -> Result<(OpItem, &[Token]), ReadFail> {
+        let (name, rest) = name(alloc, tokens)?;
+        let span = name.span;
+        if next_is_sign(rest, Sign::Colon) {
+            let (_, rest) = sign(rest, Sign::Colon)?;
+            let (optype, rest) = qualified_name(alloc, rest)?;
+            Ok((OpItem::Typed { span, name, optype }, rest))
+        } else {
+            let (signature, rest) = signature(alloc, rest)?;
+            Ok((
+                OpItem::Signed {
+                    span,
+                    name,
+                    signature,
+                },
+                rest,
+            ))
         }
     }
 }
 
 /// Reads the declaration of operations.
-#[tactic(auto, unfolding(sr_program_reader::specs::DeclarationReaders::op_at))]
+#[tactic(auto, unfolding(sr_program_reader::specs::DeclarationReaders::op_at, sr_program_reader::specs::DeclarationReaders::more_op_items_at, sr_program_reader::specs::DeclarationReaders::next_op_item_at, crate::specs::Commas::more_at, crate::specs::Commas::next_at))]
 pub fn op_decl(alloc: Global, tokens: &[Token]) -> Result<(OpDecl, &[Token]), ReadFail>
     ensures reads { ReadsTypeUpTo (λ x. (x.0, x.1.now)) tokens.now result (λ r. op_at r) }
     ensures shorter { IfOk result (λ x. length x.1.now < length tokens.now) }
 {
     let (span, rest) = word(tokens, Word::Op)?;
-    let (first, rest) = op_item(alloc, rest)?;
-    let items = row_of(alloc, first)?;
-    let (items, rest) = more_op_items(alloc, items, rest)?;
+    let (first, rest) = OpItemList::item(alloc, rest)?;
+    let (items, rest) = list_from::<OpItem, OpItemList>(alloc, first, rest)?;
     Ok((OpDecl { span, items }, rest))
 }
 
@@ -232,67 +202,36 @@ fn initial(alloc: Global, tokens: &[Token]) -> Result<(Option<Expr>, &[Token]), 
     }
 }
 
-/// Reads the declaration of one semaphore.
-#[tactic(auto, unfolding(sr_program_reader::specs::DeclarationReaders::semaphore_at))]
-fn semaphore(alloc: Global, tokens: &[Token]) -> Result<(Semaphore, &[Token]), ReadFail>
-    ensures reads { ReadsUpTo (λ x. (x.0, x.1.now)) tokens.now result (λ r. semaphore_at r) }
-    ensures shorter { IfOk result (λ x. length x.1.now < length tokens.now) }
-{
-    let (name, rest) = name(alloc, tokens)?;
-    let span = name.span;
-    let (value, rest) = initial(alloc, rest)?;
-    Ok((Semaphore { span, name, value }, rest))
-}
+/// Semaphores with commas between.
+struct SemaphoreList;
 
-/// Reads further semaphores, each after a comma.
-#[tactic(auto, unfolding(sr_program_reader::specs::DeclarationReaders::more_semaphores_at))]
-fn more_semaphores(
-    alloc: Global,
-    first: Row<Semaphore>,
-    tokens: &[Token],
-) -> Result<(Row<Semaphore>, &[Token]), ReadFail>
-    ensures reads { ReadsUpTo (λ x. (x.0, x.1.now)) tokens.now result (λ r. more_semaphores_at r first) }
-    ensures shorter { IfOk result (λ x. length x.1.now ≤ length tokens.now) }
-{
-    let mut semaphores = first;
-    let mut rest = tokens;
-    'more: while next_is_sign(rest, Sign::Comma) {
-        let (more, after) = next_semaphore(alloc, semaphores, rest)?;
-        semaphores = more;
-        rest = after;
-    }
-    Ok((semaphores, rest))
-}
+impl Joined<Semaphore> for SemaphoreList {
+    ghost use Rattle.sr_expr_reader.proofs.Yields.{steps-readers};
+    ghost use Rattle.sr_expr_reader.specs.Readers.{readers};
 
-/// Reads a comma and a semaphore, and appends it.
-#[tactic(auto, unfolding(sr_program_reader::specs::DeclarationReaders::next_semaphore_at))]
-fn next_semaphore(
-    alloc: Global,
-    semaphores: Row<Semaphore>,
-    tokens: &[Token],
-) -> Result<(Row<Semaphore>, &[Token]), ReadFail>
-    ensures reads { ReadsUpTo (λ x. (x.0, x.1.now)) tokens.now result (λ r. next_semaphore_at r semaphores) }
-    ensures shorter { IfOk result (λ x. length x.1.now < length tokens.now) }
-{
-    let (_, semaphores, rest) = sign_after(semaphores, tokens, Sign::Comma)?;
-    match semaphore(alloc, rest) {
-        Ok((next, rest)) => Ok((pushed(semaphores, next)?, rest)),
-        Err(fail) => {
-            let_go(semaphores);
-            Err(fail)
-        }
+    ghost reader = { λ k. semaphore_at (readers k) };
+
+    ghost steps = { λ k. (readers k).steps };
+
+    ghost bounded = { steps-readers };
+
+    #[tactic(auto, unfolding(sr_program_reader::specs::DeclarationReaders::semaphore_at))]
+    fn item(alloc: Global, tokens: &[Token]) -> Result<(Semaphore, &[Token]), ReadFail> {
+        let (name, rest) = name(alloc, tokens)?;
+        let span = name.span;
+        let (value, rest) = initial(alloc, rest)?;
+        Ok((Semaphore { span, name, value }, rest))
     }
 }
 
 /// Reads the declaration of semaphores.
-#[tactic(auto, unfolding(sr_program_reader::specs::DeclarationReaders::sem_at))]
+#[tactic(auto, unfolding(sr_program_reader::specs::DeclarationReaders::sem_at, sr_program_reader::specs::DeclarationReaders::more_semaphores_at, sr_program_reader::specs::DeclarationReaders::next_semaphore_at, crate::specs::Commas::more_at, crate::specs::Commas::next_at))]
 pub fn sem_decl(alloc: Global, tokens: &[Token]) -> Result<(SemDecl, &[Token]), ReadFail>
     ensures reads { ReadsUpTo (λ x. (x.0, x.1.now)) tokens.now result (λ r. sem_at r) }
     ensures shorter { IfOk result (λ x. length x.1.now < length tokens.now) }
 {
     let (span, rest) = word(tokens, Word::Sem)?;
-    let (first, rest) = semaphore(alloc, rest)?;
-    let semaphores = row_of(alloc, first)?;
-    let (semaphores, rest) = more_semaphores(alloc, semaphores, rest)?;
+    let (first, rest) = SemaphoreList::item(alloc, rest)?;
+    let (semaphores, rest) = list_from::<Semaphore, SemaphoreList>(alloc, first, rest)?;
     Ok((SemDecl { span, semaphores }, rest))
 }

@@ -1,16 +1,16 @@
 ghost use Rattle.std.specs.Prelude.{◌≡◌, ◌<◌, ◌≤◌, length, IfOk};
 ghost use Rattle.sr_reader.specs.Reader.{next_is};
 ghost use Rattle.sr_parser.specs.Reads.{ReadsStatementUpTo};
-ghost use Rattle.sr_program_reader.specs.ComponentReaders.{begins_item, final_and_items_at, final_at, global_items_at, is_final_code, item_at, plain_items_at, resource_items_at};
+ghost use Rattle.sr_program_reader.specs.ComponentReaders.{begins_item, final_and_items_at, is_final_code, item_at, resource_items_at};
 
 use crate::after::pushed;
-use crate::block::{final_code, proc_decl, procedure_decl, process_decl};
-use crate::lists::{Listed, items_after, list};
-use crate::spec::{next_is_spec, spec_item};
+use crate::block::{final_code_after, proc_decl, procedure_decl, process_decl};
+use crate::lists::{Listed, items_after};
+use crate::spec::{GlobalSpec, next_is_spec};
 use crate::statement::statement;
 use crate::words::next_is_statement;
 use sr_parse_tokens::{ReadFail, next_is_word};
-use sr_tree::{FinalCode, Item, Token, Word};
+use sr_tree::{Item, Token, Word};
 use sr_value::Row;
 use std::alloc::Global;
 
@@ -25,32 +25,8 @@ fn next_is_item(tokens: &[Token]) -> bool
         || next_is_statement(tokens)
 }
 
-/// Reads an item other than final code.
-#[tactic(auto, unfolding(sr_program_reader::specs::ComponentReaders::item_at))]
-fn item(alloc: Global, tokens: &[Token]) -> Result<(Item, &[Token]), ReadFail>
-    ensures reads { ReadsStatementUpTo (λ x. (x.0, x.1.now)) tokens.now result (λ r. item_at r) }
-    ensures shorter { IfOk result (λ x. length x.1.now < length tokens.now) }
-{
-    if next_is_spec(tokens) {
-        let (item, rest) = spec_item(alloc, tokens)?;
-        Ok((Item::Spec(item), rest))
-    } else if next_is_word(tokens, Word::Proc) {
-        let (proc, rest) = proc_decl(alloc, tokens)?;
-        Ok((Item::Proc(proc), rest))
-    } else if next_is_word(tokens, Word::Procedure) {
-        let (procedure, rest) = procedure_decl(alloc, tokens)?;
-        Ok((Item::Procedure(procedure), rest))
-    } else if next_is_word(tokens, Word::Process) {
-        let (process, rest) = process_decl(alloc, tokens)?;
-        Ok((Item::Process(process), rest))
-    } else {
-        let (statement, rest) = statement(alloc, tokens)?;
-        Ok((Item::Statement(statement), rest))
-    }
-}
-
 /// What may stand in a component outside its spec, other than final code.
-struct PlainItems;
+pub struct PlainItems;
 
 impl Listed<Item> for PlainItems {
     ghost use Rattle.sr_expr_reader.proofs.Yields.{steps-readers};
@@ -68,22 +44,25 @@ impl Listed<Item> for PlainItems {
         next_is_item(tokens)
     }
 
+    #[tactic(auto, unfolding(sr_program_reader::specs::ComponentReaders::item_at))]
     fn item(alloc: Global, tokens: &[Token]) -> Result<(Item, &[Token]), ReadFail> {
-        item(alloc, tokens)
+        if next_is_spec(tokens) {
+            let (item, rest) = GlobalSpec::item(alloc, tokens)?;
+            Ok((Item::Spec(item), rest))
+        } else if next_is_word(tokens, Word::Proc) {
+            let (proc, rest) = proc_decl(alloc, tokens)?;
+            Ok((Item::Proc(proc), rest))
+        } else if next_is_word(tokens, Word::Procedure) {
+            let (procedure, rest) = procedure_decl(alloc, tokens)?;
+            Ok((Item::Procedure(procedure), rest))
+        } else if next_is_word(tokens, Word::Process) {
+            let (process, rest) = process_decl(alloc, tokens)?;
+            Ok((Item::Process(process), rest))
+        } else {
+            let (statement, rest) = statement(alloc, tokens)?;
+            Ok((Item::Statement(statement), rest))
+        }
     }
-}
-
-/// Reads items other than final code, after others; the flag says whether one may begin here.
-#[tactic(auto, unfolding(sr_program_reader::specs::ComponentReaders::plain_items_at))]
-fn plain_items(
-    alloc: Global,
-    first: (Row<Item>, bool),
-    tokens: &[Token],
-) -> Result<((Row<Item>, bool), &[Token]), ReadFail>
-    ensures reads { ReadsStatementUpTo (λ x. (x.0, x.1.now)) tokens.now result (λ r. plain_items_at r first) }
-    ensures shorter { IfOk result (λ x. length x.1.now ≤ length tokens.now) }
-{
-    items_after::<Item, PlainItems>(alloc, first, tokens)
 }
 
 /// Whether final code stands next where an item may begin.
@@ -93,22 +72,8 @@ fn next_is_final(state: &(Row<Item>, bool), tokens: &[Token]) -> bool
     state.1 && next_is_word(tokens, Word::Final)
 }
 
-/// Reads final code after a tree.
-fn final_code_after<T: Drop>(
-    alloc: Global,
-    tree: T,
-    tokens: &[Token],
-) -> Result<(T, FinalCode, &[Token]), ReadFail>
-    ensures reads { ReadsStatementUpTo (λ x. (x.1, x.2.now)) tokens.now result (λ r. final_at r) }
-    ensures kept { IfOk result (λ x. x.0 ≡ tree) }
-    ensures shorter { IfOk result (λ x. length x.2.now < length tokens.now) }
-{
-    let (code, rest) = final_code(alloc, tokens)?;
-    Ok((tree, code, rest))
-}
-
 /// Reads final code and the items after it, after others.
-#[tactic(auto, unfolding(sr_program_reader::specs::ComponentReaders::final_and_items_at))]
+#[tactic(auto, unfolding(sr_program_reader::specs::ComponentReaders::final_and_items_at, sr_program_reader::specs::ComponentReaders::plain_items_at))]
 fn final_and_items(
     alloc: Global,
     before: Row<Item>,
@@ -119,25 +84,12 @@ fn final_and_items(
 {
     let (before, code, rest) = final_code_after(alloc, before, tokens)?;
     let items = pushed(before, Item::Final(code))?;
-    let ((items, _), rest) = plain_items(alloc, (items, false), rest)?;
+    let ((items, _), rest) = items_after::<Item, PlainItems>(alloc, (items, false), rest)?;
     Ok((items, rest))
 }
 
-/// Reads the items of a resource.
-#[tactic(auto, unfolding(sr_program_reader::specs::ComponentReaders::resource_items_at))]
-fn resource_items(alloc: Global, tokens: &[Token]) -> Result<(Row<Item>, &[Token]), ReadFail>
-    ensures reads { ReadsStatementUpTo (λ x. (x.0, x.1.now)) tokens.now result (λ r. resource_items_at r) }
-    ensures shorter { IfOk result (λ x. length x.1.now ≤ length tokens.now) }
-{
-    let (state, rest) = plain_items(alloc, (Row::new(alloc), true), tokens)?;
-    if next_is_final(&state, rest) {
-        final_and_items(alloc, state.0, rest)
-    } else {
-        Ok((state.0, rest))
-    }
-}
-
 /// Reads the items of a resource after a tree.
+#[tactic(auto, unfolding(sr_program_reader::specs::ComponentReaders::resource_items_at, sr_program_reader::specs::ComponentReaders::plain_items_at))]
 pub fn resource_items_after<T: Drop>(
     alloc: Global,
     tree: T,
@@ -147,15 +99,11 @@ pub fn resource_items_after<T: Drop>(
     ensures kept { IfOk result (λ x. x.0 ≡ tree) }
     ensures shorter { IfOk result (λ x. length x.2.now ≤ length tokens.now) }
 {
-    let (items, rest) = resource_items(alloc, tokens)?;
-    Ok((tree, items, rest))
-}
-
-/// Reads the items of a global.
-#[tactic(auto, unfolding(sr_program_reader::specs::ComponentReaders::global_items_at))]
-pub fn global_items(alloc: Global, tokens: &[Token]) -> Result<(Row<Item>, &[Token]), ReadFail>
-    ensures reads { ReadsStatementUpTo (λ x. (x.0, x.1.now)) tokens.now result (λ r. global_items_at r) }
-    ensures shorter { IfOk result (λ x. length x.1.now ≤ length tokens.now) }
-{
-    list::<Item, PlainItems>(alloc, tokens)
+    let (state, rest) = items_after::<Item, PlainItems>(alloc, (Row::new(alloc), true), tokens)?;
+    if next_is_final(&state, rest) {
+        let (items, rest) = final_and_items(alloc, state.0, rest)?;
+        Ok((tree, items, rest))
+    } else {
+        Ok((tree, state.0, rest))
+    }
 }

@@ -6,6 +6,7 @@
 mod after;
 mod block;
 mod by_value;
+mod commas;
 mod components;
 mod declaration;
 mod ends;

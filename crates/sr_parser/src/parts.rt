@@ -1,9 +1,10 @@
 ghost use Rattle.std.specs.Prelude.{◌≡◌, ◌<◌, ◌≤◌, length, IfOk};
 ghost use Rattle.sr_parse_tokens.specs.Gives.{Gives};
 ghost use Rattle.sr_parse_expr.specs.Reads.{ReadsUpTo};
-ghost use Rattle.sr_program_reader.specs.StatementReaders.{by_at, condition_at, enclosed_names_at, invocation_at, invocation_of, invoked_at, more_places_at, named_at, next_place_at, optional_names_at, places_at, returned_name_at, status_at, such_that_at};
+ghost use Rattle.sr_program_reader.specs.StatementReaders.{by_at, condition_at, enclosed_names_at, invocation_at, invocation_of, invoked_at, named_at, optional_names_at, places_at, returned_name_at, status_at, such_that_at};
 
-use crate::after::{let_go, pushed, row_of};
+use crate::after::let_go;
+use crate::commas::{Joined, list_from};
 use crate::words::{next_is_condition, read_condition_word};
 use sr_parse_expr::declared::names;
 use sr_parse_expr::expression::{LOOSEST, operand, primary};
@@ -35,7 +36,10 @@ pub fn invoked(primary: Expr, tokens: &[Token]) -> Result<(Invocation, &[Token])
 {
     match primary {
         Expr::Call(invocation) => Ok((invocation, tokens)),
-        _ => Err(ReadFail::Unexpected { left: tokens.len() }),
+        other => {
+            let_go(other);
+            Err(ReadFail::Unexpected { left: tokens.len() })
+        }
     }
 }
 
@@ -66,7 +70,7 @@ pub fn status(alloc: Global, tokens: &[Token]) -> Result<(Option<Expr>, &[Token]
 }
 
 /// Reads places in parentheses.
-#[tactic(auto, unfolding(sr_program_reader::specs::StatementReaders::places_at))]
+#[tactic(auto, unfolding(sr_program_reader::specs::StatementReaders::places_at, sr_program_reader::specs::StatementReaders::more_places_at, sr_program_reader::specs::StatementReaders::next_place_at, crate::specs::Commas::more_at, crate::specs::Commas::next_at))]
 pub fn places(alloc: Global, tokens: &[Token]) -> Result<(Row<Expr>, &[Token]), ReadFail>
     ensures reads { ReadsUpTo (λ x. (x.0, x.1.now)) tokens.now result (λ r. places_at r) }
     ensures shorter { IfOk result (λ x. length x.1.now < length tokens.now) }
@@ -77,49 +81,26 @@ pub fn places(alloc: Global, tokens: &[Token]) -> Result<(Row<Expr>, &[Token]), 
         return Ok((Row::new(alloc), rest));
     }
     let (place, rest) = primary(alloc, rest)?;
-    let first = row_of(alloc, place)?;
-    let (places, rest) = more_places(alloc, first, rest)?;
+    let (places, rest) = list_from::<Expr, PlaceList>(alloc, place, rest)?;
     let (_, places, rest) = sign_after(places, rest, Sign::CloseParen)?;
     Ok((places, rest))
 }
 
-/// Reads further places, each after a comma.
-#[tactic(auto, unfolding(sr_program_reader::specs::StatementReaders::more_places_at))]
-fn more_places(
-    alloc: Global,
-    first: Row<Expr>,
-    tokens: &[Token],
-) -> Result<(Row<Expr>, &[Token]), ReadFail>
-    ensures reads { ReadsUpTo (λ x. (x.0, x.1.now)) tokens.now result (λ r. more_places_at r first) }
-    ensures shorter { IfOk result (λ x. length x.1.now ≤ length tokens.now) }
-{
-    let mut places = first;
-    let mut rest = tokens;
-    'more: while next_is_sign(rest, Sign::Comma) {
-        let (more, after) = next_place(alloc, places, rest)?;
-        places = more;
-        rest = after;
-    }
-    Ok((places, rest))
-}
+/// Places with commas between.
+struct PlaceList;
 
-/// Reads a comma and a place, and appends it.
-#[tactic(auto, unfolding(sr_program_reader::specs::StatementReaders::next_place_at))]
-fn next_place(
-    alloc: Global,
-    places: Row<Expr>,
-    tokens: &[Token],
-) -> Result<(Row<Expr>, &[Token]), ReadFail>
-    ensures reads { ReadsUpTo (λ x. (x.0, x.1.now)) tokens.now result (λ r. next_place_at r places) }
-    ensures shorter { IfOk result (λ x. length x.1.now < length tokens.now) }
-{
-    let (_, places, rest) = sign_after(places, tokens, Sign::Comma)?;
-    match primary(alloc, rest) {
-        Ok((next, rest)) => Ok((pushed(places, next)?, rest)),
-        Err(fail) => {
-            let_go(places);
-            Err(fail)
-        }
+impl Joined<Expr> for PlaceList {
+    ghost use Rattle.sr_expr_reader.proofs.Yields.{steps-readers};
+    ghost use Rattle.sr_expr_reader.specs.Readers.{primary_at, readers};
+
+    ghost reader = { λ k. primary_at (readers k) };
+
+    ghost steps = { λ k. (readers k).steps };
+
+    ghost bounded = { steps-readers };
+
+    fn item(alloc: Global, tokens: &[Token]) -> Result<(Expr, &[Token]), ReadFail> {
+        primary(alloc, tokens)
     }
 }
 

@@ -1,9 +1,7 @@
-ghost use Rattle.std.specs.Prelude.{◌≡◌, ◌<◌, ◌≤◌, length, IfOk};
+ghost use Rattle.std.specs.Prelude.{◌≡◌, ◌<◌, length, IfOk};
 ghost use Rattle.sr_parse_tokens.specs.Gives.{Gives};
 ghost use Rattle.sr_parse_expr.specs.Reads.{ReadsUpTo};
-ghost use Rattle.sr_tree.specs.declared.statement.Statement.TheVariants as statement;
-ghost use Rattle.sr_tree.specs.declared.token.Word.TheVariants as words;
-ghost use Rattle.sr_program_reader.specs.StatementReaders.{assign_at, after_primary_at, call_statement_at, create_statement_at, decrement_at, destroy_at, exchange_at, forward_at, increment_at, named_statement_at, plain_call_at, receive_at, send_at, single_at, stop_at};
+ghost use Rattle.sr_program_reader.specs.StatementReaders.{assign_at, call_statement_at, create_statement_at, destroy_at, exchange_at, forward_at, named_statement_at, plain_call_at, receive_at, send_at, stop_at};
 
 use crate::after::{expression_after, primary_after};
 use crate::parts::{invocation, invoked, places, status};
@@ -11,56 +9,6 @@ use sr_parse_expr::expression::{create, primary};
 use sr_parse_tokens::{ReadFail, name, next_is_sign, sign_after, word};
 use sr_tree::{Expr, Sign, Statement, Token, Word};
 use std::alloc::Global;
-
-/// Reads `skip`.
-#[tactic(auto, unfolding(sr_program_reader::specs::StatementReaders::single_at))]
-pub fn skip_statement(tokens: &[Token]) -> Result<(Statement, &[Token]), ReadFail>
-    ensures reads { Gives (λ x. (x.0, x.1.now)) result (single_at words.Skip statement.Skip tokens.now) }
-    ensures shorter { IfOk result (λ x. length x.1.now < length tokens.now) }
-{
-    let (span, rest) = word(tokens, Word::Skip)?;
-    Ok((Statement::Skip { span }, rest))
-}
-
-/// Reads `exit`.
-#[tactic(auto, unfolding(sr_program_reader::specs::StatementReaders::single_at))]
-pub fn exit_statement(tokens: &[Token]) -> Result<(Statement, &[Token]), ReadFail>
-    ensures reads { Gives (λ x. (x.0, x.1.now)) result (single_at words.Exit statement.Exit tokens.now) }
-    ensures shorter { IfOk result (λ x. length x.1.now < length tokens.now) }
-{
-    let (span, rest) = word(tokens, Word::Exit)?;
-    Ok((Statement::Exit { span }, rest))
-}
-
-/// Reads `next`.
-#[tactic(auto, unfolding(sr_program_reader::specs::StatementReaders::single_at))]
-pub fn next_statement(tokens: &[Token]) -> Result<(Statement, &[Token]), ReadFail>
-    ensures reads { Gives (λ x. (x.0, x.1.now)) result (single_at words.Next statement.Next tokens.now) }
-    ensures shorter { IfOk result (λ x. length x.1.now < length tokens.now) }
-{
-    let (span, rest) = word(tokens, Word::Next)?;
-    Ok((Statement::Next { span }, rest))
-}
-
-/// Reads `return`.
-#[tactic(auto, unfolding(sr_program_reader::specs::StatementReaders::single_at))]
-pub fn return_statement(tokens: &[Token]) -> Result<(Statement, &[Token]), ReadFail>
-    ensures reads { Gives (λ x. (x.0, x.1.now)) result (single_at words.Return statement.Return tokens.now) }
-    ensures shorter { IfOk result (λ x. length x.1.now < length tokens.now) }
-{
-    let (span, rest) = word(tokens, Word::Return)?;
-    Ok((Statement::Return { span }, rest))
-}
-
-/// Reads `reply`.
-#[tactic(auto, unfolding(sr_program_reader::specs::StatementReaders::single_at))]
-pub fn reply_statement(tokens: &[Token]) -> Result<(Statement, &[Token]), ReadFail>
-    ensures reads { Gives (λ x. (x.0, x.1.now)) result (single_at words.Reply statement.Reply tokens.now) }
-    ensures shorter { IfOk result (λ x. length x.1.now < length tokens.now) }
-{
-    let (span, rest) = word(tokens, Word::Reply)?;
-    Ok((Statement::Reply { span }, rest))
-}
 
 /// Reads `stop` and the status that it gives, where one stands.
 #[tactic(auto, unfolding(sr_program_reader::specs::StatementReaders::stop_at))]
@@ -179,28 +127,6 @@ fn exchange(alloc: Global, left: Expr, tokens: &[Token]) -> Result<(Statement, &
     Ok((Statement::Exchange { span, left, right }, rest))
 }
 
-/// Reads `++` after a place.
-#[tactic(auto, unfolding(sr_program_reader::specs::StatementReaders::increment_at))]
-fn increment(place: Expr, tokens: &[Token]) -> Result<(Statement, &[Token]), ReadFail>
-    ensures reads { Gives (λ x. (x.0, x.1.now)) result (increment_at place tokens.now) }
-    ensures shorter { IfOk result (λ x. length x.1.now < length tokens.now) }
-{
-    let span = place.span();
-    let (_, place, rest) = sign_after(place, tokens, Sign::Increment)?;
-    Ok((Statement::Increment { span, place }, rest))
-}
-
-/// Reads `--` after a place.
-#[tactic(auto, unfolding(sr_program_reader::specs::StatementReaders::decrement_at))]
-fn decrement(place: Expr, tokens: &[Token]) -> Result<(Statement, &[Token]), ReadFail>
-    ensures reads { Gives (λ x. (x.0, x.1.now)) result (decrement_at place tokens.now) }
-    ensures shorter { IfOk result (λ x. length x.1.now < length tokens.now) }
-{
-    let span = place.span();
-    let (_, place, rest) = sign_after(place, tokens, Sign::Decrement)?;
-    Ok((Statement::Decrement { span, place }, rest))
-}
-
 /// The statement that an invocation is.
 #[tactic(auto, unfolding(sr_program_reader::specs::StatementReaders::plain_call_at))]
 fn plain_call(primary: Expr, tokens: &[Token]) -> Result<(Statement, &[Token]), ReadFail>
@@ -220,35 +146,26 @@ fn plain_call(primary: Expr, tokens: &[Token]) -> Result<(Statement, &[Token]), 
     ))
 }
 
-/// Reads what stands after the primary that a statement begins with.
-#[tactic(auto, unfolding(sr_program_reader::specs::StatementReaders::after_primary_at))]
-fn after_primary(
-    alloc: Global,
-    primary: Expr,
-    tokens: &[Token],
-) -> Result<(Statement, &[Token]), ReadFail>
-    ensures reads { ReadsUpTo (λ x. (x.0, x.1.now)) tokens.now result (λ r. after_primary_at r primary) }
-    ensures shorter { IfOk result (λ x. length x.1.now ≤ length tokens.now) }
-{
-    if next_is_sign(tokens, Sign::Assign) {
-        assign(alloc, primary, tokens)
-    } else if next_is_sign(tokens, Sign::Exchange) {
-        exchange(alloc, primary, tokens)
-    } else if next_is_sign(tokens, Sign::Increment) {
-        increment(primary, tokens)
-    } else if next_is_sign(tokens, Sign::Decrement) {
-        decrement(primary, tokens)
-    } else {
-        plain_call(primary, tokens)
-    }
-}
-
 /// Reads a statement that begins with a name.
-#[tactic(auto, unfolding(sr_program_reader::specs::StatementReaders::named_statement_at))]
+#[tactic(auto, unfolding(sr_program_reader::specs::StatementReaders::named_statement_at, sr_program_reader::specs::StatementReaders::after_primary_at, sr_program_reader::specs::StatementReaders::increment_at, sr_program_reader::specs::StatementReaders::decrement_at))]
 pub fn named_statement(alloc: Global, tokens: &[Token]) -> Result<(Statement, &[Token]), ReadFail>
     ensures reads { ReadsUpTo (λ x. (x.0, x.1.now)) tokens.now result (λ r. named_statement_at r) }
     ensures shorter { IfOk result (λ x. length x.1.now < length tokens.now) }
 {
     let (primary, rest) = primary(alloc, tokens)?;
-    after_primary(alloc, primary, rest)
+    if next_is_sign(rest, Sign::Assign) {
+        assign(alloc, primary, rest)
+    } else if next_is_sign(rest, Sign::Exchange) {
+        exchange(alloc, primary, rest)
+    } else if next_is_sign(rest, Sign::Increment) {
+        let span = primary.span();
+        let (_, place, rest) = sign_after(primary, rest, Sign::Increment)?;
+        Ok((Statement::Increment { span, place }, rest))
+    } else if next_is_sign(rest, Sign::Decrement) {
+        let span = primary.span();
+        let (_, place, rest) = sign_after(primary, rest, Sign::Decrement)?;
+        Ok((Statement::Decrement { span, place }, rest))
+    } else {
+        plain_call(primary, rest)
+    }
 }

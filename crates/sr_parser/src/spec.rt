@@ -1,15 +1,13 @@
-ghost use Rattle.std.specs.Prelude.{◌≡◌, ◌<◌, ◌≤◌, length, IfOk};
+ghost use Rattle.std.specs.Prelude.{◌≡◌};
 ghost use Rattle.sr_reader.specs.Reader.{next_is};
-ghost use Rattle.sr_parse_expr.specs.Reads.{ReadsTypeUpTo};
-ghost use Rattle.sr_program_reader.specs.ComponentReaders.{begins_resource_spec, begins_spec, global_spec_at, resource_spec_at, resource_spec_item_at, spec_item_at};
+ghost use Rattle.sr_program_reader.specs.ComponentReaders.{begins_resource_spec, begins_spec, resource_spec_item_at, spec_item_at};
 
 use crate::declaration::{
     const_decl, import_decl, op_decl, optype_decl, sem_decl, type_decl, var_decl,
 };
-use crate::lists::{Listed, list};
+use crate::lists::Listed;
 use sr_parse_tokens::{ReadFail, next_is_word};
 use sr_tree::{SpecItem, Token, Word};
-use sr_value::Row;
 use std::alloc::Global;
 
 /// Whether the next token begins what may stand in the spec of a resource.
@@ -32,49 +30,8 @@ pub fn next_is_spec(tokens: &[Token]) -> bool
         || next_is_word(tokens, Word::Sem)
 }
 
-/// Reads what may stand in the spec of a resource.
-#[tactic(auto, unfolding(sr_program_reader::specs::ComponentReaders::resource_spec_item_at))]
-fn resource_spec_item(alloc: Global, tokens: &[Token]) -> Result<(SpecItem, &[Token]), ReadFail>
-    ensures reads { ReadsTypeUpTo (λ x. (x.0, x.1.now)) tokens.now result (λ r. resource_spec_item_at r) }
-    ensures shorter { IfOk result (λ x. length x.1.now < length tokens.now) }
-{
-    if next_is_word(tokens, Word::Import) {
-        let (decl, rest) = import_decl(alloc, tokens)?;
-        Ok((SpecItem::Import(decl), rest))
-    } else if next_is_word(tokens, Word::Const) {
-        let (decl, rest) = const_decl(alloc, tokens)?;
-        Ok((SpecItem::Const(decl), rest))
-    } else if next_is_word(tokens, Word::Type) {
-        let (decl, rest) = type_decl(alloc, tokens)?;
-        Ok((SpecItem::Type(decl), rest))
-    } else if next_is_word(tokens, Word::OpType) {
-        let (decl, rest) = optype_decl(alloc, tokens)?;
-        Ok((SpecItem::OpType(decl), rest))
-    } else {
-        let (decl, rest) = op_decl(alloc, tokens)?;
-        Ok((SpecItem::Op(decl), rest))
-    }
-}
-
-/// Reads what may stand in the spec of a global.
-#[tactic(auto, unfolding(sr_program_reader::specs::ComponentReaders::spec_item_at))]
-pub fn spec_item(alloc: Global, tokens: &[Token]) -> Result<(SpecItem, &[Token]), ReadFail>
-    ensures reads { ReadsTypeUpTo (λ x. (x.0, x.1.now)) tokens.now result (λ r. spec_item_at r) }
-    ensures shorter { IfOk result (λ x. length x.1.now < length tokens.now) }
-{
-    if next_is_word(tokens, Word::Var) {
-        let (decl, rest) = var_decl(alloc, tokens)?;
-        Ok((SpecItem::Var(decl), rest))
-    } else if next_is_word(tokens, Word::Sem) {
-        let (decl, rest) = sem_decl(alloc, tokens)?;
-        Ok((SpecItem::Sem(decl), rest))
-    } else {
-        resource_spec_item(alloc, tokens)
-    }
-}
-
 /// What may stand in the spec of a resource.
-struct ResourceSpec;
+pub struct ResourceSpec;
 
 impl Listed<SpecItem> for ResourceSpec {
     ghost use Rattle.sr_expr_reader.proofs.Yields.{steps-readers};
@@ -92,13 +49,29 @@ impl Listed<SpecItem> for ResourceSpec {
         next_is_resource_spec(tokens)
     }
 
+    #[tactic(auto, unfolding(sr_program_reader::specs::ComponentReaders::resource_spec_item_at))]
     fn item(alloc: Global, tokens: &[Token]) -> Result<(SpecItem, &[Token]), ReadFail> {
-        resource_spec_item(alloc, tokens)
+        if next_is_word(tokens, Word::Import) {
+            let (decl, rest) = import_decl(alloc, tokens)?;
+            Ok((SpecItem::Import(decl), rest))
+        } else if next_is_word(tokens, Word::Const) {
+            let (decl, rest) = const_decl(alloc, tokens)?;
+            Ok((SpecItem::Const(decl), rest))
+        } else if next_is_word(tokens, Word::Type) {
+            let (decl, rest) = type_decl(alloc, tokens)?;
+            Ok((SpecItem::Type(decl), rest))
+        } else if next_is_word(tokens, Word::OpType) {
+            let (decl, rest) = optype_decl(alloc, tokens)?;
+            Ok((SpecItem::OpType(decl), rest))
+        } else {
+            let (decl, rest) = op_decl(alloc, tokens)?;
+            Ok((SpecItem::Op(decl), rest))
+        }
     }
 }
 
 /// What may stand in the spec of a global.
-struct GlobalSpec;
+pub struct GlobalSpec;
 
 impl Listed<SpecItem> for GlobalSpec {
     ghost use Rattle.sr_expr_reader.proofs.Yields.{steps-readers};
@@ -116,25 +89,16 @@ impl Listed<SpecItem> for GlobalSpec {
         next_is_spec(tokens)
     }
 
+    #[tactic(auto, unfolding(sr_program_reader::specs::ComponentReaders::spec_item_at))]
     fn item(alloc: Global, tokens: &[Token]) -> Result<(SpecItem, &[Token]), ReadFail> {
-        spec_item(alloc, tokens)
+        if next_is_word(tokens, Word::Var) {
+            let (decl, rest) = var_decl(alloc, tokens)?;
+            Ok((SpecItem::Var(decl), rest))
+        } else if next_is_word(tokens, Word::Sem) {
+            let (decl, rest) = sem_decl(alloc, tokens)?;
+            Ok((SpecItem::Sem(decl), rest))
+        } else {
+            ResourceSpec::item(alloc, tokens)
+        }
     }
-}
-
-/// Reads the spec of a resource.
-#[tactic(auto, unfolding(sr_program_reader::specs::ComponentReaders::resource_spec_at))]
-pub fn resource_spec(alloc: Global, tokens: &[Token]) -> Result<(Row<SpecItem>, &[Token]), ReadFail>
-    ensures reads { ReadsTypeUpTo (λ x. (x.0, x.1.now)) tokens.now result (λ r. resource_spec_at r) }
-    ensures shorter { IfOk result (λ x. length x.1.now ≤ length tokens.now) }
-{
-    list::<SpecItem, ResourceSpec>(alloc, tokens)
-}
-
-/// Reads the spec of a global.
-#[tactic(auto, unfolding(sr_program_reader::specs::ComponentReaders::global_spec_at))]
-pub fn global_spec(alloc: Global, tokens: &[Token]) -> Result<(Row<SpecItem>, &[Token]), ReadFail>
-    ensures reads { ReadsTypeUpTo (λ x. (x.0, x.1.now)) tokens.now result (λ r. global_spec_at r) }
-    ensures shorter { IfOk result (λ x. length x.1.now ≤ length tokens.now) }
-{
-    list::<SpecItem, GlobalSpec>(alloc, tokens)
 }

@@ -13,9 +13,8 @@ use crate::declaration::{const_decl, var_decl};
 use crate::heads::{ArmHead, CoHead, arm_head, co_head};
 use crate::quantifier::quantifiers;
 use crate::simple::{
-    call_statement, create_statement, destroy_statement, exit_statement, forward_statement,
-    named_statement, next_statement, receive_statement, reply_statement, return_statement,
-    send_statement, skip_statement, stop_statement,
+    call_statement, create_statement, destroy_statement, forward_statement, named_statement,
+    receive_statement, send_statement, stop_statement,
 };
 use crate::words::next_is_block_item;
 use sr_parse_expr::expression::{LOOSEST, operand};
@@ -470,21 +469,26 @@ fn operating_statement(alloc: Global, tokens: &[Token]) -> Result<(Statement, &[
 
 /// Reads a statement that begins with a word.
 #[cycle(statements)]
-#[tactic(auto, unfolding(sr_program_reader::specs::StatementReaders::worded_statement_at))]
+#[tactic(auto, unfolding(sr_program_reader::specs::StatementReaders::worded_statement_at, sr_program_reader::specs::StatementReaders::single_at))]
 fn worded_statement(alloc: Global, tokens: &[Token]) -> Result<(Statement, &[Token]), ReadFail>
     ensures reads { ReadsStatementUpTo (λ x. (x.0, x.1.now)) tokens.now result (λ r. worded_statement_at r) }
     ensures shorter { IfOk result (λ x. length x.1.now < length tokens.now) }
 {
     if next_is_word(tokens, Word::Skip) {
-        skip_statement(tokens)
+        let (span, rest) = word(tokens, Word::Skip)?;
+        Ok((Statement::Skip { span }, rest))
     } else if next_is_word(tokens, Word::Exit) {
-        exit_statement(tokens)
+        let (span, rest) = word(tokens, Word::Exit)?;
+        Ok((Statement::Exit { span }, rest))
     } else if next_is_word(tokens, Word::Next) {
-        next_statement(tokens)
+        let (span, rest) = word(tokens, Word::Next)?;
+        Ok((Statement::Next { span }, rest))
     } else if next_is_word(tokens, Word::Return) {
-        return_statement(tokens)
+        let (span, rest) = word(tokens, Word::Return)?;
+        Ok((Statement::Return { span }, rest))
     } else if next_is_word(tokens, Word::Reply) {
-        reply_statement(tokens)
+        let (span, rest) = word(tokens, Word::Reply)?;
+        Ok((Statement::Reply { span }, rest))
     } else if next_is_word(tokens, Word::Stop) {
         stop_statement(alloc, tokens)
     } else {

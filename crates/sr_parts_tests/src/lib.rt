@@ -7,6 +7,8 @@ mod calls;
 #[cfg(test)]
 mod line;
 #[cfg(test)]
+mod numbers;
+#[cfg(test)]
 mod places;
 #[cfg(test)]
 mod queue;

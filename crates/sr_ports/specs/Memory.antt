@@ -1,5 +1,6 @@
 -- Devices in memory, whose calls fail by a list.
 use Rattle.std.specs.Prelude.{◌≡◌, ℕ, ◌+◌, ◌-◌, ◌^◌, min, List, drop, Contains, Option, Some, None, if◌then◌else◌}
+use Rattle.sr_ports.specs.Files.{Readings}
 use Rattle.sr_ports.specs.declared.clock.ClockCall.{ClockCall}
 use Rattle.sr_ports.specs.declared.memory_clock.MemClock.{MemClock}
 use Rattle.sr_ports.specs.declared.schedule.Schedule.{Schedule}
@@ -24,6 +25,7 @@ pub record MakesCall (old new : Schedule) : Type 0 where
 pub record HasNoCalls (schedule : Schedule) (failing : List ℕ) : Type 0 where
   pub none : schedule.calls ≡ 0
   pub no_faults : schedule.faults ≡ 0
+  pub none_failed : schedule.failed ≡ 0
   pub listed : schedule.failing ≡ failing
 
 -- how many of so many bytes fit beside those that are held
@@ -38,6 +40,9 @@ files_held files = files.files
 
 abbrev pub files_calls : MemFiles → Schedule
 files_calls files = files.schedule
+
+abbrev pub files_readings : MemFiles → Readings
+files_readings files = record { reads = files.schedule.calls; failed = files.schedule.failed }
 
 abbrev pub files_faults : MemFiles → ℕ
 files_faults files = files.schedule.faults

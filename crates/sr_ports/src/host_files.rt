@@ -1,5 +1,10 @@
-ghost use Rattle.std.specs.Prelude.{◌≡◌, ◌≤◌, None, IfOk, vec_len};
+ghost use Rattle.std.specs.Prelude.{◌≡◌, ◌<◌, ◌≤◌, None, IfOk, IfSome, length, take, vec_len};
 ghost use Rattle.std.specs.Io.{WritesAtMost};
+ghost use Rattle.std.specs.Io.KnownBytes.{WriteAppends};
+ghost use Rattle.sr_ports.specs.Faults.{Counts};
+ghost use Rattle.sr_ports.specs.Files.{no_readings};
+ghost use Rattle.sr_ports.specs.Hosts.{contents_of_open};
+ghost use Rattle.sr_ports.specs.Streams.{Puts};
 
 use crate::fault::PortFail;
 use crate::files::Files;
@@ -12,6 +17,8 @@ use std::{fs, io, rt};
 #[derive(Drop)]
 pub struct HostFiles<'a, R> {
     rt: &'a R,
+    reads: u64,
+    failed: u64,
     faults: u64,
 }
 
@@ -27,11 +34,17 @@ pub struct FileSink<'a, R: rt::Files> {
 }
 
 impl<'a, R: rt::Files> HostFiles<'a, R> {
-    /// The files that `rt` reaches. No read of them has failed yet.
+    /// The files that `rt` reaches. No read of them was made yet.
     pub fn new(rt: &'a R) -> Self
-        ensures { ⟦<HostFiles<'a, R> as Files>⟧.faults result ≡ 0 }
+        ensures faults { ⟦<HostFiles<'a, R> as Files>⟧.faults result ≡ 0 }
+        ensures readings { ⟦<HostFiles<'a, R> as Files>⟧.readings result ≡ no_readings }
     {
-        HostFiles { rt, faults: 0 }
+        HostFiles {
+            rt,
+            reads: 0,
+            failed: 0,
+            faults: 0,
+        }
     }
 }
 
@@ -40,12 +53,16 @@ impl<R: rt::Files> Files for HostFiles<'_, R> {
 
     ghost faults = { λ files. files.faults };
 
+    ghost readings = { λ files. record { reads = files.reads; failed = files.failed } };
+
     fn read(&mut self, alloc: Global, name: &str, most: usize) -> Result<Vec<u8>, PortFail> {
+        self.reads = self.reads.saturating_add(1);
         match read_start(self.rt, alloc, name, most) {
             Ok(bytes) => Ok(bytes),
             Err(error) if error.kind() == ErrorKind::OutOfMemory => Err(PortFail::NoMemory),
             Err(_) => {
                 self.faults = self.faults.saturating_add(1);
+                self.failed = self.reads;
                 Err(PortFail::Failed)
             }
         }
@@ -56,10 +73,16 @@ impl<R: rt::Files> Files for HostFiles<'_, R> {
 fn read_start<R: rt::Files>(rt: &R, alloc: Global, name: &str, most: usize) -> io::Result<Vec<u8>>
     ensures { IfOk result (λ bytes. vec_len bytes ≤ most) }
 {
+    read_most(alloc, fs::open(rt, name)?, most)
+}
+
+/// The first `most` bytes of a reader, or all where it has fewer.
+fn read_most<I: Read + Drop>(alloc: Global, reader: I, most: usize) -> io::Result<Vec<u8>>
+    ensures few { IfOk result (λ bytes. vec_len bytes ≤ most) }
+    ensures bytes { IfOk result (λ bytes. IfSome (I.remaining reader) (λ left. bytes.items ≡ take most left)) }
+{
     let mut bytes = Vec::new(alloc);
-    fs::open(rt, name)?
-        .take(most as u64)
-        .read_to_end(&mut bytes)?;
+    reader.take(most as u64).read_to_end(&mut bytes)?;
     bytes.truncate(most);
     Ok(bytes)
 }
@@ -81,6 +104,7 @@ impl<'a, R: rt::Files> FileSink<'a, R> {
     /// Writes into the file, which it makes first where that wasn't done.
     fn write(&mut self, piece: &[u8]) -> io::Result<usize>
         ensures bound { WritesAtMost result piece.now }
+        ensures written { WriteAppends (contents_of_open R.File.contents self.old.file) (contents_of_open R.File.contents self.new.file) result piece.now }
         ensures faults { self.new.faults ≡ self.old.faults }
     {
         if self.file.is_none() {
@@ -98,7 +122,14 @@ impl<R: rt::Files> Sink for FileSink<'_, R> {
 
     ghost faults = { λ sink. sink.faults };
 
-    fn put(&mut self, piece: &[u8]) -> Result<usize, PortFail> {
+    fn put(&mut self, piece: &[u8]) -> Result<usize, PortFail>
+        requires { 0 < length piece.now }
+        ensures bytes { Puts None None result piece.now }
+        ensures cause { Counts self.old.faults self.new.faults result }
+
+        // The file took these bytes after those that it took before, and no others.
+        ensures written { WriteAppends (contents_of_open R.File.contents self.old.file) (contents_of_open R.File.contents self.new.file) result piece.now }
+    {
         match self.write(piece) {
             Ok(0) | Err(_) => {
                 self.faults = self.faults.saturating_add(1);

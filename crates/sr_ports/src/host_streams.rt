@@ -1,4 +1,7 @@
-ghost use Rattle.std.specs.Prelude.{◌≡◌, None};
+ghost use Rattle.std.specs.Prelude.{◌≡◌, ◌<◌, None, length};
+ghost use Rattle.std.specs.Io.KnownBytes.{ReadConsumes, WriteAppends};
+ghost use Rattle.sr_ports.specs.Faults.{Counts, TakeCounts};
+ghost use Rattle.sr_ports.specs.Streams.{EndsWhereEmpty, Puts, Takes};
 
 use crate::fault::{PortFail, TakeFailed};
 use crate::sink::Sink;
@@ -31,11 +34,21 @@ impl<I: Read> HostSource<I> {
 }
 
 impl<I: Read> Source for HostSource<I> {
+    ghost use Rattle.sr_ports.specs.Hosts.{source_reader};
+
     ghost left = { λ _. None };
 
     ghost faults = { λ source. source.faults };
 
-    fn take(&mut self, room: &mut [u8]) -> Result<usize, TakeFailed> {
+    fn take(&mut self, room: &mut [u8]) -> Result<usize, TakeFailed>
+        requires { 0 < length room.old }
+        ensures bytes { Takes None None result room.new }
+        ensures end { EndsWhereEmpty None result }
+        ensures cause { TakeCounts self.old.faults self.new.faults result }
+
+        // The reader gave these bytes, and no others.
+        ensures read { ReadConsumes (I.remaining (source_reader self.old)) (I.remaining (source_reader self.new)) result room.new }
+    {
         match self.reader.read(room) {
             Ok(count) => Ok(count),
             Err(_) => {
@@ -56,11 +69,20 @@ impl<O: Write> HostSink<O> {
 }
 
 impl<O: Write> Sink for HostSink<O> {
+    ghost use Rattle.sr_ports.specs.Hosts.{sink_writer};
+
     ghost held = { λ _. None };
 
     ghost faults = { λ sink. sink.faults };
 
-    fn put(&mut self, piece: &[u8]) -> Result<usize, PortFail> {
+    fn put(&mut self, piece: &[u8]) -> Result<usize, PortFail>
+        requires { 0 < length piece.now }
+        ensures bytes { Puts None None result piece.now }
+        ensures cause { Counts self.old.faults self.new.faults result }
+
+        // The writer took these bytes, and no others.
+        ensures written { WriteAppends (O.contents (sink_writer self.old)) (O.contents (sink_writer self.new)) result piece.now }
+    {
         match self.writer.write(piece) {
             Ok(0) | Err(_) => {
                 self.faults = self.faults.saturating_add(1);

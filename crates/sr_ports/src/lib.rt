@@ -3,8 +3,9 @@
 //! Each device may tell its content, to contracts alone, and counts its faults: the count never falls, a call
 //! fails only where it raised the count, and every other answer leaves the count. There are devices in memory,
 //! which tell their content and fail by a list, and adapters over the host's files and streams, which tell
-//! nothing: that a real file or stream keeps the bytes that passed is not proved. A clock tells its calls, and
-//! none of them fails.
+//! nothing: that a real file or stream keeps the bytes that passed is not proved. What an adapter says of a call is
+//! what the reader gave or the writer took, wherever these know their bytes. Files say which read failed last. A clock
+//! tells its calls, and none of them fails.
 #![tactic(auto)]
 
 mod clock;

@@ -1,7 +1,7 @@
 ghost use Rattle.std.specs.Prelude.{◌≡◌, ◌⊎◌, ◌↔◌, Some, None, IsErrOf};
 ghost use Rattle.std.specs.Option.{option_copied};
 ghost use Rattle.sr_ports.specs.Faults.{Counts};
-ghost use Rattle.sr_ports.specs.Files.{bytes_of, ReadsFile};
+ghost use Rattle.sr_ports.specs.Files.{bytes_of, ReadsFile, failed_after, next_read};
 
 use crate::fault::PortFail;
 use crate::files::Files;
@@ -40,16 +40,20 @@ impl MemFiles {
 }
 
 impl Files for MemFiles {
-    ghost use Rattle.sr_ports.specs.Memory.{files_held, files_calls, files_faults, NextFails, MakesCall};
+    ghost use Rattle.sr_ports.specs.Memory.{files_held, files_calls, files_faults, files_readings, NextFails, MakesCall};
 
     ghost content = { λ files. Some (files_held files) };
 
     ghost faults = { files_faults };
 
+    ghost readings = { files_readings };
+
     fn read(&mut self, alloc: Global, name: &str, most: usize) -> Result<Vec<u8>, PortFail>
         ensures bytes { ReadsFile (Some (files_held self.old)) name.now most result }
         ensures kept { Some (files_held self.new) ≡ Some (files_held self.old) }
         ensures cause { Counts (files_faults self.old) (files_faults self.new) result }
+        ensures reads { (files_readings self.new).reads ≡ next_read (files_readings self.old).reads }
+        ensures failed { (files_readings self.new).failed ≡ failed_after (files_readings self.old) result }
 
         // A call fails exactly where the list says so or no file has the name.
         ensures fails { IsErrOf result PortFail.Failed

@@ -3,12 +3,14 @@ ghost use Rattle.sr_ports.specs.Faults.{Rose};
 
 use sr_value::Row;
 
-/// The calls of a device in memory: how many there were, which are to fail, and how many did.
+/// The calls of a device in memory: how many there were, which are to fail, how many did, and the number of the last that
+/// did.
 #[derive(Debug, Drop)]
 pub struct Schedule {
     failing: Row<u64>,
     calls: u64,
     faults: u64,
+    failed: u64,
 }
 
 impl Schedule {
@@ -22,6 +24,7 @@ impl Schedule {
             failing,
             calls: 0,
             faults: 0,
+            failed: 0,
         }
     }
 
@@ -43,9 +46,10 @@ impl Schedule {
 
     /// Counts a fault.
     pub fn raise(&mut self)
-        ensures raised { self.new ≡ record self.old { faults = min (self.old.faults + 1) (2 ^ 64 - 1) } }
+        ensures raised { self.new ≡ record self.old { faults = min (self.old.faults + 1) (2 ^ 64 - 1); failed = self.old.calls } }
         ensures rose { Rose self.old.faults self.new.faults }
     {
         self.faults = self.faults.saturating_add(1);
+        self.failed = self.calls;
     }
 }

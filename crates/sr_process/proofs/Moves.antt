@@ -1,5 +1,5 @@
 -- Each move of a process keeps what it asks, and leaves less to run.
-use Rattle.std.proofs.Common.{◌≡◌, ◌<◌, ◌+◌, ◌-◌, ◌*◌, ℕ, zero, suc, min, true, Ok, List, [], ◌∷◌, ◌++◌, length, Option, Some, None, inl, inr, refl, sym, ap, subst, ◌∙◌, slice_get, IsSome, append_assoc, append-nil, arith}
+use Rattle.std.proofs.Common.{◌≡◌, ◌<◌, ◌+◌, ◌-◌, ℕ, zero, suc, true, Ok, List, [], ◌∷◌, ◌++◌, length, Option, Some, None, inl, inr, refl, sym, ap, subst, ◌∙◌, slice_get, IsSome, append_assoc, append-nil, arith}
 use Rattle.std.proofs.Math.Nat.{mul-le-mul_right}
 use Rattle.std.proofs.lemmas.Option.{slice_get_within}
 use Rattle.sr_value.specs.declared.fault.Fault.{Fault}
@@ -21,7 +21,7 @@ use Rattle.sr_code.specs.declared.code.Coded.{Coded}
 use Rattle.sr_code.specs.declared.code.Program.{Program}
 use Rattle.sr_code.specs.declared.operands.Operands.{Operands}
 use Rattle.sr_code.proofs.Lowering.{instructions_lower}
-use Rattle.sr_code.proofs.OneByOne.{one_by_one}
+use Rattle.sr_code.proofs.OneByOne.{less_room, one_by_one}
 use Rattle.sr_execute.specs.Executes.{Began, Moved, begun, shown}
 use Rattle.sr_execute.specs.Quick.{DoesOrLeaves}
 use Rattle.sr_execute.specs.Meant.{from_begun, heard_by, resumes, stage_of, waiting}
@@ -92,11 +92,6 @@ stepped_asks (Faults fault) program p coded next after more is f address at = re
 stepped_asks OverTicks program p coded next after more is f address at = refl
 
 -- ---- what is left to run
-
-less_room : (before after size address : ℕ) → after < before → after * suc size + min address size < before * suc size
-less_room before after size address less =
-    let more = mul-le-mul_right {m = suc after} {n = before} (suc size) less in
-    omega arith
 
 falls_work : (m : Machine) (next to : ℕ) (on : Operands) (before after : Stage) → next < length m.code → Falls m.limit next (Came (point to on) after) (room m.limit before)
     → work m to after < work m (suc next) before

@@ -1,4 +1,5 @@
 pub mod ClassLemmas
+pub mod DividingLemmas
 pub mod IndexLemmas
 pub mod LineLemmas
 pub mod NextLemmas

@@ -1,4 +1,5 @@
 pub mod Classes
+pub mod Dividing
 pub mod Indexed
 pub mod Indexes
 pub mod Lines

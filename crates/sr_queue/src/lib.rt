@@ -2,6 +2,7 @@
 #![tactic(auto)]
 
 mod class;
+mod dividing;
 mod index;
 mod laws;
 mod pending;

@@ -22,8 +22,8 @@ const LEAST_INDEXED: usize = 16;
 /// Pending invocations in the order in which they arrived.
 #[derive(Drop)]
 pub struct Queue {
-    alloc: Global,
-    pending: Line<Pending>,
+    pub(crate) alloc: Global,
+    pub(crate) pending: Line<Pending>,
     /// Where those of each operation stand. It begins when `LEAST_INDEXED` are pending and ends when none is left.
     /// Where memory for it runs out, it ends too, and the next power of two that are pending begins another.
     index: Option<Index>,
@@ -269,7 +269,7 @@ fn end_empty(index: &mut Option<Index>, left: usize)
 }
 
 /// Takes the invocation at a place out of a list.
-fn take_out(pending: &mut Line<Pending>, i: u32) -> Pending
+pub(crate) fn take_out(pending: &mut Line<Pending>, i: u32) -> Pending
     requires { i < length pending.old.items }
     ensures item { slice_get pending.old.items i ≡ Some result }
     ensures others { pending.new.items ≡ remove pending.old.items i }

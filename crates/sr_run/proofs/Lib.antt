@@ -5,6 +5,7 @@ pub mod Begun
 pub mod Events
 pub mod Following
 pub mod Known
+pub mod OneCause
 pub mod Reached
 pub mod Stepped
 pub mod Taken

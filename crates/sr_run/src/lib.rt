@@ -5,10 +5,12 @@ mod advance;
 mod end;
 mod intake;
 mod items;
+mod laws;
 mod stretch;
 mod taking;
 mod whole;
 
 pub use end::{LimitKind, Run, RunEnd};
+pub use laws::one_cause;
 pub use stretch::Stretch;
 pub use whole::run;

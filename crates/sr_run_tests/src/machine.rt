@@ -1,5 +1,5 @@
 use crate::program::PLACE;
-use sr_ask::{Ask, ReadKind, Request, Role};
+use sr_ask::{Answer, Ask, ReadKind, Request, Role};
 use sr_core::Core;
 use sr_value::{Cap, Row};
 use sr_world::{Acted, End, World};
@@ -57,6 +57,52 @@ fn is_known(world: &World) -> bool {
         && world.output().is_empty()
 }
 
+/// Whether the first process is told the moment 10.
+fn is_ten_told(world: &mut World, core: &Core, name: u32) -> bool {
+    let ask = asked(Request::Age);
+    world.is_new(name)
+        && matches!(
+            world.act(core, 1, &ask, name),
+            Ok(Acted::Done(Answer::Number(10)))
+        )
+}
+
+/// Whether time passes to the moment 10, before which the first process naps and after which it goes on.
+fn passes_time(world: &mut World, core: &Core) -> bool {
+    let nap = asked(Request::Wake { until: 10 });
+    if world.moment() >= 10 || world.is_ready(core, 1, &nap) != Ok(false) {
+        return false;
+    }
+    world.advance(10);
+    world.moment() == 10 && is_done(world, core, &nap, false) && is_ten_told(world, core, 3)
+}
+
+/// Whether a request of the first process reads nothing for a choice.
+fn reads_nothing(world: &World, core: &Core, request: &Request) -> bool {
+    match world.seen(core, 1, request) {
+        Ok(seen) => seen.is_empty(),
+        Err(_) => false,
+    }
+}
+
+/// Whether the numbers 1 and 2 are used, main is there, and nothing is pending, read by a choice or to be answered.
+fn is_lent(alloc: Global, world: &World, core: &Core) -> bool {
+    let choice = Request::Select {
+        site: 0,
+        env: Row::new(alloc),
+    };
+    let call = Request::Destroy { target: Cap::Null };
+    world.is_used(2)
+        && !world.is_used(3)
+        && world.places().is_added(2)
+        && world.queue().len() == 0
+        && world
+            .seen(core, 1, &choice)
+            .is_ok_and(|seen| seen.is_empty())
+        && world.duty(1, &choice, 3).is_none()
+        && world.duty(1, &call, 3) == Some((1, 3))
+}
+
 /// Whether a run of a main without final code ends where nobody asks anything.
 fn is_at_rest(alloc: Global, world: &mut World, core: &Core) -> bool {
     world.none_can_step(core, &Row::new(alloc)) == Ok(true)
@@ -67,6 +113,8 @@ fn is_right(alloc: Global, world: &mut World, core: &Core) -> bool {
     is_main_made(alloc, world, core)
         && is_read(world, core)
         && is_known(world)
+        && is_lent(alloc, world, core)
+        && passes_time(world, core)
         && is_at_rest(alloc, world, core)
 }
 

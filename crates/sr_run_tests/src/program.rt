@@ -16,10 +16,10 @@ pub fn no_program(alloc: Global) -> Core {
     }
 }
 
-/// Adds `write(7)`.
-fn add_write(alloc: Global, block: &mut Row<Statement>) -> Result<(), NoMemory> {
+/// Adds a `write` of a value.
+fn add_write(alloc: Global, leaf: Leaf, block: &mut Row<Statement>) -> Result<(), NoMemory> {
     let mut args = Row::new(alloc);
-    args.push(Expr::Leaf(Leaf::Constant(Value::Int(7))))?;
+    args.push(Expr::Leaf(leaf))?;
     block.push(Statement::Act {
         place: PLACE,
         action: Action::Write { args, line: true },
@@ -29,7 +29,29 @@ fn add_write(alloc: Global, block: &mut Row<Statement>) -> Result<(), NoMemory> 
 /// Adds a resource whose initial code writes a number.
 pub fn add_main(alloc: Global, components: &mut Row<Component>) -> Result<(), NoMemory> {
     let mut block = Row::new(alloc);
-    add_write(alloc, &mut block)?;
+    add_write(alloc, Leaf::Constant(Value::Int(7)), &mut block)?;
+    add_resource(alloc, block, components)
+}
+
+/// Adds a resource whose initial code writes the moment and waits until ten milliseconds have gone by.
+pub fn add_nap(alloc: Global, components: &mut Row<Component>) -> Result<(), NoMemory> {
+    let mut block = Row::new(alloc);
+    add_write(alloc, Leaf::Moment, &mut block)?;
+    block.push(Statement::Act {
+        place: PLACE,
+        action: Action::Until {
+            time: Expr::Leaf(Leaf::Constant(Value::Int(10))),
+        },
+    })?;
+    add_resource(alloc, block, components)
+}
+
+/// Adds a resource with this initial code.
+fn add_resource(
+    alloc: Global,
+    block: Row<Statement>,
+    components: &mut Row<Component>,
+) -> Result<(), NoMemory> {
     components.push(Component {
         name: Text::new(alloc),
         place: PLACE,

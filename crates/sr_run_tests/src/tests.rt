@@ -1,7 +1,7 @@
 use crate::choices::chooses;
 use crate::machine::goes_on;
-use crate::program::{add_main, no_program};
-use crate::runs::writes;
+use crate::program::{add_main, add_nap, no_program};
+use crate::runs::{naps, writes};
 use std::alloc::Global;
 
 /// Whether the program is made, the machine goes on with it, and a run of it writes.
@@ -14,6 +14,17 @@ fn are_right(alloc: Global) -> [bool; 3] {
 #[test]
 fn machine_and_run(rt: HostRuntime) {
     assert_eq!(rt; are_right(rt.alloc()), [true, true, true]);
+}
+
+/// Whether the program of a nap is made, and a run of it comes to the nap.
+fn nap_is_right(alloc: Global) -> bool {
+    let mut core = no_program(alloc);
+    add_nap(alloc, &mut core.components).is_ok() && naps(alloc, &core)
+}
+
+#[test]
+fn a_nap(rt: HostRuntime) {
+    assert!(rt; nap_is_right(rt.alloc()));
 }
 
 #[test]

@@ -69,7 +69,7 @@ some_is : {A : Type 0} {a b : A} → Some a ≡ Some b → a ≡ b
 some_is e = cc
 
 -- what a name means that the component doesn't declare, by the component that it names
-abbrev visible_meaning : Place → List ℕ → Spot → Option Decl → Option Meaning
+abbrev pub visible_meaning : Place → List ℕ → Spot → Option Decl → Option Meaning
 visible_meaning place text at (Some component) = Some (Declared component)
 visible_meaning place text at None = from_imports place.within text at (counted (candidates place.specs place.visible text))
 

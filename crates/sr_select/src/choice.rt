@@ -1,7 +1,7 @@
 use sr_value::Fault;
 
 /// What an `in` statement does.
-#[derive(Clone, Copy, Debug, PartialEq, Eq)]
+#[derive(Clone, Copy, PartialEq, Eq)]
 pub enum Choice {
     /// It services the invocation at a place of the queue by an arm.
     Service { place: u32, arm: u32 },

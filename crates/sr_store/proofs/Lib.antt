@@ -1,4 +1,5 @@
 pub mod BlockLemmas
+pub mod BucketLemmas
 pub mod CopyLemmas
 pub mod KeptLemmas
 pub mod LawLemmas

@@ -162,7 +162,7 @@ pub struct Head {
 }
 
 /// A shared variable: its component, and its number among the shared variables of that component.
-#[derive(Clone, Copy, Debug, PartialEq, Eq)]
+#[derive(Clone, Copy, PartialEq, Eq)]
 pub struct SharedVariable {
     pub component: u32,
     pub var: u32,

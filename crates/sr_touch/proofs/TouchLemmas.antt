@@ -14,7 +14,7 @@ use Rattle.sr_core.specs.declared.component.Operation.{Operation}
 use Rattle.sr_core.specs.declared.owner.Me.{Me}
 use Rattle.sr_core.specs.declared.site.Site.{Site}
 use Rattle.sr_select.specs.Worlds.{listed, reads_only}
-use Rattle.sr_touch.specs.Homes.{home}
+use Rattle.sr_buckets.specs.Parts.{home}
 use Rattle.sr_touch.specs.Orders.{all_added, in_order}
 use Rattle.sr_touch.specs.Touched.{answer_parts, caller_parts, count_part, has_one_class, invoked_parts, is_wide_request, is_wide_site, one_part, operation_parts, parts_beside, parts_of, select_parts, site_parts}
 use Rattle.sr_touch.proofs.OrderLemmas.{added_all, added_few}

@@ -1,11 +1,8 @@
--- The 32 parts of a world, and the part in which each thing stands.
-use Rattle.std.specs.Prelude.{ℕ, ◌+◌, ◌%◌}
+-- The part in which pending invocations stand.
+use Rattle.std.specs.Prelude.{ℕ, ◌+◌}
+use Rattle.sr_buckets.specs.Parts.{home}
 use Rattle.sr_value.specs.declared.capability.Owner.{Owner}
 use Rattle.sr_value.specs.declared.capability.Owner.TheVariants.{Inst, Proc}
-
--- where a block stands, and a process with what it holds and the replies to it
-abbrev pub home : ℕ → ℕ
-home number = number % 32
 
 abbrev pub owner_number : Owner → ℕ
 owner_number (Inst instance) = instance

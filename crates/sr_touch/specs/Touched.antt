@@ -24,7 +24,8 @@ use Rattle.sr_core.specs.declared.site.Site.{Site}
 use Rattle.sr_select.specs.Choices.{owner_in}
 use Rattle.sr_select.specs.Guards.{guard_block, home_seen}
 use Rattle.sr_select.specs.Worlds.{listed, reads_only}
-use Rattle.sr_touch.specs.Homes.{home, line_home}
+use Rattle.sr_buckets.specs.Parts.{home}
+use Rattle.sr_touch.specs.Homes.{line_home}
 use Rattle.sr_touch.specs.Orders.{in_order}
 
 -- ---- invocations

@@ -1,16 +1,10 @@
 ghost use Rattle.std.specs.Prelude.{◌≡◌};
 ghost use Rattle.sr_classes.specs.Classes.{class_of};
-ghost use Rattle.sr_touch.specs.Homes.{home, line_home, owner_number};
+ghost use Rattle.sr_touch.specs.Homes.{line_home, owner_number};
 
+use sr_buckets::PARTS;
 use sr_core::Classes;
 use sr_value::Owner;
-
-/// The part of a block, or of a process, what it holds and the replies to it.
-pub fn home(number: u32) -> u32
-    ensures { result ≡ home number }
-{
-    number % 32
-}
 
 fn owner_number(owner: Owner) -> u32
     ensures { result ≡ owner_number owner }
@@ -32,9 +26,9 @@ pub fn class_in(classes: &Classes, op: u32) -> u32
 }
 
 /// The part of the pending invocations of an owner that are of the class of an operation.
-pub fn line_home(classes: &Classes, owner: Owner, op: u32) -> u32
+pub fn line_home(classes: &Classes, owner: Owner, op: u32) -> usize
     ensures { result ≡ line_home (class_of classes.now.of) owner op }
 {
     let line = u64::from(owner_number(owner)) + 1 + u64::from(class_in(classes, op));
-    (line % 32) as u32
+    (line % PARTS as u64) as usize
 }

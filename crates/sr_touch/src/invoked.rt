@@ -4,8 +4,9 @@ ghost use Rattle.sr_classes.specs.Classes.{class_of};
 ghost use Rattle.sr_touch.specs.Orders.{IsAscending, all_added, parts_in};
 ghost use Rattle.sr_touch.specs.Touched.{arrival_part, caller_parts, invoked_parts, is_wide_arrival, is_wide_target, operation_parts, owner_parts};
 
-use crate::homes::{home, line_home};
+use crate::homes::line_home;
 use crate::parts::Parts;
+use sr_buckets::home;
 use sr_core::{Classes, Core, Operation};
 use sr_value::{Cap, Owner};
 
@@ -33,7 +34,7 @@ fn with_owner(parts: Parts, owner: Owner) -> Option<Parts>
     }
 }
 
-fn arrival_part(classes: &Classes, name: u32, owner: Owner, op: u32, operation: &Operation) -> u32
+fn arrival_part(classes: &Classes, name: u32, owner: Owner, op: u32, operation: &Operation) -> usize
     ensures { result ≡ arrival_part (class_of classes.now.of) name owner op operation.now.proc }
 {
     match operation.proc {

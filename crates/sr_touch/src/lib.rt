@@ -9,6 +9,6 @@ mod parts;
 mod site;
 mod touch;
 
-pub use homes::{home, line_home};
+pub use homes::line_home;
 pub use parts::Parts;
 pub use touch::{is_wide, touched};

@@ -4,12 +4,12 @@ ghost use Rattle.sr_touch.specs.Orders.{IsAscending, adding, parts_in, up_to_thr
 /// One to three parts of a world, in ascending order.
 #[derive(Clone, Copy, Debug, PartialEq, Eq)]
 pub enum Parts {
-    One(u32),
-    Two(u32, u32),
-    Three(u32, u32, u32),
+    One(usize),
+    Two(usize, usize),
+    Three(usize, usize, usize),
 }
 
-fn one_and(first: u32, part: u32) -> Parts
+fn one_and(first: usize, part: usize) -> Parts
     ensures value { parts_in result ≡ with_part (first ∷ []) part }
     ensures ascending { IsAscending result }
 {
@@ -22,7 +22,7 @@ fn one_and(first: u32, part: u32) -> Parts
     }
 }
 
-fn two_and(first: u32, second: u32, part: u32) -> Parts
+fn two_and(first: usize, second: usize, part: usize) -> Parts
     requires { first < second }
     ensures value { parts_in result ≡ with_part (first ∷ second ∷ []) part }
     ensures ascending { IsAscending result }
@@ -40,7 +40,7 @@ fn two_and(first: u32, second: u32, part: u32) -> Parts
 
 impl Parts {
     /// These parts and one more, unless they are more than three.
-    pub fn with(self, part: u32) -> Option<Parts>
+    pub fn with(self, part: usize) -> Option<Parts>
         requires { IsAscending self }
         ensures value { option_map parts_in result ≡ up_to_three (with_part (parts_in self) part) }
         ensures ascending { IfSome result IsAscending }
@@ -60,7 +60,7 @@ impl Parts {
 }
 
 /// These parts and one more, as long as there are no more than three.
-pub fn adding(parts: Option<Parts>, part: u32) -> Option<Parts>
+pub fn adding(parts: Option<Parts>, part: usize) -> Option<Parts>
     requires { IfSome parts IsAscending }
     ensures value { option_map parts_in result ≡ adding (option_map parts_in parts) part }
     ensures ascending { IfSome result IsAscending }

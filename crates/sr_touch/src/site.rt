@@ -3,12 +3,13 @@ ghost use Rattle.std.specs.List.{list_all};
 ghost use Rattle.std.specs.Prelude.{◌≡◌, ◌==◌, ◌∷◌, IfSome, Some, filter_map, length, nat_le, option_map, slice_get};
 ghost use Rattle.sr_classes.specs.Classes.{class_of};
 ghost use Rattle.sr_select.specs.Choices.{owner_in};
-ghost use Rattle.sr_touch.specs.Homes.{home};
+ghost use Rattle.sr_buckets.specs.Parts.{home};
 ghost use Rattle.sr_touch.specs.Orders.{IsAscending, all_added, in_order, parts_in};
 ghost use Rattle.sr_touch.specs.Touched.{count_part, has_one_class, is_narrow, is_wide_site, line_parts, read_part, select_parts, site_parts};
 
-use crate::homes::{class_in, home, line_home};
+use crate::homes::{class_in, line_home};
 use crate::parts::{Parts, adding};
+use sr_buckets::home;
 use sr_core::{Arm, Classes, Core, Me, Named, Scope, SharedRead, Site};
 use sr_select::{block_of, names_listed};
 use sr_value::{Owner, Value};
@@ -33,7 +34,7 @@ fn with_line(parts: Parts, classes: &Classes, owner: Owner, arms: &[Arm]) -> Opt
     }
 }
 
-fn read_part(me: Me, names: &[Named], env: &[Value], read: SharedRead) -> Option<u32>
+fn read_part(me: Me, names: &[Named], env: &[Value], read: SharedRead) -> Option<usize>
     ensures { result ≡ read_part me names.now env.now read }
 {
     match block_of(me, names, env, read.home) {
@@ -63,7 +64,7 @@ fn with_reads(
 }
 
 /// The line of an operation, as a process means it.
-pub fn count_part(core: &Core, classes: &Classes, me: Me, op: u32) -> Option<u32>
+pub fn count_part(core: &Core, classes: &Classes, me: Me, op: u32) -> Option<usize>
     ensures { result ≡ count_part core.now (class_of classes.now.of) me op }
 {
     match core.operations.get(op as usize) {

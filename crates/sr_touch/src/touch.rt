@@ -3,11 +3,11 @@ ghost use Rattle.sr_classes.specs.Classes.{class_of};
 ghost use Rattle.sr_touch.specs.Orders.{IsAscending, all_added, parts_in};
 ghost use Rattle.sr_touch.specs.Touched.{count_part, is_proc, is_wide, one_part, parts_beside, touched};
 
-use crate::homes::home;
 use crate::invoked::{is_wide_target, with_caller, with_invoked};
 use crate::parts::Parts;
 use crate::site::{count_part, is_wide_site, with_select};
 use sr_ask::{Ask, Request, Role};
+use sr_buckets::home;
 use sr_core::{Classes, Core, Me};
 
 fn is_proc(role: Role) -> bool

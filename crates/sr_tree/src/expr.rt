@@ -14,7 +14,7 @@ pub enum Literal {
 }
 
 /// The words for types that may stand as an expression, as the operand of `low` and `high`.
-#[derive(Clone, Copy, Debug, PartialEq, Eq)]
+#[derive(Clone, Copy, PartialEq, Eq)]
 pub enum BasicType {
     Int,
     Bool,
@@ -22,7 +22,7 @@ pub enum BasicType {
 }
 
 /// The type that a conversion gives.
-#[derive(Clone, Copy, Debug, PartialEq, Eq)]
+#[derive(Clone, Copy, PartialEq, Eq)]
 pub enum Conversion {
     Int,
     Char,
@@ -30,7 +30,7 @@ pub enum Conversion {
 }
 
 /// The operators before an operand.
-#[derive(Clone, Copy, Debug, PartialEq, Eq)]
+#[derive(Clone, Copy, PartialEq, Eq)]
 pub enum UnaryOperator {
     Minus,
     Plus,
@@ -38,7 +38,7 @@ pub enum UnaryOperator {
 }
 
 /// The operators between two operands, from the loosest to the tightest.
-#[derive(Clone, Copy, Debug, PartialEq, Eq)]
+#[derive(Clone, Copy, PartialEq, Eq)]
 pub enum BinaryOperator {
     Or,
     Xor,

@@ -4,7 +4,7 @@ use crate::name::Name;
 use sr_value::{Row, Span};
 
 /// Whether a quantifier counts up or down.
-#[derive(Clone, Copy, Debug, PartialEq, Eq)]
+#[derive(Clone, Copy, PartialEq, Eq)]
 pub enum Direction {
     To,
     Downto,
@@ -23,7 +23,7 @@ pub struct Quantifier {
 }
 
 /// The word before the condition of an arm; both mean the same.
-#[derive(Clone, Copy, Debug, PartialEq, Eq)]
+#[derive(Clone, Copy, PartialEq, Eq)]
 pub enum ConditionWord {
     And,
     St,

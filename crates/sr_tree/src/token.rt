@@ -1,7 +1,7 @@
 use sr_value::{Compare, Row, Span, Text};
 
 /// The signs, but for the separator `;`.
-#[derive(Clone, Copy, Debug, PartialEq, Eq)]
+#[derive(Clone, Copy, PartialEq, Eq)]
 pub enum Sign {
     /// `:=:`
     Exchange,
@@ -64,7 +64,7 @@ pub enum Sign {
 }
 
 /// The reserved words.
-#[derive(Clone, Copy, Debug, PartialEq, Eq)]
+#[derive(Clone, Copy, PartialEq, Eq)]
 pub enum Word {
     Af,
     And,
@@ -141,7 +141,7 @@ pub enum Word {
 }
 
 /// What a token is.
-#[derive(Clone, Copy, Debug, PartialEq, Eq)]
+#[derive(Clone, Copy, PartialEq, Eq)]
 pub enum TokenKind {
     /// A name that is no reserved word.
     Name,

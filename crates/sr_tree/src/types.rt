@@ -32,7 +32,7 @@ pub struct Decl {
 }
 
 /// How an argument is passed, where the word is written.
-#[derive(Clone, Copy, Debug, PartialEq, Eq)]
+#[derive(Clone, Copy, PartialEq, Eq)]
 pub enum PassMode {
     Val,
     Var,
@@ -40,7 +40,7 @@ pub enum PassMode {
 }
 
 /// How an operation may be invoked.
-#[derive(Clone, Copy, Debug, PartialEq, Eq)]
+#[derive(Clone, Copy, PartialEq, Eq)]
 pub enum InvocationKind {
     Call,
     Send,

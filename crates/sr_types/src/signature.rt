@@ -6,7 +6,7 @@ use sr_value::{Compare, Duplicate, NoMemory, Row};
 use std::alloc::Global;
 
 /// How a formal is passed.
-#[derive(Clone, Copy, Debug, PartialEq, Eq)]
+#[derive(Clone, Copy, PartialEq, Eq)]
 pub enum Mode {
     /// Copied in. It is the mode where none is written.
     Val,
@@ -17,7 +17,7 @@ pub enum Mode {
 }
 
 /// The forms of invocation that an operation allows.
-#[derive(Clone, Copy, Debug, PartialEq, Eq)]
+#[derive(Clone, Copy, PartialEq, Eq)]
 pub enum Forms {
     /// `call` and `send`, as where nothing is written.
     Both,
@@ -28,14 +28,14 @@ pub enum Forms {
 }
 
 /// What a signature says of one of its formals.
-#[derive(Debug, Drop)]
+#[derive(Drop)]
 pub struct Param {
     pub mode: Mode,
     pub ty: Ty,
 }
 
 /// A signature: what the types of operations say of them.
-#[derive(Debug, Drop)]
+#[derive(Drop)]
 pub struct Signature {
     pub params: Row<Param>,
     /// The type of what it returns, where it returns something.

@@ -5,7 +5,7 @@ use sr_value::Compare;
 
 /// The spot of the name in a declaration. No two declarations have one spot, so it stands for the
 /// declaration.
-#[derive(Clone, Copy, Debug, PartialEq, Eq)]
+#[derive(Clone, Copy, PartialEq, Eq)]
 pub struct Spot {
     /// The file, counted from 0 in the order in which the files are given.
     pub file: u32,

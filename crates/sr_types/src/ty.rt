@@ -7,7 +7,7 @@ use sr_value::{Boxed, Compare, Duplicate, NoMemory};
 use std::alloc::Global;
 
 /// A type.
-#[derive(Debug, Drop)]
+#[derive(Drop)]
 pub enum Ty {
     Int,
     Bool,

@@ -1,14 +1,16 @@
-ghost use Rattle.std.specs.Prelude.{◌<◌, ◌≤◌, IfOk};
+ghost use Rattle.std.specs.Prelude.{◌<◌, ◌≤◌, All, IfOk};
 ghost use Rattle.sr_worker.specs.Hands.{AreApart, processes_of};
 
 use crate::{CountingGate, FakeDesk, FakeSeat, Script};
 use sr_actor::Member;
 use sr_ask::{Answer, Ask, Entry, Request, Role};
 use sr_core::{Classes, Core};
+use sr_hands::work_all;
 use sr_ports::FreeGate;
 use sr_value::{Cap, Duplicate, NoMemory, Place, Row, Shared, Text, Value};
 use sr_worker::{Hand, Job, Notes, Player, Worker, work};
 use std::alloc::Global;
+use std::thread::Threads;
 
 fn no_core(alloc: Global) -> Core {
     Core {
@@ -301,6 +303,46 @@ fn by_four(alloc: Global) -> Result<(usize, u64), NoMemory> {
 #[test]
 fn four_workers(rt: HostRuntime) {
     assert_eq!(rt; by_four(rt.alloc()).unwrap_or((0, 0)), (800, 800));
+}
+
+/// The jobs of four workers.
+fn jobs_of(alloc: Global) -> Result<Vec<Job<Script, FakeSeat>>, NoMemory>
+    ensures { IfOk result (λ jobs. All (λ job. AreApart (processes_of job.hand.players)) jobs.items) }
+{
+    let mut jobs = Vec::new(alloc);
+    for number in 0..4 {
+        jobs.push(job_of(alloc, number)?)?;
+    }
+    Ok(jobs)
+}
+
+/// How many entries four workers make at once, in threads, and how many steps passed the gate.
+fn by_four_threads<R: Threads + Sync>(rt: &R, alloc: Global) -> Result<(usize, u64), NoMemory> {
+    let desk = FakeDesk { alloc, limit: 10 };
+    let gate = CountingGate::new();
+    let done = work_all::<R, Script, FakeDesk, CountingGate>(
+        rt,
+        jobs_of(alloc)?,
+        &no_core(alloc),
+        &no_classes(alloc),
+        &desk,
+        &gate,
+    )?;
+    let mut entries = 0usize;
+    for answer in &done {
+        if let Ok(job) = answer {
+            entries = entries.saturating_add(count_own(job));
+        }
+    }
+    Ok((entries, gate.after()))
+}
+
+#[test]
+fn four_threads(rt: HostRuntime) {
+    assert_eq!(rt;
+        by_four_threads(&rt, rt.alloc()).unwrap_or((0, 0)),
+        (800, 800)
+    );
 }
 
 /// A text of 1 MB.

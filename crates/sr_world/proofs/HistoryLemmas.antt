@@ -19,6 +19,7 @@ use Rattle.sr_queue.specs.declared.pending.Pending.{Pending}
 use Rattle.sr_select.specs.declared.choice.Choice.{Choice}
 use Rattle.sr_select.specs.declared.choice.Choice.TheVariants as chosen
 use Rattle.sr_value.specs.declared.value.Value.{Value}
+use Rattle.sr_world.specs.Callers.{makes_duty}
 use Rattle.sr_world.specs.Deciding.{is_select}
 use Rattle.sr_world.specs.Does.{Does, Did, Makes, Cannot, Ends, Undecided, failed, where_some}
 use Rattle.sr_world.specs.Histories.{AllLegal, Entry, IsLegalMark, Mark, Arrives, Serves, all_from, arrived, entries_in, marks_by, marks_in, marks_of, taken_up, waiting_as}
@@ -186,7 +187,7 @@ module _ (core : Core) (limit : ℕ) where
       taken-marks name after answer.Bad d unpicked = tt
       taken-marks name after answer.End d unpicked = tt
 
-      pub step-marks : (name : ℕ) (d : Does) → does core state.world actor ask name ≡ d → Well (is_call items) state.given actor name (is_select ask.request) state.world d
+      pub step-marks : (name : ℕ) (d : Does) → does core state.world actor ask name ≡ d → Well (is_call items) state.given actor name (is_select ask.request) (makes_duty ask.request) state.world d
           → is_legal (stepped state actor name d) ≡ true → AllMarks state (marks_of state.world actor d)
       step-marks name (Did after a) is h legal = taken-marks name after a is h.unpicked
       step-marks name (Makes after a) is h legal = arrived-marks name after h.pending (where-legal (is_new state.world name) (Goes (record { world = after; given = with_answer actor a state.given })) legal)
@@ -202,7 +203,7 @@ module _ (core : Core) (limit : ℕ) where
             → AllMarks state (marks_of state.world actor (asks_for core state.world actor name asks))
         by (Asked ask) is h =
             step-marks actor start found ask is name (does core state.world actor ask name) refl
-            (well (is_call items) state.given actor name (is_select ask.request) state.world (kept-of items state sound) (ap is_some found) core ask.place ask.role ask.request refl) h
+            (well (is_call items) state.given actor name (is_select ask.request) (makes_duty ask.request) state.world (kept-of items state sound) (ap is_some found) core ask.place ask.role ask.request refl refl) h
         by OverTicks is h = tt
 
     pub item-marks : (item : Item) → is_legal (next core limit state item) ≡ true → AllMarks state (marks_in core limit state item)

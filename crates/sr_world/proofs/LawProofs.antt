@@ -14,6 +14,7 @@ use Rattle.sr_calls.specs.Calls.{items_of}
 use Rattle.sr_calls.specs.declared.held.Reply.{Reply}
 use Rattle.sr_core.specs.declared.component.Core.{Core}
 use Rattle.sr_instances.specs.Instances.{Instance}
+use Rattle.sr_world.specs.Callers.{makes_duty}
 use Rattle.sr_world.specs.Deciding.{is_select}
 use Rattle.sr_world.specs.Does.{Does, Did, Makes, Cannot, Ends, Undecided, comes_to, is_possible}
 use Rattle.sr_world.specs.Endings.{close_or, main_instance, may_close, rest_of}
@@ -21,7 +22,7 @@ use Rattle.sr_world.specs.Making.{run_final}
 use Rattle.sr_world.specs.Updates.{end_all, fix, pass_to}
 use Rattle.sr_world.specs.Runs.{Event, Makes_item, Gives, Closes, Next, Goes, Over, Illegal, State, after, and_then, asks_for, asks_next, begun, comes_after, heeds_time, is_legal, is_new, items_in, led, next, no_step, output_of, rested, run, run_from, step_of, stepped, where_true, with_answer}
 use Rattle.sr_world.specs.Sound.{IsSound, given_out, is_call, is_step, name_in, names_in, times_used}
-use Rattle.sr_world.specs.Spots.{Spot, Waiting, RepliedTo, TakenBy, DutyOf, ServiceOf, is_astray_answer, is_took, number_of}
+use Rattle.sr_world.specs.Spots.{Calls, Spot, Waiting, RepliedTo, TakenBy, DutyOf, ServiceOf, is_astray_answer, is_took, number_of}
 use Rattle.sr_world.specs.Worlds.{World, started}
 use Rattle.sr_world.specs.declared.ends.End.{End}
 use Rattle.sr_world.proofs.CountLemmas.{count-cons, one}
@@ -77,14 +78,14 @@ module _ (core : Core) (limit : ℕ) where
   same-text : (state : State) → (rest : List ℕ) × (state.world.output ≡ state.world.output ++ rest)
   same-text state = ([], sym (append-nil state.world.output))
 
-  grows-stepped : (items : List Item) (state : State) (actor name : ℕ) (selects : Bool) (d : Does) → Well (is_call items) state.given actor name selects state.world d
+  grows-stepped : (items : List Item) (state : State) (actor name : ℕ) (selects asks : Bool) (d : Does) → Well (is_call items) state.given actor name selects asks state.world d
       → is_legal (stepped state actor name d) ≡ true → Grows state (stepped state actor name d)
-  grows-stepped items state actor name selects (Did w a) h legal = grows-where (name == 0) state (Goes (record { world = w; given = with_answer actor a state.given })) legal h.output
-  grows-stepped items state actor name selects (Makes w a) h legal =
+  grows-stepped items state actor name selects asks (Did w a) h legal = grows-where (name == 0) state (Goes (record { world = w; given = with_answer actor a state.given })) legal h.output
+  grows-stepped items state actor name selects asks (Makes w a) h legal =
       grows-where (is_new state.world name) state (Goes (record { world = w; given = with_answer actor a state.given })) legal ([], h.output ∙ sym (append-nil state.world.output))
-  grows-stepped items state actor name selects Cannot h legal = absurd (true≢false (sym legal))
-  grows-stepped items state actor name selects (Ends ending) h legal = grows-where (name == 0) state (Over ending state) legal (same-text state)
-  grows-stepped items state actor name selects Undecided h legal = absurd (true≢false (sym legal))
+  grows-stepped items state actor name selects asks Cannot h legal = absurd (true≢false (sym legal))
+  grows-stepped items state actor name selects asks (Ends ending) h legal = grows-where (name == 0) state (Over ending state) legal (same-text state)
+  grows-stepped items state actor name selects asks Undecided h legal = absurd (true≢false (sym legal))
 
   grows-step : (items : List Item) (state : State) (actor name : ℕ) (o : Option Start) → IsSound items state → started state.world actor ≡ o
       → is_legal (step_of core limit state actor name o) ≡ true → Grows state (step_of core limit state actor name o)
@@ -93,7 +94,7 @@ module _ (core : Core) (limit : ℕ) where
     where
       by : (asks : Asks) → is_legal (stepped state actor name (asks_for core state.world actor name asks)) ≡ true → Grows state (stepped state actor name (asks_for core state.world actor name asks))
       by (Asked request) h =
-          grows-stepped items state actor name (is_select request.request) _ (well (is_call items) state.given actor name (is_select request.request) state.world (kept-of items state sound) (ap is_some found) core request.place request.role request.request refl) h
+          grows-stepped items state actor name (is_select request.request) (makes_duty request.request) _ (well (is_call items) state.given actor name (is_select request.request) (makes_duty request.request) state.world (kept-of items state sound) (ap is_some found) core request.place request.role request.request refl refl) h
       by OverTicks h = absurd (true≢false (sym h))
 
   grows-rested : (state : State) (name : ℕ) (main : Option Instance) → is_legal (rested state name (close_or core name None (rest_of state.world.fixed) state.world main)) ≡ true
@@ -228,15 +229,15 @@ serviced_once = record {
 
 -- ---- callers
 
-module _ (items : List Item) (process id : ℕ) where
-  calls-not : (taken : ℕ) → is_call items process id ≡ false → one (taken == id) ≤ one (not (is_call items process taken))
+module _ (calls : Calls) (process id : ℕ) where
+  calls-not : (taken : ℕ) → calls process id ≡ false → one (taken == id) ≤ one (not (calls process taken))
   calls-not taken none = by (taken == id) refl
     where
-      by : (b : Bool) → (taken == id) ≡ b → one b ≤ one (not (is_call items process taken))
-      by true is = let no-call : not (is_call items process taken) ≡ true = ap not (ap (is_call items process) (eqb-true taken id is) ∙ none) in let e = ap one no-call in omega (arith, e)
+      by : (b : Bool) → (taken == id) ≡ b → one b ≤ one (not (calls process taken))
+      by true is = let no-call : not (calls process taken) ≡ true = ap not (ap (calls process) (eqb-true taken id is) ∙ none) in let e = ap one no-call in omega (arith, e)
       by false is = omega arith
 
-  answer-not : (a : Answer) → is_call items process id ≡ false → one (is_took id a) ≤ one (is_astray_answer (is_call items) process a)
+  answer-not : (a : Answer) → calls process id ≡ false → one (is_took id a) ≤ one (is_astray_answer calls process a)
   answer-not answer.Done none = omega arith
   answer-not (answer.Got v) none = omega arith
   answer-not (answer.Made n) none = omega arith
@@ -249,20 +250,20 @@ module _ (items : List Item) (process id : ℕ) where
   answer-not answer.End none = omega arith
 
   -- a reply that was taken or waits is to a process that called
-  took-known : (answers : List Answer) → count_by (is_astray_answer (is_call items) process) answers ≡ 0 → 0 < count_by (is_took id) answers → is_call items process id ≡ true
-  took-known answers right some = by (is_call items process id) refl
+  pub took-known : (answers : List Answer) → count_by (is_astray_answer calls process) answers ≡ 0 → 0 < count_by (is_took id) answers → calls process id ≡ true
+  took-known answers right some = by (calls process id) refl
     where
-      by : (b : Bool) → is_call items process id ≡ b → b ≡ true
+      by : (b : Bool) → calls process id ≡ b → b ≡ true
       by true is = refl
-      by false is = let less = sum_by-le-sum_by (λ a. one (is_took id a)) (λ a. one (is_astray_answer (is_call items) process a)) answers (λ a. answer-not a is) in absurd (omega (arith, less, right, some))
+      by false is = let less = sum_by-le-sum_by (λ a. one (is_took id a)) (λ a. one (is_astray_answer calls process a)) answers (λ a. answer-not a is) in absurd (omega (arith, less, right, some))
 
-  waits-known : (replies : List Reply) → count_by (λ r. not (is_call items process r.id)) replies ≡ 0 → 0 < count_by (λ r. r.id == id) replies → is_call items process id ≡ true
-  waits-known replies right some = by (is_call items process id) refl
+  pub waits-known : (replies : List Reply) → count_by (λ r. not (calls process r.id)) replies ≡ 0 → 0 < count_by (λ r. r.id == id) replies → calls process id ≡ true
+  waits-known replies right some = by (calls process id) refl
     where
-      by : (b : Bool) → is_call items process id ≡ b → b ≡ true
+      by : (b : Bool) → calls process id ≡ b → b ≡ true
       by true is = refl
       by false is =
-          let less = sum_by-le-sum_by (λ (r : Reply). one (r.id == id)) (λ (r : Reply). one (not (is_call items process r.id))) replies (λ r. calls-not r.id is) in absurd (omega (arith, less, right, some))
+          let less = sum_by-le-sum_by (λ (r : Reply). one (r.id == id)) (λ (r : Reply). one (not (calls process r.id))) replies (λ r. calls-not r.id is) in absurd (omega (arith, less, right, some))
 
 module _ (a b id : ℕ) (apart : (a == b) ≡ false) (some : (id == 0) ≡ false) where
   not-both : (c : ℕ) → one (c == a) + one (c == b) ≤ 1
@@ -323,10 +324,10 @@ answered_once = record {
   duty_ends = λ core limit state process id other valid taken there. sym ((each_stands_once core limit state (DutyOf id) valid).alone (TakenBy process) other taken there);
   to_its_caller = λ core limit events state process id is taken.
       let sound = sound-led core limit events state is in
-      took-known (items_in events) process id (state.given process) (sound.duties.callers (TakenBy process)) taken;
+      took-known (is_call (items_in events)) process id (state.given process) (sound.duties.callers (TakenBy process)) taken;
   for_its_caller = λ core limit events state process id is waits.
       let sound = sound-led core limit events state is in
-      waits-known (items_in events) process id (items_of state.world.replies process) (sound.duties.callers (RepliedTo process)) waits;
+      waits-known (is_call (items_in events)) process id (items_of state.world.replies process) (sound.duties.callers (RepliedTo process)) waits;
   one_caller = λ core limit events state process other id is some here there.
       one-caller (items_in events) state process other id (sound-led core limit events state is) some here there;
 }

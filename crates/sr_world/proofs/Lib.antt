@@ -1,4 +1,5 @@
 pub mod CallLemmas
+pub mod CalledLemmas
 pub mod ClassLemmas
 pub mod CountLemmas
 pub mod DecideLemmas
@@ -12,7 +13,6 @@ pub mod MoveLemmas
 pub mod NameLemmas
 pub mod OnceLemmas
 pub mod PartLemmas
-pub mod PassLemmas
 pub mod PieceLemmas
 pub mod PlaceLemmas
 pub mod QuietLemmas

@@ -153,10 +153,11 @@ module _ (calls : Calls) (given : ℕ → List Answer) where
   -- ---- what gets a new number
 
   -- the number of a step that makes something
-  pub record IsNamed (w : World) (actor name : ℕ) : Type 0 where
+  pub record IsNamed (w : World) (actor name : ℕ) (asks : Bool) : Type 0 where
     pub new : times_used w name ≡ 0
     pub nonzero : (name == 0) ≡ false
-    pub called : calls actor name ≡ true
+    -- a step that makes a duty to its process is a call
+    pub called : asks ≡ true → calls actor name ≡ true
 
   pub used-once : (w : World) (name : ℕ) → times_used (use_name name w) name ≡ suc (times_used w name)
   used-once w name =
@@ -167,12 +168,12 @@ module _ (calls : Calls) (given : ℕ → List Answer) where
   new-fresh w name k new = fresh-is calls (at w given) name k.duties new
 
   -- the duty of a new call
-  pub new-hand : (w : World) (actor name : ℕ) (wants : Bool) → K w → IsNamed w actor name → Hand (use_name name w) (duty_for wants actor name)
-  new-hand w actor name false k named = no-hand calls (at (use_name name w) given) name
-  new-hand w actor name true k named = record {
+  pub new-hand : (w : World) (actor name : ℕ) (wants asks : Bool) → wants ≡ asks → K w → IsNamed w actor name asks → Hand (use_name name w) (duty_for wants actor name)
+  new-hand w actor name false asks is k named = no-hand calls (at (use_name name w) given) name
+  new-hand w actor name true asks is k named = record {
     clear = λ some. clear-fewer (at w given) (at (use_name name w) given) (DutyOf name) (use_name-fewer given name w) (new-fresh w name k named.new (DutyOf name) refl);
     used = λ some. omega (arith, used-once w name);
-    known = λ some. named.called;
+    known = λ some. named.called (sym is);
   }
 
   -- a new process

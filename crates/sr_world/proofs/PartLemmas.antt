@@ -16,9 +16,9 @@ use Rattle.sr_world.specs.Answering.{answer, duty_held}
 use Rattle.sr_world.specs.Endings.{end_after, finish}
 use Rattle.sr_world.specs.Invoking.{instance_of_process}
 use Rattle.sr_world.specs.Making.{make_ready, ready_from}
-use Rattle.sr_world.specs.Parts.{People, fixed_after, numbers_after, people_in, people_of, places_after, ready_in, ready_own, ready_when, replies_after, replies_unless, with_people, without_all, without_one}
+use Rattle.sr_world.specs.Parts.{People, numbers_after, people_in, people_of, places_after, ready_in, ready_own, ready_when, replies_after, replies_unless, with_people, without_all, without_one}
 use Rattle.sr_world.specs.Steps.{ready_after}
-use Rattle.sr_world.specs.Updates.{add_reply, end_instance, end_process, end_processes, fix, processes_of, set_state, use_name}
+use Rattle.sr_world.specs.Updates.{add_reply, end_instance, end_process, end_processes, processes_of, set_state, use_name}
 use Rattle.sr_world.specs.Worlds.{World, is_live}
 use Rattle.sr_world.specs.declared.duty.Duty.{Duty}
 
@@ -41,10 +41,6 @@ ready_is instance world = by (state_of world.places instance)
     by (Some Ready) = refl
     by (Some Closing) = refl
     by (Some Gone) = refl
-
-pub fix_is : (status : Option ℕ) (world : World) → fix status world ≡ record world { fixed = fixed_after status world.fixed }
-fix_is None world = refl
-fix_is (Some n) world = refl
 
 -- ---- processes that end
 

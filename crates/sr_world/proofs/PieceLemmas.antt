@@ -14,6 +14,7 @@ use Rattle.sr_ask.specs.declared.answer.Answer.TheVariants as answer
 use Rattle.sr_meaning.specs.Processes.{first_line}
 use Rattle.sr_world.specs.Making.{run_final}
 use Rattle.sr_world.specs.Updates.{end_all, fix, pass_to}
+use Rattle.sr_world.specs.Callers.{makes_duty}
 use Rattle.sr_world.specs.Deciding.{awaits_input, can_do, is_select}
 use Rattle.sr_world.specs.Does.{Does, Did, Makes, Cannot, Ends, Undecided, comes_to, is_possible, is_undecided}
 use Rattle.sr_world.specs.Endings.{close_or, main_instance, may_close, quiesce, rest_of}
@@ -32,19 +33,19 @@ use Rattle.sr_world.specs.Laws.{ItemsGiveTheRun, closes, next_with_all, with_all
 module _ (core : Core) (limit : ℕ) where
   -- ---- items leave the end of the input
 
-  ended-stepped : (items : List Item) (state later : State) (actor name : ℕ) (selects : Bool) (d : Does) → Well (is_call items) state.given actor name selects state.world d → stepped state actor name d ≡ Goes later
+  ended-stepped : (items : List Item) (state later : State) (actor name : ℕ) (selects asks : Bool) (d : Does) → Well (is_call items) state.given actor name selects asks state.world d → stepped state actor name d ≡ Goes later
       → later.world.ended ≡ state.world.ended
-  ended-stepped items state later actor name selects (Did w a) h is =
+  ended-stepped items state later actor name selects asks (Did w a) h is =
       let parts = goes-where (name == 0) (Goes (record { world = w; given = with_answer actor a state.given })) later is in
       let same : record { world = w; given = with_answer actor a state.given } ≡ later = cc in
       ap (λ (s : State). s.world.ended) (sym same) ∙ h.ended
-  ended-stepped items state later actor name selects (Makes w a) h is =
+  ended-stepped items state later actor name selects asks (Makes w a) h is =
       let parts = goes-where (is_new state.world name) (Goes (record { world = w; given = with_answer actor a state.given })) later is in
       let same : record { world = w; given = with_answer actor a state.given } ≡ later = cc in
       ap (λ (s : State). s.world.ended) (sym same) ∙ h.ended
-  ended-stepped items state later actor name selects Cannot h is = absurd (cc)
-  ended-stepped items state later actor name selects (Ends ending) h is = let parts = goes-where (name == 0) (Over ending state) later is in absurd (cc)
-  ended-stepped items state later actor name selects Undecided h is = absurd (cc)
+  ended-stepped items state later actor name selects asks Cannot h is = absurd (cc)
+  ended-stepped items state later actor name selects asks (Ends ending) h is = let parts = goes-where (name == 0) (Over ending state) later is in absurd (cc)
+  ended-stepped items state later actor name selects asks Undecided h is = absurd (cc)
 
   ended-step : (items : List Item) (state later : State) (actor name : ℕ) (o : Option Start) → IsSound items state → started state.world actor ≡ o → step_of core limit state actor name o ≡ Goes later
       → later.world.ended ≡ state.world.ended
@@ -53,8 +54,8 @@ module _ (core : Core) (limit : ℕ) where
     where
       by : (asks : Asks) → stepped state actor name (asks_for core state.world actor name asks) ≡ Goes later → later.world.ended ≡ state.world.ended
       by (Asked ask) h =
-          ended-stepped items state later actor name (is_select ask.request) (does core state.world actor ask name)
-          (well (is_call items) state.given actor name (is_select ask.request) state.world (kept-of items state sound) (ap is_some found) core ask.place ask.role ask.request refl) h
+          ended-stepped items state later actor name (is_select ask.request) (makes_duty ask.request) (does core state.world actor ask name)
+          (well (is_call items) state.given actor name (is_select ask.request) (makes_duty ask.request) state.world (kept-of items state sound) (ap is_some found) core ask.place ask.role ask.request refl refl) h
       by OverTicks h = absurd (cc)
 
   ended-closed : (state later : State) (name : ℕ) (main : Option Instance) → rested state name (close_or core name None (rest_of state.world.fixed) state.world main) ≡ Goes later → later.world.ended ≡ state.world.ended

@@ -25,6 +25,7 @@ use Rattle.sr_value.specs.declared.fault.Fault.{Fault}
 use Rattle.sr_value.specs.declared.place.Place.{Place}
 use Rattle.sr_value.specs.declared.value.Value.{Value}
 use Rattle.sr_world.specs.Answering.{answer as answered, answer_held, duty_held, held_of}
+use Rattle.sr_world.specs.Callers.{makes_duty}
 use Rattle.sr_world.specs.Deciding.{is_select}
 use Rattle.sr_world.specs.Does.{Does, Did, Makes, Cannot, Ends, Undecided, done_or, where_some}
 use Rattle.sr_world.specs.Endings.{answer_unless, close, close_or, destroy, end_after, finish, main_instance, may_close, status_in, stop_with}
@@ -61,18 +62,18 @@ pub record DoneWell (calls : Calls) (given : ℕ → List Answer) (selects : Boo
 abbrev pub Arrived : ℕ → World → World → Type 0
 Arrived name w w' = (w'.pending ≡ w.pending) ⊎ ((p : Pending) × (w'.pending ≡ w.pending ++ p ∷ []) × (p.id ≡ name))
 
--- what makes something gives its number out, and leaves the output
-pub record MadeWell (calls : Calls) (given : ℕ → List Answer) (w : World) (actor name : ℕ) (w' : World) (a : Answer) : Type 0 where
-  pub kept : IsNamed calls given w actor name → Keeps calls (at w' (with_answer actor a given))
+-- what makes something gives its number out, and leaves the output; `asks` says whether it makes a duty to its process
+pub record MadeWell (calls : Calls) (given : ℕ → List Answer) (asks : Bool) (w : World) (actor name : ℕ) (w' : World) (a : Answer) : Type 0 where
+  pub kept : IsNamed calls given w actor name asks → Keeps calls (at w' (with_answer actor a given))
   pub used : w'.used ≡ w.used ++ name ∷ []
   pub output : w'.output ≡ w.output
   pub ended : w'.ended ≡ w.ended
   pub pending : Arrived name w w'
 
-module _ (calls : Calls) (given : ℕ → List Answer) (actor name : ℕ) (selects : Bool) where
+module _ (calls : Calls) (given : ℕ → List Answer) (actor name : ℕ) (selects asks : Bool) where
   abbrev pub Well : World → Does → Type 0
   Well w (Did w' a) = DoneWell calls given selects w actor w' a
-  Well w (Makes w' a) = MadeWell calls given w actor name w' a
+  Well w (Makes w' a) = MadeWell calls given asks w actor name w' a
   Well w Cannot = Unit {0}
   Well w (Ends ending) = Unit {0}
   Well w Undecided = Unit {0}
@@ -142,7 +143,7 @@ module _ (calls : Calls) (given : ℕ → List Answer) (actor name : ℕ) (selec
     nothing-new : (a : Answer) → IsPlain a → Well w (Did w a)
     nothing-new a plain = did w a k refl refl [] same-text plain
 
-    made : (w' : World) (a : Answer) → (IsNamed calls given w actor name → K calls given w') → w'.used ≡ w.used ++ name ∷ [] → w'.output ≡ w.output → w'.ended ≡ w.ended → Arrived name w w' → IsPlain a → Well w (Makes w' a)
+    made : (w' : World) (a : Answer) → (IsNamed calls given w actor name asks → K calls given w') → w'.used ≡ w.used ++ name ∷ [] → w'.output ≡ w.output → w'.ended ≡ w.ended → Arrived name w w' → IsPlain a → Well w (Makes w' a)
     made w' a kept used output ended pending plain = record {
       kept = λ named.
           plain-kept calls given w' actor a (kept named)
@@ -157,13 +158,13 @@ module _ (calls : Calls) (given : ℕ → List Answer) (actor name : ℕ) (selec
 
     -- an invocation from a world that still has what it takes, whose duty is in hand once the number is given out
     module _ (from : World) (kept : K calls given from) (same : Same w from) where
-      from-new : IsNamed calls given w actor name → times_used from name ≡ 0
+      from-new : IsNamed calls given w actor name asks → times_used from name ≡ 0
       from-new named = ap (count_by (λ u. u == name)) same.used ∙ named.new
 
       from-used : from.used ++ name ∷ [] ≡ w.used ++ name ∷ []
       from-used = ap (λ us. us ++ name ∷ []) same.used
 
-      module _ (duty : Duty) (hand : IsNamed calls given w actor name → Hand calls given (use_name name from) duty) where
+      module _ (duty : Duty) (hand : IsNamed calls given w actor name asks → Hand calls given (use_name name from) duty) where
         well-arrive : (core : Core) (owner : Owner) (op : ℕ) (args : List Value) (proc : Option ℕ) → Well w (Makes (arrive core name owner op args duty proc from) (answer.Made name))
         well-arrive core owner op args (Some proc) =
             made (run_proc core name (owner_instance from owner) proc args duty from) (answer.Made name)
@@ -265,20 +266,20 @@ module _ (calls : Calls) (given : ℕ → List Answer) (actor name : ℕ) (selec
     well-machine place (cap.Res instance) next h = tt
     well-machine place (cap.Vm machine) next h = h machine
 
-    well-create : (core : Core) (resource machine : ℕ) (args : List Value) → Well w (create_on core actor name resource args w machine)
-    well-create core resource machine args =
+    well-create : true ≡ asks → (core : Core) (resource machine : ℕ) (args : List Value) → Well w (create_on core actor name resource args w machine)
+    well-create is core resource machine args =
         let used : World = use_name name w in
         let placed : World = add_instance name resource machine used in
         well-if w (needs_ready core w resource machine) _ _
         (made (hold name (held_of name (duty_for true actor name)) (run_initial core name resource machine args actor w)) (answer.Made name)
         (λ named.
-        hold-new calls given name (duty_for true actor name) (start_in core placed name name Initial resource args actor) w placed refl k named.new (new-hand calls given w actor name true k named)
+        hold-new calls given name (duty_for true actor name) (start_in core placed name name Initial resource args actor) w placed refl k named.new (new-hand calls given w actor name true asks is k named)
         (same-fewer given used placed refl refl refl refl) (run_initial-kept calls given core name resource machine args actor w k named.new named.nonzero)) refl refl refl (inl refl)
         (λ id. refl, λ id. refl, refl)) tt
 
-    well-open : (core : Core) (instance : ℕ) → Well w (cond (has_final_code core (component_at w instance)) (Makes (close core name instance (duty_for true actor name) w) (answer.Made name))
+    well-open : true ≡ asks → (core : Core) (instance : ℕ) → Well w (cond (has_final_code core (component_at w instance)) (Makes (close core name instance (duty_for true actor name) w) (answer.Made name))
         (Makes (answered (duty_for true actor name) (Some []) (end_instance instance (use_name name w))) (answer.Made name)))
-    well-open core instance =
+    well-open is core instance =
         let used : World = use_name name w in
         let duty : Duty = duty_for true actor name in
         let closing : World = set_state instance Closing used in
@@ -287,24 +288,24 @@ module _ (calls : Calls) (given : ℕ → List Answer) (actor name : ℕ) (selec
         well-if w (has_final_code core (component_at w instance)) _ _
         (made (close core name instance duty w) (answer.Made name)
         (λ named.
-        hold-new calls given name duty (start_in core used name instance Final (component_at w instance) [] actor) w closing refl k named.new (new-hand calls given w actor name true k named)
+        hold-new calls given name duty (start_in core used name instance Final (component_at w instance) [] actor) w closing refl k named.new (new-hand calls given w actor name true asks is k named)
         (same-fewer given used closing refl refl refl refl) (run_final-kept calls given core name instance actor w k named.new named.nonzero)) refl refl refl (inl refl)
         (λ id. refl, λ id. refl, refl))
         (made (answered duty (Some []) (end_instance instance used)) (answer.Made name)
         (λ named.
         answered-kept calls given (end_instance instance used) duty (Some []) (ends.kept (use_name-kept calls given name w k named.new named.nonzero))
-        (in_hand-fewer calls (at used given) (at (end_instance instance used) given) duty ends.fewer (new-hand calls given w actor name true k named)))
+        (in_hand-fewer calls (at used given) (at (end_instance instance used) given) duty ends.fewer (new-hand calls given w actor name true asks is k named)))
         (same'.used ∙ ends.same.used) (same'.output ∙ ends.same.output) (same'.ended ∙ ends.same.ended) (inl (same'.pending ∙ ends.same.pending)) (λ id. refl, λ id. refl, refl))
 
     same-world : Same w w
     same-world = record { used = refl; output = refl; pending = refl; ended = refl }
 
-    well-destroy : (core : Core) (place : Place) (target : Cap) → Well w (destroy core place name target (duty_for true actor name) w)
-    well-destroy core place cap.Null = tt
-    well-destroy core place cap.Noop = well-at-once w k same-world (duty_for true actor name) (new-hand calls given w actor name true k) (Some [])
-    well-destroy core place (cap.Op owner op) = tt
-    well-destroy core place (cap.Res instance) = well-if w (is_open (state_of w.places instance)) _ _ (well-open core instance) tt
-    well-destroy core place (cap.Vm machine) = tt
+    well-destroy : true ≡ asks → (core : Core) (place : Place) (target : Cap) → Well w (destroy core place name target (duty_for true actor name) w)
+    well-destroy is core place cap.Null = tt
+    well-destroy is core place cap.Noop = well-at-once w k same-world (duty_for true actor name) (new-hand calls given w actor name true asks is k) (Some [])
+    well-destroy is core place (cap.Op owner op) = tt
+    well-destroy is core place (cap.Res instance) = well-if w (is_open (state_of w.places instance)) _ _ (well-open is core instance) tt
+    well-destroy is core place (cap.Vm machine) = tt
 
     -- ---- ends
 
@@ -401,40 +402,40 @@ module _ (calls : Calls) (given : ℕ → List Answer) (actor name : ℕ) (selec
 
     -- ---- the table
 
-    pub well : (core : Core) (place : Place) (role : Role) (r : Request) → is_select r ≡ selects → Well w (done_by core w actor name place role r)
-    well core place role (request.Declare block var shape) is =
+    pub well : (core : Core) (place : Place) (role : Role) (r : Request) → is_select r ≡ selects → makes_duty r ≡ asks → Well w (done_by core w actor name place role r)
+    well core place role (request.Declare block var shape) is duty =
         well-done w place (declared_in w.variables block var shape) _ (λ variables. only-variables variables answer.Done (λ id. refl, λ id. refl, refl))
-    well core place role (request.Load block var path) is =
+    well core place role (request.Load block var path) is duty =
         well-done w place (loaded_in w.variables block var path) _ (λ value. nothing-new (answer.Got value) (λ id. refl, λ id. refl, refl))
-    well core place role (request.Store block var path value) is =
+    well core place role (request.Store block var path value) is duty =
         well-done w place (stored_in w.variables block var path value) _ (λ variables. only-variables variables answer.Done (λ id. refl, λ id. refl, refl))
-    well core place role (request.Invoke target args wants) is =
-        well-invoke w k same-world (duty_for wants actor name) (new-hand calls given w actor name wants k) core place target args
-    well core place role (request.Select site env) is = well-where w (slice_get core.sites site) _ (λ s. well-chosen (sym is) s (choice_of core w actor env s))
-    well core place role (request.Take ids) is = well-take ids (earliest_reply w.replies actor ids) refl
-    well core place role (request.Reply held back results) is = well-reply role held results
-    well core place role (request.Forward held back target args) is =
+    well core place role (request.Invoke target args wants) is duty =
+        well-invoke w k same-world (duty_for wants actor name) (new-hand calls given w actor name wants asks duty k) core place target args
+    well core place role (request.Select site env) is duty = well-where w (slice_get core.sites site) _ (λ s. well-chosen (sym is) s (choice_of core w actor env s))
+    well core place role (request.Take ids) is duty = well-take ids (earliest_reply w.replies actor ids) refl
+    well core place role (request.Reply held back results) is duty = well-reply role held results
+    well core place role (request.Forward held back target args) is duty =
         let released : World = release actor held w in
         well-invoke released (release-kept calls given actor held w k) (record { used = refl; output = refl; pending = refl; ended = refl }) (duty_held w actor held)
         (λ named. in_hand-fewer calls (at released given) (at (use_name name released) given) (duty_held w actor held) (use_name-fewer given name released) (released-hand calls given w actor held k)) core place target args
-    well core place role (request.Count op) is = well-where w (slice_get core.operations op) _ (λ operation. nothing-new _ (λ id. refl, λ id. refl, refl))
-    well core place role (request.Write bytes) is = quietly w.variables w.rest (w.output ++ bytes) w.fixed w.moment bytes answer.Done refl (λ id. refl, λ id. refl, refl)
-    well core place role (request.Read kind) is =
+    well core place role (request.Count op) is duty = well-where w (slice_get core.operations op) _ (λ operation. nothing-new _ (λ id. refl, λ id. refl, refl))
+    well core place role (request.Write bytes) is duty = quietly w.variables w.rest (w.output ++ bytes) w.fixed w.moment bytes answer.Done refl (λ id. refl, λ id. refl, refl)
+    well core place role (request.Read kind) is duty =
         well-if w (is_decided kind w.rest w.ended) _ _
         (quietly w.variables (item_read kind w.rest).rest w.output w.fixed w.moment [] (item_read kind w.rest).answer same-text (plain-read kind w.rest)) tt
-    well core place role (request.EnsureGlobal global vm) is =
+    well core place role (request.EnsureGlobal global vm) is duty =
         well-where w (slice_get core.components global) _ (λ component. well-machine place vm _ (λ machine. well-found core global machine (global_in w.places global machine)))
-    well core place role (request.Create resource args vm) is =
-        well-where w (slice_get core.components resource) _ (λ component. well-machine place vm _ (λ machine. well-create core resource machine args))
-    well core place role request.MakeVm is =
+    well core place role (request.Create resource args vm) is duty =
+        well-where w (slice_get core.components resource) _ (λ component. well-machine place vm _ (λ machine. well-create duty core resource machine args))
+    well core place role request.MakeVm is duty =
         made (add_machine name (use_name name w)) (answer.Made name)
         (λ named.
         add_machine-kept calls given name (use_name name w) (use_name-kept calls given name w k named.new named.nonzero)
         (omega (arith, named.new, k.numbers.machines name, used-once calls given w name))) refl refl refl (inl refl)
         (λ id. refl, λ id. refl, refl)
-    well core place role (request.Destroy target) is = well-destroy core place target
-    well core place role (request.Finish answered back results) is = well-finish role answered back results
-    well core place role (request.Stop status) is = well-stop core place (status_in status)
-    well core place role (request.Fail fault) is = tt
-    well core place role request.Age is = nothing-new (answer.Number (pos w.moment)) (λ id. refl, λ id. refl, refl)
-    well core place role (request.Wake until) is = well-if w (nat_lt w.moment until) _ _ tt (nothing-new answer.Done (λ id. refl, λ id. refl, refl))
+    well core place role (request.Destroy target) is duty = well-destroy duty core place target
+    well core place role (request.Finish answered back results) is duty = well-finish role answered back results
+    well core place role (request.Stop status) is duty = well-stop core place (status_in status)
+    well core place role (request.Fail fault) is duty = tt
+    well core place role request.Age is duty = nothing-new (answer.Number (pos w.moment)) (λ id. refl, λ id. refl, refl)
+    well core place role (request.Wake until) is duty = well-if w (nat_lt w.moment until) _ _ tt (nothing-new answer.Done (λ id. refl, λ id. refl, refl))

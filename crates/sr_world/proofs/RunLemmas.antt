@@ -17,11 +17,12 @@ use Rattle.sr_calls.specs.declared.held.Held.{Held}
 use Rattle.sr_calls.specs.declared.held.Reply.{Reply}
 use Rattle.sr_core.specs.declared.component.Core.{Core}
 use Rattle.sr_instances.specs.Instances.{Instance}
+use Rattle.sr_world.specs.Callers.{makes_duty}
 use Rattle.sr_world.specs.Deciding.{is_select}
 use Rattle.sr_world.specs.Does.{Does, Did, Makes, Cannot, Ends, Undecided}
 use Rattle.sr_world.specs.Endings.{close_or, main_instance, may_close, quiesce, rest_of}
 use Rattle.sr_world.specs.Making.{run_final}
-use Rattle.sr_world.specs.Runs.{Event, Makes_item, Gives, Closes, Next, Goes, Over, Illegal, State, after, after_event, asks_for, asks_next, comes_after, first, heeds_time, is_new, is_used, items_in, led, next, no_step, rested, step_of, stepped, where_true, with_answer, with_input, without_more}
+use Rattle.sr_world.specs.Runs.{Event, Makes_item, Gives, Closes, Next, Goes, Over, Illegal, State, after, after_event, and_then, asks_for, asks_next, comes_after, first, heeds_time, is_new, is_used, items_in, led, next, no_step, rested, step_of, stepped, where_true, with_answer, with_input, without_more}
 use Rattle.sr_world.specs.Sound.{IsSound, given_out, is_call, is_step, name_in, names_in, times_used}
 use Rattle.sr_world.specs.Spots.{Calls, Spot, Waiting, HeldBy, RepliedTo, TakenBy, Tests, astray, is_astray, is_astray_answer, stands, tests_of}
 use Rattle.sr_world.specs.Updates.{end_all, fix, pass_to}
@@ -35,11 +36,11 @@ use Rattle.sr_world.proofs.RequestLemmas.{Well, well}
 
 -- ---- tests and counts
 
-either-true : (a b : Bool) → a ≡ true → (a || b) ≡ true
+pub either-true : (a b : Bool) → a ≡ true → (a || b) ≡ true
 either-true true b is = refl
 either-true false b is = absurd (true≢false (sym is))
 
-other-true : (a b : Bool) → b ≡ true → (a || b) ≡ true
+pub other-true : (a b : Bool) → b ≡ true → (a || b) ≡ true
 other-true true b is = refl
 other-true false b is = is
 
@@ -51,7 +52,7 @@ count-none t (x ∷ xs) none = by (t x) refl none (count-none t xs)
     by true is h more = absurd (true≢false h)
     by false is h more = count-cons t x xs ∙ ap (λ b. one b + count_by t xs) is ∙ let rest = more h in omega (arith, rest)
 
-both-true : (a b : Bool) → (a && b) ≡ true → (a ≡ true) × (b ≡ true)
+pub both-true : (a b : Bool) → (a && b) ≡ true → (a ≡ true) × (b ≡ true)
 both-true true true is = (refl, refl)
 both-true true false is = absurd (true≢false (sym is))
 both-true false b is = absurd (true≢false (sym is))
@@ -117,13 +118,6 @@ module _ (calls calls' : Calls) (more : (c i : ℕ) → calls c i ≡ true → c
 pub still-call : (items : List Item) (item : Item) (c i : ℕ) → is_call items c i ≡ true → is_call (items ++ item ∷ []) c i ≡ true
 still-call items item c i is = list_any-append (is_step c i) items (item ∷ []) ∙ either-true (is_call items c i) (is_call (item ∷ []) c i) is
 
--- the last step is one
-pub last-call : (items : List Item) (c i : ℕ) → is_call (items ++ Step c i ∷ []) c i ≡ true
-last-call items c i =
-    list_any-append (is_step c i) items (Step c i ∷ [])
-    ∙ other-true (is_call items c i) (is_call (Step c i ∷ []) c i)
-    (ap (λ b. (b && (i == i)) || false) (eq-eqb c c refl) ∙ ap (λ b. b || false) (eq-eqb i i refl))
-
 -- ---- the numbers given out
 
 no-name : (name : ℕ) → (name == 0) ≡ true → given_out name ≡ []
@@ -153,82 +147,117 @@ sound-of items state used k = record { used = used; numbers = k.numbers; process
 
 -- ---- one item
 
-module _ (items : List Item) (state : State) (sound : IsSound items state) where
-  -- the numbers after an item that makes nothing, and after one that makes something
-  used-none : (item : Item) (name : ℕ) (used : List ℕ) → name_in item ≡ given_out name → (name == 0) ≡ true → used ≡ state.world.used → used ≡ 1 ∷ names_in (items ++ item ∷ [])
-  used-none item name used is none same =
-      same ∙ sound.used ∙ ap (λ ns. 1 ∷ ns) (sym (names-append items item ∙ ap (λ ns. names_in items ++ ns) (is ∙ no-name name none) ∙ append-nil (names_in items)))
+-- whether a step of a process that lives makes a duty to it
+abbrev pub makes_own_duty : Asks → Bool
+makes_own_duty (Asked request) = makes_duty request.request
+makes_own_duty OverTicks = false
 
-  used-some : (item : Item) (name : ℕ) (used : List ℕ) → name_in item ≡ given_out name → (name == 0) ≡ false → used ≡ state.world.used ++ name ∷ [] → used ≡ 1 ∷ names_in (items ++ item ∷ [])
-  used-some item name used is some grown =
-      grown ∙ ap (λ us. us ++ name ∷ []) sound.used ∙ ap (λ ns. 1 ∷ ns) (sym (names-append items item ∙ ap (λ ns. names_in items ++ ns) (is ∙ a-name name some)))
+abbrev pub is_asking : Core → ℕ → State → Option Start → Bool
+is_asking core limit state None = false
+is_asking core limit state (Some start) = makes_own_duty (asks_next core limit state start)
+
+-- whether an item is a call that a process makes in this state, and that gets this number
+abbrev pub is_call_in : Core → ℕ → State → Item → Calls
+is_call_in core limit state (Step a n) process id = ((a == process) && (n == id)) && is_asking core limit state (started state.world a)
+is_call_in core limit state (Quiesce name) process id = false
+is_call_in core limit state (Tick to) process id = false
+
+-- what an item leaves to the state after it, where these are the calls so far, with its own
+pub record Leaves (calls : Calls) (state : State) (item : Item) (later : State) : Type 0 where
+  pub kept : Keeps calls later
+  pub used : later.world.used ≡ state.world.used ++ name_in item
+
+module _ (calls : Calls) (state : State) (before : Keeps calls state) where
+  -- the numbers after an item that makes nothing, and after one that makes something
+  used-none : (name : ℕ) (used : List ℕ) → (name == 0) ≡ true → used ≡ state.world.used → used ≡ state.world.used ++ given_out name
+  used-none name used none same = same ∙ sym (ap (λ ns. state.world.used ++ ns) (no-name name none) ∙ append-nil state.world.used)
+
+  used-some : (name : ℕ) (used : List ℕ) → (name == 0) ≡ false → used ≡ state.world.used ++ name ∷ [] → used ≡ state.world.used ++ given_out name
+  used-some name used some grown = grown ∙ sym (ap (λ ns. state.world.used ++ ns) (a-name name some))
 
   module _ (actor name : ℕ) where
-    step : List Item
-    step = items ++ Step actor name ∷ []
-
-    kept : Keeps (is_call (items ++ Step actor name ∷ [])) state
-    kept = more-kept (is_call items) (is_call (items ++ Step actor name ∷ [])) (still-call items (Step actor name)) state (kept-of items state sound)
-
-    sound-stepped : (selects : Bool) (d : Does) (later : State) → Well (is_call (items ++ Step actor name ∷ [])) state.given actor name selects state.world d → stepped state actor name d ≡ Goes later → IsSound (items ++ Step actor name ∷ []) later
-    sound-stepped selects (Did w a) later h is =
+    left-stepped : (selects asks : Bool) (d : Does) (later : State) → (asks ≡ true → calls actor name ≡ true) → Well calls state.given actor name selects asks state.world d → stepped state actor name d ≡ Goes later
+        → Leaves calls state (Step actor name) later
+    left-stepped selects asks (Did w a) later called h is =
         let parts = goes-where (name == 0) (Goes (record { world = w; given = with_answer actor a state.given })) later is in
         let same : record { world = w; given = with_answer actor a state.given } ≡ later = cc in
-        subst (IsSound (items ++ Step actor name ∷ [])) same
-        (sound-of (items ++ Step actor name ∷ []) (record { world = w; given = with_answer actor a state.given }) (used-none (Step actor name) name w.used refl parts.0 h.used) h.kept)
-    sound-stepped selects (Makes w a) later h is =
+        subst (Leaves calls state (Step actor name)) same (record { kept = h.kept; used = used-none name w.used parts.0 h.used })
+    left-stepped selects asks (Makes w a) later called h is =
         let parts = goes-where (is_new state.world name) (Goes (record { world = w; given = with_answer actor a state.given })) later is in
         let new = new-number state.world name parts.0 in
         let same : record { world = w; given = with_answer actor a state.given } ≡ later = cc in
-        subst (IsSound (items ++ Step actor name ∷ [])) same
-        (sound-of (items ++ Step actor name ∷ []) (record { world = w; given = with_answer actor a state.given }) (used-some (Step actor name) name w.used refl new.0 h.used)
-        (h.kept (record { new = new.1; nonzero = new.0; called = last-call items actor name })))
-    sound-stepped selects Cannot later h is = absurd (cc)
-    sound-stepped selects (Ends ending) later h is = let parts = goes-where (name == 0) (Over ending state) later is in absurd (cc)
-    sound-stepped selects Undecided later h is = absurd (cc)
+        subst (Leaves calls state (Step actor name)) same
+        (record { kept = h.kept (record { new = new.1; nonzero = new.0; called = called }); used = used-some name w.used new.0 h.used })
+    left-stepped selects asks Cannot later called h is = absurd (cc)
+    left-stepped selects asks (Ends ending) later called h is = let parts = goes-where (name == 0) (Over ending state) later is in absurd (cc)
+    left-stepped selects asks Undecided later called h is = absurd (cc)
 
-    pub sound-step : (core : Core) (limit : ℕ) (later : State) (o : Option Start) → started state.world actor ≡ o → step_of core limit state actor name o ≡ Goes later → IsSound (items ++ Step actor name ∷ []) later
-    sound-step core limit later None found is = absurd (cc)
-    sound-step core limit later (Some start) found is = by (asks_next core limit state start) is
+    left-step : (core : Core) (limit : ℕ) (later : State) (o : Option Start) → started state.world actor ≡ o → (is_asking core limit state o ≡ true → calls actor name ≡ true)
+        → step_of core limit state actor name o ≡ Goes later → Leaves calls state (Step actor name) later
+    left-step core limit later None found called is = absurd (cc)
+    left-step core limit later (Some start) found called is = by (asks_next core limit state start) called is
       where
-        by : (asks : Asks) → stepped state actor name (asks_for core state.world actor name asks) ≡ Goes later → IsSound (items ++ Step actor name ∷ []) later
-        by (Asked request) h = sound-stepped (is_select request.request) _ later (well (is_call (items ++ Step actor name ∷ [])) state.given actor name (is_select request.request) state.world kept (ap is_some found) core request.place request.role request.request refl) h
-        by OverTicks h = absurd (cc)
+        by : (asks : Asks) → (makes_own_duty asks ≡ true → calls actor name ≡ true) → stepped state actor name (asks_for core state.world actor name asks) ≡ Goes later → Leaves calls state (Step actor name) later
+        by (Asked request) known h =
+            left-stepped (is_select request.request) (makes_duty request.request) _ later known
+            (well calls state.given actor name (is_select request.request) (makes_duty request.request) state.world before (ap is_some found) core request.place request.role request.request refl refl) h
+        by OverTicks known h = absurd (cc)
 
   module _ (name : ℕ) where
-    sound-rested : (core : Core) (later : State) (main : Option Instance) → rested state name (close_or core name None (rest_of state.world.fixed) state.world main) ≡ Goes later → IsSound (items ++ Quiesce name ∷ []) later
-    sound-rested core later None is = let parts = goes-where (name == 0) (Over (rest_of state.world.fixed) state) later is in absurd (cc)
-    sound-rested core later (Some main) is = by (may_close core main) is
+    left-rested : (core : Core) (later : State) (main : Option Instance) → rested state name (close_or core name None (rest_of state.world.fixed) state.world main) ≡ Goes later → Leaves calls state (Quiesce name) later
+    left-rested core later None is = let parts = goes-where (name == 0) (Over (rest_of state.world.fixed) state) later is in absurd (cc)
+    left-rested core later (Some main) is = by (may_close core main) is
       where
         w : World
         w = run_final core name main.name 0 (fix None (end_all state.world))
 
-        by : (b : Bool) → rested state name (cond b (Makes w answer.Done) (Ends (rest_of state.world.fixed))) ≡ Goes later → IsSound (items ++ Quiesce name ∷ []) later
+        by : (b : Bool) → rested state name (cond b (Makes w answer.Done) (Ends (rest_of state.world.fixed))) ≡ Goes later → Leaves calls state (Quiesce name) later
         by true h =
             let parts = goes-where (is_new state.world name) (Goes (record state { world = w })) later h in
             let new = new-number state.world name parts.0 in
             let same : record state { world = w } ≡ later = cc in
-            let calls = is_call (items ++ Quiesce name ∷ []) in
-            let before : Keeps calls state = more-kept (is_call items) calls (still-call items (Quiesce name)) state (kept-of items state sound) in
-            subst (IsSound (items ++ Quiesce name ∷ [])) same
-            (sound-of (items ++ Quiesce name ∷ []) (record state { world = w }) (used-some (Quiesce name) name w.used refl new.0 refl)
-            (run_final-kept calls state.given core name main.name 0 (end_all state.world) ((end_all-loses calls state.given state.world).kept before) new.1 new.0))
+            subst (Leaves calls state (Quiesce name)) same
+            (record {
+              kept = run_final-kept calls state.given core name main.name 0 (end_all state.world) ((end_all-loses calls state.given state.world).kept before) new.1 new.0;
+              used = used-some name w.used new.0 refl;
+            })
         by false h = let parts = goes-where (name == 0) (Over (rest_of state.world.fixed) state) later h in absurd (cc)
 
-  -- a step keeps what every state keeps
-  pub sound-next : (core : Core) (limit : ℕ) (item : Item) (later : State) → next core limit state item ≡ Goes later → IsSound (items ++ item ∷ []) later
-  sound-next core limit (Step actor name) later is = sound-step actor name core limit later (started state.world actor) refl is
-  sound-next core limit (Quiesce name) later is =
+  -- an item keeps what every state keeps, where its call is known
+  pub left-next : (core : Core) (limit : ℕ) (item : Item) (later : State) → ((process id : ℕ) → is_call_in core limit state item process id ≡ true → calls process id ≡ true)
+      → next core limit state item ≡ Goes later → Leaves calls state item later
+  left-next core limit (Step actor name) later called is =
+      let itself : ((actor == actor) && (name == name)) ≡ true = ap (λ b. b && (name == name)) (eq-eqb actor actor refl) ∙ eq-eqb name name refl in
+      left-step actor name core limit later (started state.world actor) refl
+      (λ asks. called actor name (ap (λ b. b && is_asking core limit state (started state.world actor)) itself ∙ asks)) is
+  left-next core limit (Quiesce name) later called is =
       let parts = goes-where (no_step core limit state) (rested state name (quiesce core name state.world)) later is in
-      sound-rested name core later (main_instance core state.world) parts.1
-  sound-next core limit (Tick to) later is =
+      left-rested name core later (main_instance core state.world) parts.1
+  left-next core limit (Tick to) later called is =
       let parts = goes-where (comes_after state.world.moment to && heeds_time core limit state) (Goes (record state { world = pass_to to state.world })) later is in
       let same : record state { world = pass_to to state.world } ≡ later = cc in
-      let calls = is_call (items ++ Tick to ∷ []) in
-      let before : Keeps calls state = more-kept (is_call items) calls (still-call items (Tick to)) state (kept-of items state sound) in
-      subst (IsSound (items ++ Tick to ∷ [])) same
-      (sound-of (items ++ Tick to ∷ []) (record state { world = pass_to to state.world }) (used-none (Tick to) 0 state.world.used refl refl refl)
-      (quiet-kept calls state.given state.world state.world.variables state.world.rest state.world.output state.world.ended state.world.fixed to before))
+      subst (Leaves calls state (Tick to)) same
+      (record {
+        kept = quiet-kept calls state.given state.world state.world.variables state.world.rest state.world.output state.world.ended state.world.fixed to before;
+        used = sym (append-nil state.world.used);
+      })
+
+-- a call of an item is one of the items with it
+called-last : (core : Core) (limit : ℕ) (state : State) (items : List Item) (item : Item) (process id : ℕ) → is_call_in core limit state item process id ≡ true → is_call (items ++ item ∷ []) process id ≡ true
+called-last core limit state items (Step a n) process id is =
+    list_any-append (is_step process id) items (Step a n ∷ [])
+    ∙ other-true (is_call items process id) (is_call (Step a n ∷ []) process id)
+    (ap (λ b. b || false) (both-true ((a == process) && (n == id)) (is_asking core limit state (started state.world a)) is).0)
+called-last core limit state items (Quiesce name) process id is = absurd (true≢false (sym is))
+called-last core limit state items (Tick to) process id is = absurd (true≢false (sym is))
+
+module _ (items : List Item) (state : State) (sound : IsSound items state) where
+  -- a step keeps what every state keeps
+  pub sound-next : (core : Core) (limit : ℕ) (item : Item) (later : State) → next core limit state item ≡ Goes later → IsSound (items ++ item ∷ []) later
+  sound-next core limit item later is =
+      let left = left-next (is_call (items ++ item ∷ [])) state (more-kept (is_call items) (is_call (items ++ item ∷ [])) (still-call items item) state (kept-of items state sound))
+      core limit item later (called-last core limit state items item) is in
+      sound-of (items ++ item ∷ []) later (left.used ∙ ap (λ us. us ++ name_in item) sound.used ∙ sym (ap (λ ns. 1 ∷ ns) (names-append items item))) left.kept
 
   -- input changes nothing of it
   pub sound-input : (rest : List ℕ) (ended : Bool) → IsSound items (record state { world = record state.world { rest = rest; ended = ended } })
@@ -268,11 +297,19 @@ sound-first = record {
 
 -- ---- events
 
+-- more events go on where the earlier ones led
+pub after-append : (core : Core) (limit : ℕ) (now : Next) (events more : List Event) → after core limit now (events ++ more) ≡ after core limit (after core limit now events) more
+after-append core limit now [] more = refl
+after-append core limit now (event ∷ events) more = after-append core limit (and_then now (λ state. after_event core limit state event)) events more
+
+pub led-more : (core : Core) (limit : ℕ) (events : List Event) (state later : State) (event : Event) → led core limit events ≡ Goes state → after_event core limit state event ≡ Goes later → led core limit (events ++ event ∷ []) ≡ Goes later
+led-more core limit events state later event is goes = after-append core limit (Goes first) events (event ∷ []) ∙ ap (λ n. after core limit n (event ∷ [])) is ∙ goes
+
 pub illegal-after : (core : Core) (limit : ℕ) (events : List Event) → after core limit Illegal events ≡ Illegal
 illegal-after core limit [] = refl
 illegal-after core limit (event ∷ events) = illegal-after core limit events
 
-over-after : (core : Core) (limit : ℕ) (ending : End) (state later : State) (events : List Event) → after core limit (Over ending state) events ≡ Goes later → ⊥
+pub over-after : (core : Core) (limit : ℕ) (ending : End) (state later : State) (events : List Event) → after core limit (Over ending state) events ≡ Goes later → ⊥
 over-after core limit ending state later [] is = absurd (cc)
 over-after core limit ending state later (event ∷ events) is = let stuck = illegal-after core limit events in absurd (cc)
 

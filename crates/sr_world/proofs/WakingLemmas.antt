@@ -16,6 +16,7 @@ use Rattle.sr_value.specs.declared.capability.Cap.{Cap}
 use Rattle.sr_value.specs.declared.value.Value.{Value}
 use Rattle.sr_world.specs.Deciding.{can_choose, can_create, can_do, can_ensure, can_select, can_select_at, can_select_in}
 use Rattle.sr_world.specs.Does.{Outcome, IsDone, IsMade, IsNot, IsEnd, IsOpen, comes_to, is_possible}
+use Rattle.sr_world.specs.Laws.{OneClassDecides}
 use Rattle.sr_world.specs.Selecting.{choice_of, me_of, reading_of}
 use Rattle.sr_world.specs.Steps.{does}
 use Rattle.sr_world.specs.Waking.{SameFor, SameForSite, SameForSelect, SameInstances, SameReplies}
@@ -53,15 +54,17 @@ can_chosen world site chosen.Else = refl
 can_chosen world site chosen.Nothing = refl
 can_chosen world site (chosen.Bad fault arm) = refl
 
+pub one_class_decides : OneClassDecides
+one_class_decides core process env site world other same =
+    one-class-decides (reading_of core world process) (reading_of core other process) site (me_of world process) env world.pending other.pending same.class same.has_operations same.invocations same.watched same.has_names same.guards
+    ∙ ap (λ me. chosen_in other.pending (choice (reading_of core other process) site me env other.pending)) same.process
+
 module _ (core : Core) (actor : ℕ) (env : List Value) (old new : World) where
   same_at : (site : Site) → SameForSite core actor env site old new → can_select_at core old actor env site ≡ can_select_at core new actor env site
   same_at site same =
       can_chosen old site (choice_of core old actor env site)
-      ∙ ap (can_of site) (law ∙ ap (λ me. chosen_in new.pending (choice (reading_of core new actor) site me env new.pending)) same.process)
+      ∙ ap (can_of site) (one_class_decides core actor env site old new same)
       ∙ sym (can_chosen new site (choice_of core new actor env site))
-    where
-      law : chosen_in old.pending (choice_of core old actor env site) ≡ chosen_in new.pending (choice (reading_of core new actor) site (me_of old actor) env new.pending)
-      law = one-class-decides (reading_of core old actor) (reading_of core new actor) site (me_of old actor) env old.pending new.pending same.class same.has_operations same.invocations same.watched same.has_names same.guards
 
   same_select : (number : ℕ) → SameForSelect core actor number env old new → can_select core old actor number env ≡ can_select core new actor number env
   same_select number same = by (slice_get core.sites number) refl

@@ -32,6 +32,13 @@ duty_by world actor name (request.Create resource args vm) = duty_for true actor
 duty_by world actor name (request.Destroy target) = duty_for true actor name
 duty_by world actor name _ = no_duty name
 
+-- the requests that make a duty to answer their process
+abbrev pub makes_duty : Request → Bool
+makes_duty (request.Invoke target args wants) = wants
+makes_duty (request.Create resource args vm) = true
+makes_duty (request.Destroy target) = true
+makes_duty _ = false
+
 -- who waits, and under which number
 abbrev pub waits_as : Duty → Option (ℕ × ℕ)
 waits_as duty = if duty.back == 0 then None else Some (duty.back, duty.back_id)

@@ -50,16 +50,22 @@ owner_for world process Own = Proc process
 
 -- ---- an invocation with its number
 
-abbrev pub arrive : Core → ℕ → Owner → ℕ → List Value → Duty → Option ℕ → World → World
-arrive core name owner op args duty (Some proc) world = run_proc core name (owner_instance world owner) proc args duty world
-arrive core name owner op args duty None world = add_pending
+-- it waits for its service, after all that are pending
+abbrev pub wait : ℕ → Owner → ℕ → List Value → Duty → World → World
+wait name owner op args duty world = add_pending
     (record { id = name; op = op; owner = owner; args = args; back = duty.back; back_id = duty.back_id }) (use_name name world)
 
--- an invocation of an operation: E8 where its owner is gone.
+abbrev pub arrive : Core → ℕ → Owner → ℕ → List Value → Duty → Option ℕ → World → World
+arrive core name owner op args duty (Some proc) world = run_proc core name (owner_instance world owner) proc args duty world
+arrive core name owner op args duty None world = wait name owner op args duty world
+
+-- an invocation of an operation that has this proc, or none: E8 where its owner is gone
+abbrev pub invoke_found : Core → Place → ℕ → Owner → ℕ → List Value → Duty → World → Option ℕ → Does
+invoke_found core place name owner op args duty world proc =
+    if is_gone world owner then failed place fault.Gone else Makes (arrive core name owner op args duty proc world) (answer.Made name)
+
 abbrev pub invoke_operation : Core → Place → ℕ → Owner → ℕ → List Value → Duty → World → Operation → Does
-invoke_operation core place name owner op args duty world operation =
-    if is_gone world owner then failed place fault.Gone
-    else Makes (arrive core name owner op args duty operation.proc world) (answer.Made name)
+invoke_operation core place name owner op args duty world operation = invoke_found core place name owner op args duty world operation.proc
 
 -- `null` is E7; `noop` answers at once, without results; an operation that isn't in the program, and a capability of no operation, can't be invoked
 abbrev pub invoke : Core → Place → ℕ → Cap → List Value → Duty → World → Does

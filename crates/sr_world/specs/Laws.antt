@@ -1,8 +1,11 @@
 -- Laws of whole runs, in the language's own words.
-use Rattle.std.specs.Prelude.{◌≡◌, ℕ, ◌<◌, ◌≤◌, ◌==◌, Bool, true, false, List, [], ◌∷◌, ◌++◌, Option, count_by, filter, slice_get}
+use Rattle.std.specs.Prelude.{◌≡◌, ℕ, ◌<◌, ◌≤◌, ◌==◌, Bool, true, false, List, [], ◌∷◌, ◌++◌, Option, Some, count_by, filter, slice_get}
 use Rattle.std.specs.List.{list_any}
+use Rattle.sr_ask.specs.declared.ask.Ask.{Ask}
+use Rattle.sr_ask.specs.declared.ask.Asks.TheVariants.{Asked}
 use Rattle.sr_ask.specs.declared.item.Item.{Item}
 use Rattle.sr_ask.specs.declared.item.Item.TheVariants.{Step}
+use Rattle.sr_ask.specs.declared.start.Start.{Start}
 use Rattle.sr_calls.specs.Calls.{items_of}
 use Rattle.sr_core.specs.declared.component.Core.{Core}
 use Rattle.sr_core.specs.declared.owner.Me.{Me}
@@ -11,17 +14,22 @@ use Rattle.sr_core.specs.declared.site.Site.{Site}
 use Rattle.sr_queue.specs.Queues.{is_of}
 use Rattle.sr_queue.specs.declared.pending.Pending.{Pending}
 use Rattle.sr_select.specs.Choices.{choice, owner_in}
+use Rattle.sr_select.specs.Laws.{chosen_in}
 use Rattle.sr_select.specs.Readings.{Reading}
 use Rattle.sr_select.specs.declared.choice.Choice.{Choice}
 use Rattle.sr_select.specs.declared.choice.Choice.TheVariants as chosen
 use Rattle.sr_value.specs.declared.fault.Fault.{Fault}
 use Rattle.sr_value.specs.declared.value.Value.{Value}
 use Rattle.sr_value.specs.declared.capability.Owner.{Owner}
+use Rattle.sr_world.specs.Answering.{duty_held}
+use Rattle.sr_world.specs.Callers.{duty_by, makes_duty}
 use Rattle.sr_world.specs.Does.{comes_to, is_possible}
 use Rattle.sr_world.specs.Endings.{quiesce}
 use Rattle.sr_world.specs.Histories.{Class, IsLegalHistory, history}
-use Rattle.sr_world.specs.Runs.{Event, Closes, Goes, Illegal, IsValid, Next, Over, State, bytes_in, is_legal, items_in, led, next, output_of, run, run_from, with_input, without_more}
-use Rattle.sr_world.specs.Worlds.{World}
+use Rattle.sr_world.specs.Runs.{Event, Makes_item, Closes, Goes, Illegal, IsValid, Next, Over, State, asks_next, bytes_in, is_legal, is_new, items_in, led, next, output_of, run, run_from, with_input, without_more}
+use Rattle.sr_world.specs.Selecting.{choice_of}
+use Rattle.sr_world.specs.Waking.{SameForSite}
+use Rattle.sr_world.specs.Worlds.{World, started}
 use Rattle.sr_world.specs.Sound.{IsSound, is_call, names_in}
 use Rattle.sr_world.specs.Spots.{IsOnce, Spot, TakenBy, Thing, DutyOf, is_picked, is_took, stands, tests_of}
 
@@ -108,6 +116,34 @@ pub record AnsweredOnce : Type 0 where
   pub one_caller : (core : Core) (limit : ℕ) (events : List Event) (state : State) (process other id : ℕ) → led core limit events ≡ Goes state → (id == 0) ≡ false
       → is_call (items_in events) process id ≡ true → is_call (items_in events) other id ≡ true → process ≡ other
 
+-- a step of a run is a call: the process asked for what makes the duty to answer it, and got a number that nothing had
+pub record MakesCall (core : Core) (limit : ℕ) (events : List Event) (process id : ℕ) : Type 0 where
+  pub earlier : List Event
+  pub later : List Event
+  pub splits : earlier ++ Makes_item (Step process id) ∷ later ≡ events
+  pub before : State
+  pub leads : led core limit earlier ≡ Goes before
+  pub start : Start
+  pub lives : started before.world process ≡ Some start
+  pub ask : Ask
+  pub asks : asks_next core limit before start ≡ Asked ask
+  pub calls : makes_duty ask.request ≡ true
+  pub duty : duty_by before.world process id ask.request ≡ record { back = process; back_id = id }
+  pub unused : is_new before.world id ≡ true
+
+-- Whatever is owed or given is the answer to a call of the process that gets it: a reply that it took or that waits for
+-- it, and the duty of an invocation that waits or that some process holds.
+pub record RepliesGoToCallers : Type 0 where
+  pub taken : (core : Core) (limit : ℕ) (events : List Event) (state : State) (process id : ℕ) → led core limit events ≡ Goes state
+      → 0 < replies_taken state process id → MakesCall core limit events process id
+  pub replied : (core : Core) (limit : ℕ) (events : List Event) (state : State) (process id : ℕ) → led core limit events ≡ Goes state
+      → 0 < replies_waiting state process id → MakesCall core limit events process id
+  pub held : (core : Core) (limit : ℕ) (events : List Event) (state : State) (process number : ℕ) → led core limit events ≡ Goes state
+      → ((duty_held state.world process number).back == 0) ≡ false
+      → MakesCall core limit events (duty_held state.world process number).back (duty_held state.world process number).back_id
+  pub waiting : (core : Core) (limit : ℕ) (events : List Event) (state : State) (place : ℕ) (p : Pending) → led core limit events ≡ Goes state
+      → slice_get state.world.pending place ≡ Some p → (p.back == 0) ≡ false → MakesCall core limit events p.back p.back_id
+
 -- ---- histories
 
 -- Every history of a class of an owner in a run is legal.
@@ -166,6 +202,12 @@ abbrev pub ClassesAreSeparate : Type 0
 ClassesAreSeparate = (reading : Reading) (site : Site) (me : Me) (env : List Value) (items others : List Pending)
     → filter (is_serviced (owner_in site.scope me) site.arms) items ≡ filter (is_serviced (owner_in site.scope me) site.arms) others
     → taken items (choice reading site me env items) ≡ taken others (choice reading site me env others)
+
+-- The same for two worlds: where they have the same invocations of the statement's class and owner that wait, and hold the
+-- same in what its guards name, the statement makes the same choice, whatever else they hold and whatever else waits.
+abbrev pub OneClassDecides : Type 0
+OneClassDecides = (core : Core) (process : ℕ) (env : List Value) (site : Site) (world other : World) → SameForSite core process env site world other
+    → chosen_in world.pending (choice_of core world process env site) ≡ chosen_in other.pending (choice_of core other process env site)
 
 -- ---- rest
 

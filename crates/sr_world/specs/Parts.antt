@@ -1,9 +1,8 @@
--- What the code does to the parts of a world, one after another.
-use Rattle.std.specs.Prelude.{◌≡◌, ◌==◌, ◌&&◌, ◌+◌, ◌<◌, ◌≤◌, length, drop, max, nat_lt, take_while, ℕ, zero, suc, pos, Bool, true, false, List, [], Option, Some, None, Result, Ok, Err, is_some, unwrap_or, if◌then◌else◌, fold}
+-- What the code does to single parts of a world, for the functions inside this crate.
+use Rattle.std.specs.Prelude.{◌≡◌, ◌==◌, ◌&&◌, ◌+◌, ◌<◌, ◌≤◌, length, drop, max, nat_lt, take_while, ℕ, zero, suc, Bool, true, false, List, [], Option, Some, None, Result, Ok, Err, is_some, unwrap_or, if◌then◌else◌, fold}
 use Rattle.std.specs.FinMap as map
 use Rattle.std.specs.List.{Contains}
 use Rattle.std.specs.Option.{option_and_then}
-use Rattle.sr_ask.specs.declared.answer.Answer.TheVariants as answer
 use Rattle.sr_ask.specs.declared.ask.Role.{Role}
 use Rattle.sr_ask.specs.declared.ask.Role.TheVariants.{Initial, Final}
 use Rattle.sr_ask.specs.declared.start.Start.{Start}
@@ -11,27 +10,21 @@ use Rattle.sr_calls.specs.Calls.{ByProcess, CanAnswer, Called, with_item, withou
 use Rattle.sr_calls.specs.declared.held.Held.{Held}
 use Rattle.sr_calls.specs.declared.held.Reply.{Reply}
 use Rattle.sr_core.specs.declared.component.Core.{Core}
-use Rattle.sr_core.specs.declared.statement.Scope.{Scope}
 use Rattle.sr_instances.specs.Instances.{Instance, Placed, component_of, global_in, machine_of, state_of, with_state}
 use Rattle.sr_instances.specs.declared.state.State.{State}
 use Rattle.sr_instances.specs.declared.state.State.TheVariants.{Starting, Ready, Gone}
 use Rattle.sr_processes.specs.Living.{IsLive, Living, numbers_in, start_of, without_process}
-use Rattle.sr_queue.specs.Queues.{waiting}
-use Rattle.sr_value.specs.declared.capability.Owner.{Owner}
-use Rattle.sr_value.specs.declared.fault.Fault.TheVariants as fault
 use Rattle.sr_value.specs.declared.fault.ValueFail.{ValueFail}
 use Rattle.sr_value.specs.declared.fault.ValueFail.TheVariants.{Fault as a_fault, NoMemory as out_of_memory}
 use Rattle.sr_value.specs.declared.memory.NoMemory.{NoMemory}
 use Rattle.sr_value.specs.declared.place.Place.{Place}
 use Rattle.sr_value.specs.declared.value.Value.{Value}
 use Rattle.sr_world.specs.Answering.{held_of}
-use Rattle.sr_world.specs.Does.{Does, Did, Makes, failed}
 use Rattle.sr_world.specs.Endings.{may_close}
 use Rattle.sr_world.specs.Inputs.{is_blank, is_part}
-use Rattle.sr_world.specs.Invoking.{arrive, instance_of_process, is_gone, owner_for}
+use Rattle.sr_world.specs.Invoking.{instance_of_process}
 use Rattle.sr_world.specs.Making.{is_ready, run_initial}
 use Rattle.sr_world.specs.Names.{IsGreatest}
-use Rattle.sr_world.specs.Updates.{add_pending, use_name}
 use Rattle.sr_world.specs.Worlds.{World}
 use Rattle.sr_world.specs.declared.acted.Acted.{Acted}
 use Rattle.sr_world.specs.declared.acted.Acted.TheVariants as acted
@@ -185,21 +178,6 @@ back_of (Some duty) = duty.back
 
 abbrev pub make : Core → ℕ → ℕ → ℕ → List Value → Option Duty → World → World
 make core name component machine args duty world = held_for name duty (run_initial core name component machine args (back_of duty) world)
-
--- ---- invocations
-
-abbrev pub arrived : ℕ → Owner → ℕ → List Value → Duty → World → World
-arrived name owner op args duty world = add_pending
-    (record { id = name; op = op; owner = owner; args = args; back = duty.back; back_id = duty.back_id }) (use_name name world)
-
--- an operation that has this proc, or none
-abbrev pub invoke_found : Core → Place → ℕ → Owner → ℕ → List Value → Duty → World → Option ℕ → Does
-invoke_found core place name owner op args duty world proc =
-    if is_gone world owner then failed place fault.Gone else Makes (arrive core name owner op args duty proc world) (answer.Made name)
-
--- an operation of this scope
-abbrev pub count_found : ℕ → ℕ → Scope → World → Does
-count_found actor op scope world = Did world (answer.Number (pos (waiting (owner_for world actor scope) op world.pending)))
 
 -- ---- the end of a run
 

@@ -9,6 +9,7 @@ use Rattle.sr_ask.specs.declared.request.ReadKind.{ReadKind}
 use Rattle.sr_ask.specs.declared.request.Request.TheVariants as request
 use Rattle.sr_calls.specs.Calls.{earliest_reply}
 use Rattle.sr_core.specs.declared.component.Core.{Core}
+use Rattle.sr_core.specs.declared.statement.Scope.{Scope}
 use Rattle.sr_instances.specs.Instances.{global_in, state_of}
 use Rattle.sr_queue.specs.Queues.{waiting}
 use Rattle.sr_store.specs.Variables.{declared_in, loaded_in, stored_in}
@@ -65,9 +66,12 @@ ready_after role own actor world = world
 abbrev pub reply : Role → ℕ → ℕ → List Value → World → World
 reply role actor held results world = ready_after role (held == actor) actor (answer_held actor held results world)
 
+-- how many invocations of an operation of this scope wait
+abbrev pub count_found : ℕ → ℕ → Scope → World → Does
+count_found actor op scope world = Did world (answer.Number (pos (waiting (owner_for world actor scope) op world.pending)))
+
 abbrev pub count : Core → ℕ → ℕ → World → Does
-count core actor op world = where_some (slice_get core.operations op) (λ operation.
-    Did world (answer.Number (pos (waiting (owner_for world actor operation.scope) op world.pending))))
+count core actor op world = where_some (slice_get core.operations op) (λ operation. count_found actor op operation.scope world)
 
 -- ---- input
 

@@ -13,7 +13,7 @@ use crate::acted::Acted;
 use crate::duty::{Duty, Forwarded, Sending};
 use crate::places::ready_own;
 use crate::world::World;
-use sr_ask::{Answer, Role};
+use sr_ask::{Answer, Role, SharedNumbers};
 use sr_calls::Calls;
 use sr_processes::Processes;
 use sr_value::{Duplicate, NoMemory, Row, Value};
@@ -171,7 +171,7 @@ impl World {
 
     /// The earliest reply to one of these invocations.
     #[inline(never)]
-    pub(crate) fn take(&mut self, actor: u32, ids: &Row<u32>) -> Result<Acted, NoMemory>
+    pub(crate) fn take(&mut self, actor: u32, ids: &SharedNumbers) -> Result<Acted, NoMemory>
         ensures { Acts (take_of actor ids.now self.old) self.old self.new result }
     {
         match self.calls.take(actor, ids) {

@@ -1,7 +1,7 @@
 use sr_value::{Fault, Place};
 
 /// How a run ends.
-#[derive(Clone, Copy, Debug, PartialEq, Eq)]
+#[derive(Clone, Copy, PartialEq, Eq)]
 pub enum End {
     /// No process can make a step, and no `stop` has fixed a status.
     Quiet,

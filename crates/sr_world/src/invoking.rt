@@ -2,10 +2,10 @@ ghost use Rattle.std.specs.Prelude.{◌≡◌, ◌++◌, ◌∷◌, [], None, On
 ghost use Rattle.sr_processes.specs.Living.{IsLive};
 ghost use Rattle.sr_queue.specs.Queues.{waiting as waiting_in};
 ghost use Rattle.sr_world.specs.Acting.{Acts, NeedsNew};
-ghost use Rattle.sr_world.specs.Invoking.{arrive as arrive_of, invoke as invoke_of, is_gone as gone_in, owner_instance as instance_of_owner, owner_for as owner_in};
+ghost use Rattle.sr_world.specs.Invoking.{arrive as arrive_of, invoke as invoke_of, invoke_found, is_gone as gone_in, owner_instance as instance_of_owner, owner_for as owner_in, wait};
 ghost use Rattle.sr_world.specs.Making.{run_proc as proc_run};
-ghost use Rattle.sr_world.specs.Parts.{arrived, count_found, invoke_found, let_go as let_go_of};
-ghost use Rattle.sr_world.specs.Steps.{count as count_of};
+ghost use Rattle.sr_world.specs.Parts.{let_go as let_go_of};
+ghost use Rattle.sr_world.specs.Steps.{count as count_of, count_found};
 
 use crate::acted::Acted;
 use crate::answering::{hold, let_go};
@@ -28,7 +28,7 @@ pub struct Invoked {
 
 impl World {
     /// Whether an owner has ended, or never was.
-    pub(crate) fn is_gone(&self, owner: Owner) -> bool
+    pub fn is_gone(&self, owner: Owner) -> bool
         ensures { result ≡ gone_in self.now owner }
     {
         match owner {
@@ -95,7 +95,7 @@ impl World {
         args: &Row<Value>,
         sending: Sending,
     ) -> Result<(), NoMemory>
-        ensures ok { OnOk result (self.new ≡ arrived sending.name invoked.owner invoked.op args.now sending.duty (let_go_of sending.forwarded self.old)) }
+        ensures ok { OnOk result (self.new ≡ wait sending.name invoked.owner invoked.op args.now sending.duty (let_go_of sending.forwarded self.old)) }
         ensures err { OnErr result (self.new ≡ self.old) }
     {
         if self.queue.len() as usize >= MOST_PENDING {

@@ -13,6 +13,7 @@ mod ends;
 mod input;
 mod invoking;
 pub mod laws;
+mod lending;
 mod making;
 mod places;
 mod quiet;
@@ -30,4 +31,6 @@ mod world;
 
 pub use acted::Acted;
 pub use ends::End;
+pub use lending::Loan;
+pub use starting::Running;
 pub use world::World;

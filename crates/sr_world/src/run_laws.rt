@@ -1,4 +1,4 @@
-ghost use Rattle.sr_world.specs.Laws.{AnsweredOnce, ClassesAreSeparate, EachStandsOnce, EveryHistoryIsLegal, EveryStateIsSound, ItemsGiveTheRun, ItemsKeepSoundness, NumbersAreUsedOnce, OutputGrows, PrefixIsARun, RestIsNeverRefused, RunGoesOn, RunsLeadToValidStates, ServicedOnce};
+ghost use Rattle.sr_world.specs.Laws.{AnsweredOnce, ClassesAreSeparate, EachStandsOnce, EveryHistoryIsLegal, EveryStateIsSound, ItemsGiveTheRun, ItemsKeepSoundness, NumbersAreUsedOnce, OneClassDecides, OutputGrows, PrefixIsARun, RepliesGoToCallers, RestIsNeverRefused, RunGoesOn, RunsLeadToValidStates, ServicedOnce};
 
 /// A run's prefix is a run, and the rest of a run goes on where the prefix led.
 pub fn prefixes_are_runs()
@@ -46,6 +46,11 @@ pub fn calls_are_answered_once()
     ensures { AnsweredOnce }
 {}
 
+/// A reply goes to the process that made the call, under the number that the call got.
+pub fn replies_go_to_callers()
+    ensures { RepliesGoToCallers }
+{}
+
 /// Every class history of a run is legal.
 pub fn histories_are_legal()
     ensures { EveryHistoryIsLegal }
@@ -59,6 +64,11 @@ pub fn items_give_the_run()
 /// A choice doesn't depend on what waits in other classes.
 pub fn classes_are_separate()
     ensures { ClassesAreSeparate }
+{}
+
+/// A choice doesn't depend on what a world holds of other classes.
+pub fn one_class_decides()
+    ensures { OneClassDecides }
 {}
 
 /// Where no process can step, main's final code begins or the run ends.

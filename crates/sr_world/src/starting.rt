@@ -82,7 +82,7 @@ fn home_of_new(places: &Places, global: u32, new: NewInstance) -> u32
 
 impl World {
     /// What a process that runs code of an instance is started with.
-    pub(crate) fn start_in(
+    pub fn start_in(
         &self,
         core: &Core,
         running: Running,

@@ -1,6 +1,6 @@
 -- The numbers so far are those of the variables so far.
 use Rattle.std.proofs.Common.{◌≡◌, map, take}
-use Rattle.sr_frame.specs.Variables.{number_held}
+use Rattle.sr_ask.specs.Places.{number_held}
 use Rattle.sr_frame.proofs.variables.turn_held.Given as goal
 
 abbrev pub invariant-loop-var : goal.invariant-loop-var

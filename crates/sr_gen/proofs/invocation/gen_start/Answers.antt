@@ -1,9 +1,9 @@
 use Rattle.std.proofs.Common.{ap, sym}
 use Rattle.sr_gen_expr.proofs.Stretching.{gives_as}
-use Rattle.sr_gen.specs.Blocks.{call_part}
 use Rattle.sr_gen.specs.Doing.{ready_meaning}
 use Rattle.sr_gen.proofs.Together.{acts_start}
 use Rattle.sr_gen.proofs.invocation.gen_start.Goals as goal
+use Rattle.sr_meaning.specs.Pieces.{call_part}
 
 pub returns : goal.returns
 returns c ways =

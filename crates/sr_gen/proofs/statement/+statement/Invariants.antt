@@ -1,10 +1,9 @@
 -- What is left to emit is what all leads to; each piece has less to emit. The code so far is that of the items from here on.
 use Rattle.std.proofs.Common.{◌≡◌, ◌+◌, ◌-◌, ◌≤◌, drop, length, map, min}
 use Rattle.sr_value.specs.declared.place.Place.{Place}
-use Rattle.sr_meaning.specs.Pieces.{co_part_of, guarded_of}
+use Rattle.sr_meaning.specs.Pieces.{co_part_of, each_block, guarded_of}
 use Rattle.sr_meaning.specs.Statements.{block_meaning, first_true, meaning_of, start_calls}
 use Rattle.sr_gen_expr.specs.Emitting.{Gives, put_nothing}
-use Rattle.sr_gen.specs.Blocks.{each_block}
 use Rattle.sr_gen.specs.Doing.{Acts, CompletesEach, ServesEach, Tries}
 use Rattle.sr_meaning.proofs.Weights.{weight_of, weight_of_arm, weight_of_arms, weight_of_block, weight_of_blocks, weight_of_guarded, weight_of_guards, weight_of_optional}
 use Rattle.sr_gen.proofs.Weights.{weight_of_inner}

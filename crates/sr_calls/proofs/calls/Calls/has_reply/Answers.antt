@@ -1,16 +1,12 @@
-use Rattle.std.proofs.Common.{ap, is_some, sym, ◌∙◌, unwrap_or}
+use Rattle.std.proofs.Common.{◌∙◌, ap, get_or, is_some}
 use Rattle.std.specs.Prelude.{find}
 use Rattle.sr_calls.specs.Calls.{answers_one}
-use Rattle.sr_calls.proofs.ProcessCallsLemmas.{no_process_calls, replies-here, same_look}
+use Rattle.sr_calls.proofs.BucketLemmas.{at-home, replies-at}
 use Rattle.sr_calls.proofs.calls.Calls.has_reply.Goals as goal
 
-pub returns-in-Some : goal.returns-in-Some
-returns-in-Some c =
-    let es = c.self.inside.by_process.entries in
+pub returns : goal.returns
+returns c =
     c.has_reply.ensures
-    ∙ sym (ap (λ rs. is_some (find (answers_one c.args.ids.now) rs)) (replies-here es es c.args.self.now c.self.view_is c.args.caller ∙ ap (λ o. (unwrap_or o no_process_calls).replies) (sym (same_look es c.args.caller) ∙ sym c.in-Some.ensures.value)))
-
-pub returns-in-None : goal.returns-in-None
-returns-in-None c =
-    let es = c.self.inside.by_process.entries in
-    sym (ap (λ rs. is_some (find (answers_one c.args.ids.now) rs)) (replies-here es es c.args.self.now c.self.view_is c.args.caller ∙ ap (λ o. (unwrap_or o no_process_calls).replies) (sym (same_look es c.args.caller) ∙ sym c.in-None.ensures.value)))
+    ∙ ap (λ replies. is_some (find (answers_one c.args.ids.now) replies))
+    (replies-at c.self.inside.buckets c.args.self.now c.args.caller (get_or c.self.inside.buckets c.home.result c.index-self-home.result) c.self.view_is
+    (at-home c.self.inside.buckets c.args.caller c.home.result c.index-self-home.result c.self.invariant c.home.ensures.home))

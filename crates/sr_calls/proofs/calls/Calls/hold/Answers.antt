@@ -1,63 +1,32 @@
-use Rattle.std.proofs.Common.{[], ◌∷◌, ◌++◌, ap, refl, ◌∙◌, arith}
-use Rattle.sr_calls.proofs.ProcessCallsLemmas.{no_process_calls}
-use Rattle.sr_calls.proofs.StepLemmas.{Step, absent, could-hold, holds-more, keeps-answers, keeps-other-holds, lent, lent-same, made, on_err, on_ok, replies-stay}
+use Rattle.std.proofs.Common.{◌<◌, [], ap, get_or, inl, inr, subst}
+use Rattle.std.specs.Prelude.{slice_set}
+use Rattle.sr_calls.proofs.BucketLemmas.{Turns, all-same, either-way, held-more, keeps, placed-by, replies-same, room-was, turned}
+use Rattle.sr_calls.proofs.StepLemmas.{on_err, on_ok}
 use Rattle.sr_calls.proofs.calls.Calls.hold.Goals as goal
 
-some : (c : goal.After-self-in-Some-1) → Step c.self.inside.by_process.entries (c.get_mut.follows.lender c.hold.new.self).entries c.args.self.now c.args.actor c.in-Some.process_calls.now c.hold.new.self
-some c =
-    lent c.self.inside.by_process (c.get_mut.follows.lender c.hold.new.self) c.args.self.now c.args.actor c.in-Some.process_calls.now c.hold.new.self c.self.view_is c.in-Some.ensures.value
-    (c.get_mut.follows.holds c.hold.new.self)
+turns : (c : goal.After-hold) → Turns c.self.inside.buckets (slice_set c.self.inside.buckets c.home.result c.hold.new.self) c.args.self.now c.args.actor (get_or c.self.inside.buckets c.home.result c.index-self-home.result) c.hold.new.self
+turns c = turned c.self.inside.buckets c.args.self.now c.args.actor c.home.result c.index-self-home.result c.hold.new.self c.self.view_is c.self.invariant c.home.ensures.home
 
-pub returns-in-Some-clause-held : goal.returns-in-Some-clause-held
-returns-in-Some-clause-held c =
-    on_ok c.hold.result c.hold.ensures.ok (λ grown. holds-more _ _ _ _ _ _ (some c) (record { id = c.args.id; back = c.args.back; back_id = c.args.back_id }) grown)
-
-pub returns-in-Some-clause-replies : goal.returns-in-Some-clause-replies
-returns-in-Some-clause-replies c =
-    replies-stay _ _ _ _ _ _ (some c) c.hold.ensures.replies
-
-pub returns-in-Some-clause-succeeds : goal.returns-in-Some-clause-succeeds
-returns-in-Some-clause-succeeds c =
-    λ can. c.hold.ensures.succeeds (could-hold _ _ _ _ _ _ (some c) can)
-
-pub returns-in-Some-clause-holds : goal.returns-in-Some-clause-holds
-returns-in-Some-clause-holds c =
-    keeps-other-holds _ _ _ _ _ _ (some c)
-
-pub returns-in-Some-clause-answers : goal.returns-in-Some-clause-answers
-returns-in-Some-clause-answers c =
-    keeps-answers _ _ _ _ _ _ (some c) (omega arith)
-
-pub returns-in-Some-clause-err : goal.returns-in-Some-clause-err
-returns-in-Some-clause-err c =
-    on_err c.hold.result c.hold.ensures.err (λ same. lent-same c.self.inside.by_process (c.get_mut.follows.lender c.hold.new.self) c.args.self.now c.args.actor c.in-Some.process_calls.now c.hold.new.self c.self.view_is c.in-Some.ensures.value
-    (c.get_mut.follows.holds c.hold.new.self) same)
-
-pub returns-in_err-hold-clause-succeeds : goal.returns-in_err-hold-clause-succeeds
-returns-in_err-hold-clause-succeeds c =
-    λ can. absurd (omega (arith, could-hold _ _ _ _ _ _ (absent c.self.inside.by_process c.self.inside.by_process c.args.self.now c.args.actor c.self.view_is c.in_default.ensures.value refl) can))
-
-pub returns-in_err-insert-clause-succeeds : goal.returns-in_err-insert-clause-succeeds
-returns-in_err-insert-clause-succeeds c =
-    λ can. absurd (omega (arith, could-hold _ _ _ _ _ _ (absent c.self.inside.by_process c.self.inside.by_process c.args.self.now c.args.actor c.self.view_is c.in_default.ensures.value refl) can))
-
-none : (c : goal.Joined-branch-3) → Step c.self.inside.by_process.entries c.insert.new.self.entries c.args.self.now c.args.actor no_process_calls c.hold-2.new.self
-none c =
-    made c.self.inside.by_process c.get_mut.follows.lender-at-none c.insert.new.self c.args.self.now c.args.actor c.hold-2.new.self c.self.view_is c.in_default.ensures.value
-    c.get_mut.follows.holds-at-none c.in_ok-insert.ensures.updates
+pub invariant_of-self : goal.invariant_of-self
+invariant_of-self c =
+    either-way c.hold.result c.hold.ensures.held c.hold.ensures.err
+    (λ is. placed-by _ _ _ _ _ _ (turns c) _ [] (inr is) (inl c.hold.ensures.replies))
+    (λ same. placed-by _ _ _ _ _ _ (turns c) [] [] (inl (ap (λ b. b.held) same)) (inl c.hold.ensures.replies))
 
 pub returns-clause-held : goal.returns-clause-held
-returns-clause-held c =
-    holds-more _ _ _ _ _ _ (none c) (record { id = c.args.id; back = c.args.back; back_id = c.args.back_id }) (c.in_ok-hold.ensures.ok ∙ ap (λ all. all ++ (record { id = c.args.id; back = c.args.back; back_id = c.args.back_id }) ∷ []) c.new-process_calls.ensures.held)
+returns-clause-held c = on_ok c.hold.result c.hold.ensures.held (λ is. held-more _ _ _ _ _ _ (turns c) _ is)
 
 pub returns-clause-replies : goal.returns-clause-replies
-returns-clause-replies c =
-    replies-stay _ _ _ _ _ _ (none c) (c.in_ok-hold.ensures.replies ∙ c.new-process_calls.ensures.replies)
+returns-clause-replies c = replies-same _ _ _ _ _ _ (turns c) c.hold.ensures.replies
+
+pub returns-clause-succeeds : goal.returns-clause-succeeds
+returns-clause-succeeds c = λ can. c.hold.ensures.succeeds (subst (λ r. 0 < r.holds) (room-was _ _ _ _ _ _ (turns c)) can)
 
 pub returns-clause-holds : goal.returns-clause-holds
-returns-clause-holds c =
-    keeps-other-holds _ _ _ _ _ _ (none c)
+returns-clause-holds c = λ q ne can. keeps _ _ _ _ _ _ (turns c) (λ r. r.holds) q (c.hold.ensures.holds q ne) can
 
 pub returns-clause-answers : goal.returns-clause-answers
-returns-clause-answers c =
-    keeps-answers _ _ _ _ _ _ (none c) (omega arith)
+returns-clause-answers c = λ q can. keeps _ _ _ _ _ _ (turns c) (λ r. r.answers) q (c.hold.ensures.answers q) can
+
+pub returns-clause-err : goal.returns-clause-err
+returns-clause-err c = on_err c.hold.result c.hold.ensures.err (λ same. all-same _ _ _ _ _ _ (turns c) same)

@@ -1,16 +1,12 @@
-use Rattle.std.proofs.Common.{Some, None, ap, sym, ◌∙◌, unwrap_or}
+use Rattle.std.proofs.Common.{◌∙◌, ap, get_or}
 use Rattle.std.specs.Prelude.{find}
 use Rattle.sr_calls.specs.Calls.{is_held_as}
-use Rattle.sr_calls.proofs.ProcessCallsLemmas.{held-here, no_process_calls, same_look}
+use Rattle.sr_calls.proofs.BucketLemmas.{at-home, held-at}
 use Rattle.sr_calls.proofs.calls.Calls.holding.Goals as goal
 
-pub returns-in-Some : goal.returns-in-Some
-returns-in-Some c =
-    let es = c.self.inside.by_process.entries in
+pub returns : goal.returns
+returns c =
     c.holding.ensures
-    ∙ sym (ap (find (is_held_as c.args.id)) (held-here es es c.args.self.now c.self.view_is c.args.actor ∙ ap (λ o. (unwrap_or o no_process_calls).held) (sym (same_look es c.args.actor) ∙ sym c.in-Some.ensures.value)))
-
-pub returns-in-None : goal.returns-in-None
-returns-in-None c =
-    let es = c.self.inside.by_process.entries in
-    sym (ap (find (is_held_as c.args.id)) (held-here es es c.args.self.now c.self.view_is c.args.actor ∙ ap (λ o. (unwrap_or o no_process_calls).held) (sym (same_look es c.args.actor) ∙ sym c.in-None.ensures.value)))
+    ∙ ap (find (is_held_as c.args.id))
+    (held-at c.self.inside.buckets c.args.self.now c.args.actor (get_or c.self.inside.buckets c.home.result c.index-self-home.result) c.self.view_is
+    (at-home c.self.inside.buckets c.args.actor c.home.result c.index-self-home.result c.self.invariant c.home.ensures.home))

@@ -10,7 +10,7 @@ use Rattle.sr_calls.proofs.process_calls.ProcessCalls.take.Goals as goal
 none : (c : goal.After-from_residual) → position (answers_one c.args.ids.now) c.args.self.now.replies ≡ None
 none c =
     ap (λ (d : ProcessCalled). position (answers_one c.args.ids.now) d.replies) (sym c.self.view_is)
-    ∙ ap (λ ids. position (answers_one ids) c.self.inside.replies.items) (sym c.as_slice.ensures) ∙ sym c.in_err-at.ensures
+    ∙ sym c.in_err-at.ensures
 
 pub returns-in_err-at-clause-found : goal.returns-in_err-at-clause-found
 returns-in_err-at-clause-found c = c.from_residual.ensures ∙ sym (none-found (answers_one c.args.ids.now) c.args.self.now.replies (none c))
@@ -19,7 +19,7 @@ pub returns-in_err-at-clause-replies : goal.returns-in_err-at-clause-replies
 returns-in_err-at-clause-replies c = sym (none-gone (answers_one c.args.ids.now) c.args.self.now.replies (none c))
 
 at : (c : goal.After-take_at) → position (answers_one c.args.ids.now) c.self.inside.replies.items ≡ Some c.in_ok-at.at
-at c = ap (λ ids. position (answers_one ids) c.self.inside.replies.items) (sym c.as_slice.ensures) ∙ sym c.in_ok-at.ensures
+at c = sym c.in_ok-at.ensures
 
 no_reply : Reply
 no_reply = record { id = 0; results = None }

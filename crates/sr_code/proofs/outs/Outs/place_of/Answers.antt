@@ -5,5 +5,5 @@ use Rattle.sr_code.proofs.outs.Outs.place_of.Goals as goal
 
 pub returns : goal.returns
 returns c =
-    c.place_among.ensures ∙ ap (position (λ id. eqb id c.args.id)) (c.as_slice.ensures.value ∙ c.self.invariant) ∙ position_of (λ (out : Out). out.id) (λ id. eqb id c.args.id) c.self.inside.outs.items
+    c.position.ensures ∙ ap (position (λ id. eqb id c.args.id)) c.self.invariant ∙ position_of (λ (out : Out). out.id) (λ id. eqb id c.args.id) c.self.inside.outs.items
     ∙ ap (position (λ (out : Out). eqb out.id c.args.id)) c.self.view_is

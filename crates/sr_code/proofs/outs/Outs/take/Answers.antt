@@ -8,7 +8,7 @@ pub invariant_of-self : goal.invariant_of-self
 invariant_of-self c =
     let within = subst (λ xs. c.args.at < length xs) (sym c.self.view_is) c.requires in
     let gone = stood_there c.self.inside.outs.items c.args.at c.remove-2.result within c.remove-2.ensures.item c.remove-2.ensures.others in
-    c.remove.ensures.items ∙ ap (λ xs. remove xs c.args.at) c.self.invariant ∙ remove_of (λ (out : Out). out.id) c.self.inside.outs.items c.args.at ∙ ap (map (λ (out : Out). out.id)) (sym gone)
+    c.in_ok-remove.ensures.ok ∙ ap (λ xs. remove xs c.args.at) c.self.invariant ∙ remove_of (λ (out : Out). out.id) c.self.inside.outs.items c.args.at ∙ ap (map (λ (out : Out). out.id)) (sym gone)
 
 pub returns-clause-others : goal.returns-clause-others
 returns-clause-others c =

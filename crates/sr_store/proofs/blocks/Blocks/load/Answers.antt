@@ -1,13 +1,13 @@
-use Rattle.std.proofs.Common.{ap, subst, sym, Some}
+use Rattle.std.proofs.Common.{ap, get_or, subst}
 use Rattle.sr_value.specs.Operators.{Answers}
 use Rattle.sr_store.specs.Variables.{block_loaded}
-use Rattle.sr_store.proofs.KeptLemmas.{block-here, none-loaded}
+use Rattle.sr_store.proofs.BucketLemmas.{at-home, block-at}
 use Rattle.sr_store.proofs.blocks.Blocks.load.Goals as goal
 
-pub returns-in-Some : goal.returns-in-Some
-returns-in-Some c =
+pub returns : goal.returns
+returns c =
     subst (λ meant. Answers c.load.result meant)
-    (sym (ap (λ b. block_loaded b c.args.var c.args.path.now) (block-here c.self.inside.tables.entries c.args.self.now c.self.view_is c.args.block (Some c.in-Some.kept.now) c.in-Some.ensures.value))) c.load.ensures
-
-pub returns-in-None : goal.returns-in-None
-returns-in-None c = none-loaded c.self.inside.tables.entries c.args.self.now c.self.view_is c.args.block c.in-None.ensures.value c.args.var c.args.path.now
+    (ap (λ b. block_loaded b c.args.var c.args.path.now)
+    (block-at c.self.inside.buckets c.args.self.now c.args.block (get_or c.self.inside.buckets c.home.result c.index-self-home.result) c.self.view_is
+    (at-home c.self.inside.buckets c.args.block c.home.result c.index-self-home.result c.self.invariant c.home.ensures.home)))
+    c.load.ensures

@@ -1,0 +1,4 @@
+pub mod FrontLemmas
+pub mod MarkLemmas
+pub mod ToldLemmas
+pub mod WalkLemmas

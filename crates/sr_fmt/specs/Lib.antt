@@ -1,0 +1,9 @@
+pub mod Blanks
+pub mod Canonical
+pub mod Gaps
+pub mod Layout
+pub mod Marks
+pub mod Printing
+pub mod Roles
+pub mod Starts
+pub mod Told

@@ -1,0 +1,3 @@
+pub mod CoreCrossing
+pub mod Crossing
+pub mod Jobs

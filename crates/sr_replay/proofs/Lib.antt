@@ -1,0 +1,11 @@
+pub mod AskLemmas
+pub mod BeginLemmas
+pub mod CrewLemmas
+pub mod FollowLemmas
+pub mod LeaveLemmas
+pub mod LedLemmas
+pub mod MemberLemmas
+pub mod NameLemmas
+pub mod RestLemmas
+pub mod ShownLemmas
+pub mod StepLemmas

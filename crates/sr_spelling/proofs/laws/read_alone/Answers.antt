@@ -1,0 +1,16 @@
+-- Each law is proved by the class of the first byte.
+use Rattle.sr_spelling.proofs.Alone.{name_alone, number_alone, line_comment_alone}
+use Rattle.sr_spelling.proofs.Signs.{sign_alone}
+use Rattle.sr_spelling.proofs.laws.read_alone.Goals as goal
+
+pub returns-clause-names : goal.returns-clause-names
+returns-clause-names c = name_alone
+
+pub returns-clause-numbers : goal.returns-clause-numbers
+returns-clause-numbers c = number_alone
+
+pub returns-clause-signs : goal.returns-clause-signs
+returns-clause-signs c = sign_alone
+
+pub returns-clause-comments : goal.returns-clause-comments
+returns-clause-comments c = line_comment_alone
