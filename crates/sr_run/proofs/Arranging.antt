@@ -1,15 +1,18 @@
 -- Items stay arranged as events come.
 use Rattle.std.proofs.Common.{◌≡◌, ◌⊎◌, inl, inr, ◌+◌, ◌<◌, ◌≤◌, ◌||◌, ℕ, Bool, true, false, List, [], ◌∷◌, ◌++◌, length, map, Option, Some, None, IsSome, refl, ap, sym, ◌∙◌, subst, arith, true≢false, append-nil, append_assoc, length-append}
 use Rattle.sr_ask.specs.declared.item.Item.{Item}
+use Rattle.sr_ask.specs.declared.item.Item.TheVariants.{Step, Quiesce, Tick}
+use Rattle.sr_ask.specs.declared.start.Start.{Start}
 use Rattle.sr_core.specs.declared.component.Core.{Core}
 use Rattle.sr_plain.proofs.RotationLemmas.{in_turn_is_rotation, one_more_in_turn}
 use Rattle.sr_plain.proofs.StretchInputLemmas.{stretches_stay}
 use Rattle.sr_plain.specs.Engine.{last_in}
 use Rattle.sr_plain.specs.Rotation.{AreInTurn, IsInTurn}
 use Rattle.sr_plain.specs.Stretches.{IsStretch, nobody_could}
-use Rattle.sr_run.proofs.Events.{bytes-more, closes-more, items-more, led-more, or-false, or-true}
+use Rattle.sr_plain.specs.Turns.{IsTurn, turn}
+use Rattle.sr_run.proofs.Events.{bytes-along, bytes-more, closes-along, closes-more, items-more, led-more, or-false, or-true}
 use Rattle.sr_run.proofs.Following.{followed-cut, followed-end, followed-full, followed-on}
-use Rattle.sr_run.specs.Arranged.{AreStretches, Arrangement, InTurn, InRounds, IsArranged, IsStretchFrom, LacksStretch}
+use Rattle.sr_run.specs.Arranged.{AreStretches, Arrangement, InTurn, InRounds, IsArranged, IsStretchFrom, LackStretches, LacksStretch, TakesNoTime}
 use Rattle.sr_run.specs.UnderWay.{ArrangedSoFar, LacksLast, Stage, Whole, Open}
 use Rattle.sr_run.specs.declared.stretch.Stretch.{Stretch}
 use Rattle.sr_world.proofs.LawProofs.{run-append}
@@ -17,6 +20,13 @@ use Rattle.sr_world.proofs.PieceLemmas.{items_give_the_run}
 use Rattle.sr_world.specs.Laws.{closes, next_with_all, with_all_in}
 use Rattle.sr_world.specs.Runs.{Event, Makes_item, Gives, Closes, Goes, Illegal, Next, Over, State, after_event, begun, bytes_in, ending_of, is_legal, items_in, led, next, run, run_from}
 use Rattle.sr_world.specs.declared.ends.End.{End}
+
+-- an item in its turn is no tick
+pub takes-no-time : (turn : Option Start) (item : Item) → IsTurn turn item → TakesNoTime item
+takes-no-time turn (Step actor name) here = tt
+takes-no-time turn (Quiesce name) here = tt
+takes-no-time None (Tick to) here = here
+takes-no-time (Some start) (Tick to) here = here
 
 -- ---- a run that may have been cut off
 
@@ -26,15 +36,18 @@ module _ (core : Core) (class : ℕ → ℕ) (ticks steps workers : ℕ) where
   cut-lacks now made item items (inr (none, inl ends)) = inr (none, inl ends)
   cut-lacks now made item items (inr (none, inr off)) = absurd (true≢false (sym off))
 
+  cut-lacking : (now : Next) (made : ℕ) (items : List Item) → LackStretches core class ticks steps workers false now made items → LackStretches core class ticks steps workers true now made items
+  cut-lacking now made [] lack = tt
+  cut-lacking now made (i ∷ is) lack = (lack.0, cut-lacks now made i is lack.1, cut-lacking (run_from core ticks now (i ∷ [])) (made + 1) is lack.2)
+
   cut-more : (stretches : List Stretch) (now : Next) (made : ℕ) (items : List Item) → AreStretches core class ticks steps workers false now made items stretches → AreStretches core class ticks steps workers true now made items stretches
-  cut-more [] now made [] are = tt
+  cut-more [] now made items are = cut-lacking now made items are
   cut-more (s ∷ ss) now made [] are = absurd are
-  cut-more [] now made (i ∷ is) are = cut-lacks now made i is are
-  cut-more (s ∷ ss) now made (i ∷ is) are = (are.0, are.1, are.2, are.3, cut-more ss _ _ _ are.4)
+  cut-more (s ∷ ss) now made (i ∷ is) are = (are.0, are.1, are.2, are.3, are.4, cut-more ss _ _ _ are.5)
 
 module _ (core : Core) (ticks steps : ℕ) (events : List Event) (items : List Item) (makes : items_in events ≡ items) where
   -- where the items lead with all of the input
-  run-is : (now : Next) → led core ticks events ≡ now → is_legal now ≡ true → (more : List ℕ) → (closes events ≡ true → more ≡ []) → run core ticks (bytes_in events ++ more) items ≡ next_with_all more now
+  pub run-is : (now : Next) → led core ticks events ≡ now → is_legal now ≡ true → (more : List ℕ) → (closes events ≡ true → more ≡ []) → run core ticks (bytes_in events ++ more) items ≡ next_with_all more now
   run-is now leads legal more last =
       subst (λ is. run core ticks (bytes_in events ++ more) is ≡ next_with_all more now) makes
       (items_give_the_run core ticks events more (ap is_legal leads ∙ legal) last ∙ ap (next_with_all more) leads)
@@ -52,7 +65,7 @@ module _ (core : Core) (ticks steps : ℕ) (events : List Event) (items : List I
     arranged-cut InTurn stage turns = in-rotation turns true
     arranged-cut (InRounds class workers stretches) Whole arranged = cut-more core class ticks steps workers stretches (Goes (begun (bytes_in events ++ more))) 0 items (arranged more last)
     arranged-cut (InRounds class workers stretches) Open lacks = subst (λ is. AreStretches core class ticks steps workers true (Goes (begun (bytes_in events ++ more))) 0 is stretches) (sym lacks.last)
-        (followed-cut core class ticks steps workers lacks.before stretches (Goes (begun (bytes_in events ++ more))) (with_all_in more lacks.state) (lacks.arranged more last) (lacks.leads more last) lacks.item)
+        (followed-cut core class ticks steps workers lacks.before stretches (Goes (begun (bytes_in events ++ more))) (with_all_in more lacks.state) (lacks.arranged more last) (lacks.leads more last) lacks.item lacks.plain)
 
 -- ---- more input
 
@@ -85,6 +98,7 @@ module _ (core : Core) (ticks steps : ℕ) (events : List Event) (items : List I
       before = items;
       item = item;
       last = refl;
+      plain = takes-no-time (turn core ticks state (last_in events)) item turn_of.0;
       state = state;
       leads = λ more last. subst (λ bs. run core ticks (bs ++ more) items ≡ Goes (with_all_in more state)) (sym bytes-same) (run-is core ticks steps events items makes (Goes state) leads refl more (λ e. last (closes-same ∙ e)));
       arranged = λ more last. subst (λ bs. IsArranged (InRounds class workers stretches) core ticks steps false (bs ++ more) items) (sym bytes-same) (arranged more (λ e. last (closes-same ∙ e)));
@@ -105,7 +119,7 @@ module _ (core : Core) (ticks steps : ℕ) (events : List Event) (items : List I
         let one : run_from core ticks (Goes (with_all_in more state)) (item ∷ []) ≡ Over ending (with_all_in more state) =
         sym (ap (λ n. run_from core ticks n (item ∷ [])) before) ∙ sym (run-append core ticks (Goes (begun (bytes_in events ++ more))) items (item ∷ [])) ∙ whole in
         subst (λ bs. AreStretches core class ticks steps workers false (Goes (begun (bs ++ more))) 0 (items ++ item ∷ []) stretches) (sym bytes-same)
-        (followed-end core class ticks steps workers items stretches (Goes (begun (bytes_in events ++ more))) (with_all_in more state) (arranged more (λ e. last (closes-same ∙ e))) before item
+        (followed-end core class ticks steps workers items stretches (Goes (begun (bytes_in events ++ more))) (with_all_in more state) (arranged more (λ e. last (closes-same ∙ e))) before item (takes-no-time (turn core ticks state (last_in events)) item turn_of.0)
         (subst (λ n. IsSome (ending_of n)) (sym one) refl) false)
 
 -- ---- the stretch after an item
@@ -116,36 +130,15 @@ module _ (core : Core) (ticks steps : ℕ) (events : List Event) (items : List I
       → ArrangedSoFar (InRounds class workers stretches) Whole core ticks steps events items
   arranged-full class workers stretches full lacks = λ more last.
       subst (λ is. AreStretches core class ticks steps workers false (Goes (begun (bytes_in events ++ more))) 0 is stretches) (sym lacks.last)
-      (followed-full core class ticks steps workers lacks.before stretches (Goes (begun (bytes_in events ++ more))) (with_all_in more lacks.state) (lacks.arranged more last) (lacks.leads more last) lacks.item
+      (followed-full core class ticks steps workers lacks.before stretches (Goes (begun (bytes_in events ++ more))) (with_all_in more lacks.state) (lacks.arranged more last) (lacks.leads more last) lacks.item lacks.plain
       (omega (arith, full, ap (λ is. length is) lacks.last, length-append lacks.before (lacks.item ∷ []))) false)
 
   module _ (class : ℕ → ℕ) (workers : ℕ) (stretches : List Stretch) (lacks : ArrangedSoFar (InRounds class workers stretches) Open core ticks steps events items) (later : State) (tail : List Item)
       (stretch : Stretch) (from : stretch.from ≡ length items) (count : stretch.count ≡ length tail) (room : length items + workers ≤ steps)
       (is_stretch : IsStretch core class ticks state tail later) (empty : (tail ≡ [] → nobody_could core class ticks state ≡ true) × (nobody_could core class ticks state ≡ true → tail ≡ [])) where
-    bytes-kept : (more : List Item) → bytes_in (events ++ map Makes_item more) ≡ bytes_in events
-    bytes-kept [] = ap bytes_in (append-nil events)
-    bytes-kept (i ∷ is) = along events
-      where
-        none : (xs : List Item) → bytes_in (map Makes_item xs) ≡ []
-        none [] = refl
-        none (x ∷ xs) = none xs
-
-        along : (es : List Event) → bytes_in (es ++ map Makes_item (i ∷ is)) ≡ bytes_in es
-        along [] = none is
-        along (Makes_item item ∷ es) = along es
-        along (Gives bytes ∷ es) = ap (λ bs. bytes ++ bs) (along es)
-        along (Closes ∷ es) = along es
-
-    closes-kept : (es : List Event) (xs : List Item) → closes (es ++ map Makes_item xs) ≡ closes es
-    closes-kept [] [] = refl
-    closes-kept [] (x ∷ xs) = closes-kept [] xs
-    closes-kept (Makes_item item ∷ es) xs = closes-kept es xs
-    closes-kept (Gives bytes ∷ es) xs = closes-kept es xs
-    closes-kept (Closes ∷ es) xs = refl
-
     pub arranged-round : (state.world.ended ≡ true → closes events ≡ true) → ArrangedSoFar (InRounds class workers (stretches ++ stretch ∷ [])) Whole core ticks steps (events ++ map Makes_item tail) (items ++ tail)
     arranged-round shut = λ more last.
-        let last' : closes events ≡ true → more ≡ [] = λ e. last (closes-kept events tail ∙ e) in
+        let last' : closes events ≡ true → more ≡ [] = λ e. last (closes-along events tail ∙ e) in
         let one : run_from core ticks (Goes (with_all_in more lacks.state)) (lacks.item ∷ []) ≡ Goes (with_all_in more state) =
         sym (ap (λ n. run_from core ticks n (lacks.item ∷ [])) (lacks.leads more last'))
         ∙ sym (run-append core ticks (Goes (begun (bytes_in events ++ more))) lacks.before (lacks.item ∷ []))
@@ -154,9 +147,9 @@ module _ (core : Core) (ticks steps : ℕ) (events : List Event) (items : List I
         let from_here : IsStretchFrom core class ticks steps workers (Goes (with_all_in more state)) tail =
         ((with_all_in more later, stays.0), ((λ none. stays.1 ∙ empty.0 none), (λ nobody. empty.1 (sym stays.1 ∙ nobody)))) in
         let size : length items ≡ length lacks.before + 1 = omega (arith, ap (λ is. length is) lacks.last, length-append lacks.before (lacks.item ∷ [])) in
-        subst (λ bs. AreStretches core class ticks steps workers false (Goes (begun (bs ++ more))) 0 (items ++ tail) (stretches ++ stretch ∷ [])) (sym (bytes-kept tail))
+        subst (λ bs. AreStretches core class ticks steps workers false (Goes (begun (bs ++ more))) 0 (items ++ tail) (stretches ++ stretch ∷ [])) (sym (bytes-along events tail))
         (subst (λ is. AreStretches core class ticks steps workers false (Goes (begun (bytes_in events ++ more))) 0 is (stretches ++ stretch ∷ []))
         (sym (append_assoc lacks.before (lacks.item ∷ []) tail) ∙ ap (λ is. is ++ tail) (sym lacks.last))
-        (followed-on core class ticks steps workers lacks.before stretches (Goes (begun (bytes_in events ++ more))) (with_all_in more lacks.state) (lacks.arranged more last') (lacks.leads more last') lacks.item
+        (followed-on core class ticks steps workers lacks.before stretches (Goes (begun (bytes_in events ++ more))) (with_all_in more lacks.state) (lacks.arranged more last') (lacks.leads more last') lacks.item lacks.plain
         tail stretch (omega (arith, from, size)) count (omega (arith, room, size))
         (subst (λ n. IsStretchFrom core class ticks steps workers n tail) (sym one) from_here) false))

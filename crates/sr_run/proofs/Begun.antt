@@ -1,5 +1,5 @@
 -- The beginning of a run.
-use Rattle.std.proofs.Common.{◌≡◌, ℕ, false, List, [], refl, sym, arith, true≢false}
+use Rattle.std.proofs.Common.{◌≡◌, ℕ, false, List, [], ◌∷◌, refl, subst, sym, arith, true≢false}
 use Rattle.sr_ask.specs.declared.answer.Answer.{Answer}
 use Rattle.sr_ask.specs.declared.ask.Asks.{Asks}
 use Rattle.sr_ask.specs.declared.item.Item.{Item}
@@ -10,23 +10,36 @@ use Rattle.sr_ports.proofs.Growth.{append_known-nil}
 use Rattle.sr_world.specs.Runs.{first}
 use Rattle.sr_run.proofs.Known.{prepend_known-nil}
 use Rattle.sr_run.proofs.Reached.{early}
+use Rattle.sr_run.specs.Arranged.{Arrangement, InTurn, InRounds, IsArranged}
 use Rattle.sr_run.specs.Causes.{EndsEarly, NoFaults}
 use Rattle.sr_run.specs.Runs.{Call, Devices}
-use Rattle.sr_run.specs.UnderWay.{HasCome, IsUnderWay}
+use Rattle.sr_run.specs.UnderWay.{ArrangedSoFar, HasCome, IsUnderWay, Whole}
 use Rattle.sr_run.specs.declared.intake.Intake.{Intake}
 
 -- nothing was taken
 abbrev pub nothing_taken : Intake
 nothing_taken = record { taken = 0; ended = false }
 
-module _ (core : Core) (steps ticks : ℕ) (devices : Devices) (items : List Item) (none : items ≡ []) where
+-- there is no stretch
+abbrev pub IsFresh : Arrangement → Type 0
+IsFresh InTurn = Unit {0}
+IsFresh (InRounds class workers []) = Unit {0}
+IsFresh (InRounds class workers (stretch ∷ stretches)) = ⊥
+
+module _ (arrangement : Arrangement) (fresh : IsFresh arrangement) (core : Core) (steps ticks : ℕ) (devices : Devices) (items : List Item) (none : items ≡ []) where
   abbrev pub begun_call : Call
   begun_call = record { core = core; steps = steps; ticks = ticks; before = devices; now = devices; items = items }
 
-  begun_come : HasCome begun_call nothing_taken first []
+  begun-arranged : (a : Arrangement) → IsFresh a → ArrangedSoFar a Whole core ticks steps [] items
+  begun-arranged InTurn is = tt
+  begun-arranged (InRounds class workers []) is = λ more last.
+      subst (λ made. IsArranged (InRounds class workers []) core ticks steps false more made) (sym none) tt
+  begun-arranged (InRounds class workers (stretch ∷ stretches)) is = absurd is
+
+  begun_come : HasCome arrangement Whole begun_call nothing_taken first []
   begun_come = record {
     leads = refl;
-    in_turn = tt;
+    arranged = begun-arranged arrangement fresh;
     makes = sym none;
     took = record { passed = prepend_known-nil devices.left; at_end = λ e. absurd (true≢false (sym e)); most = omega arith };
     count = refl;
@@ -39,9 +52,9 @@ module _ (core : Core) (steps ticks : ℕ) (devices : Devices) (items : List Ite
   no_faults = record { read = refl; write = refl }
 
   pub begun : {A : Type 0} (after : A → List Answer → Asks) (can_feed : A → Type 0) (plain : Plain A) → IsEngine after can_feed core ticks first [] plain
-      → IsUnderWay after can_feed begun_call nothing_taken plain
+      → IsUnderWay after can_feed arrangement Whole begun_call nothing_taken plain
   begun after can_feed plain engine = record { state = first; events = []; come = begun_come; no_faults = no_faults; engine = engine }
 
   -- memory ran out at once
-  pub begun_early : EndsEarly begun_call
-  begun_early = early begun_call nothing_taken first [] begun_come no_faults
+  pub begun_early : EndsEarly arrangement begun_call
+  begun_early = early arrangement begun_call nothing_taken first [] Whole begun_come no_faults

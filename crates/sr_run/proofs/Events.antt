@@ -1,6 +1,7 @@
 -- What one more event adds to what events make, give and close.
 use Rattle.std.proofs.Common.{◌≡◌, ◌||◌, ℕ, Bool, true, false, List, [], ◌∷◌, ◌++◌, refl, ap, sym, ◌∙◌, append-nil, append_assoc}
-use Rattle.std.specs.Prelude.{fold}
+use Rattle.std.specs.Prelude.{fold, map}
+use Rattle.sr_ask.specs.declared.item.Item.{Item}
 use Rattle.sr_core.specs.declared.component.Core.{Core}
 use Rattle.sr_plain.specs.Engine.{last_by, last_in}
 use Rattle.sr_plain.specs.Turns.{last_after}
@@ -42,6 +43,35 @@ closes-more [] Closes = refl
 closes-more (Makes_item item ∷ es) event = closes-more es event
 closes-more (Gives bytes ∷ es) event = closes-more es event
 closes-more (Closes ∷ es) event = refl
+
+-- ---- items alone
+
+items-made : (items : List Item) → items_in (map Makes_item items) ≡ items
+items-made [] = refl
+items-made (item ∷ items) = ap (λ is. item ∷ is) (items-made items)
+
+pub items-along : (events : List Event) (items : List Item) → items_in (events ++ map Makes_item items) ≡ items_in events ++ items
+items-along [] items = items-made items
+items-along (e ∷ es) items = ap (λ is. item_in e ++ is) (items-along es items) ∙ sym (append_assoc (item_in e) (items_in es) items)
+
+bytes-made : (items : List Item) → bytes_in (map Makes_item items) ≡ []
+bytes-made [] = refl
+bytes-made (item ∷ items) = bytes-made items
+
+pub bytes-along : (events : List Event) (items : List Item) → bytes_in (events ++ map Makes_item items) ≡ bytes_in events
+bytes-along [] items = bytes-made items
+bytes-along (Makes_item item ∷ es) items = bytes-along es items
+bytes-along (Gives bytes ∷ es) items = ap (λ bs. bytes ++ bs) (bytes-along es items)
+bytes-along (Closes ∷ es) items = bytes-along es items
+
+pub closes-along : (events : List Event) (items : List Item) → closes (events ++ map Makes_item items) ≡ closes events
+closes-along [] [] = refl
+closes-along [] (item ∷ items) = closes-along [] items
+closes-along (Makes_item item ∷ es) items = closes-along es items
+closes-along (Gives bytes ∷ es) items = closes-along es items
+closes-along (Closes ∷ es) items = refl
+
+-- ---- the last actor
 
 last-from : (last : ℕ) (events : List Event) → fold last_by last events ≡ fold last_after last (items_in events)
 last-from last [] = refl

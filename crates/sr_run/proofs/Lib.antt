@@ -7,6 +7,7 @@ pub mod Following
 pub mod Known
 pub mod OneCause
 pub mod Reached
+pub mod Rounding
 pub mod Stepped
 pub mod Taken
 pub mod Waiting

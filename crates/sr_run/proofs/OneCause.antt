@@ -1,5 +1,5 @@
 -- The causes of a run exclude each other.
-use Rattle.std.proofs.Common.{◌≡◌, ◌≢◌, ℕ, ◌-◌, ◌^◌, ◌<◌, Bool, true, not, cond, List, [], ◌∷◌, ◌++◌, Option, None, Some, refl, ap, sym, ◌∙◌, subst, arith}
+use Rattle.std.proofs.Common.{◌≡◌, ◌≢◌, ℕ, ◌-◌, ◌^◌, ◌<◌, Bool, true, false, not, cond, List, [], ◌∷◌, ◌++◌, Option, None, Some, refl, ap, sym, ◌∙◌, subst, arith}
 use Rattle.std.proofs.lemmas.List.{append_cancel_right}
 use Rattle.std.specs.Prelude.{IfSome, find, fold}
 use Rattle.std.specs.Io.KnownBytes.{prepend_known}
@@ -9,6 +9,7 @@ use Rattle.sr_core.specs.declared.component.Core.{Core}
 use Rattle.sr_plain.specs.Engine.{IsOver, WaitsForInput}
 use Rattle.sr_plain.specs.Turns.{last_after, takes_turn, turn, walk}
 use Rattle.sr_ports.specs.Faults.{Rose}
+use Rattle.sr_run.specs.Arranged.{InTurn}
 use Rattle.sr_run.specs.Causes.{HasCause, LimitCause}
 use Rattle.sr_run.specs.OneCause.{IsTold, OneCause}
 use Rattle.sr_run.specs.Runs.{Call, GoesOn, IsRun, Runs, turn_after}
@@ -44,7 +45,7 @@ legal-goes now state is = ap is_legal is
 
 module _ (call : Call) (told : IsTold call) where
   -- where the items lead with all of the input
-  leads_to : (taken : List ℕ) (ended : Bool) (state : State) (goes : GoesOn call taken ended state) (rest : List ℕ) → call.now.left ≡ Some rest → told.input ≡ taken ++ rest
+  leads_to : (taken : List ℕ) (ended : Bool) (state : State) (goes : GoesOn InTurn call false taken ended state) (rest : List ℕ) → call.now.left ≡ Some rest → told.input ≡ taken ++ rest
       → run call.core call.ticks told.input call.items ≡ Goes (with_all_in rest state)
   leads_to taken ended state goes rest left is =
       let reaches = goes.reaches in
@@ -101,14 +102,14 @@ same_rest rest a b same =
 
 module _ (call : Call) (told : IsTold call) where
   -- the run with all of the input, where it is told
-  told_run : (taken : List ℕ) (ended : Bool) (ending : Option End) (output : List ℕ) → Runs call taken ended ending output → IsRun call.core call.ticks told.input call.items ending output
-  told_run taken ended ending output runs = subst (λ o. IfSome o (λ input. IsRun call.core call.ticks input call.items ending output)) told.told runs.told
+  told_run : (taken : List ℕ) (ended : Bool) (ending : Option End) (output : List ℕ) → Runs InTurn call false taken ended ending output → IsRun InTurn call false told.input ending output
+  told_run taken ended ending output runs = subst (λ o. IfSome o (λ input. IsRun InTurn call false input ending output)) told.told runs.told
 
-  one_ending : (taken taken' : List ℕ) (ended ended' : Bool) (a b : Option End) (output output' : List ℕ) → Runs call taken ended a output → Runs call taken' ended' b output' → a ≡ b
+  one_ending : (taken taken' : List ℕ) (ended ended' : Bool) (a b : Option End) (output output' : List ℕ) → Runs InTurn call false taken ended a output → Runs InTurn call false taken' ended' b output' → a ≡ b
   one_ending taken taken' ended ended' a b output output' runs other = sym (told_run taken ended a output runs).ends ∙ (told_run taken' ended' b output' other).ends
 
   -- the states that its items lead to
-  one_state : (taken taken' : List ℕ) (ended ended' : Bool) (a b : State) → GoesOn call taken ended a → GoesOn call taken' ended' b → with_all_in [] a ≡ with_all_in [] b
+  one_state : (taken taken' : List ℕ) (ended ended' : Bool) (a b : State) → GoesOn InTurn call false taken ended a → GoesOn InTurn call false taken' ended' b → with_all_in [] a ≡ with_all_in [] b
   one_state taken taken' ended ended' a b goes other =
       let over = left_over told.input taken call.now.left (sym told.told ∙ goes.runs.took.passed) in
       let over' = left_over told.input taken' call.now.left (sym told.told ∙ other.runs.took.passed) in
@@ -122,7 +123,7 @@ module _ (call : Call) (told : IsTold call) where
   one_turn : (a b : State) → with_all_in [] a ≡ with_all_in [] b → turn_after call a ≡ turn_after call b
   one_turn a b same = same-turn call.core call.ticks a b (fold last_after 0 call.items) same
 
-  goes-on : (kind : LimitKind) → LimitCause call kind → (taken : List ℕ) × (ended : Bool) × (output : List ℕ) × Runs call taken ended None output
+  goes-on : (kind : LimitKind) → LimitCause InTurn call kind → (taken : List ℕ) × (ended : Bool) × (output : List ℕ) × Runs InTurn call false taken ended None output
   goes-on Steps cause = (cause.taken, cause.ended, cause.state.world.output, cause.goes_on.runs)
   goes-on (Ticks process) cause = (cause.taken, cause.ended, cause.state.world.output, cause.goes_on.runs)
   goes-on Input cause = (cause.taken, _, cause.state.world.output, cause.goes_on.runs)
@@ -130,12 +131,12 @@ module _ (call : Call) (told : IsTold call) where
   ended-or-not : (ending : End) → ◌≡◌ {A = Option End} (Some ending) None → ⊥
   ended-or-not ending is = cc
 
-  itself_or_limit : (ending : End) (kind : LimitKind) → HasCause call (Ended ending) → LimitCause call kind → ⊥
+  itself_or_limit : (ending : End) (kind : LimitKind) → HasCause call (Ended ending) → LimitCause InTurn call kind → ⊥
   itself_or_limit ending kind itself limit =
       let on = goes-on kind limit in
       ended-or-not ending (one_ending itself.taken on.0 itself.ended on.1 (Some ending) None itself.output on.2 itself.runs on.3)
 
-  one_limit : (kind other : LimitKind) → LimitCause call kind → LimitCause call other → kind ≡ other
+  one_limit : (kind other : LimitKind) → LimitCause InTurn call kind → LimitCause InTurn call other → kind ≡ other
   one_limit Steps Steps cause again = refl
   one_limit Steps (Ticks process) cause again = absurd (omega (arith, cause.all, again.fewer))
   one_limit Steps Input cause again = absurd (omega (arith, cause.all, again.fewer))
@@ -153,12 +154,12 @@ module _ (call : Call) (told : IsTold call) where
   one_limit Input Input cause again = refl
 
   -- no count of faults rose
-  limit-reads : (kind : LimitKind) → LimitCause call kind → call.now.read_faults ≡ call.before.read_faults
+  limit-reads : (kind : LimitKind) → LimitCause InTurn call kind → call.now.read_faults ≡ call.before.read_faults
   limit-reads Steps cause = cause.no_faults.read
   limit-reads (Ticks process) cause = cause.no_faults.read
   limit-reads Input cause = cause.no_faults.read
 
-  limit-writes : (kind : LimitKind) → LimitCause call kind → call.now.write_faults ≡ call.before.write_faults
+  limit-writes : (kind : LimitKind) → LimitCause InTurn call kind → call.now.write_faults ≡ call.before.write_faults
   limit-writes Steps cause = cause.no_faults.write
   limit-writes (Ticks process) cause = cause.no_faults.write
   limit-writes Input cause = cause.no_faults.write

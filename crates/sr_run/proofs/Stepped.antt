@@ -1,5 +1,5 @@
 -- What becomes of a run when an item is made.
-use Rattle.std.proofs.Common.{◌≡◌, ◌<◌, ◌==◌, ◌&&◌, ℕ, true, List, [], ◌∷◌, ◌++◌, Option, None, Some, length, refl, ap, sym, ◌∙◌, subst, arith, append-nil}
+use Rattle.std.proofs.Common.{◌≡◌, ◌<◌, ◌==◌, ◌&&◌, ℕ, Bool, true, false, List, [], ◌∷◌, ◌++◌, Option, None, Some, length, refl, ap, sym, ◌∙◌, subst, arith, append-nil}
 use Rattle.std.specs.Io.KnownBytes.{append_known}
 use Rattle.sr_ask.specs.declared.ask.Asks.{Asks}
 use Rattle.sr_ask.specs.declared.ask.Asks.TheVariants.{Asked, OverTicks}
@@ -8,11 +8,10 @@ use Rattle.sr_ask.specs.declared.item.Item.TheVariants.{Step, Quiesce, Tick}
 use Rattle.sr_ask.specs.declared.start.Start.{Start}
 use Rattle.sr_core.specs.declared.component.Core.{Core}
 use Rattle.sr_plain.proofs.LeaveLemmas.{leaves, leaves_at_rest}
-use Rattle.sr_plain.proofs.RotationLemmas.{one_more_in_turn}
 use Rattle.sr_plain.specs.Carrying.{written_of}
 use Rattle.sr_plain.specs.Engine.{last_in}
 use Rattle.sr_plain.specs.Leaving.{LeavesIf, written_by}
-use Rattle.sr_plain.specs.Rotation.{AreInTurn, IsInTurn}
+use Rattle.sr_plain.specs.Rotation.{IsInTurn}
 use Rattle.sr_ports.proofs.Growth.{append_known-append}
 use Rattle.sr_ports.specs.Streams.{PutInPart}
 use Rattle.sr_world.proofs.PieceLemmas.{ended-next}
@@ -20,16 +19,18 @@ use Rattle.sr_world.proofs.RunLemmas.{goes-where, sound-led}
 use Rattle.sr_world.specs.Laws.{closes}
 use Rattle.sr_world.specs.Does.{Does, Did, Makes, Cannot, Ends, Undecided}
 use Rattle.sr_world.specs.Endings.{quiesce}
-use Rattle.sr_world.specs.Runs.{Event, Makes_item, Goes, Next, Over, State, asks_for, asks_next, bytes_in, comes_after, ending_of, heeds_time, is_legal, is_new, items_in, next, no_step, output_of, rested, step_of, stepped, with_answer}
+use Rattle.sr_world.specs.Runs.{Event, Makes_item, Goes, Next, Over, State, asks_for, asks_next, bytes_in, comes_after, ending_of, heeds_time, is_legal, is_new, items_in, led, next, no_step, output_of, rested, step_of, stepped, with_answer}
 use Rattle.sr_world.specs.Steps.{does}
 use Rattle.sr_world.specs.Updates.{pass_to}
 use Rattle.sr_world.specs.Worlds.{started}
 use Rattle.sr_world.specs.declared.ends.End.{End}
+use Rattle.sr_run.proofs.Arranging.{arranged-cut, arranged-end, arranged-item}
 use Rattle.sr_run.proofs.Events.{bytes-more, closes-more, items-more, led-more, or-false}
 use Rattle.sr_run.proofs.Reached.{runs}
+use Rattle.sr_run.specs.Arranged.{Arrangement, IsArranged}
 use Rattle.sr_run.specs.Causes.{EndsItself, IsCutInWrite, NoFaults}
 use Rattle.sr_run.specs.Runs.{Call, Runs, Took}
-use Rattle.sr_run.specs.UnderWay.{HasCome}
+use Rattle.sr_run.specs.UnderWay.{ArrangedSoFar, HasCome, Open, Whole}
 use Rattle.sr_run.specs.declared.intake.Intake.{Intake}
 
 -- ---- who writes
@@ -106,7 +107,7 @@ module _ (core : Core) (ticks : ℕ) (state later : State) where
 
 -- ---- one item more
 
-module _ (call : Call) (intake : Intake) (state : State) (events : List Event) (come : HasCome call intake state events) (item : Item)
+module _ (arrangement : Arrangement) (call : Call) (intake : Intake) (state : State) (events : List Event) (come : HasCome arrangement Whole call intake state events) (item : Item)
     (turn_of : IsInTurn call.core call.ticks state (last_in events) (Makes_item item)) (items : List Item) (added : items ≡ call.items ++ item ∷ []) (held : Option (List ℕ)) (write_faults : ℕ) where
   abbrev with_item : Call
   with_item = record call { items = items; now = record call.now { held = held; write_faults = write_faults } }
@@ -117,8 +118,9 @@ module _ (call : Call) (intake : Intake) (state : State) (events : List Event) (
   bytes-same : bytes_in later_events ≡ bytes_in events
   bytes-same = bytes-more events (Makes_item item) ∙ append-nil (bytes_in events)
 
-  item-turn : AreInTurn call.core call.ticks later_events
-  item-turn = one_more_in_turn call.core call.ticks events state (Makes_item item) come.leads come.in_turn turn_of
+  item-arranged : ArrangedSoFar arrangement Open call.core call.ticks call.steps later_events items
+  item-arranged = subst (ArrangedSoFar arrangement Open call.core call.ticks call.steps later_events) (sym added)
+      (arranged-item call.core call.ticks call.steps events call.items state come.leads come.makes item turn_of arrangement come.arranged)
 
   item-makes : items_in later_events ≡ items
   item-makes = items-more events (Makes_item item) ∙ ap (λ is. is ++ item ∷ []) come.makes ∙ sym added
@@ -132,28 +134,37 @@ module _ (call : Call) (intake : Intake) (state : State) (events : List Event) (
   item-took : Took with_item (bytes_in later_events) intake.ended
   item-took = subst (λ bytes. Took with_item bytes intake.ended) (sym bytes-same) took-same
 
-  item-runs : (now : Next) → next call.core call.ticks state item ≡ now → is_legal now ≡ true → Runs with_item (bytes_in events) intake.ended (ending_of now) (output_of now)
-  item-runs now goes legal =
-      subst (λ bytes. Runs with_item bytes intake.ended (ending_of now) (output_of now)) bytes-same
-      (runs with_item intake.ended later_events now (led-more call.core call.ticks events (Makes_item item) state now come.leads goes) legal item-turn item-makes item-closed item-took)
+  module _ (now : Next) (goes : next call.core call.ticks state item ≡ now) (legal : is_legal now ≡ true) (cut : Bool)
+      (arranged : (more : List ℕ) → (closes later_events ≡ true → more ≡ []) → IsArranged arrangement call.core call.ticks call.steps cut (bytes_in later_events ++ more) items) where
+    item-leads : led call.core call.ticks later_events ≡ now
+    item-leads = led-more call.core call.ticks events (Makes_item item) state now come.leads goes
+
+    item-runs : Runs arrangement with_item cut (bytes_in events) intake.ended (ending_of now) (output_of now)
+    item-runs =
+        subst (λ bytes. Runs arrangement with_item cut bytes intake.ended (ending_of now) (output_of now)) bytes-same
+        (runs arrangement cut with_item intake.ended later_events now item-leads legal arranged item-makes item-closed item-took)
 
   -- the run ends with it
-  pub ended_so : (ending : End) → next call.core call.ticks state item ≡ Over ending state → held ≡ call.now.held → NoFaults with_item → EndsItself with_item ending
+  pub ended_so : (ending : End) → next call.core call.ticks state item ≡ Over ending state → held ≡ call.now.held → NoFaults with_item → EndsItself arrangement with_item ending
   ended_so ending ends same no_faults = record {
     taken = bytes_in events;
     ended = intake.ended;
     output = state.world.output;
-    runs = item-runs (Over ending state) ends refl;
+    runs = item-runs (Over ending state) ends refl false (λ more last. subst (IsArranged arrangement call.core call.ticks call.steps false (bytes_in later_events ++ more)) (sym added)
+        (arranged-end call.core call.ticks call.steps events call.items state come.leads come.makes item turn_of arrangement ending ends come.arranged more last));
     put = same ∙ come.put;
     no_faults = no_faults;
   }
 
   module _ (later : State) (goes : next call.core call.ticks state item ≡ Goes later) (text : List ℕ) (written : later.world.output ≡ state.world.output ++ text) where
+    later-leads : led call.core call.ticks later_events ≡ Goes later
+    later-leads = led-more call.core call.ticks events (Makes_item item) state (Goes later) come.leads goes
+
     -- the run goes on, and the text was put
-    pub made_come : held ≡ append_known call.now.held text → HasCome with_item intake later later_events
+    pub made_come : held ≡ append_known call.now.held text → HasCome arrangement Open with_item intake later later_events
     made_come put = record {
-      leads = led-more call.core call.ticks events (Makes_item item) state (Goes later) come.leads goes;
-      in_turn = item-turn;
+      leads = later-leads;
+      arranged = item-arranged;
       makes = item-makes;
       took = item-took;
       count = ap length bytes-same ∙ come.count;
@@ -164,8 +175,12 @@ module _ (call : Call) (intake : Intake) (state : State) (events : List Event) (
           ∙ ap (append_known call.before.held) (sym written);
     }
 
+    cut-runs : Runs arrangement with_item true (bytes_in events) intake.ended None later.world.output
+    cut-runs = item-runs (Goes later) goes refl true (λ more last.
+        arranged-cut call.core call.ticks call.steps later_events items item-makes (Goes later) later-leads refl more last arrangement Open item-arranged)
+
     -- the text was put in part
-    pub cut_in_write : PutInPart call.now.held held text → IsCutInWrite with_item
+    pub cut_in_write : PutInPart call.now.held held text → IsCutInWrite arrangement with_item
     cut_in_write put =
         let writer : IsWriteOf call.core call.ticks state item text = who-writes call.core call.ticks state later text written (let short = put.short in omega (arith, short)) item goes in
         record {
@@ -181,6 +196,6 @@ module _ (call : Call) (intake : Intake) (state : State) (events : List Event) (
           reaches = record { events = events; leads = come.leads; makes = come.makes; gives = refl; closed = come.closed };
           lives = writer.lives;
           writes = writer.writes;
-          runs = subst (Runs with_item (bytes_in events) intake.ended None) written (item-runs (Goes later) goes refl);
+          runs = subst (Runs arrangement with_item true (bytes_in events) intake.ended None) written cut-runs;
           put = subst (λ known. PutInPart known held text) come.put put;
         }

@@ -10,42 +10,43 @@ use Rattle.sr_ports.specs.Faults.{Rose}
 use Rattle.sr_world.specs.Runs.{Event, Gives, Closes, State, with_input, without_more}
 use Rattle.sr_run.proofs.Reached.{early}
 use Rattle.sr_run.proofs.Taken.{at_input, at_read, closed_come, failed_come, given_come, is_open, not-ended}
+use Rattle.sr_run.specs.Arranged.{Arrangement}
 use Rattle.sr_run.specs.Causes.{EndsAtInput, EndsAtRead, EndsEarly, NoFaults}
 use Rattle.sr_run.specs.Runs.{Call}
-use Rattle.sr_run.specs.UnderWay.{HasCome, IsUnderWay, IsWaiting}
+use Rattle.sr_run.specs.UnderWay.{HasCome, IsUnderWay, IsWaiting, Whole}
 use Rattle.sr_run.specs.declared.intake.Intake.{Intake}
 
-module _ {A : Type 0} (after : A → List Answer → Asks) (can_feed : A → Type 0) (call : Call) (intake : Intake) (plain : Plain A) (waiting : IsWaiting after can_feed call intake plain) where
+module _ {A : Type 0} (after : A → List Answer → Asks) (can_feed : A → Type 0) (arrangement : Arrangement) (call : Call) (intake : Intake) (plain : Plain A) (waiting : IsWaiting after can_feed arrangement call intake plain) where
   abbrev pub state_of : State
   state_of = waiting.under_way.state
 
   abbrev pub events_of : List Event
   events_of = waiting.under_way.events
 
-  come : HasCome call intake state_of events_of
+  come : HasCome arrangement Whole call intake state_of events_of
   come = waiting.under_way.come
 
   no_faults : NoFaults call
   no_faults = waiting.under_way.no_faults
 
   pub world_open : state_of.world.ended ≡ false
-  world_open = is_open call intake state_of events_of come waiting.waits
+  world_open = is_open arrangement call intake state_of events_of come waiting.waits
 
   pub still_open : intake.ended ≡ false
-  still_open = not-ended call intake state_of events_of come waiting.waits
+  still_open = not-ended arrangement call intake state_of events_of come waiting.waits
 
   -- the most bytes were taken
-  pub input_full : intake.taken ≡ 67108864 → EndsAtInput call
-  input_full full = at_input call intake state_of events_of come waiting.waits waiting.fewer full no_faults
+  pub input_full : intake.taken ≡ 67108864 → EndsAtInput arrangement call
+  input_full full = at_input arrangement call intake state_of events_of come waiting.waits waiting.fewer full no_faults
 
   -- the input failed
   module _ (left : Option (List ℕ)) (same : left ≡ call.now.left) (read_faults : ℕ) where
     abbrev pub failed_call : Call
     failed_call = record call { now = record call.now { left = left; read_faults = read_faults } }
 
-    pub input_failed : Rose call.now.read_faults read_faults → EndsAtRead failed_call
+    pub input_failed : Rose call.now.read_faults read_faults → EndsAtRead arrangement failed_call
     input_failed rose =
-        at_read failed_call intake state_of events_of (failed_come call intake state_of events_of come left same read_faults) waiting.waits waiting.fewer
+        at_read arrangement failed_call intake state_of events_of (failed_come arrangement call intake state_of events_of come left same read_faults) waiting.waits waiting.fewer
         (subst (λ n. Rose n read_faults) no_faults.read rose) no_faults.write
 
   -- the input has ended
@@ -54,11 +55,11 @@ module _ {A : Type 0} (after : A → List Answer → Asks) (can_feed : A → Typ
     closed_call = record call { now = record call.now { left = left; read_faults = read_faults } }
 
     pub input_ended : (later : Plain A) → IsEngine after can_feed call.core call.ticks (record state_of { world = without_more state_of.world }) (events_of ++ Closes ∷ []) later
-        → IsUnderWay after can_feed closed_call (record intake { ended = true }) later
+        → IsUnderWay after can_feed arrangement Whole closed_call (record intake { ended = true }) later
     input_ended later engine = record {
       state = record state_of { world = without_more state_of.world };
       events = events_of ++ Closes ∷ [];
-      come = closed_come call intake state_of events_of come waiting.waits left passed none read_faults;
+      come = closed_come arrangement call intake state_of events_of come waiting.waits left passed none read_faults;
       no_faults = record { read = same ∙ no_faults.read; write = no_faults.write };
       engine = engine;
     }
@@ -72,17 +73,17 @@ module _ {A : Type 0} (after : A → List Answer → Asks) (can_feed : A → Typ
     given_faults = record { read = no_faults.read; write = no_faults.write }
 
     pub input_given : (later : Plain A) → IsEngine after can_feed call.core call.ticks (record state_of { world = with_input bytes state_of.world }) (events_of ++ Gives bytes ∷ []) later
-        → IsUnderWay after can_feed given_call (record intake { taken = intake.taken + length bytes }) later
+        → IsUnderWay after can_feed arrangement Whole given_call (record intake { taken = intake.taken + length bytes }) later
     input_given later engine = record {
       state = record state_of { world = with_input bytes state_of.world };
       events = events_of ++ Gives bytes ∷ [];
-      come = given_come call intake state_of events_of come waiting.waits bytes left passed most;
+      come = given_come arrangement call intake state_of events_of come waiting.waits bytes left passed most;
       no_faults = given_faults;
       engine = engine;
     }
 
     -- there was no memory for them
-    pub input_lost : EndsEarly given_call
+    pub input_lost : EndsEarly arrangement given_call
     input_lost =
-        early given_call (record intake { taken = intake.taken + length bytes }) (record state_of { world = with_input bytes state_of.world }) (events_of ++ Gives bytes ∷ [])
-        (given_come call intake state_of events_of come waiting.waits bytes left passed most) given_faults
+        early arrangement given_call (record intake { taken = intake.taken + length bytes }) (record state_of { world = with_input bytes state_of.world }) (events_of ++ Gives bytes ∷ []) Whole
+        (given_come arrangement call intake state_of events_of come waiting.waits bytes left passed most) given_faults

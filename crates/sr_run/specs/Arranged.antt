@@ -1,6 +1,7 @@
 -- How the items of a run are arranged: each in its turn where one worker makes it, and with stretches where several do.
 use Rattle.std.specs.Prelude.{◌≡◌, ◌⊎◌, ◌↔◌, ◌+◌, ◌<◌, ◌≤◌, ℕ, Bool, true, List, [], ◌∷◌, drop, length, take, IsSome}
 use Rattle.sr_ask.specs.declared.item.Item.{Item}
+use Rattle.sr_ask.specs.declared.item.Item.TheVariants.{Step, Quiesce, Tick}
 use Rattle.sr_core.specs.declared.component.Core.{Core}
 use Rattle.sr_plain.specs.Stretches.{IsStretch, nobody_could}
 use Rattle.sr_plain.specs.Turns.{IsRotation}
@@ -8,6 +9,12 @@ use Rattle.sr_run.specs.declared.stretch.Stretch.{Stretch}
 use Rattle.sr_world.specs.Runs.{Goes, Illegal, Next, Over, State, begun, ending_of, run_from}
 
 -- ---- stretches
+
+-- a step, or the machine comes to rest
+abbrev pub TakesNoTime : Item → Type 0
+TakesNoTime (Step actor name) = Unit {0}
+TakesNoTime (Quiesce name) = Unit {0}
+TakesNoTime (Tick to) = ⊥
 
 module _ (core : Core) (class : ℕ → ℕ) (ticks steps workers : ℕ) where
   -- These items are a stretch from where a run has come to. There are none exactly where nobody could take part.
@@ -26,14 +33,18 @@ module _ (core : Core) (class : ℕ → ℕ) (ticks steps workers : ℕ) where
     abbrev pub LacksStretch : Next → ℕ → Item → List Item → Type 0
     LacksStretch now made item items = (steps < made + 1 + workers) ⊎ ((items ≡ []) × (IsSome (ending_of (run_from core ticks now (item ∷ []))) ⊎ (cut ≡ true)))
 
-    -- Each item that stands in no stretch is followed by one, unless it lacks it. A stretch tells where it begins and how many
-    -- items it has.
+    -- no item among these has one
+    abbrev pub LackStretches : Next → ℕ → List Item → Type 0
+    LackStretches now made [] = Unit {0}
+    LackStretches now made (item ∷ items) = TakesNoTime item × LacksStretch now made item items × LackStretches (run_from core ticks now (item ∷ [])) (made + 1) items
+
+    -- Each item that stands in no stretch is followed by one, unless it lacks it. No time passes. A stretch tells where it
+    -- begins and how many items it has.
     abbrev pub AreStretches : Next → ℕ → List Item → List Stretch → Type 0
-    AreStretches now made [] [] = Unit {0}
+    AreStretches now made items [] = LackStretches now made items
     AreStretches now made [] (stretch ∷ stretches) = ⊥
-    AreStretches now made (item ∷ items) [] = LacksStretch now made item items
     AreStretches now made (item ∷ items) (stretch ∷ stretches) =
-        (stretch.from ≡ made + 1) × (stretch.count ≤ length items) × HasRoom (made + 1)
+        TakesNoTime item × (stretch.from ≡ made + 1) × (stretch.count ≤ length items) × HasRoom (made + 1)
         × IsStretchFrom (run_from core ticks now (item ∷ [])) (take stretch.count items)
         × AreStretches (run_from core ticks now (item ∷ take stretch.count items)) (made + 1 + stretch.count) (drop stretch.count items) stretches
 

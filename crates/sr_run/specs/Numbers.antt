@@ -3,12 +3,6 @@ use Rattle.std.specs.Prelude.{◌<◌, ◌≤◌, ◌^◌}
 use Rattle.sr_ask.specs.declared.item.Item.{Item}
 use Rattle.sr_ask.specs.declared.item.Item.TheVariants.{Step, Quiesce, Tick}
 
--- the numbers have 32 bits
-abbrev pub FitsItem : Item → Type 0
-FitsItem (Step actor name) = (actor < 2 ^ 32) × (name < 2 ^ 32)
-FitsItem (Quiesce name) = name < 2 ^ 32
-FitsItem (Tick to) = to < 2 ^ 32
-
 -- a step is made by a process, and processes are numbered from 1; the engine lets no time pass
 abbrev pub HasActor : Item → Type 0
 HasActor (Step actor name) = 1 ≤ actor

@@ -10,7 +10,7 @@ use Rattle.sr_plain.specs.Rotation.{AreInTurn}
 use Rattle.sr_plain.specs.declared.plain.Plain.{Plain}
 use Rattle.sr_ports.specs.Faults.{Rose}
 use Rattle.sr_ports.specs.Streams.{PutInPart}
-use Rattle.sr_run.specs.Arranged.{Arrangement, InTurn, InRounds, IsArranged}
+use Rattle.sr_run.specs.Arranged.{Arrangement, InTurn, InRounds, IsArranged, TakesNoTime}
 use Rattle.sr_run.specs.Causes.{HasCauseIn, NoFaults}
 use Rattle.sr_run.specs.Runs.{Call, Devices, Took, turn_after}
 use Rattle.sr_run.specs.declared.end.RunEnd.{RunEnd}
@@ -37,6 +37,7 @@ pub record LacksLast (class : ℕ → ℕ) (workers : ℕ) (stretches : List Str
   pub before : List Item
   pub item : Item
   pub last : items ≡ before ++ item ∷ []
+  pub plain : TakesNoTime item
   pub state : State
   pub leads : (more : List ℕ) → (closes events ≡ true → more ≡ []) → run core ticks (bytes_in events ++ more) before ≡ Goes (with_all_in more state)
   pub arranged : (more : List ℕ) → (closes events ≡ true → more ≡ []) → IsArranged (InRounds class workers stretches) core ticks steps false (bytes_in events ++ more) before

@@ -1,8 +1,9 @@
 ghost use Rattle.std.specs.Prelude.{◌+◌, ◌<◌, ◌≤◌, IfNone, length};
 ghost use Rattle.std.specs.List.{AllByRecursion};
-ghost use Rattle.sr_run.specs.Numbers.{FitsItem};
+ghost use Rattle.sr_plain.specs.Passing.{FitsItem};
+ghost use Rattle.sr_run.specs.Arranged.{Arrangement};
 ghost use Rattle.sr_run.specs.Runs.{Call};
-ghost use Rattle.sr_run.specs.UnderWay.{Advances, IsUnderWay, Moves, as_of};
+ghost use Rattle.sr_run.specs.UnderWay.{Advances, IsUnderWay, Moves, Whole, as_of};
 
 use crate::end::{LimitKind, RunEnd};
 use crate::intake::Intake;
@@ -29,11 +30,11 @@ pub(crate) fn advance<A: Actor, I: Source, O: Sink>(
     ensures one_more { length items.new ≤ length items.old + 1 }
     ensures fit { AllByRecursion FitsItem items.old → AllByRecursion FitsItem items.new }
     ensures moves { IfNone result (Moves items.old items.new intake.old intake.new) }
-    ensures advances { (call : Call) → length items.old < call.steps
-        → IsUnderWay (A.asks_after program.now) A.can_feed
+    ensures advances { (arrangement : Arrangement) (call : Call) → length items.old < call.steps
+        → IsUnderWay (A.asks_after program.now) A.can_feed arrangement Whole
         (as_of call (A.core_of program.now) (record { left = I.left input.old; read_faults = I.faults input.old; held = O.held output.old; write_faults = O.faults output.old }) items.old)
         intake.old plain.old
-        → Advances (A.asks_after program.now) A.can_feed
+        → Advances (A.asks_after program.now) A.can_feed arrangement items.old
         (as_of call (A.core_of program.now) (record { left = I.left input.new; read_faults = I.faults input.new; held = O.held output.new; write_faults = O.faults output.new }) items.new)
         intake.new plain.new result }
 {

@@ -1,3 +1,4 @@
+use crate::stretch::Stretch;
 use sr_ask::Item;
 use sr_value::Row;
 use sr_world::End;
@@ -28,9 +29,10 @@ pub enum LimitKind {
     Input,
 }
 
-/// The items of a run, in order, and how it ended.
+/// The items of a run, in order, and how it ended; and the stretches that its workers made.
 #[derive(Debug, Drop)]
 pub struct Run {
     pub items: Row<Item>,
     pub end: RunEnd,
+    pub rounds: Row<Stretch>,
 }

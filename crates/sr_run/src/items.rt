@@ -1,5 +1,5 @@
 ghost use Rattle.std.specs.List.{AllByRecursion};
-ghost use Rattle.sr_run.specs.Numbers.{FitsItem};
+ghost use Rattle.sr_plain.specs.Passing.{FitsItem};
 ghost use Rattle.sr_run.specs.UnderWay.{EndsWith, PutsItem};
 
 use crate::end::RunEnd;

@@ -1,5 +1,6 @@
 ghost use Rattle.std.specs.Prelude.{◌≡◌, ◌+◌, ◌<◌, ◌≤◌, ℕ, false, List, Option, IfNone, length};
 ghost use Rattle.std.specs.Io.KnownBytes.{prepend_known};
+ghost use Rattle.sr_run.specs.Arranged.{Arrangement};
 ghost use Rattle.sr_run.specs.Runs.{Call};
 ghost use Rattle.sr_run.specs.UnderWay.{Advances, IsWaiting, as_of, open_input};
 
@@ -40,11 +41,11 @@ pub(crate) fn take_more<A: Actor, I: Source>(
     requires { intake.old.taken ≤ 67108864 }
     ensures within { intake.new.taken ≤ 67108864 }
     ensures nearer { IfNone result (open_input intake.new < open_input intake.old) }
-    ensures advances { (program : A.Program) (call : Call)
-        → IsWaiting (A.asks_after program) A.can_feed
+    ensures advances { (program : A.Program) (arrangement : Arrangement) (call : Call)
+        → IsWaiting (A.asks_after program) A.can_feed arrangement
         (as_of call (A.core_of program) (record call.now { left = I.left input.old; read_faults = I.faults input.old }) call.items)
         intake.old plain.old
-        → Advances (A.asks_after program) A.can_feed
+        → Advances (A.asks_after program) A.can_feed arrangement call.items
         (as_of call (A.core_of program) (record call.now { left = I.left input.new; read_faults = I.faults input.new }) call.items)
         intake.new plain.new result }
 {
@@ -68,11 +69,11 @@ fn take_into<A: Actor, I: Source>(
     requires open { intake.old.ended ≡ false }
     ensures within { intake.new.taken ≤ 67108864 }
     ensures nearer { IfNone result (open_input intake.new < open_input intake.old) }
-    ensures advances { (program : A.Program) (call : Call)
-        → IsWaiting (A.asks_after program) A.can_feed
+    ensures advances { (program : A.Program) (arrangement : Arrangement) (call : Call)
+        → IsWaiting (A.asks_after program) A.can_feed arrangement
         (as_of call (A.core_of program) (record call.now { left = I.left input.old; read_faults = I.faults input.old }) call.items)
         intake.old plain.old
-        → Advances (A.asks_after program) A.can_feed
+        → Advances (A.asks_after program) A.can_feed arrangement call.items
         (as_of call (A.core_of program) (record call.now { left = I.left input.new; read_faults = I.faults input.new }) call.items)
         intake.new plain.new result }
 {
@@ -93,9 +94,9 @@ fn give<A: Actor>(plain: &mut Plain<A>, intake: &mut Intake, bytes: &[u8]) -> Op
     requires most { intake.old.taken + length bytes.now ≤ 67108864 }
     ensures within { intake.new.taken ≤ 67108864 }
     ensures nearer { IfNone result (open_input intake.new < open_input intake.old) }
-    ensures advances { (program : A.Program) (call : Call) (left : Option (List ℕ)) → call.now.left ≡ prepend_known bytes.now left
-        → IsWaiting (A.asks_after program) A.can_feed (as_of call (A.core_of program) call.now call.items) intake.old plain.old
-        → Advances (A.asks_after program) A.can_feed (as_of call (A.core_of program) (record call.now { left = left }) call.items) intake.new plain.new result }
+    ensures advances { (program : A.Program) (arrangement : Arrangement) (call : Call) (left : Option (List ℕ)) → call.now.left ≡ prepend_known bytes.now left
+        → IsWaiting (A.asks_after program) A.can_feed arrangement (as_of call (A.core_of program) call.now call.items) intake.old plain.old
+        → Advances (A.asks_after program) A.can_feed arrangement call.items (as_of call (A.core_of program) (record call.now { left = left }) call.items) intake.new plain.new result }
 {
     match plain.give(bytes) {
         Ok(()) => {

@@ -1,9 +1,11 @@
 ghost use Rattle.std.specs.Prelude.{◌≡◌, ◌≤◌, [], false, length};
 ghost use Rattle.std.specs.List.{AllByRecursion};
+ghost use Rattle.sr_run.specs.Arranged.{InTurn};
 ghost use Rattle.sr_run.specs.Causes.{HasCause};
-ghost use Rattle.sr_run.specs.Numbers.{FitsItem, IsNumbered};
+ghost use Rattle.sr_plain.specs.Passing.{FitsItem};
+ghost use Rattle.sr_run.specs.Numbers.{IsNumbered};
 ghost use Rattle.sr_run.specs.Runs.{Call};
-ghost use Rattle.sr_run.specs.UnderWay.{IsUnderWay, as_of};
+ghost use Rattle.sr_run.specs.UnderWay.{IsUnderWay, Whole, as_of};
 
 use crate::advance::advance;
 use crate::end::{LimitKind, Run, RunEnd};
@@ -27,6 +29,7 @@ pub fn run<A: Actor, I: Source, O: Sink>(
 ) -> Run
     ensures within { length result.items ≤ steps }
     ensures numbered { AllByRecursion IsNumbered result.items }
+    ensures no_rounds { result.rounds ≡ [] }
     ensures cause { HasCause
         (record {
           core = A.core_of program.now;
@@ -42,11 +45,16 @@ pub fn run<A: Actor, I: Source, O: Sink>(
     match Plain::<A>::begin(alloc, ticks) {
         Ok(mut plain) => {
             let end = run_on(&mut plain, program, steps, input, output, &mut items);
-            Run { items, end }
+            Run {
+                items,
+                end,
+                rounds: Row::new(alloc),
+            }
         }
         Err(_) => Run {
             items,
             end: RunEnd::NoMemory,
+            rounds: Row::new(alloc),
         },
     }
 }
@@ -64,7 +72,7 @@ fn run_on<A: Actor, I: Source, O: Sink>(
     ensures within { length items.new ≤ steps }
     ensures fit { AllByRecursion FitsItem items.new }
     ensures cause { (call : Call) → call.steps ≡ steps
-        → IsUnderWay (A.asks_after program.now) A.can_feed
+        → IsUnderWay (A.asks_after program.now) A.can_feed InTurn Whole
         (as_of call (A.core_of program.now) (record { left = I.left input.old; read_faults = I.faults input.old; held = O.held output.old; write_faults = O.faults output.old }) items.old)
         (record { taken = 0; ended = false }) plain.old
         → HasCause

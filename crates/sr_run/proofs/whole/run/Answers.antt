@@ -3,6 +3,7 @@ use Rattle.std.proofs.Common.{[], refl, subst, sym}
 use Rattle.std.specs.List.{AllByRecursion}
 use Rattle.sr_run.proofs.Actors.{made-by, numbered}
 use Rattle.sr_run.proofs.Begun.{begun, begun_early}
+use Rattle.sr_run.specs.Arranged.{InTurn}
 use Rattle.sr_run.specs.Numbers.{IsNumbered}
 use Rattle.sr_run.specs.Runs.{Call, Devices}
 use Rattle.sr_run.proofs.whole.run.Goals as goal
@@ -12,16 +13,16 @@ returns-in-Ok-clause-cause g c =
     let devices : Devices = record { left = g.I.Source.left c.args.input.now; read_faults = g.I.Source.faults c.args.input.now; held = g.O.Sink.held c.args.output.now; write_faults = g.O.Sink.faults c.args.output.now } in
     let call : Call = record { core = g.A.Actor.core_of c.args.program.now; steps = c.args.steps; ticks = c.args.ticks; before = devices; now = devices; items = [] } in
     c.run_on-end.ensures.cause call refl
-    (begun (g.A.Actor.core_of c.args.program.now) c.args.steps c.args.ticks devices c.new-items.result c.new-items.ensures (g.A.Actor.asks_after c.args.program.now) g.A.Actor.can_feed c.in-Ok.plain
+    (begun InTurn tt (g.A.Actor.core_of c.args.program.now) c.args.steps c.args.ticks devices c.new-items.result c.new-items.ensures (g.A.Actor.asks_after c.args.program.now) g.A.Actor.can_feed c.in-Ok.plain
     (c.in-Ok.ensures c.args.program.now))
 
 pub returns-in-Err-clause-cause : goal.returns-in-Err-clause-cause
 returns-in-Err-clause-cause g c =
     let devices : Devices = record { left = g.I.Source.left c.args.input.now; read_faults = g.I.Source.faults c.args.input.now; held = g.O.Sink.held c.args.output.now; write_faults = g.O.Sink.faults c.args.output.now } in
-    begun_early (g.A.Actor.core_of c.args.program.now) c.args.steps c.args.ticks devices c.new-items.result c.new-items.ensures
+    begun_early InTurn tt (g.A.Actor.core_of c.args.program.now) c.args.steps c.args.ticks devices c.new-items.result c.new-items.ensures
 
 pub returns-in-Ok-clause-numbered : goal.returns-in-Ok-clause-numbered
-returns-in-Ok-clause-numbered g c = numbered _ (made-by _ _ (returns-in-Ok-clause-cause g c)) c.run_on-end.ensures.fit
+returns-in-Ok-clause-numbered g c = numbered _ (made-by InTurn _ _ (returns-in-Ok-clause-cause g c)) c.run_on-end.ensures.fit
 
 pub returns-in-Err-clause-numbered : goal.returns-in-Err-clause-numbered
 returns-in-Err-clause-numbered g c = subst (AllByRecursion IsNumbered) (sym c.new-items.ensures) tt

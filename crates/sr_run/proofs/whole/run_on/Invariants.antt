@@ -2,9 +2,10 @@
 use Rattle.std.proofs.Common.{◌≡◌, ◌+◌, ◌-◌, ◌≤◌, length}
 use Rattle.std.specs.List.{AllByRecursion}
 use Rattle.sr_run.proofs.Begun.{nothing_taken}
-use Rattle.sr_run.specs.Numbers.{FitsItem}
+use Rattle.sr_plain.specs.Passing.{FitsItem}
+use Rattle.sr_run.specs.Arranged.{InTurn}
 use Rattle.sr_run.specs.Runs.{Call}
-use Rattle.sr_run.specs.UnderWay.{IsUnderWay, as_of, open_input}
+use Rattle.sr_run.specs.UnderWay.{IsUnderWay, Whole, as_of, open_input}
 use Rattle.sr_run.proofs.whole.run_on.Given as goal
 
 abbrev pub invariant-loop-intake : goal.invariant-loop-intake
@@ -13,10 +14,10 @@ invariant-loop-intake g l = record {
   fit : AllByRecursion FitsItem l.items;
   most : l.intake.taken ≤ 67108864;
   under_way : (call : Call) → call.steps ≡ l.steps
-      → IsUnderWay (g.A.Actor.asks_after l.program) g.A.Actor.can_feed
+      → IsUnderWay (g.A.Actor.asks_after l.program) g.A.Actor.can_feed InTurn Whole
       (as_of call (g.A.Actor.core_of l.program) (record { left = g.I.Source.left l.fn.input; read_faults = g.I.Source.faults l.fn.input; held = g.O.Sink.held l.fn.output; write_faults = g.O.Sink.faults l.fn.output }) l.fn.items)
       nothing_taken l.fn.plain
-      → IsUnderWay (g.A.Actor.asks_after l.program) g.A.Actor.can_feed
+      → IsUnderWay (g.A.Actor.asks_after l.program) g.A.Actor.can_feed InTurn Whole
       (as_of call (g.A.Actor.core_of l.program) (record { left = g.I.Source.left l.input; read_faults = g.I.Source.faults l.input; held = g.O.Sink.held l.output; write_faults = g.O.Sink.faults l.output }) l.items)
       l.intake l.plain;
 }
