@@ -15,6 +15,7 @@ use Rattle.sr_run.specs.Causes.{EndsEarly, NoFaults}
 use Rattle.sr_run.specs.Runs.{Call, Devices}
 use Rattle.sr_run.specs.UnderWay.{ArrangedSoFar, HasCome, IsUnderWay, Whole}
 use Rattle.sr_run.specs.declared.intake.Intake.{Intake}
+use Rattle.sr_run.specs.declared.stretch.Stretch.{Stretch}
 
 -- nothing was taken
 abbrev pub nothing_taken : Intake
@@ -26,7 +27,11 @@ IsFresh InTurn = Unit {0}
 IsFresh (InRounds class workers []) = Unit {0}
 IsFresh (InRounds class workers (stretch ∷ stretches)) = ⊥
 
-module _ (arrangement : Arrangement) (fresh : IsFresh arrangement) (core : Core) (steps ticks : ℕ) (devices : Devices) (items : List Item) (none : items ≡ []) where
+pub fresh : (class : ℕ → ℕ) (workers : ℕ) (stretches : List Stretch) → stretches ≡ [] → IsFresh (InRounds class workers stretches)
+fresh class workers [] none = tt
+fresh class workers (stretch ∷ stretches) none = absurd (cc)
+
+module _ (arrangement : Arrangement) (is_fresh : IsFresh arrangement) (core : Core) (steps ticks : ℕ) (devices : Devices) (items : List Item) (none : items ≡ []) where
   abbrev pub begun_call : Call
   begun_call = record { core = core; steps = steps; ticks = ticks; before = devices; now = devices; items = items }
 
@@ -39,7 +44,7 @@ module _ (arrangement : Arrangement) (fresh : IsFresh arrangement) (core : Core)
   begun_come : HasCome arrangement Whole begun_call nothing_taken first []
   begun_come = record {
     leads = refl;
-    arranged = begun-arranged arrangement fresh;
+    arranged = begun-arranged arrangement is_fresh;
     makes = sym none;
     took = record { passed = prepend_known-nil devices.left; at_end = λ e. absurd (true≢false (sym e)); most = omega arith };
     count = refl;

@@ -1,10 +1,11 @@
 -- What follows from the cause of an ending.
-use Rattle.std.proofs.Common.{◌≡◌, ◌∙◌, ℕ, ◌≤◌, ◌⊎◌, ◌++◌, Bool, List, length, None, Some, ap, refl, inl, inr}
+use Rattle.std.proofs.Common.{◌≡◌, ◌∙◌, ℕ, ◌≤◌, ◌⊎◌, ◌++◌, Bool, false, true, List, length, None, Some, ap, refl, inl, inr}
 use Rattle.std.specs.Prelude.{Option}
 use Rattle.sr_core.specs.declared.component.Core.{Core}
 use Rattle.sr_ports.proofs.Growth.{PutInPart-after}
 use Rattle.sr_ports.specs.Faults.{Rose}
 use Rattle.sr_ports.specs.Streams.{PutInPart}
+use Rattle.sr_run.specs.Arranged.{InTurn}
 use Rattle.sr_run.specs.Causes as run
 use Rattle.sr_run.specs.Runs as runs
 use Rattle.sr_run.specs.declared.end.LimitKind.{LimitKind}
@@ -35,21 +36,21 @@ caused call steps ticks core run_end.NoMemory compiled within cause = inr (inl (
 -- ---- the headline
 
 -- a run with these limits is a run of the call
-made : (call : Call) (end : RunEnd) (ends : EndsRun call end) (taken : List ℕ) (ended : Bool) (ending : Option End) (output : List ℕ)
-    → runs.Runs (run_of call ends.steps ends.ticks ends.core) taken ended ending output → MakesRun call ending output
-made call end ends taken ended ending output runs =
+made : (call : Call) (end : RunEnd) (ends : EndsRun call end) (cut : Bool) (taken : List ℕ) (ended : Bool) (ending : Option End) (output : List ℕ)
+    → runs.Runs InTurn (run_of call ends.steps ends.ticks ends.core) cut taken ended ending output → MakesRun call cut ending output
+made call end ends cut taken ended ending output runs =
     record { steps = ends.steps; ticks = ends.ticks; core = ends.core; compiled = ends.compiled; taken = taken; ended = ended; runs = runs; within = ends.within }
 
 -- the run that has this ending
 by_itself : (call : Call) (ending : End) → EndsRun call (run_end.Ended ending) → RunsWhole call (Some ending)
 by_itself call ending ends =
-    record { output = ends.cause.output; makes = made call (run_end.Ended ending) ends _ _ _ _ ends.cause.runs; put = ends.cause.put }
+    record { output = ends.cause.output; makes = made call (run_end.Ended ending) ends false _ _ _ _ ends.cause.runs; put = ends.cause.put }
 
 -- a run that goes on
 going_on : (call : Call) (end : RunEnd) (ends : EndsRun call end) (taken : List ℕ) (ended : Bool) (state : State)
-    → runs.GoesOn (run_of call ends.steps ends.ticks ends.core) taken ended state → RunsWhole call None
+    → runs.GoesOn InTurn (run_of call ends.steps ends.ticks ends.core) false taken ended state → RunsWhole call None
 going_on call end ends taken ended state goes_on =
-    record { output = state.world.output; makes = made call end ends taken ended None _ goes_on.runs; put = goes_on.put }
+    record { output = state.world.output; makes = made call end ends false taken ended None _ goes_on.runs; put = goes_on.put }
 
 limited : (call : Call) (kind : LimitKind) → EndsRun call (run_end.Limit kind) → RunsWhole call None
 limited call limit.Steps ends = going_on call _ ends ends.cause.taken ends.cause.ended ends.cause.state ends.cause.goes_on
@@ -57,21 +58,21 @@ limited call (limit.Ticks process) ends = going_on call _ ends ends.cause.taken 
 limited call limit.Input ends = going_on call _ ends ends.cause.taken _ ends.cause.state ends.cause.goes_on
 
 -- a run whose last item is a write of which not all bytes were put
-in_write : (call : Call) (end : RunEnd) (ends : EndsRun call end) → run.IsCutInWrite (run_of call ends.steps ends.ticks ends.core) → RunsInPart call
+in_write : (call : Call) (end : RunEnd) (ends : EndsRun call end) → run.IsCutInWrite InTurn (run_of call ends.steps ends.ticks ends.core) → RunsInPart call
 in_write call end ends cut =
     record {
       output = cut.state.world.output ++ cut.bytes;
-      makes = made call end ends cut.taken cut.ended None _ cut.runs;
+      makes = made call end ends true cut.taken cut.ended None _ cut.runs;
       put = inr (PutInPart-after call.before.held _ call.now.held cut.state.world.output cut.bytes refl cut.put);
     }
 
 -- a run in which memory ran out
-cut_short : (call : Call) (end : RunEnd) (ends : EndsRun call end) → run.IsCutBetween (run_of call ends.steps ends.ticks ends.core)
-    ⊎ run.IsCutInWrite (run_of call ends.steps ends.ticks ends.core) → RunsInPart call
+cut_short : (call : Call) (end : RunEnd) (ends : EndsRun call end) → run.IsCutBetween InTurn (run_of call ends.steps ends.ticks ends.core)
+    ⊎ run.IsCutInWrite InTurn (run_of call ends.steps ends.ticks ends.core) → RunsInPart call
 cut_short call end ends (inl between) =
     record {
       output = between.state.world.output;
-      makes = made call end ends between.taken between.ended None _ between.goes_on.runs;
+      makes = made call end ends true between.taken between.ended None _ between.goes_on.runs;
       put = inl between.goes_on.put;
     }
 cut_short call end ends (inr cut) = in_write call end ends cut

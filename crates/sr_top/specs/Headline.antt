@@ -1,9 +1,10 @@
 -- What a call of the program did.
-use Rattle.std.specs.Prelude.{◌≡◌, ◌≤◌, ◌⊎◌, ℕ, Bool, List, length, Option, Some, None, ◌≢◌}
+use Rattle.std.specs.Prelude.{◌≡◌, ◌≤◌, ◌⊎◌, ℕ, Bool, false, true, List, length, Option, Some, None, ◌≢◌}
 use Rattle.std.specs.Io.KnownBytes.{append_known}
 use Rattle.sr_core.specs.declared.component.Core.{Core}
 use Rattle.sr_ports.specs.Faults.{Rose}
 use Rattle.sr_ports.specs.Streams.{PutInPart}
+use Rattle.sr_run.specs.Arranged.{InTurn}
 use Rattle.sr_run.specs.Runs as runs
 use Rattle.sr_top.specs.Causes.{Call, Compiles, EndsChecked, EndsListed, EndsRefused, IsCutInLines, RunsNothing, run_of}
 use Rattle.sr_top.specs.Tasks.{task}
@@ -15,15 +16,15 @@ use Rattle.sr_world.specs.declared.ends.End.TheVariants as end
 -- ---- the headline
 
 -- The items are a run of the machine on the core of the accepted files, with the whole input, within the limits, in
--- rotation. It has this ending, where it has one, and this output.
-pub record MakesRun (call : Call) (ending : Option End) (output : List ℕ) : Type 0 where
+-- rotation. It has this ending, where it has one, and this output. It may have been cut off after its last item.
+pub record MakesRun (call : Call) (cut : Bool) (ending : Option End) (output : List ℕ) : Type 0 where
   pub steps : ℕ
   pub ticks : ℕ
   pub core : Core
   pub compiled : Compiles call steps ticks core
   pub taken : List ℕ
   pub ended : Bool
-  pub runs : runs.Runs (run_of call steps ticks core) taken ended ending output
+  pub runs : runs.Runs InTurn (run_of call steps ticks core) cut taken ended ending output
   pub within : length call.items ≤ steps
 
 -- the bytes put are all of this output
@@ -33,13 +34,13 @@ PutsAll call output = call.now.held ≡ append_known call.before.held output
 -- a run that was made, and whose output was put
 pub record RunsWhole (call : Call) (ending : Option End) : Type 0 where
   pub output : List ℕ
-  pub makes : MakesRun call ending output
+  pub makes : MakesRun call false ending output
   pub put : PutsAll call output
 
 -- a run that hasn't ended, and whose output was put, or some first bytes of it
 pub record RunsInPart (call : Call) : Type 0 where
   pub output : List ℕ
-  pub makes : MakesRun call None output
+  pub makes : MakesRun call true None output
   pub put : PutsAll call output ⊎ PutInPart call.before.held call.now.held output
 
 -- The items are a run of the program, the bytes put are its output, and the ending is the run's own, or a limit. Where a

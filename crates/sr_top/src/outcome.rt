@@ -55,7 +55,7 @@ pub fn run_program<A: Actor, I: Source, O: Sink>(
         result.ending }
     ensures header { result.header ≡ header }
 {
-    let Run { items, end } = run::<A, I, O>(alloc, program, steps, ticks, input, output);
+    let Run { items, end, .. } = run::<A, I, O>(alloc, program, steps, ticks, input, output);
     let ending = ending_of(end);
     Outcome {
         ending,

@@ -1,0 +1,11 @@
+//! Runs with several workers, whose stretches the engine makes by itself.
+#![tactic(auto)]
+
+#[cfg(test)]
+mod counted;
+#[cfg(test)]
+mod program;
+#[cfg(test)]
+mod runs;
+#[cfg(test)]
+mod tests;
