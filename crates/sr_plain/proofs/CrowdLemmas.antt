@@ -16,7 +16,7 @@ use Rattle.sr_calls.proofs.FirstLemmas.{none-found, place-within}
 use Rattle.sr_queue.proofs.ClassLemmas.{same_class-itself, same_parts}
 use Rattle.sr_queue.specs.Classes.{same_class}
 use Rattle.sr_queue.specs.declared.class.Class.{Class}
-use Rattle.sr_store.proofs.BlockLemmas.{same-test}
+use Rattle.sr_buckets.proofs.NumberLemmas.{same_test}
 use Rattle.sr_plain.specs.Readiness.{IsPutIn, IsSole, holds, ready_len}
 use Rattle.sr_plain.specs.Waiting.{AreTakenUnder, HasLeft, HaveOpened, HoldsClass, HoldsNobody, HoldsProcess, IsFirst, IsFirstUpTo, IsNext, IsOpenedAt, IsPromoted, IsPutBack, IsShut, LeavesCrowd, StaysOpen, WaitsThere, crowds_len, is_among, is_closed, is_open, is_open_at, is_ready, may_go, same_variable, turns_len, waits}
 use Rattle.sr_plain.specs.declared.crowd.Opened.{Opened}
@@ -72,7 +72,7 @@ set-more k s n updates q here = updates.0 q ∙ by (is_at (nat_cmp k) q)
     by false = here
 
 set-apart : (k : ℕ) (b : Bool) (s n : BTreeSet ℕ) → Updates nat_cmp s n k b → (q : ℕ) → (k == q) ≡ false → contains nat_cmp n q ≡ contains nat_cmp s q
-set-apart k b s n updates q off = updates.2 q (sym (same-test k q) ∙ off)
+set-apart k b s n updates q off = updates.2 q (sym (same_test k q) ∙ off)
 
 -- one that is put in alone is new
 pub one-in : (process : ℕ) (old new : Ready) → IsPutIn process old new → (q : ℕ) → holds new q ≡ false → (holds old q ≡ false) × ((process == q) ≡ false)
