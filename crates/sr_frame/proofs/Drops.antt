@@ -6,7 +6,7 @@ use Rattle.std.proofs.lemmas.Bool.Decides.{nat_tests}
 use Rattle.std.proofs.lemmas.List.Sums.{passes_at_first}
 use Rattle.std.proofs.lemmas.Option.{slice_get_cases}
 use Rattle.sr_ask.specs.declared.environment.Out.{Out}
-use Rattle.sr_execute.specs.Replies.{IsFirstOut}
+use Rattle.sr_frame.specs.Outs.{IsFirstOut}
 use Rattle.sr_ask.specs.Replies.{without_out}
 
 position_at : (b : Bool) (n m at : ℕ) → ltb n m ≡ b → Some at ≡ cond b (Some n) None → (at ≡ n) × (at < m)
