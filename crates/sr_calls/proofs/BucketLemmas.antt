@@ -1,5 +1,5 @@
 -- What a call on one bucket means for all calls.
-use Rattle.std.proofs.Common.{◌≡◌, ℕ, ◌<◌, List, [], ◌∷◌, ◌++◌, length, get_or, ◌⊎◌, inl, inr, Some, Result, Ok, Err, OnOk, OnErr, unwrap_or, refl, ap, sym, ◌∙◌, subst}
+use Rattle.std.proofs.Common.{◌≡◌, ℕ, ◌<◌, List, [], ◌∷◌, ◌++◌, length, get_or, ◌⊎◌, inl, inr, Option, Some, Result, Ok, Err, OnOk, OnErr, unwrap_or, refl, ap, sym, ◌∙◌, subst}
 use Rattle.std.specs.FinMap as map
 use Rattle.std.specs.Prelude.{slice_get, slice_set}
 use Rattle.sr_buckets.specs.Parts.{AreInPlace, gathered, home}

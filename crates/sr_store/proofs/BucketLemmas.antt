@@ -1,5 +1,5 @@
 -- What a call on one bucket means for all variables.
-use Rattle.std.proofs.Common.{◌≡◌, ℕ, ◌<◌, List, get_or, Some, unwrap_or, Result, Ok, Err, refl, ap, sym, ◌∙◌, subst}
+use Rattle.std.proofs.Common.{◌≡◌, ℕ, ◌<◌, List, get_or, Option, Some, unwrap_or, Result, Ok, Err, refl, ap, sym, ◌∙◌, subst}
 use Rattle.std.specs.FinMap as map
 use Rattle.std.specs.Prelude.{slice_get, slice_set}
 use Rattle.sr_buckets.specs.Parts.{gathered, home}
