@@ -1,6 +1,7 @@
 -- What holds of the parts of guards, and goes on from look to look, holds of guards.
-use Rattle.std.proofs.Common.{◌≡◌, ℕ, ℤ, Bool, ◌&&◌, true, false, List, [], ◌∷◌, map, refl, sym, subst, ◌∙◌, true≢false}
+use Rattle.std.proofs.Common.{◌≡◌, ℕ, ℤ, Bool, true, false, List, [], ◌∷◌, map, sym, subst, ◌∙◌}
 use Rattle.std.specs.Prelude.{Option, Some, None, Result, Ok, Err}
+use Rattle.std.proofs.lemmas.Bool.{and_parts as both-parts}
 use Rattle.sr_value.specs.declared.fault.Fault.{Fault}
 use Rattle.sr_value.specs.declared.fault.Fault.TheVariants.{Range}
 use Rattle.sr_value.specs.declared.operator.Operator.{Operator}
@@ -29,11 +30,6 @@ use Rattle.sr_select.specs.Choices.{key_in, key_of, key_where}
 use Rattle.sr_select.specs.Guards.{Guard, after_and, after_operand, after_or, after_whole, choose_look, guard_leaf, guard_load, guard_node, guard_part, guard_part_node, guard_place, guard_place_node, guard_step, guard_step_node, guard_value, in_order, no_argument, no_reading, truth_of_guard}
 use Rattle.sr_select.specs.Looks.{fault, give, settle, ◌>>>◌}
 use Rattle.sr_select.specs.Tests.{all_pass, expr_all, maybe_all, node_all, part_all, part_node_all, place_all, place_node_all, step_all, step_node_all}
-
-both-parts : (a b : Bool) → (a && b) ≡ true → (a ≡ true) × (b ≡ true)
-both-parts true true h = (refl, refl)
-both-parts true false h = absurd (true≢false (sym h))
-both-parts false b h = absurd (true≢false (sym h))
 
 -- A statement on parts of guards (`Good`) that holds of what is known without a look, and of one look and then another
 -- where it holds of both. There is a test of leaves, and one of the variables at which places begin; it holds of all that

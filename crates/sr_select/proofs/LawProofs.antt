@@ -1,9 +1,10 @@
 -- Proofs of the laws of choices.
 use Rattle.std.proofs.Common.{◌≡◌, ℕ, ◌+◌, ℤ, Bool, true, false, List, [], ◌∷◌, ◌++◌, refl, ap, sym, ◌∙◌, cond}
-use Rattle.std.specs.Prelude.{Option, Some, None, Result, Ok, is_none, option_map, ◌&&◌, ◌||◌, ◌==◌, filter, slice_get}
+use Rattle.std.specs.Prelude.{Option, Some, None, Result, Ok, is_none, option_map, ◌||◌, ◌==◌, filter, slice_get}
 use Rattle.std.specs.List.{list_all}
 use Rattle.std.proofs.Common.{true≢false, subst, eqb-true}
 use Rattle.std.proofs.lemmas.List.Elements.{filter-append}
+use Rattle.std.proofs.lemmas.Bool.{and_from as both-and}
 use Rattle.sr_value.specs.declared.capability.Owner.{Owner}
 use Rattle.sr_value.specs.declared.fault.Fault.{Fault}
 use Rattle.sr_value.specs.declared.value.Value.{Value}
@@ -134,10 +135,6 @@ unnamed-changes-nothing reading site me env front later p other =
     (without-one (is_named (owner_in site.scope me) site.arms) front later p other))
 
 -- ---- classes
-
-both-and : (a b : Bool) → a ≡ true → b ≡ true → (a && b) ≡ true
-both-and true b one other = other
-both-and false b one other = one
 
 class-of-one : (owner : Owner) (class : ℕ → Bool) (op : ℕ) (p : Pending) → class op ≡ true → is_of owner op p ≡ true → is_in_class owner class p ≡ true
 class-of-one owner class op p in_class one =

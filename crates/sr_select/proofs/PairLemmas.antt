@@ -1,17 +1,13 @@
 -- The arms of pairs, and a test that all arms of a statement pass.
-use Rattle.std.proofs.Common.{◌≡◌, ℕ, zero, suc, ◌+◌, Bool, true, false, List, [], ◌∷◌, ◌++◌, ap, sym, ◌∙◌, refl, cond, true≢false}
-use Rattle.std.specs.Prelude.{Some, None, ◌&&◌, slice_get}
+use Rattle.std.proofs.Common.{◌≡◌, ℕ, zero, suc, ◌+◌, Bool, true, false, List, [], ◌∷◌, ◌++◌, ap, sym, ◌∙◌, cond}
+use Rattle.std.specs.Prelude.{Some, None, slice_get}
 use Rattle.std.specs.List.{cons_option, enumerate_from, list_all}
+pub use Rattle.std.proofs.lemmas.Bool.{and_parts as both-true}
 use Rattle.sr_value.specs.declared.capability.Owner.{Owner}
 use Rattle.sr_core.specs.declared.site.Arm.{Arm}
 use Rattle.sr_queue.specs.declared.pending.Pending.{Pending}
 use Rattle.sr_queue.specs.Queues.{is_of}
 use Rattle.sr_select.specs.Choices.{Pair, pairs, pairs_of}
-
-pub both-true : (a b : Bool) → (a && b) ≡ true → (a ≡ true) × (b ≡ true)
-both-true true true h = (refl, refl)
-both-true true false h = absurd (true≢false (sym h))
-both-true false b h = absurd (true≢false (sym h))
 
 -- an arm of a list passes what all pass
 pub listed-passes : (test : Arm → Bool) (arms : List Arm) (number : ℕ) (arm : Arm) → list_all test arms ≡ true → slice_get arms number ≡ Some arm → test arm ≡ true
