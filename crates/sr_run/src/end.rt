@@ -3,7 +3,7 @@ use sr_value::Row;
 use sr_world::End;
 
 /// How a run ended.
-#[derive(Clone, Copy, Debug, PartialEq, Eq)]
+#[derive(Clone, Copy, PartialEq, Eq)]
 pub enum RunEnd {
     /// It has this ending.
     Ended(End),
@@ -29,7 +29,7 @@ pub enum LimitKind {
 }
 
 /// The items of a run, in order, and how it ended.
-#[derive(Debug, Drop)]
+#[derive(Drop)]
 pub struct Run {
     pub items: Row<Item>,
     pub end: RunEnd,
