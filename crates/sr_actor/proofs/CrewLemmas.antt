@@ -1,7 +1,8 @@
 -- What begins one process of a crew.
-use Rattle.std.proofs.Common.{◌≡◌, ℕ, Option, Some, None, is_some, false, refl, sym, true≢false}
+use Rattle.std.proofs.Common.{◌≡◌, ℕ, Option, Some, None, is_some, false, refl, true≢false}
 use Rattle.std.specs.HashMap.{HashMap, UpdatesBy}
-use Rattle.std.specs.Prelude.{Result, Ok, Err, OnOk, nat_eq}
+use Rattle.std.specs.Prelude.{nat_eq}
+pub use Rattle.std.proofs.lemmas.Result.{on_ok_weaker as on_ok}
 use Rattle.sr_actor.specs.Crew.{KeepsOthers}
 use Rattle.sr_actor.specs.declared.member.Member.{Member}
 
@@ -9,10 +10,6 @@ pub updated-others : {A S : Type 0} (p : ℕ) (old new : HashMap ℕ (Member A) 
 updated-others p old new w updates = λ q off. updates.2 q off
 
 -- ---- what a call that may fail leaves
-
-pub on_ok : {B E : Type 0} {P Q : Type 0} (r : Result B E) → (P → Q) → OnOk r P → OnOk r Q
-on_ok (Ok b) f h = f h
-on_ok (Err e) f h = h
 
 pub absent-here : {A : Type 0} (o : Option A) → is_some o ≡ false → o ≡ None
 absent-here None none = refl

@@ -6,27 +6,17 @@ use Rattle.std.specs.FinMap as map
 use Rattle.std.specs.FinMap.Entries.{find}
 use Rattle.std.specs.Ordering.{eq_by_cmp, is_eq, nat_cmp}
 use Rattle.std.specs.Prelude.{slice_get, slice_set}
-use Rattle.std.specs.declared.cmp.Ordering.{Ordering}
-use Rattle.std.specs.declared.cmp.Ordering.TheVariants.{Less, Equal, Greater}
+use Rattle.std.specs.declared.cmp.Ordering.TheVariants.{Equal}
 use denote.Param.Members.{Called, Mut}
 use Rattle.sr_buckets.specs.Parts.{AreInPlace, ByNumber, gathered, gathered_from, home, part, union}
-
--- ---- numbers that are told apart
-
-same-number : (p q : ℕ) → is_eq (nat_cmp p q) ≡ true → p ≡ q
-same-number p q e = by (nat_cmp p q) refl e
-  where
-    by : (r : Ordering) → r ≡ nat_cmp p q → is_eq r ≡ true → p ≡ q
-    by Less is h = cc
-    by Equal is h = ranked p q Equal is
-    by Greater is h = cc
+use Rattle.sr_buckets.proofs.NumberLemmas.{same_number}
 
 -- a number of another part is another
 elsewhere : (p q i : ℕ) → home p ≡ i → (home q == i) ≡ false → is_eq (nat_cmp q p) ≡ false
 elsewhere p q i here off = by (is_eq (nat_cmp q p)) refl
   where
     by : (b : Bool) → is_eq (nat_cmp q p) ≡ b → b ≡ false
-    by true is = absurd (true≢false (sym (eq-eqb (home q) i (ap home (same-number q p is) ∙ here)) ∙ off))
+    by true is = absurd (true≢false (sym (eq-eqb (home q) i (ap home (same_number q p is) ∙ here)) ∙ off))
     by false is = refl
 
 -- ---- a part of a map
@@ -107,6 +97,14 @@ length-set (x ∷ xs) (suc i) b = let more = length-set xs i b in omega (arith, 
 
 pub is-set : {B : Type 0} (bs : List B) (i : ℕ) (b : B) → i < length bs → IsSet bs (slice_set bs i b) i b
 is-set bs i b inside = record { here = get-set bs i b inside; others = λ k off. get-set_other bs i k b off; long = length-set bs i b }
+
+-- the bucket of a number
+module _ {B : Type 0} (buckets : List B) (p i : ℕ) (all : length buckets ≡ 32) (is : i ≡ home p) where
+  pub at-home : (other : B) → slice_get buckets (home p) ≡ Some (get_or buckets i other)
+  at-home other = subst (λ k. slice_get buckets k ≡ Some (get_or buckets i other)) is (slice_get-get_or buckets i other (omega (arith, all, is)))
+
+  pub set-home : (bucket : B) → IsSet buckets (slice_set buckets i bucket) (home p) bucket
+  set-home bucket = subst (λ k. IsSet buckets (slice_set buckets i bucket) k bucket) is (is-set buckets i bucket (omega (arith, all, is)))
 
 module _ {A B : Type 0} (entries : B → ByNumber A) where
   abbrev pub got : Option B → ℕ → Option A
@@ -233,6 +231,16 @@ module _ {A B : Type 0} (entries : B → ByNumber A) where
             let contents : entries b ≡ entries was = ap entries (sym is-bucket) ∙ same in
             subst (λ (m : ByNumber A). part k m ≡ m) (sym contents) (placed k was (ap (slice_get old) here ∙ at))
         by false is = placed k b (sym (set.others k is) ∙ there)
+
+    -- what stays so at a number in its bucket stays so of all
+    pub kept-at : (P : Option A → Type 0) (q : ℕ) → (P (map.get (entries was) q) → P (map.get (entries bucket) q)) → P (map.get (gathered entries old) q) → P (map.get (gathered entries new) q)
+    kept-at P q kept can = by (home q == i) refl
+      where
+        by : (c : Bool) → (home q == i) ≡ c → P (map.get (gathered entries new) q)
+        by true is =
+            let here : home q ≡ i = eqb-true (home q) i is in
+            subst P (sym (look-at new q bucket (ap (slice_get new) here ∙ set.here))) (kept (subst P (look-at old q was (ap (slice_get old) here ∙ at)) can))
+        by false is = subst P (sym (same-at old new q (set.others (home q) is))) can
 
     -- one number of a bucket changes
     module _ (p : ℕ) (home-is : home p ≡ i) (o : Option A) (sets : Sets p o (entries was) (entries bucket)) where

@@ -1,10 +1,9 @@
 -- What a call on one bucket means for all calls.
-use Rattle.std.proofs.Common.{◌≡◌, ℕ, ◌<◌, ◌==◌, Bool, true, false, List, [], ◌∷◌, ◌++◌, length, get_or, ◌⊎◌, inl, inr, Some, Result, Ok, Err, OnOk, OnErr, unwrap_or, refl, ap, sym, ◌∙◌, subst, arith, eqb-true}
-use Rattle.std.proofs.lemmas.Option.{slice_get-get_or}
+use Rattle.std.proofs.Common.{◌≡◌, ℕ, ◌<◌, List, [], ◌∷◌, ◌++◌, length, get_or, ◌⊎◌, inl, inr, Option, Some, Result, Ok, Err, OnOk, OnErr, unwrap_or, refl, ap, sym, ◌∙◌, subst}
 use Rattle.std.specs.FinMap as map
 use Rattle.std.specs.Prelude.{slice_get, slice_set}
 use Rattle.sr_buckets.specs.Parts.{AreInPlace, gathered, home}
-use Rattle.sr_buckets.proofs.PartLemmas.{IsSet, Sets, empty-in-place, gathered-same, gathered-set, is-set, look-at, placed-same, placed-set, same-at}
+use Rattle.sr_buckets.proofs.PartLemmas.{IsSet, Sets, at-home, empty-in-place, gathered-same, gathered-set, kept-at, look-at, placed-same, placed-set, set-home}
 use Rattle.sr_calls.specs.Buckets.{AreBuckets, called_in}
 use Rattle.sr_calls.specs.Calls.{ByProcess, Called, Room, answers_one, is_held_as, items_of, room_of, with_item, with_items, without_first, without_held, without_reply}
 use Rattle.sr_calls.specs.declared.held.Held.{Held}
@@ -29,17 +28,13 @@ pub record Turns (old new : List Called) (calls : Called) (p : ℕ) (was bucket 
   pub at : slice_get old (home p) ≡ Some was
   pub set : IsSet old new (home p) bucket
 
--- the bucket of a process
-pub at-home : (old : List Called) (p i : ℕ) (other : Called) → AreBuckets old → i ≡ home p → slice_get old (home p) ≡ Some (get_or old i other)
-at-home old p i other placed is = subst (λ k. slice_get old k ≡ Some (get_or old i other)) is (slice_get-get_or old i other (omega (arith, placed.all, is)))
-
 pub turned : (old : List Called) (calls : Called) (p i : ℕ) (other bucket : Called) → called_in old ≡ calls → AreBuckets old → i ≡ home p
     → Turns old (slice_set old i bucket) calls p (get_or old i other) bucket
 turned old calls p i other bucket seen placed is = record {
   seen = seen;
   placed = placed;
-  at = at-home old p i other placed is;
-  set = subst (λ k. IsSet old (slice_set old i bucket) k bucket) is (is-set old i bucket (omega (arith, placed.all, is)));
+  at = at-home old p i placed.all is other;
+  set = set-home old p i placed.all is bucket;
 }
 
 -- what was meant came of it, or nothing did
@@ -149,14 +144,5 @@ module _ (old new : List Called) (calls : Called) (p : ℕ) (was bucket : Called
 
   -- a process that has room in its bucket has it
   pub keeps : (test : Room → ℕ) (q : ℕ) → (0 < test (room_of was q) → 0 < test (room_of bucket q)) → 0 < test (room_of calls q) → 0 < test (room_of (called_in new) q)
-  keeps test q kept can = by (home q == home p) refl
-    where
-      by : (b : Bool) → (home q == home p) ≡ b → 0 < test (room_of (called_in new) q)
-      by true is =
-          let here : home q ≡ home p = eqb-true (home q) (home p) is in
-          let before : room_of calls q ≡ room_of was q = ap (λ c. room_of c q) (sym t.seen) ∙ room-look old q was (ap (slice_get old) here ∙ t.at) in
-          subst (λ r. 0 < test r) (sym (room-look new q bucket (ap (slice_get new) here ∙ t.set.here))) (kept (subst (λ r. 0 < test r) before can))
-      by false is =
-          let same : room_of (called_in new) q ≡ room_of calls q =
-          ap (λ o. unwrap_or o no_room) (same-at (λ c. c.room) old new q (t.set.others (home q) is)) ∙ ap (λ c. room_of c q) t.seen in
-          subst (λ r. 0 < test r) (sym same) can
+  keeps test q kept can =
+      kept-at (λ c. c.room) old new (home p) was bucket t.at t.set (λ (o : Option Room). 0 < test (unwrap_or o no_room)) q kept (subst (λ c. 0 < test (room_of c q)) (sym t.seen) can)

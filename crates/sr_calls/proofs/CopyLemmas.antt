@@ -12,9 +12,10 @@ use Rattle.std.specs.List.{IsDistinct}
 use Rattle.std.specs.Map.{keys_of, lookup}
 use Rattle.std.specs.Option.{option_map}
 use Rattle.std.specs.Ordering.{is_eq, nat_cmp}
+use Rattle.sr_buckets.proofs.NumberLemmas.{same_test}
 use Rattle.sr_calls.specs.Calls.{ByProcess, Called, items_of, with_items}
 use Rattle.sr_calls.specs.PerProcess.{ProcessCalled, called_on, lists_on}
-use Rattle.sr_calls.proofs.ProcessCallsLemmas.{changes, get-lists_on, get-with_items, held-changed, items-lists_on, listed, no_process_calls, replies-changed, same_look, same_test}
+use Rattle.sr_calls.proofs.ProcessCallsLemmas.{changes, get-lists_on, get-with_items, held-changed, items-lists_on, listed, no_process_calls, replies-changed, same_look}
 
 abbrev pub Left : {A : Type 0} → (ProcessCalled → List A) → List (ℕ × ProcessCalled) → ByProcess (List A) → ByProcess (List A) → Type 0
 Left list rest now all = (q : ℕ) → unwrap_or (option_map list (lookup (nat_eq q) rest)) (items_of now q) ≡ items_of all q

@@ -1,4 +1,3 @@
-pub mod Drops
 pub mod Firsts
 pub mod Meant
 pub mod Numbers

@@ -13,9 +13,10 @@ use Rattle.sr_code.specs.declared.operands.Completed.{Completed}
 use Rattle.sr_code.specs.declared.instruction.Instruction.TheVariants.{TakeReply}
 use Rattle.sr_execute.specs.Executes.{Moved, completing, led, moved}
 use Rattle.sr_execute.specs.Meant.{resumes}
-use Rattle.sr_execute.specs.Replies.{IsFirstOut, completed_at}
+use Rattle.sr_execute.specs.Replies.{completed_at}
+use Rattle.sr_frame.specs.Outs.{IsFirstOut}
 use Rattle.sr_execute.specs.declared.frame.Frame.{Frame}
-use Rattle.sr_execute.proofs.Drops.{dropped, position_found, position_none}
+use Rattle.sr_frame.proofs.Drops.{dropped, position_found, position_none}
 
 -- whose reply it is
 led_by : (found : Option Out) (results : Option (List Value)) (f : Completion → Moved) → led (completion_of found results) f ≡ led found (λ out. f (record { out = out; results = results }))

@@ -1,8 +1,6 @@
 -- Replies of a `co`.
-use Rattle.std.specs.Prelude.{◌≡◌, ◌==◌, ◌<◌, ℕ, List, length, Option, Some, None, slice_get}
-use Rattle.std.specs.List.{position}
+use Rattle.std.specs.Prelude.{ℕ, List, Option, None, slice_get}
 use Rattle.sr_value.specs.declared.value.Value.{Value}
-use Rattle.sr_ask.specs.declared.environment.Out.{Out}
 use Rattle.sr_code.specs.Operands.{no_out}
 use Rattle.sr_code.specs.declared.operands.Completed.{Completed}
 use Rattle.sr_execute.specs.Executes.{Moved, completing, led}
@@ -15,8 +13,3 @@ no_completed = record { out = no_out; results = None }
 abbrev pub completed_at : ℕ → Option (List Value) → List ℕ → ℕ → Frame → Option Moved
 completed_at at results arms next frame =
     led (slice_get frame.out at) (λ out. completing (slice_get arms out.arm) (record { out = out; results = results }) next frame.operands frame)
-
--- an invocation that is out, and the first of its number
-pub record IsFirstOut (outs : List Out) (at : ℕ) : Type 0 where
-  pub within : at < length outs
-  pub first : (out : Out) → slice_get outs at ≡ Some out → position (λ other. other.id == out.id) outs ≡ Some at

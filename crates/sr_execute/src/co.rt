@@ -1,6 +1,7 @@
 ghost use Rattle.std.specs.Prelude.{◌≡◌, ◌∷◌, ◌+◌, ◌<◌, ◌^◌, OnOk, Some};
 ghost use Rattle.sr_code.specs.Operands.{count_on};
-ghost use Rattle.sr_execute.specs.Replies.{IsFirstOut, completed_at, no_completed};
+ghost use Rattle.sr_execute.specs.Replies.{completed_at, no_completed};
+ghost use Rattle.sr_frame.specs.Outs.{IsFirstOut};
 ghost use Rattle.sr_frame.specs.Scenes.{here_of};
 ghost use Rattle.sr_execute.specs.Executes.{Does, Leads, begun, moved, with_out};
 ghost use Rattle.sr_execute.specs.Meant.{resumes};

@@ -1,7 +1,9 @@
-ghost use Rattle.std.specs.Prelude.{◌≡◌, ◌==◌, ◌^◌, ◌<◌, ◌≤◌, ◌||◌, not, length, IfSome};
+ghost use Rattle.std.specs.Prelude.{◌≡◌, ◌==◌, ◌^◌, ◌<◌, ◌||◌, length};
 ghost use Rattle.sr_lexer.specs.Bytes.{is_blank};
-ghost use Rattle.sr_lexer.specs.Pieces.{run_len, is_close, close_of};
+ghost use Rattle.sr_lexer.specs.Pieces.{close_of};
 ghost use Rattle.sr_fmt.specs.Gaps.{closed_gap, gap_at};
+
+use sr_lexer::{close_in, len_of_line};
 
 /// A blank, a newline or a comment.
 #[derive(Clone, Copy)]
@@ -41,14 +43,6 @@ fn is_space(byte: u8) -> bool
     byte == b'\t' || byte == b'\r' || byte == b' ' || byte == b'\n'
 }
 
-/// How many bytes stand before the end of the line.
-fn len_of_line(rest: &[u8]) -> usize
-    ensures value { result ≡ run_len (λ byte. not (byte == 10)) rest.now }
-    ensures within { result ≤ length rest.now }
-{
-    rest.iter().take_while(|byte| **byte != b'\n').count()
-}
-
 /// The comment that goes on with these bytes after `/*`, up to the next `*/`.
 fn block_comment_with(inner: &[u8]) -> Option<Gap>
     requires { length inner.now < 2 ^ 63 }
@@ -58,21 +52,4 @@ fn block_comment_with(inner: &[u8]) -> Option<Gap>
         is_comment: true,
         len: at + 4,
     })
-}
-
-/// The first place at which `*/` stands.
-#[tactic(auto, unfolding(sr_lexer::specs::Pieces::close_of))]
-fn close_in(bytes: &[u8]) -> Option<usize>
-    ensures value { result ≡ close_of bytes.now }
-    ensures within { IfSome result (λ at. at < length bytes.now) }
-{
-    (0..bytes.len()).position(|at| closes_at(bytes, at))
-}
-
-/// Whether `*/` stands at this place.
-fn closes_at(bytes: &[u8], at: usize) -> bool
-    requires { at ≤ length bytes.now }
-    ensures { result ≡ is_close bytes.now at }
-{
-    bytes[at..].starts_with(b"*/")
 }

@@ -1,3 +1,4 @@
 pub mod Scenes
 pub mod Services
 pub mod Variables
+pub mod Outs

@@ -33,7 +33,7 @@ use Rattle.sr_desugar.specs.Bodies.{all_finals, item_outputs, first_final}
 use Rattle.sr_names.proofs.LinkLemmas.{same_from_iff}
 use Rattle.sr_outline.specs.Needs.{in_order, among, NoCycle, CanBeMade}
 use Rattle.sr_outline.proofs.Making.{needs-in_order}
-use Rattle.sr_front.proofs.Globals.{Imports, in_at}
+use Rattle.sr_front.proofs.Names.Globals.{Imports, in_at}
 use Rattle.sr_scope.specs.Uses.{IsIn}
 
 -- ---- lists

@@ -12,11 +12,11 @@ use Rattle.sr_scope.specs.Resolved.{resolved, findings}
 use Rattle.sr_tables.specs.Parts.{components_in, component_spot}
 use Rattle.sr_tree.specs.declared.component.File.{File}
 use Rattle.sr_scope.specs.Uses.{OneMeaning}
-use Rattle.sr_front.proofs.ComponentsApart.{ComponentsApart}
-use Rattle.sr_front.proofs.Findings.{import_means, no_import_back}
-use Rattle.sr_front.proofs.Globals.{MeansDeclared, imports_from, no_cycle_in}
+use Rattle.sr_front.proofs.Names.ComponentsApart.{ComponentsApart}
+use Rattle.sr_front.proofs.Names.Findings.{import_means, no_import_back}
+use Rattle.sr_front.proofs.Names.Globals.{MeansDeclared, imports_from, no_cycle_in}
 use Rattle.sr_front.proofs.CoreComponents.{NoFinalInGlobals, GlobalsCanBeMade, components_are}
-use Rattle.sr_front.proofs.Numbered.{each_once_apart}
+use Rattle.sr_front.proofs.Lists.Numbered.{each_once_apart}
 
 module _ (files : List File) (facts : Facts) (names : Names) (named : resolved files ≡ Ok names) (kept : facts.uses ≡ names.uses)
     (apart : ComponentsApart files) (one : OneMeaning (findings files)) (no_final : NoFinalInGlobals files) where

@@ -32,49 +32,49 @@ use Rattle.sr_front.specs.Invocations.{HasInvocations}
 use Rattle.sr_front.specs.Program.{IsAccepted}
 use Rattle.sr_front.specs.Sites.{HasSites}
 use Rattle.sr_front.specs.Variables.{HasVariables}
-use Rattle.sr_front.proofs.ReadsCode.{component_inside}
-use Rattle.sr_front.proofs.ThenKnown.{known_typed}
-use Rattle.sr_front.proofs.TypedTypes.{InfosTyped}
-use Rattle.sr_front.proofs.Heads.{heads_found}
-use Rattle.sr_front.proofs.HeadsPass.{Seen, heads_free, optypes as optypes_numbered, seen_whole, typed}
-use Rattle.sr_front.proofs.FreeBlocks.{FreeComponents}
-use Rattle.sr_front.proofs.AllowedCode.{accepted_allowed}
-use Rattle.sr_front.proofs.Clear.{all_clear}
-use Rattle.sr_front.proofs.Declared.{Apart, all_component_keys}
-use Rattle.sr_front.proofs.Findings.{has_main}
+use Rattle.sr_front.proofs.Mentioned.ReadsCode.{component_inside}
+use Rattle.sr_front.proofs.Known.ThenKnown.{known_typed}
+use Rattle.sr_front.proofs.Typed.TypedTypes.{InfosTyped}
+use Rattle.sr_front.proofs.Headed.Heads.{heads_found}
+use Rattle.sr_front.proofs.Headed.HeadsPass.{Seen, heads_free, optypes as optypes_numbered, seen_whole, typed}
+use Rattle.sr_front.proofs.Known.FreeBlocks.{FreeComponents}
+use Rattle.sr_front.proofs.EffectFree.AllowedCode.{accepted_allowed}
+use Rattle.sr_front.proofs.Served.Clear.{all_clear}
+use Rattle.sr_front.proofs.Known.Declared.{Apart, all_component_keys}
+use Rattle.sr_front.proofs.Names.Findings.{has_main}
 use Rattle.sr_front.proofs.CoreComponents.{main_is}
-use Rattle.sr_front.proofs.Invokes.{called_ok, forwarded_ok, made_ok, sent_ok}
-use Rattle.sr_front.proofs.Operations.{operations_ok, components, core, imports, tables}
-use Rattle.sr_front.proofs.ProcNumbers.{numbers_are_ok}
-use Rattle.sr_front.proofs.ConstantsTyped.{constant_typed}
-use Rattle.sr_front.proofs.ConstantTypes.{typed_static}
-use Rattle.sr_front.proofs.EffectFreeCode.{files_facts}
-use Rattle.sr_front.proofs.EffectFreeCore.{accepted_effect_free}
-use Rattle.sr_front.proofs.FilesInOrder.{declared_agrees}
-use Rattle.sr_front.proofs.FreeFiles.{free_components}
-use Rattle.sr_front.proofs.Rising.{Rises, names_rise}
-use Rattle.sr_front.proofs.TypedCode.{Good}
-use Rattle.sr_front.proofs.TypedProgram.{program_good}
-use Rattle.sr_front.proofs.UsedSorts.{used_sort}
-use Rattle.sr_front.proofs.ServedApart.{all_serve_shared, served_apart}
-use Rattle.sr_front.proofs.Services.{procs_serve_own}
-use Rattle.sr_front.proofs.Sites.{sites_are_listed, sites_are_own, sites_are_served, sites_have_scopes, sites_well}
-use Rattle.sr_front.proofs.SiteCode.{arms_own_ok, code_imported_ok, guards_ok, imported_ok, otherwise_ok, own_ok}
-use Rattle.sr_front.proofs.Spelled.{no_final_in_globals}
-use Rattle.sr_front.proofs.SpotsApart.{spots-apart}
-use Rattle.sr_front.proofs.OwnOrShared.{ConstantsStatic}
-use Rattle.sr_front.proofs.SharedRulesMet.{no_vars_met, values_met}
-use Rattle.sr_front.proofs.VariablesStand.{variables_stand}
-use Rattle.sr_front.proofs.WaitApart.{waits_apart}
+use Rattle.sr_front.proofs.Invoked.Invokes.{called_ok, forwarded_ok, made_ok, sent_ok}
+use Rattle.sr_front.proofs.Served.Operations.{operations_ok, components, core, imports, tables}
+use Rattle.sr_front.proofs.Served.ProcNumbers.{numbers_are_ok}
+use Rattle.sr_front.proofs.Constants.ConstantsTyped.{constant_typed}
+use Rattle.sr_front.proofs.Constants.ConstantTypes.{typed_static}
+use Rattle.sr_front.proofs.EffectFree.EffectFreeCode.{files_facts}
+use Rattle.sr_front.proofs.EffectFree.EffectFreeCore.{accepted_effect_free}
+use Rattle.sr_front.proofs.Known.FilesInOrder.{declared_agrees}
+use Rattle.sr_front.proofs.Known.FreeFiles.{free_components}
+use Rattle.sr_front.proofs.Lists.Rising.{Rises, names_rise}
+use Rattle.sr_front.proofs.Typed.TypedCode.{Good}
+use Rattle.sr_front.proofs.Typed.TypedProgram.{program_good}
+use Rattle.sr_front.proofs.Names.UsedSorts.{used_sort}
+use Rattle.sr_front.proofs.Served.ServedApart.{all_serve_shared, served_apart}
+use Rattle.sr_front.proofs.Served.Services.{procs_serve_own}
+use Rattle.sr_front.proofs.Served.Sites.{sites_are_listed, sites_are_own, sites_are_served, sites_have_scopes, sites_well}
+use Rattle.sr_front.proofs.Served.SiteCode.{arms_own_ok, code_imported_ok, guards_ok, imported_ok, otherwise_ok, own_ok}
+use Rattle.sr_front.proofs.Names.Spelled.{no_final_in_globals}
+use Rattle.sr_front.proofs.Names.SpotsApart.{spots-apart}
+use Rattle.sr_front.proofs.Own.OwnOrShared.{ConstantsStatic}
+use Rattle.sr_front.proofs.Constants.SharedRulesMet.{no_vars_met, values_met}
+use Rattle.sr_front.proofs.Mentioned.VariablesStand.{variables_stand}
+use Rattle.sr_front.proofs.Served.WaitApart.{waits_apart}
 use Rattle.sr_front.proofs.CoreParts.{well_made}
 use Rattle.sr_check.proofs.Owners.{Plain}
 use Rattle.sr_names.specs.declared.spot.Spot.{Spot}
 use Rattle.sr_desugar.proofs.WaitsCode.{ComponentsOkay}
-use Rattle.sr_front.proofs.Headed.{Headed}
-use Rattle.sr_front.proofs.KnownHeaded.{known_headed}
-use Rattle.sr_front.proofs.Optypes.{OptypesHeaded}
-use Rattle.sr_front.proofs.OptypesKnown.{optypes_known}
-use Rattle.sr_front.proofs.OwnCore.{all_own}
+use Rattle.sr_front.proofs.Headed.Headed.{Headed}
+use Rattle.sr_front.proofs.Headed.KnownHeaded.{known_headed}
+use Rattle.sr_front.proofs.Headed.Optypes.{OptypesHeaded}
+use Rattle.sr_front.proofs.Headed.OptypesKnown.{optypes_known}
+use Rattle.sr_front.proofs.Own.OwnCore.{all_own}
 
 module _ (contents : List (List ℕ)) (accepted : Checked) (is : IsAccepted contents accepted) where
   abbrev trees : List File

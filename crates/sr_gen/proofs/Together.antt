@@ -1,5 +1,5 @@
 -- `co`: its code makes all invocations, takes the replies, and does what each leads to.
-use Rattle.std.proofs.Common.{◌≡◌, ℕ, ℤ, zero, suc, ◌+◌, ◌≤◌, ◌<◌, ◌⊎◌, inl, inr, ◌==◌, Bool, true, List, [], ◌∷◌, ◌++◌, length, map, Option, Some, None, drop, get_or, is_some, ◌-◌, refl, sym, ◌∙◌, ap, subst, slice_get, arith, if◌then◌else◌}
+use Rattle.std.proofs.Common.{◌≡◌, ℕ, ℤ, zero, suc, ◌+◌, ◌≤◌, ◌<◌, ◌⊎◌, inl, inr, Bool, true, List, [], ◌∷◌, ◌++◌, length, map, Option, Some, None, drop, get_or, is_some, ◌-◌, refl, sym, ◌∙◌, ap, subst, slice_get, arith}
 use Rattle.std.proofs.lemmas.Option.{slice_get_past}
 use Rattle.sr_value.specs.declared.capability.Cap.{Cap}
 use Rattle.sr_value.specs.declared.place.Place.{Place}

@@ -11,7 +11,8 @@ use Rattle.sr_interpreter_parts.specs.declared.co.PlacedReply.{PlacedReply}
 use Rattle.sr_meaning.specs.declared.ending.Ending.{Ending}
 use Rattle.sr_meaning.specs.Here.{Here, ask_of}
 use Rattle.sr_meaning.specs.Pieces.{co_part_of}
-use Rattle.sr_interpreter_parts.specs.StatementParts.{IsFirstOut, take_place}
+use Rattle.sr_interpreter_parts.specs.StatementParts.{take_place}
+use Rattle.sr_frame.specs.Outs.{IsFirstOut}
 use Rattle.sr_interpreter.specs.Blocks.{completing, next_completion}
 use Rattle.sr_meaning.specs.Statements.{CoPart, take_one}
 use Rattle.sr_interpreter_expr.specs.Interpreters.{Agrees}

@@ -5,7 +5,7 @@ ghost use Rattle.sr_core.specs.declared.statement.Statement.TheOpen.{Statement-F
 ghost use Rattle.sr_meaning.specs.Pieces.{co_part_of, each_block, guarded_of, optional_block};
 ghost use Rattle.sr_interpreter.specs.Blocks.{completing, inner_meaning, next_completion, value_turn};
 ghost use Rattle.sr_meaning.specs.Statements.{block_of, complete_outs, do_turn, first_true, for_values, meaning_of, quantified, service_meaning, site_at, start_calls, statement_meaning};
-ghost use Rattle.sr_interpreter_parts.specs.StatementParts.{IsFirstOut};
+ghost use Rattle.sr_frame.specs.Outs.{IsFirstOut};
 ghost use Rattle.sr_interpreter_parts.specs.Turns.{AllFit, listed};
 ghost use Rattle.sr_interpreter_expr.specs.Interpreters.{Agrees, here_of, stage_of};
 

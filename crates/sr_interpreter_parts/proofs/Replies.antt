@@ -12,10 +12,11 @@ use Rattle.sr_ask.specs.declared.ask.Asks.{Asks}
 use Rattle.sr_ask.specs.declared.environment.Out.{Out}
 use Rattle.sr_interpreter_parts.specs.declared.co.PlacedReply.{PlacedReply}
 use Rattle.sr_interpreter_expr.specs.declared.stop.Stop.{Stop}
-use Rattle.sr_interpreter_parts.specs.StatementParts.{IsFirstOut, took_place}
+use Rattle.sr_interpreter_parts.specs.StatementParts.{took_place}
+use Rattle.sr_frame.specs.Outs.{IsFirstOut}
 use Rattle.sr_interpreter_expr.specs.Interpreters.{Agrees}
 use Rattle.sr_ask.specs.Replies.{Completion, completion_of, took_one}
-use Rattle.sr_interpreter_parts.proofs.Drops.{first_out, position_found, position_none}
+use Rattle.sr_frame.proofs.Drops.{first_out, position_found, position_none}
 
 -- what an answer gives by its place, and what it gives
 abbrev Matches : List Out → Option PlacedReply → Option Completion → Type 0

@@ -1,11 +1,10 @@
 -- Parts of statements, as the reference interpreter carries them out.
-use Rattle.std.specs.Prelude.{◌≡◌, ℕ, ◌<◌, ◌==◌, List, length, map, Option, Some, None, option_map, slice_get}
+use Rattle.std.specs.Prelude.{ℕ, ◌==◌, List, map, Option, None, option_map}
 use Rattle.std.specs.List.{position}
 use Rattle.sr_ask.specs.Asking.{selected}
 use Rattle.sr_ask.specs.Behaviors.{◌>>=◌}
 use Rattle.sr_ask.specs.declared.answer.Answer.{Answer}
 use Rattle.sr_ask.specs.declared.answer.Answer.TheVariants.{Took}
-use Rattle.sr_ask.specs.declared.environment.Out.{Out}
 use Rattle.sr_ask.specs.declared.forms.Selection.{Selection}
 use Rattle.sr_ask.specs.declared.request.Request.TheVariants.{Select, Take}
 use Rattle.sr_interpreter_parts.specs.declared.co.PlacedReply.{PlacedReply}
@@ -27,8 +26,3 @@ took_place ids _ = None
 -- the earliest reply to one of the invocations that are out
 abbrev pub take_place : Meaning PlacedReply
 take_place here stage = request (took_place (map (λ out. out.id) stage.out)) (Take (map (λ out. out.id) stage.out)) here stage
-
--- an invocation that is out, and the first of its number
-pub record IsFirstOut (outs : List Out) (at : ℕ) : Type 0 where
-  pub within : at < length outs
-  pub first : (out : Out) → slice_get outs at ≡ Some out → position (λ other. other.id == out.id) outs ≡ Some at

@@ -1,7 +1,8 @@
 ghost use Rattle.std.specs.Prelude.{◌≡◌, ◌<◌, IfOk, OnOk, map, length, option_map, slice_get};
 ghost use Rattle.sr_ask.specs.Behaviors.{Came};
 ghost use Rattle.sr_meaning.specs.Statements.{drop_out, optional_place, set_turn, start_call, store_value, turn_now};
-ghost use Rattle.sr_interpreter_parts.specs.StatementParts.{IsFirstOut, take_place, took_place};
+ghost use Rattle.sr_interpreter_parts.specs.StatementParts.{take_place, took_place};
+ghost use Rattle.sr_frame.specs.Outs.{IsFirstOut};
 ghost use Rattle.sr_interpreter_expr.specs.Interpreters.{Agrees, here_of, stage_of};
 ghost use Rattle.sr_ask.specs.Replies.{push_out, set_out};
 ghost use Rattle.sr_meaning.specs.Pieces.{call_part};

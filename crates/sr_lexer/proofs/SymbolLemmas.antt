@@ -4,6 +4,7 @@ use Rattle.std.proofs.lemmas.Bool.Decides.{Decides-eqb, nat_tests}
 use Rattle.std.specs.List.{starts_with, list_all}
 use lib.Pointwise.{pointwise}
 use Rattle.std.proofs.lemmas.Slice.Eq.{bytes_eq-Decides}
+use Rattle.std.proofs.lemmas.Bool.{and_from as both}
 use Rattle.sr_tree.specs.declared.token.Sign.{Sign}
 use Rattle.sr_tree.specs.declared.token.Sign.TheVariants.{Exchange, Assign, Colon, Arrow, Decrement, Minus, Increment, Plus, Star, Parallel, Slash, Percent, Join, Equal, NotEqual, LessEqual, Less, GreaterEqual, Greater, OpenParen, CloseParen, Alternative, OpenBracket, CloseBracket, OpenBrace, CloseBrace, Comma, Point, Query}
 use Rattle.sr_tree.specs.declared.token.Word.{Word}
@@ -143,9 +144,6 @@ is_ordered (x ∷ xs) = list_all (λ y. not (is_shorter x y)) xs && is_ordered x
 signs_ordered : is_ordered signs ≡ true
 unfolding is_ordered is_shorter
 signs_ordered = refl
-
-both : (a b : Bool) → a ≡ true → b ≡ true → (a && b) ≡ true
-both a b e f = ap (λ x. x && b) e ∙ f
 
 same_bytes : (x y z : ℕ) → nat_eq x z ≡ true → nat_eq y z ≡ true → nat_eq x y ≡ true
 same_bytes x y z e f = (Decides-eqb x y).1 ((Decides-eqb x z).0 e ∙ sym ((Decides-eqb y z).0 f))

@@ -14,4 +14,5 @@ mod symbol;
 pub use laws::{one_outcome, one_spelling, tokens_ascend};
 pub use lexer::lex;
 pub use limits::profile;
+pub use piece::{close_in, len_of_line};
 pub use sr_tree::{Sign, Token, TokenKind, Tokens, Word};

@@ -74,7 +74,7 @@ fn line_comment_in_front(rest: &[u8]) -> Piece
 }
 
 /// How many bytes stand before the end of the line.
-fn len_of_line(rest: &[u8]) -> usize
+pub fn len_of_line(rest: &[u8]) -> usize
     ensures value { result ≡ run_len (λ byte. not (byte == 10)) rest.now }
     ensures within { result ≤ length rest.now }
 {
@@ -83,7 +83,7 @@ fn len_of_line(rest: &[u8]) -> usize
 
 /// The first place at which `*/` stands.
 #[tactic(auto, unfolding(crate::specs::Pieces::close_of))]
-fn close_in(bytes: &[u8]) -> Option<usize>
+pub fn close_in(bytes: &[u8]) -> Option<usize>
     ensures value { result ≡ close_of bytes.now }
     ensures within { IfSome result (λ at. at < length bytes.now) }
 {

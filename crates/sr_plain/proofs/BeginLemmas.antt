@@ -1,7 +1,7 @@
 -- A look at a process that may have to begin.
 use Rattle.std.proofs.Common.{◌≡◌, ◌<◌, inl, inr, ℕ, List, Option, Some, None, IsSome, is_some, false, refl, sym, ◌∙◌, subst, true≢false, arith}
 use Rattle.std.specs.HashMap.{HashMap}
-use Rattle.std.specs.Prelude.{Result, Ok, Err, OnOk}
+pub use Rattle.std.proofs.lemmas.Result.{on_ok_weaker as on_ok}
 use Rattle.sr_ask.specs.declared.answer.Answer.{Answer}
 use Rattle.sr_ask.specs.declared.ask.Asks.{Asks}
 use Rattle.sr_ask.specs.declared.start.Start.{Start}
@@ -35,10 +35,6 @@ module _ {A P : Type 0} (after : P → A → List Answer → Asks) (can_feed : A
       looks-begun start.process (after program) can_feed (ask (core_of program) start limit) old new begun.member none begun.itself begun.others plays
 
 -- ---- what a call that may fail leaves
-
-pub on_ok : {B E : Type 0} {P Q : Type 0} (r : Result B E) → (P → Q) → OnOk r P → OnOk r Q
-on_ok (Ok b) f h = f h
-on_ok (Err e) f h = h
 
 pub absent-here : {A : Type 0} (o : Option A) → is_some o ≡ false → o ≡ None
 absent-here None none = refl

@@ -2,6 +2,7 @@
 use Rattle.std.proofs.Common.{◌≡◌, ◌≢◌, ℕ, zero, suc, ◌==◌, ◌&&◌, Bool, true, false, cond, List, [], ◌∷◌, ◌++◌, Option, None, Some, refl, ap, sym, ◌∙◌, subst, eqb-true, true≢false, append-nil}
 use Rattle.std.proofs.lemmas.List.Elements.{filter-append}
 use Rattle.std.specs.Prelude.{Result, Ok, Err, filter, nat_lt, remove, slice_get}
+use Rattle.std.proofs.lemmas.Bool.{and_parts as both-true}
 use Rattle.sr_ask.specs.declared.answer.Answer.{Answer}
 use Rattle.sr_ask.specs.declared.ask.Role.{Role}
 use Rattle.sr_ask.specs.declared.ask.Role.TheVariants.{Boot, Initial, Proc as proc_role, Final}
@@ -250,10 +251,6 @@ same-owner (Inst x) (Inst y) is = ap Inst (eqb-true x y is)
 same-owner (Inst x) (Proc y) is = absurd (true≢false (sym is))
 same-owner (Proc x) (Inst y) is = absurd (true≢false (sym is))
 same-owner (Proc x) (Proc y) is = ap Proc (eqb-true x y is)
-
-both-true : (a b : Bool) → (a && b) ≡ true → (a ≡ true) × (b ≡ true)
-both-true true b is = (refl, is)
-both-true false b is = absurd (true≢false (sym is))
 
 module _ (core : Core) (w : World) (actor : ℕ) (me : Me) (me_is : me_of w actor ≡ me) where
   serviced : (s : Site) (env : List Value) (place arm : ℕ) (p : Pending) → choice_of core w actor env s ≡ chosen.Service place arm → slice_get w.pending place ≡ Some p

@@ -1,6 +1,6 @@
 -- Crowds: those that wait for invocations alone, at operations that may have got one.
 use Rattle.std.proofs.Common.{◌≡◌, ◌⊎◌, inl, inr, ◌<◌, ◌≤◌, ◌+◌, ℕ, zero, suc, ◌==◌, ◌&&◌, ◌||◌, Bool, true, false, cond, List, [], ◌∷◌, ◌++◌, take, length, get_or, Option, Some, None, refl, ap, sym, ◌∙◌, subst, eqb-true, true≢false, arith}
-use Rattle.std.proofs.lemmas.Bool.{lt-ltb, ltb-true}
+use Rattle.std.proofs.lemmas.Bool.{lt-ltb, ltb-true, or_left as or-left, or_right as or-right, or_cases as or-either, and_parts as both-true, and_from as and-true}
 use Rattle.std.proofs.lemmas.List.{take_all}
 use Rattle.std.proofs.lemmas.List.Folds.{list_any_more}
 use Rattle.std.proofs.lemmas.List.Quantifiers.{position-Some}
@@ -16,7 +16,7 @@ use Rattle.sr_calls.proofs.FirstLemmas.{none-found, place-within}
 use Rattle.sr_queue.proofs.ClassLemmas.{same_class-itself, same_parts}
 use Rattle.sr_queue.specs.Classes.{same_class}
 use Rattle.sr_queue.specs.declared.class.Class.{Class}
-use Rattle.sr_store.proofs.BlockLemmas.{same-test}
+use Rattle.sr_buckets.proofs.NumberLemmas.{same_test}
 use Rattle.sr_plain.specs.Readiness.{IsPutIn, IsSole, holds, ready_len}
 use Rattle.sr_plain.specs.Waiting.{AreTakenUnder, HasLeft, HaveOpened, HoldsClass, HoldsNobody, HoldsProcess, IsFirst, IsFirstUpTo, IsNext, IsOpenedAt, IsPromoted, IsPutBack, IsShut, LeavesCrowd, StaysOpen, WaitsThere, crowds_len, is_among, is_closed, is_open, is_open_at, is_ready, may_go, same_variable, turns_len, waits}
 use Rattle.sr_plain.specs.declared.crowd.Opened.{Opened}
@@ -28,26 +28,6 @@ use Rattle.sr_plain.specs.declared.waiters.Waiting.{Waiting}
 use Rattle.sr_plain.specs.declared.waiters.Waiting.TheVariants.{Many}
 
 -- ---- tests
-
-or-left : (a b : Bool) → a ≡ true → (a || b) ≡ true
-or-left true b h = refl
-or-left false b h = absurd (true≢false (sym h))
-
-or-right : (a b : Bool) → b ≡ true → (a || b) ≡ true
-or-right true b h = refl
-or-right false b h = h
-
-or-either : (a b : Bool) → (a || b) ≡ true → (a ≡ true) ⊎ (b ≡ true)
-or-either true b h = inl refl
-or-either false b h = inr h
-
-both-true : (a b : Bool) → (a && b) ≡ true → (a ≡ true) × (b ≡ true)
-both-true true b h = (refl, h)
-both-true false b h = absurd (true≢false (sym h))
-
-and-true : (a b : Bool) → a ≡ true → b ≡ true → (a && b) ≡ true
-and-true true b h k = k
-and-true false b h k = absurd (true≢false (sym h))
 
 and-off : (a : Bool) → (a && false) ≡ false
 and-off true = refl
@@ -72,7 +52,7 @@ set-more k s n updates q here = updates.0 q ∙ by (is_at (nat_cmp k) q)
     by false = here
 
 set-apart : (k : ℕ) (b : Bool) (s n : BTreeSet ℕ) → Updates nat_cmp s n k b → (q : ℕ) → (k == q) ≡ false → contains nat_cmp n q ≡ contains nat_cmp s q
-set-apart k b s n updates q off = updates.2 q (sym (same-test k q) ∙ off)
+set-apart k b s n updates q off = updates.2 q (sym (same_test k q) ∙ off)
 
 -- one that is put in alone is new
 pub one-in : (process : ℕ) (old new : Ready) → IsPutIn process old new → (q : ℕ) → holds new q ≡ false → (holds old q ≡ false) × ((process == q) ≡ false)

@@ -4,6 +4,7 @@ use Rattle.std.specs.BTreeSet.{contains}
 use Rattle.std.specs.Ordering.{nat_cmp}
 use Rattle.std.specs.List.{cons_option, enumerate_from, list_all}
 use Rattle.std.specs.Prelude.{filter, option_map, slice_get}
+use Rattle.std.proofs.lemmas.Bool.{and_parts as both-true}
 use Rattle.sr_ask.specs.declared.ask.Role.{Role}
 use Rattle.sr_ask.specs.declared.request.Request.TheVariants as request
 use Rattle.sr_core.specs.Formals.{first_of}
@@ -98,10 +99,6 @@ module _ (owner : Owner) where
       ap (λ b. cond b (p ∷ filter (is_of owner arm.op) ps) (filter (is_of owner arm.op) ps)) (off-of n p arms 0 parts.0 k arm is) ∙ none-pending arms ps (n + 1) parts.1 k arm is
 
 -- ---- statements
-
-both-true : (a b : Bool) → (a && b) ≡ true → (a ≡ true) × (b ≡ true)
-both-true true b is = (refl, is)
-both-true false b is = absurd (true≢false (sym is))
 
 not-true : (b : Bool) → not b ≡ true → b ≡ false
 not-true true is = absurd (true≢false (sym is))

@@ -12,10 +12,9 @@ use Rattle.sr_processes.specs.Living.{is_process}
 use Rattle.sr_world.specs.Runs.{Event, Makes_item, Gives, Closes, Goes, Over, Illegal, Next, State, after, after_event, and_then, first, is_new, is_used, item_in, items_in, led, next as next_by, step_of, with_input, without_more}
 use Rattle.sr_world.specs.Sound.{IsSound, name_in, names_in, times_used}
 use Rattle.sr_world.specs.Worlds.{World, started}
-use Rattle.sr_world.specs.declared.ends.End.{End}
-use Rattle.sr_world.proofs.CountLemmas.{count-cons, one}
+use Rattle.sr_world.proofs.CountLemmas.{count-cons, one, count-grows}
 use Rattle.sr_world.proofs.KeepLemmas.{live-counts}
-use Rattle.sr_world.proofs.RunLemmas.{goes-where, illegal-after, new-number, sound-first, sound-input, sound-led, sound-next}
+use Rattle.sr_world.proofs.RunLemmas.{goes-where, illegal-after, new-number, sound-first, sound-input, sound-led, sound-next, over-after}
 use Rattle.sr_plain.specs.Engine.{last_by, last_in}
 use Rattle.sr_plain.specs.Order.{IsNext}
 use Rattle.sr_plain.specs.Turns.{last_after}
@@ -42,10 +41,6 @@ last-more events event = last-from 0 events event
 items-append : (events more : List Event) → items_in (events ++ more) ≡ items_in events ++ items_in more
 items-append [] more = refl
 items-append (e ∷ es) more = ap (λ items. item_in e ++ items) (items-append es more) ∙ sym (append_assoc (item_in e) (items_in es) (items_in more))
-
-count-grows : (p : ℕ → Bool) (xs ys : List ℕ) → count_by p xs ≤ count_by p (xs ++ ys)
-count-grows p [] ys = omega arith
-count-grows p (x ∷ xs) ys = omega (arith, count-cons p x xs, count-cons p x (xs ++ ys), count-grows p xs ys)
 
 module _ (core : Core) (limit : ℕ) (events : List Event) (state : State) (leads : led core limit events ≡ Goes state) where
   pub sound : IsSound (items_in events) state
@@ -125,10 +120,6 @@ used-item items state later item sound sound' =
 
 -- ---- who made the last step
 
-pub over-never : (core : Core) (limit : ℕ) (ending : End) (state later : State) (events : List Event) → after core limit (Over ending state) events ≡ Goes later → ⊥
-over-never core limit ending state later [] is = absurd (cc)
-over-never core limit ending state later (event ∷ events) is = let stuck = illegal-after core limit events in absurd (cc)
-
 -- a process that makes a step lives
 pub stepped-lives : (core : Core) (limit : ℕ) (state later : State) (actor name : ℕ) → next_by core limit state (Step actor name) ≡ Goes later → (start : Start) × (started state.world actor ≡ Some start)
 stepped-lives core limit state later actor name goes = by (started state.world actor) refl goes
@@ -151,7 +142,7 @@ known-after core limit items last state later (event ∷ events) sound known is 
         → ((items' : List Item) (last' : ℕ) (s : State) → IsSound items' s → IsKnown last' s → after core limit (Goes s) events ≡ Goes later → IsKnown (fold last_by last' events) later)
         → IsKnown (fold last_by (last_by last e) events) later
     by e Illegal is' h more = let stuck = illegal-after core limit events in absurd (cc)
-    by e (Over ending s) is' h more = absurd (over-never core limit ending s later events h)
+    by e (Over ending s) is' h more = absurd (over-after core limit ending s later events h)
     by (Makes_item item) (Goes s) is' h more =
         let sound' : IsSound (items ++ item ∷ []) s = sound-next items state sound core limit item s is' in
         more (items ++ item ∷ []) (last_after last item) s sound' (known-item item is' sound') h

@@ -1,7 +1,8 @@
 -- Who waits for all that a statement lists waits for all that its guards name.
-use Rattle.std.proofs.Common.{◌≡◌, ◌⊎◌, ◌<◌, ◌+◌, inl, inr, suc, ◌&&◌, ◌||◌, ◌==◌, ℕ, Bool, true, false, List, [], ◌∷◌, Some, refl, ap, sym, ◌∙◌, eqb-true, true≢false, arith}
+use Rattle.std.proofs.Common.{◌≡◌, ◌⊎◌, ◌<◌, ◌+◌, inl, inr, suc, ◌||◌, ◌==◌, ℕ, Bool, true, false, List, [], ◌∷◌, Some, refl, ap, sym, ◌∙◌, eqb-true, true≢false, arith}
 use Rattle.std.specs.List.{list_any}
 use Rattle.std.specs.Prelude.{Result, Ok, slice_get}
+use Rattle.std.proofs.lemmas.Bool.{and_parts as both-true}
 use Rattle.sr_ask.specs.declared.request.Request.{Request}
 use Rattle.sr_ask.specs.declared.request.Request.TheVariants as request
 use Rattle.sr_core.specs.declared.component.Core.{Core}
@@ -29,10 +30,6 @@ use Rattle.sr_plain.specs.declared.waiters.Place.TheVariants.{Served, Stored, Id
 use Rattle.sr_plain.specs.declared.waiters.Waiters.{Waiters}
 use Rattle.sr_plain.proofs.AsideLemmas.{block-more, operation-more}
 use Rattle.sr_plain.proofs.JoinLemmas.{one-more}
-
-both-true : (a b : Bool) → (a && b) ≡ true → (a ≡ true) × (b ≡ true)
-both-true true b is = (refl, is)
-both-true false b is = absurd (true≢false (sym is))
 
 same-home : (a b : Home) → same_home a b ≡ true → a ≡ b
 same-home Mine Mine is = refl

@@ -2,6 +2,7 @@
 use Rattle.std.proofs.Common.{◌≡◌, ◌==◌, ◌||◌, ◌⊎◌, inl, inr, ℕ, Bool, true, false, List, Option, Some, None, IsSome, is_some, refl, ap, sym, ◌∙◌, subst, eqb-true, true≢false}
 use Rattle.std.specs.HashMap.{HashMap}
 use Rattle.std.specs.Prelude.{find}
+use Rattle.std.proofs.lemmas.Bool.{or_parts as neither}
 use Rattle.sr_ask.specs.declared.answer.Answer.{Answer}
 use Rattle.sr_ask.specs.declared.ask.Asks.{Asks}
 use Rattle.sr_ask.specs.declared.start.Start.{Start}
@@ -15,10 +16,6 @@ use Rattle.sr_plain.specs.Leaving.{Leaves, LiveOn}
 use Rattle.sr_plain.specs.declared.change.Change.TheVariants.{Everything}
 use Rattle.sr_plain.specs.declared.change.Woken.{Woken}
 use Rattle.sr_actor.specs.declared.member.Member.{Member}
-
-neither : (a b : Bool) → (a || b) ≡ false → (a ≡ false) × (b ≡ false)
-neither true b off = absurd (true≢false off)
-neither false b off = (refl, off)
 
 ended-same : (old new : World) (gone : Option ℕ) → new.live ≡ old.live → HasEnded old gone → HasEnded new gone
 ended-same old new None same h = tt

@@ -1,6 +1,6 @@
 -- Whose turn it is, among those that are ready.
 use Rattle.std.proofs.Common.{◌≡◌, ◌<◌, ◌≤◌, ◌==◌, ℕ, inl, inr, zero, suc, ◌||◌, Bool, true, false, not, cond, List, [], ◌∷◌, ◌++◌, take, drop, length, Option, None, Some, is_some, refl, ap, sym, ◌∙◌, subst, arith, eqb-true, true≢false}
-use Rattle.std.proofs.lemmas.Bool.{ltb-false, ltb-true}
+use Rattle.std.proofs.lemmas.Bool.{ltb-false, ltb-true, or_parts as both-off}
 use Rattle.std.specs.List.{list_any}
 use Rattle.std.specs.Prelude.{filter, find, nat_lt, option_map, slice_get, unwrap_or}
 use Rattle.sr_ask.specs.declared.ask.Ask.{Ask}
@@ -193,10 +193,6 @@ cut-is world zero next ordered known lives cut = first cut.at cut.fits (λ s is.
 cut-is world (suc n) next ordered known lives cut = split-place world (suc n) next cut.at ordered (omega arith) (known (omega arith)) lives cut.fits cut.split
 
 -- ---- those that are aside
-
-both-off : (a b : Bool) → (a || b) ≡ false → (a ≡ false) × (b ≡ false)
-both-off true b h = absurd (true≢false h)
-both-off false b h = (refl, h)
 
 or-first : (a b : Bool) → b ≡ false → (a || b) ≡ true → a ≡ true
 or-first true b off h = refl

@@ -14,6 +14,7 @@ use Rattle.sr_world.specs.Runs.{Event, Makes_item, Goes, Over as run_over, State
 use Rattle.sr_world.specs.Worlds.{World}
 use Rattle.sr_world.specs.declared.acted.Acted.TheVariants as acted
 use Rattle.sr_world.specs.declared.ends.End.{End}
+use Rattle.sr_world.proofs.FoundLemmas.{AtRest, at-rest}
 use Rattle.sr_plain.specs.Engine.{Comes, IsEngine}
 use Rattle.sr_plain.specs.Leaving.{Leaves, LeavesIf}
 use Rattle.sr_plain.specs.Order.{IsNext}
@@ -28,23 +29,6 @@ use Rattle.sr_plain.proofs.LedLemmas.{last-more, led-more, next-new, next-unused
 use Rattle.sr_plain.proofs.LivingLemmas.{living-everyone, named-after}
 use Rattle.sr_plain.proofs.OrderLemmas.{ordered-after}
 use Rattle.sr_plain.proofs.TurnLemmas.{rested-stands}
-
--- the final code begins or the run ends
-abbrev AtRest : Does → Type 0
-AtRest (Makes world answer) = Unit {0}
-AtRest (Ends ending) = Unit {0}
-AtRest _ = ⊥
-
-at-rest : (core : Core) (name : ℕ) (w : World) → AtRest (quiesce core name w)
-at-rest core name w = by (main_instance core w)
-  where
-    closing : (m : Instance) (b : Bool) (x : World) (a : Answer) (e : End) → AtRest (cond b (Makes x a) (Ends e))
-    closing m true x a e = tt
-    closing m false x a e = tt
-
-    by : (main : Option Instance) → AtRest (close_or core name None (rest_of w.fixed) w main)
-    by None = tt
-    by (Some m) = closing m (may_close core m) _ _ _
 
 -- where memory ran out all is as before
 pub failed-same : (d : Does) (old new : World) (e : NoMemory) → Acts d old new (Err e) → new ≡ old

@@ -13,13 +13,13 @@ use Rattle.sr_world.specs.Names.{IsLeastUnused}
 use Rattle.sr_world.specs.Sound.{IsSound, given_out, names_in}
 use Rattle.sr_world.specs.Worlds.{World}
 use Rattle.sr_world.proofs.PieceLemmas.{all-next, ended-next, legal-after, no-bytes, over-last, same-blocked}
-use Rattle.sr_world.proofs.RunLemmas.{goes-where, illegal-after, sound-first, sound-input, sound-next}
+use Rattle.sr_world.proofs.RunLemmas.{goes-where, illegal-after, sound-first, sound-input, sound-next, over-after}
 use Rattle.sr_world.specs.Laws.{closes, next_with_all, with_all, with_all_in}
 use Rattle.sr_plain.specs.Engine.{last_by}
 use Rattle.sr_plain.specs.Order.{IsNext, IsNumbered}
 use Rattle.sr_plain.specs.Rotation.{GoOnInTurn, InTurnIsRotation, IsInTurn, NextIsLeastUnused, OneMoreInTurn}
 use Rattle.sr_plain.specs.Turns.{IsName, IsTurn, Rotates, last_after, number_in, takes_turn, turn, walk}
-use Rattle.sr_plain.proofs.LedLemmas.{any-contains, over-never, used-item}
+use Rattle.sr_plain.proofs.LedLemmas.{any-contains, used-item}
 use Rattle.sr_plain.proofs.OrderLemmas.{contains-any}
 
 -- ---- numbers that were given out one after the other
@@ -221,7 +221,7 @@ module _ (core : Core) (limit : ℕ) where
           → ((us : List Item) (l n : ℕ) (s : State) → IsSound us s → AreCounted 1 s.world.used n → after core limit (Goes s) events ≡ Goes later → GoOnInTurn core limit (Goes s) l events → (n : ℕ) × AreCounted 1 later.world.used n)
           → (n : ℕ) × AreCounted 1 later.world.used n
       by e Illegal is' h go more = let stuck = illegal-after core limit events in absurd (cc)
-      by e (Over ending s) is' h go more = absurd (over-never core limit ending s later events h)
+      by e (Over ending s) is' h go more = absurd (over-after core limit ending s later events h)
       by (Makes_item item) (Goes s) is' h go more =
           let sound' : IsSound (items ++ item ∷ []) s = sound-next items state sound core limit item s is' in
           let counted' = counted-after items state s item next_name sound sound' counted go.0.1 in

@@ -39,7 +39,8 @@ use Rattle.sr_plain.specs.Changes.{change_by, change_of_end, gone_by, is_everyth
 use Rattle.sr_plain.specs.Leaving.{LiveOn, LiveOnIf}
 use Rattle.sr_plain.specs.declared.change.Change.{Change}
 use Rattle.sr_plain.specs.declared.change.Change.TheVariants.{Everything}
-use Rattle.sr_plain.proofs.LeaveLemmas.{Loses, answered-loses, end_instance-loses, loses-same, make_ready-loses, none-without}
+use Rattle.sr_plain.proofs.LeaveLemmas.{Loses, answered-loses, end_instance-loses, loses-same, make_ready-loses}
+use Rattle.sr_world.proofs.FoundLemmas.{none-without}
 use Rattle.sr_plain.proofs.WalkLemmas.{found_first}
 
 -- ---- who is found

@@ -3,7 +3,7 @@ use Rattle.std.proofs.Common.{◌≡◌, ◌≢◌, ℕ, cond, List, Some, Resul
 use Rattle.std.specs.Cmp.{nat_cmp_total}
 use Rattle.std.specs.FinMap as map
 use Rattle.std.specs.Ordering.{nat_cmp, is_eq}
-use Rattle.sr_store.proofs.BlockLemmas.{apart, by_number, itself, turned}
+use Rattle.sr_buckets.proofs.NumberLemmas.{apart, by_number, itself, turned}
 use Rattle.sr_store.proofs.KeptLemmas.{block-with_block, block-with_block_other}
 use Rattle.sr_store.proofs.LawLemmas.{others-stay}
 use Rattle.sr_store.specs.Variables.{ByNumber, Variables, block_of, declared_in, loaded_in, stored_in, variable_at, with_block, with_variable}

@@ -5,6 +5,7 @@ use Rattle.std.specs.HashMap.{HashMap, UpdatesBy, get, hash_map_len}
 use Rattle.std.specs.List.{sum_by}
 use Rattle.std.specs.Map.{lookup}
 use Rattle.std.specs.Ordering.{nat_cmp}
+use Rattle.std.proofs.lemmas.Bool.{or_left as or-left, or_from as off-both}
 use Rattle.sr_queue.proofs.ClassLemmas.{same_class-itself, same_parts}
 use Rattle.sr_queue.specs.Classes.{class_of, same_class}
 use Rattle.sr_queue.specs.declared.class.Class.{Class}
@@ -129,10 +130,6 @@ variable-written variable process old new ready watched classes idle opened unde
     more (Stored v) other here = key-written same_variable same-parts old.variables new.variables variable process under v other here
     more (Idle c) other here = idle-same old new idle opened c other here
 
-or-left : (a b : Bool) → a ≡ true → (a || b) ≡ true
-or-left true b h = refl
-or-left false b h = absurd (true≢false (sym h))
-
 or-keeps : (a b a' : Bool) → (a ≡ true → a' ≡ true) → (a || b) ≡ true → (a' || b) ≡ true
 or-keeps true b a' keeps h = or-left a' b (keeps refl)
 or-keeps false b true keeps h = refl
@@ -254,11 +251,6 @@ opened-nobody class waiters none = record {
   go_on = record { ready = λ p off. off; waiting = λ k p off here. here };
   closed = λ c q here. absurd (true≢false (sym here ∙ none-under same_class waiters.idle none c q));
 }
-
-off-both : (a b : Bool) → a ≡ false → b ≡ false → (a || b) ≡ false
-off-both true b h k = absurd (true≢false h)
-off-both false true h k = absurd (true≢false k)
-off-both false false h k = refl
 
 -- those that wait for any change are woken, and then those that wait there
 module _ (key : Place) (old mid new : Waiters) (first : IsWokenAt Watched old mid) (second : IsWokenAt key mid new) where

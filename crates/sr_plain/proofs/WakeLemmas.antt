@@ -4,6 +4,7 @@ use Rattle.std.proofs.lemmas.List.Sums.{length-filter}
 use Rattle.std.specs.Cmp.{nat_eq_equiv}
 use Rattle.std.specs.Prelude.{filter, find, nat_lt, option_map, slice_get, unwrap_or}
 use Rattle.std.specs.List.{list_all}
+use Rattle.std.proofs.lemmas.Bool.{or_parts as both-off}
 use Rattle.sr_ask.specs.declared.ask.Ask.{Ask}
 use Rattle.sr_ask.specs.declared.ask.Role.{Role}
 use Rattle.sr_ask.specs.declared.request.Request.{Request}
@@ -34,9 +35,9 @@ use Rattle.sr_value.specs.declared.place.Place.{Place}
 use Rattle.sr_value.specs.declared.shape.Sel.{Sel}
 use Rattle.sr_value.specs.declared.value.Value.{Value}
 use Rattle.sr_world.proofs.ReadyLemmas.{can_is}
-use Rattle.sr_world.proofs.WakingLemmas.{still_not}
+use Rattle.sr_world.proofs.WakingLemmas.{still_not, is_not}
 use Rattle.sr_world.specs.Deciding.{can_choose, can_create, can_do, can_ensure, can_select, can_select_in}
-use Rattle.sr_world.specs.Does.{Outcome, IsDone, IsMade, IsNot, IsEnd, IsOpen, comes_to, is_possible}
+use Rattle.sr_world.specs.Does.{IsNot, comes_to, is_possible}
 use Rattle.sr_world.specs.Invoking.{owner_for}
 use Rattle.sr_world.specs.Selecting.{choice_of, me_of, reading_of, waiting_for}
 use Rattle.sr_world.specs.Steps.{done_by}
@@ -52,18 +53,11 @@ use Rattle.sr_plain.proofs.ChangeLemmas.{Apart, Heard, Keeps, Still, same-owner}
 
 -- ---- what is possible
 
-is-not : (outcome : Outcome) → is_possible outcome ≡ false → outcome ≡ IsNot
-is-not IsDone h = cc
-is-not IsMade h = cc
-is-not IsNot h = refl
-is-not (IsEnd ending) h = cc
-is-not IsOpen h = cc
-
 -- what can be done as before still cannot
 pub as-before : (core : Core) (old new : World) (p : ℕ) (place : Place) (role : Role) (r : Request) → can_do core old p r ≡ can_do core new p r
     → comes_to (done_by core old p 0 place role r) ≡ IsNot → comes_to (done_by core new p 0 place role r) ≡ IsNot
 as-before core old new p place role r same is =
-    is-not (comes_to (done_by core new p 0 place role r))
+    is_not (comes_to (done_by core new p 0 place role r))
     (can_is core place 0 new p role r ∙ sym same ∙ sym (can_is core place 0 old p role r) ∙ ap is_possible is)
 
 -- ---- statements
@@ -71,10 +65,6 @@ as-before core old new p place role r same is =
 pub all-from : {X : Type 0} (test : X → Bool) (xs : List X) → ((k : ℕ) (x : X) → slice_get xs k ≡ Some x → test x ≡ true) → list_all test xs ≡ true
 all-from test [] each = refl
 all-from test (x ∷ xs) each = ap (λ b. b && list_all test xs) (each 0 x refl) ∙ all-from test xs (λ k y is. each (suc k) y is)
-
-both-off : (a b : Bool) → (a || b) ≡ false → (a ≡ false) × (b ≡ false)
-both-off true b h = absurd (true≢false h)
-both-off false b h = (refl, h)
 
 -- all operations but one, where that one is of this owner
 without : Owner → Owner → ℕ → ℕ → Bool

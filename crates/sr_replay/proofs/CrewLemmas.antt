@@ -4,6 +4,7 @@ use Rattle.std.proofs.lemmas.Map.Entries.{lookup-filter-keys}
 use Rattle.std.specs.HashMap.{HashMap, WritesThrough}
 use Rattle.std.specs.Map.{lookup}
 use Rattle.std.specs.Prelude.{Result, Ok, Err, IfOk, OnOk, filter, nat_eq}
+pub use Rattle.std.proofs.lemmas.Result.{on_ok_weaker as on_ok}
 use Rattle.sr_actor.proofs.CrewLemmas.{updated-others}
 use Rattle.sr_actor.specs.Crew.{Answers, Begins, IsFed, IsSame, KeepsOthers, LooksAt, Looks, Plays, member_of}
 use Rattle.sr_actor.specs.declared.member.Member.{Member}
@@ -83,10 +84,6 @@ module _ {A S : Type 0} (world : World) where
         by q x false here = absurd (cc)
 
 -- ---- what a call that may fail leaves
-
-pub on_ok : {B E : Type 0} {P Q : Type 0} (r : Result B E) → (P → Q) → OnOk r P → OnOk r Q
-on_ok (Ok b) f h = f h
-on_ok (Err e) f h = h
 
 pub if_ok : {B E : Type 0} {P Q : B → Type 0} (r : Result B E) → ((b : B) → P b → Q b) → IfOk r P → IfOk r Q
 if_ok (Ok b) f h = f b h

@@ -1,5 +1,5 @@
 -- What each request leaves of who lives.
-use Rattle.std.proofs.Common.{◌≡◌, ◌⊎◌, inl, inr, ℕ, zero, suc, ◌==◌, not, Bool, true, false, cond, List, [], ◌∷◌, ◌++◌, Option, None, Some, refl, ap, sym, ◌∙◌, subst, eqb-true}
+use Rattle.std.proofs.Common.{◌≡◌, ◌⊎◌, inl, inr, ℕ, zero, suc, ◌==◌, Bool, true, false, cond, List, [], ◌∷◌, ◌++◌, Option, None, Some, refl, ap, sym, ◌∙◌}
 use Rattle.std.specs.Prelude.{Result, Ok, Err, find, nat_lt, slice_get}
 use Rattle.sr_ask.specs.declared.answer.Answer.TheVariants as answer
 use Rattle.sr_ask.specs.declared.ask.Role.{Role}
@@ -13,7 +13,7 @@ use Rattle.sr_core.specs.declared.site.Site.{Site}
 use Rattle.sr_instances.specs.Instances.{Instance, global_in, state_of}
 use Rattle.sr_instances.specs.declared.state.State.{State as InstanceState}
 use Rattle.sr_instances.specs.declared.state.State.TheVariants.{Starting, Ready, Closing, Gone}
-use Rattle.sr_processes.specs.Living.{is_process, without_process}
+use Rattle.sr_processes.specs.Living.{is_process}
 use Rattle.sr_select.specs.declared.choice.Choice.{Choice}
 use Rattle.sr_select.specs.declared.choice.Choice.TheVariants as chosen
 use Rattle.sr_store.specs.Variables.{declared_in, loaded_in, stored_in}
@@ -36,46 +36,8 @@ use Rattle.sr_world.specs.Worlds.{World, is_live, started}
 use Rattle.sr_world.specs.declared.duty.Duty.{Duty}
 use Rattle.sr_world.specs.declared.ends.End.{End}
 use Rattle.sr_world.specs.declared.ends.End.TheVariants as end
+use Rattle.sr_world.proofs.FoundLemmas.{found-added, found-without}
 use Rattle.sr_replay.specs.Living.{Leaves, LeavesIf}
-
--- ---- who is found
-
--- the one that ended isn't
-pub none-without : (live : List Start) (p q : ℕ) → p ≡ q → find (is_process q) (without_process live p) ≡ None
-none-without [] p q same = refl
-none-without (x ∷ xs) p q same = by (p == x.process) refl (none-without xs p q same)
-  where
-    by : (b : Bool) → (p == x.process) ≡ b → find (is_process q) (without_process xs p) ≡ None → find (is_process q) (cond (not b) (x ∷ without_process xs p) (without_process xs p)) ≡ None
-    by true is more = more
-    by false is more =
-        let off : (q == x.process) ≡ false = subst (λ n. (n == x.process) ≡ false) same is in
-        ap (λ d. cond d (Some x) (find (is_process q) (without_process xs p))) off ∙ more
-
-found-without : (live : List Start) (p q : ℕ) (s : Start) → find (is_process q) (without_process live p) ≡ Some s → find (is_process q) live ≡ Some s
-found-without [] p q s is = is
-found-without (x ∷ xs) p q s is = by (p == x.process) refl (q == x.process) refl is (found-without xs p q s)
-  where
-    by : (b : Bool) → (p == x.process) ≡ b → (d : Bool) → (q == x.process) ≡ d → find (is_process q) (cond (not b) (x ∷ without_process xs p) (without_process xs p)) ≡ Some s
-        → (find (is_process q) (without_process xs p) ≡ Some s → find (is_process q) xs ≡ Some s) → cond d (Some x) (find (is_process q) xs) ≡ Some s
-    by true is true is' h more =
-        let same : p ≡ q = eqb-true p x.process is ∙ sym (eqb-true q x.process is') in
-        let none = none-without xs p q same in absurd (cc)
-    by true is false is' h more = more h
-    by false is true is' h more = sym (ap (λ d. cond d (Some x) (find (is_process q) (without_process xs p))) is') ∙ h
-    by false is false is' h more = more (sym (ap (λ d. cond d (Some x) (find (is_process q) (without_process xs p))) is') ∙ h)
-
-found-added : (live : List Start) (x : Start) (q : ℕ) (s : Start) → find (is_process q) (live ++ x ∷ []) ≡ Some s → (find (is_process q) live ≡ Some s) ⊎ (q ≡ x.process)
-found-added [] x q s is = by (q == x.process) refl is
-  where
-    by : (b : Bool) → (q == x.process) ≡ b → cond b (Some x) None ≡ Some s → (None ≡ Some s) ⊎ (q ≡ x.process)
-    by true same h = inr (eqb-true q x.process same)
-    by false off h = inl h
-found-added (y ∷ ys) x q s is = by (q == y.process) is (found-added ys x q s)
-  where
-    by : (b : Bool) → cond b (Some y) (find (is_process q) (ys ++ x ∷ [])) ≡ Some s
-        → (find (is_process q) (ys ++ x ∷ []) ≡ Some s → (find (is_process q) ys ≡ Some s) ⊎ (q ≡ x.process)) → (cond b (Some y) (find (is_process q) ys) ≡ Some s) ⊎ (q ≡ x.process)
-    by true h more = inl h
-    by false h more = more h
 
 -- ---- what makes no process
 

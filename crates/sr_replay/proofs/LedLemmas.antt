@@ -8,7 +8,7 @@ use Rattle.sr_core.specs.declared.component.Core.{Core}
 use Rattle.sr_world.specs.Runs.{Event, Makes_item, Gives, Closes, Goes, IsValid, Next, State, after, after_event, and_then, begun, first, items_in, led, next}
 use Rattle.sr_world.specs.Sound.{IsSound, name_in, names_in, times_used}
 use Rattle.sr_world.specs.Worlds.{started}
-use Rattle.sr_world.proofs.CountLemmas.{count-cons, one}
+use Rattle.sr_world.proofs.CountLemmas.{count-cons, one, count-grows}
 use Rattle.sr_world.proofs.KeepLemmas.{live-counts}
 use Rattle.sr_world.proofs.RunLemmas.{sound-led, sound-next}
 
@@ -27,10 +27,6 @@ module _ (core : Core) (limit : ℕ) where
   valid-first input = (Gives input ∷ Closes ∷ [], refl)
 
 -- ---- numbers
-
-count-grows : (p : ℕ → Bool) (xs ys : List ℕ) → count_by p xs ≤ count_by p (xs ++ ys)
-count-grows p [] ys = omega arith
-count-grows p (x ∷ xs) ys = omega (arith, count-cons p x xs, count-cons p x (xs ++ ys), count-grows p xs ys)
 
 -- ---- what is found under its number
 

@@ -1,5 +1,5 @@
 -- What the beginning, a rest and the passing of time do to a replay.
-use Rattle.std.proofs.Common.{◌≡◌, ◌==◌, ◌&&◌, ◌||◌, inl, ℕ, Bool, true, false, not, cond, List, [], ◌++◌, Option, Some, None, refl, ap, sym, ◌∙◌, subst, eqb-true, append-nil}
+use Rattle.std.proofs.Common.{◌≡◌, ◌==◌, ◌&&◌, ◌||◌, inl, ℕ, Bool, true, false, not, List, [], ◌++◌, Some, None, refl, ap, sym, ◌∙◌, subst, eqb-true, append-nil}
 use Rattle.std.specs.HashMap.{HashMap}
 use Rattle.std.specs.Map.{lookup}
 use Rattle.std.specs.Prelude.{Ok, nat_eq}
@@ -9,11 +9,10 @@ use Rattle.sr_ask.specs.declared.answer.Answer.{Answer}
 use Rattle.sr_ask.specs.declared.ask.Asks.{Asks}
 use Rattle.sr_ask.specs.declared.item.Item.TheVariants.{Quiesce, Tick}
 use Rattle.sr_core.specs.declared.component.Core.{Core}
-use Rattle.sr_instances.specs.Instances.{Instance}
 use Rattle.sr_meaning.specs.Processes.{ask}
 use Rattle.sr_world.specs.Acting.{Acts}
 use Rattle.sr_world.specs.Does.{Does, Did, Makes, Cannot, Ends, Undecided}
-use Rattle.sr_world.specs.Endings.{close_or, main_instance, may_close, quiesce, rest_of}
+use Rattle.sr_world.specs.Endings.{quiesce}
 use Rattle.sr_world.specs.Runs.{Goes, Illegal, Over, State, begun, comes_after, heeds_time, is_new, next, no_step, rested, where_true}
 use Rattle.sr_world.specs.Sound.{given_out}
 use Rattle.sr_world.specs.Updates.{pass_to}
@@ -22,6 +21,7 @@ use Rattle.sr_world.specs.declared.acted.Acted.{Acted}
 use Rattle.sr_world.specs.declared.acted.Acted.TheVariants as acted
 use Rattle.sr_world.specs.declared.ends.End.{End}
 use Rattle.sr_world.proofs.RunLemmas.{new-number}
+use Rattle.sr_world.proofs.FoundLemmas.{AtRest, at-rest}
 use Rattle.sr_replay.specs.Carrying.{Rests}
 use Rattle.sr_replay.specs.Living.{AreMembers, Leaves, LeavesIf, StandsFor}
 use Rattle.sr_replay.specs.Names.{Notes, is_kept}
@@ -34,23 +34,6 @@ use Rattle.sr_replay.proofs.NameLemmas.{noted-knows, unkept-new}
 use Rattle.sr_replay.proofs.StepLemmas.{follows-as, follows-none}
 
 -- ---- main's final code begins, or the run ends
-
--- nothing else comes of a rest
-abbrev AtRest : Does → Type 0
-AtRest (Makes world answer) = Unit {0}
-AtRest (Ends ending) = Unit {0}
-AtRest _ = ⊥
-
-at-rest : (core : Core) (name : ℕ) (w : World) → AtRest (quiesce core name w)
-at-rest core name w = by (main_instance core w)
-  where
-    closing : (m : Instance) (b : Bool) (x : World) (a : Answer) (e : End) → AtRest (cond b (Makes x a) (Ends e))
-    closing m true x a e = tt
-    closing m false x a e = tt
-
-    by : (main : Option Instance) → AtRest (close_or core name None (rest_of w.fixed) w main)
-    by None = tt
-    by (Some m) = closing m (may_close core m) _ _ _
 
 module _ {A : Type 0} (after : A → List Answer → Asks) (core : Core) (limit : ℕ) where
   module _ (state : State) (none : no_step core limit state ≡ true) (old carried : Replayer A) (stands : StandsAt after core limit state old) (name : ℕ) (ticks : carried.ticks ≡ limit)

@@ -4,7 +4,7 @@ use sr_value::Row;
 use sr_world::End;
 
 /// How a run ended.
-#[derive(Clone, Copy, Debug, PartialEq, Eq)]
+#[derive(Clone, Copy, PartialEq, Eq)]
 pub enum RunEnd {
     /// It has this ending.
     Ended(End),
@@ -30,7 +30,7 @@ pub enum LimitKind {
 }
 
 /// The items of a run, in order, and how it ended; and the stretches that its workers made.
-#[derive(Debug, Drop)]
+#[derive(Drop)]
 pub struct Run {
     pub items: Row<Item>,
     pub end: RunEnd,

@@ -1,7 +1,7 @@
 -- A guard that names no formal of its arm comes to the same for all arguments, and no invocation passes a closed arm.
 use Rattle.std.proofs.Common.{◌≡◌, ℕ, Bool, true, false, not, ◌||◌, List, [], ◌∷◌, refl, ap, sym, ◌∙◌, ◌⊎◌, inl, inr, true≢false, cond}
 use Rattle.std.specs.Prelude.{Some, None, Result, Ok, slice_get, ◌==◌}
-use Rattle.std.proofs.lemmas.Bool.{eqb-true}
+use Rattle.std.proofs.lemmas.Bool.{eqb-true, or_parts as neither}
 use Rattle.std.proofs.lemmas.List.Folds.{list_any-append}
 use Rattle.std.proofs.lemmas.Option.{same_Some}
 use Rattle.sr_value.specs.declared.capability.Owner.{Owner}
@@ -30,10 +30,6 @@ use Rattle.sr_select.specs.Looks.{Found, result_of, settle}
 use Rattle.sr_select.specs.Readings.{Reading}
 use Rattle.sr_select.specs.Steps.{passes_one}
 use Rattle.sr_select.proofs.AlikeLemmas.{truths-agree}
-
-neither : (a b : Bool) → (a || b) ≡ false → (a ≡ false) × (b ≡ false)
-neither true b h = absurd (true≢false h)
-neither false b h = (refl, h)
 
 not-true : (b : Bool) → not b ≡ true → b ≡ false
 not-true true h = absurd (true≢false (sym h))

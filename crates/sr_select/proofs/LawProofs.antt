@@ -1,9 +1,10 @@
 -- Proofs of the laws of choices.
-use Rattle.std.proofs.Common.{◌≡◌, ℕ, zero, suc, ◌+◌, ℤ, Bool, true, false, List, [], ◌∷◌, ◌++◌, refl, ap, sym, ◌∙◌, cond}
-use Rattle.std.specs.Prelude.{Option, Some, None, Result, Ok, is_none, option_map, ◌&&◌, ◌||◌, ◌==◌, filter, slice_get}
-use Rattle.std.specs.List.{cons_option, enumerate_from, list_all}
+use Rattle.std.proofs.Common.{◌≡◌, ℕ, ◌+◌, ℤ, Bool, true, false, List, [], ◌∷◌, ◌++◌, refl, ap, sym, ◌∙◌, cond}
+use Rattle.std.specs.Prelude.{Option, Some, None, Result, Ok, is_none, option_map, ◌||◌, ◌==◌, filter, slice_get}
+use Rattle.std.specs.List.{list_all}
 use Rattle.std.proofs.Common.{true≢false, subst, eqb-true}
 use Rattle.std.proofs.lemmas.List.Elements.{filter-append}
+use Rattle.std.proofs.lemmas.Bool.{and_from as both-and}
 use Rattle.sr_value.specs.declared.capability.Owner.{Owner}
 use Rattle.sr_value.specs.declared.fault.Fault.{Fault}
 use Rattle.sr_value.specs.declared.value.Value.{Value}
@@ -17,53 +18,23 @@ use Rattle.sr_queue.specs.declared.pending.Pending.{Pending}
 use Rattle.sr_queue.specs.Queues.{is_of}
 use Rattle.sr_select.specs.declared.choice.Choice.{Choice}
 use Rattle.sr_select.specs.declared.choice.Choice.TheVariants.{Service, Else, Nothing, Bad}
-use Rattle.sr_select.specs.Choices.{Pair, Seeing, all_pairs, choice, choice_among, decides, fixed, is_not_false, key_with, otherwise, owner_in, pairs, pairs_of, passes, passes_with, sees_of, serviced}
+use Rattle.sr_select.specs.Choices.{Pair, Seeing, all_pairs, choice, choice_among, decides, fixed, is_not_false, key_with, otherwise, owner_in, passes, passes_with, sees_of, serviced}
 use Rattle.sr_select.specs.Guards.{home_seen, machine_seen, own_seen, truth_of_guard}
 use Rattle.sr_select.specs.Laws.{is_plain, oldest, Services, Services_it, chosen_in, is_in_class, is_named}
 use Rattle.sr_select.specs.Looks.{Looked, result_of}
 use Rattle.sr_select.specs.Readings.{Reading}
 use Rattle.sr_select.specs.Worlds.{SameWatched, Watched, arm_names_only, maybe_names_only, reads_only}
 use Rattle.sr_select.proofs.ChoiceLemmas.{choice-take}
+use Rattle.sr_select.proofs.PairLemmas.{ArmsPass, both-true, listed-passes, pairs-pass}
 use Rattle.sr_select.proofs.WatchedLemmas.{key-alike, truth-alike}
 use Rattle.sr_select.proofs.TwinLemmas.{SameChoice, same-otherwise, same-queues}
-
--- every pair of a list has an arm without `and` and `by`
-abbrev AllPlain : List Pair → Type 0
-AllPlain [] = Unit {0}
-AllPlain (pair ∷ rest) = (is_plain pair.arm ≡ true) × AllPlain rest
-
-plain-append : (front more : List Pair) → AllPlain front → AllPlain more → AllPlain (front ++ more)
-plain-append [] more _ later = later
-plain-append (pair ∷ rest) more first later = (first.0, plain-append rest more first.1 later)
-
-both-true : (a b : Bool) → (a && b) ≡ true → (a ≡ true) × (b ≡ true)
-both-true true true h = (refl, refl)
-both-true true false h = absurd (true≢false (sym h))
-both-true false b h = absurd (true≢false (sym h))
-
-plain-paired : (owner : Owner) (place n : ℕ) (p : Pending) (arm : Arm) (rest : List Pair) (b : Bool) → is_plain arm ≡ true → AllPlain rest
-    → AllPlain (cons_option (cond b (Some (record { place = place; invocation = p; number = n; arm = arm })) None) rest)
-plain-paired owner place n p arm rest true plain later = (plain, later)
-plain-paired owner place n p arm rest false plain later = later
-
-plain-pairs_of : (owner : Owner) (place : ℕ) (p : Pending) (n : ℕ) (arms : List Arm) → list_all is_plain arms ≡ true → AllPlain (pairs_of owner (enumerate_from n arms) (place, p))
-plain-pairs_of owner place p n [] h = tt
-plain-pairs_of owner place p n (arm ∷ arms) h =
-    let parts = both-true (is_plain arm) (list_all is_plain arms) h in
-    plain-paired owner place n p arm (pairs_of owner (enumerate_from (n + 1) arms) (place, p)) (is_of owner arm.op p) parts.0 (plain-pairs_of owner place p (n + 1) arms parts.1)
-
-plain-pairs : (owner : Owner) (arms : List Arm) (place : ℕ) (items : List Pending) → list_all is_plain arms ≡ true → AllPlain (pairs owner (enumerate_from 0 arms) (enumerate_from place items))
-plain-pairs owner arms place [] h = tt
-plain-pairs owner arms place (p ∷ items) h =
-    plain-append (pairs_of owner (enumerate_from 0 arms) (place, p)) (pairs owner (enumerate_from 0 arms) (enumerate_from (place + 1) items))
-    (plain-pairs_of owner place p 0 arms h) (plain-pairs owner arms (place + 1) items h)
 
 none-of : {A : Type 0} (o : Option A) → is_none o ≡ true → o ≡ None
 none-of None h = refl
 none-of (Some a) h = absurd (true≢false (sym h))
 
 -- a pair without `and` and `by` fixes the arm and is serviced
-first-plain : (sees : Seeing) (owner : Owner) (items : List Pending) (tried : List Pair) → AllPlain tried
+first-plain : (sees : Seeing) (owner : Owner) (items : List Pending) (tried : List Pair) → ArmsPass is_plain tried
     → choice_among sees owner items tried ≡ option_map (λ (pair : Pair). Service pair.place pair.number) (first_of tried)
 first-plain sees owner items [] _ = refl
 first-plain sees owner items (pair ∷ rest) plain =
@@ -79,7 +50,7 @@ pub oldest-first : (reading : Reading) (site : Site) (me : Me) (env : List Value
 oldest-first reading site me env items plain =
     ap (λ (c : Option Choice). otherwise site.has_else c)
     (first-plain (sees_of reading site me env) (owner_in site.scope me) items (all_pairs site (owner_in site.scope me) items)
-    (plain-pairs (owner_in site.scope me) site.arms 0 items plain))
+    (pairs-pass is_plain (owner_in site.scope me) site.arms 0 items plain))
 
 -- ---- choices from two queues
 
@@ -110,12 +81,6 @@ pub record GuardsAgree (site : Site) (me : Me) (env : List Value) (reading readi
       → result_of (passes_with (sees_of reading site me env) arm args) ≡ result_of (passes_with (sees_of reading' site me env) arm args)
   pub keys : (number : ℕ) (arm : Arm) (by : Expr) → slice_get site.arms number ≡ Some arm → arm.by ≡ Some by → (args : List Value)
       → result_of (key_with (sees_of reading site me env) arm by args) ≡ result_of (key_with (sees_of reading' site me env) arm by args)
-
--- an arm of a list passes what all pass
-listed-passes : (test : Arm → Bool) (arms : List Arm) (number : ℕ) (arm : Arm) → list_all test arms ≡ true → slice_get arms number ≡ Some arm → test arm ≡ true
-listed-passes test [] number arm all found = absurd (cc found)
-listed-passes test (first ∷ arms) zero arm all found = let same : first ≡ arm = cc found in sym (ap test same) ∙ (both-true (test first) (list_all test arms) all).0
-listed-passes test (first ∷ arms) (suc number) arm all found = listed-passes test arms number arm (both-true (test first) (list_all test arms) all).1 found
 
 -- so they do where the worlds hold the same in all that the guards name
 guards-agree : (watched : Watched) (site : Site) (me : Me) (env : List Value) (reading reading' : Reading) → reads_only watched site ≡ true → SameWatched watched site me env reading reading'
@@ -170,10 +135,6 @@ unnamed-changes-nothing reading site me env front later p other =
     (without-one (is_named (owner_in site.scope me) site.arms) front later p other))
 
 -- ---- classes
-
-both-and : (a b : Bool) → a ≡ true → b ≡ true → (a && b) ≡ true
-both-and true b one other = other
-both-and false b one other = one
 
 class-of-one : (owner : Owner) (class : ℕ → Bool) (op : ℕ) (p : Pending) → class op ≡ true → is_of owner op p ≡ true → is_in_class owner class p ≡ true
 class-of-one owner class op p in_class one =

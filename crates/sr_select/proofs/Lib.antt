@@ -2,12 +2,16 @@ pub mod AlikeLemmas
 pub mod ChoiceLemmas
 pub mod ClosingLemmas
 pub mod CountedLemmas
+pub mod FollowLemmas
+pub mod GuardLemmas
 pub mod LawProofs
 pub mod LeastLemmas
 pub mod MoreLemmas
 pub mod NameLemmas
 pub mod NamedLemmas
 pub mod OldestLemmas
+pub mod PairLemmas
 pub mod PlaceLemmas
+pub mod ShownLemmas
 pub mod TwinLemmas
 pub mod WatchedLemmas

@@ -2,6 +2,7 @@
 use Rattle.std.proofs.Common.{◌≡◌, ℕ, zero, suc, ◌+◌, Bool, true, false, List, [], ◌∷◌, ◌++◌, drop, map, refl, ap, sym, subst, ◌∙◌, arith, cond, true≢false, ℤ}
 use Rattle.std.specs.Prelude.{Option, Some, None, Result, Ok, Err, slice_get, filter, filter_map, int_lt, ◌||◌}
 use Rattle.std.specs.List.{cons_option, enumerate_from}
+use Rattle.std.proofs.lemmas.Bool.{or_right as or-right, or_parts as or-none}
 use Rattle.sr_value.specs.declared.capability.Owner.{Owner}
 use Rattle.sr_value.specs.declared.fault.Fault.{Fault}
 use Rattle.sr_value.specs.declared.value.Value.{Value}
@@ -40,14 +41,6 @@ drop-suc (suc at) (y ∷ ys) x rest e = drop-suc at ys x rest e
 
 drop-after : {A : Type 0} (at : ℕ) (xs : List A) (x : A) (rest : List A) → drop at xs ≡ x ∷ rest → drop (at + 1) xs ≡ rest
 drop-after at xs x rest e = let next : at + 1 ≡ suc at = omega arith in ap (λ n. drop n xs) next ∙ drop-suc at xs x rest e
-
-or-right : (a b : Bool) → b ≡ true → (a || b) ≡ true
-or-right true b h = refl
-or-right false b h = h
-
-or-none : (a b : Bool) → (a || b) ≡ false → (a ≡ false) × (b ≡ false)
-or-none true b h = absurd (true≢false h)
-or-none false b h = (refl, h)
 
 -- ---- invocations with their places
 

@@ -7,6 +7,7 @@ pub mod Looks
 pub mod Named
 pub mod Readings
 pub mod Selections
+pub mod Shown
 pub mod Sights
 pub mod Steps
 pub mod Tests

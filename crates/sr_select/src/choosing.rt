@@ -31,8 +31,8 @@ pub struct Chosen {
     pub seen: Row<Seen>,
 }
 
-/// Whose invocations a statement services.
-fn owner_in(scope: Scope, me: Me) -> Owner
+/// Whose invocations a statement services: those of the process itself, or of its instance.
+pub fn owner_in(scope: Scope, me: Me) -> Owner
     ensures { result ≡ owner_in scope me }
 {
     match scope {

@@ -5,9 +5,10 @@ ghost use Rattle.sr_core.specs.declared.owner.Me.{Me};
 ghost use Rattle.sr_core.specs.declared.site.Site.{Site};
 ghost use Rattle.sr_queue.specs.declared.pending.Pending.{Pending};
 ghost use Rattle.sr_select.specs.declared.choice.Choice.TheVariants.{Service};
-ghost use Rattle.sr_select.specs.Choices.{choice, otherwise, owner_in};
+ghost use Rattle.sr_select.specs.Choices.{choice, choice_seen, otherwise, owner_in};
 ghost use Rattle.sr_select.specs.Laws.{Services, chosen_in, is_in_class, is_named, is_plain, oldest};
 ghost use Rattle.sr_select.specs.Readings.{Reading};
+ghost use Rattle.sr_select.specs.Shown.{EachSeen, IsMade, IsWatched, ShowsAll};
 ghost use Rattle.sr_select.specs.Worlds.{SameWatched, Watched, reads_only};
 
 /// A law of choices: where no arm has `and` or `by`, the oldest invocation is serviced.
@@ -38,4 +39,20 @@ pub fn one_class_decides()
         → filter (is_in_class (owner_in site.scope me) class) items ≡ filter (is_in_class (owner_in site.scope me) class) items'
         → (watched : Watched) → reads_only watched site ≡ true → SameWatched watched site me env reading reading'
         → chosen_in items (choice reading site me env items) ≡ chosen_in items' (choice reading' site me env items') }
+{}
+
+/// A law of choices: where another world holds what the guards read in one, the choice is the same there, unless a fault
+/// ended it.
+pub fn what_was_read_decides()
+    ensures { (reading reading' : Reading) (site : Site) (me : Me) (env : List Value) (items : List Pending) (watched : Watched) → reads_only watched site ≡ true
+        → reading.names ≡ reading'.names → IsMade (choice reading site me env items) → ShowsAll reading' (choice_seen reading site me env items)
+        → choice reading' site me env items ≡ choice reading site me env items }
+{}
+
+/// A law of choices: the world holds what the guards read, and it is among what is watched, where they name no more.
+pub fn what_was_read_is_there()
+    ensures there { (reading : Reading) (site : Site) (me : Me) (env : List Value) (items : List Pending) (watched : Watched) → reads_only watched site ≡ true
+        → ShowsAll reading (choice_seen reading site me env items) }
+    ensures watched { (reading : Reading) (site : Site) (me : Me) (env : List Value) (items : List Pending) (watched : Watched) → reads_only watched site ≡ true
+        → EachSeen (IsWatched watched site me env) (choice_seen reading site me env items) }
 {}

@@ -22,9 +22,10 @@ mod selection;
 mod sight;
 
 pub use choice::Choice;
-pub use choosing::{Chosen, choose, choose_and_see, unserviced};
+pub use choosing::{Chosen, choose, choose_and_see, owner_in, unserviced};
 pub use laws::{
     oldest_goes_first, one_class_decides, others_change_nothing, the_serviced_is_pending,
+    what_was_read_decides, what_was_read_is_there,
 };
 pub use listed::names_listed;
 pub use names::block_of;

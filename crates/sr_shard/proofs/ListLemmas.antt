@@ -1,13 +1,10 @@
 -- What a part has of a list.
-use Rattle.std.proofs.Common.{◌≡◌, ◌≢◌, ℕ, zero, suc, ◌<◌, Bool, true, false, ◌&&◌, List, [], ◌∷◌, ◌++◌, length, Some, refl, ap, sym, ◌∙◌, cond, arith, true≢false}
+use Rattle.std.proofs.Common.{◌≡◌, ◌≢◌, ℕ, zero, suc, ◌<◌, Bool, true, false, List, [], ◌∷◌, ◌++◌, length, Some, refl, ap, sym, ◌∙◌, cond, arith, true≢false}
 use Rattle.std.proofs.lemmas.List.Sums.{length-filter}
 use Rattle.std.proofs.lemmas.Option.{get_or_from_slice_get}
 use Rattle.std.specs.Prelude.{AllPairs, count_by, filter, find, remove, slice_get}
+pub use Rattle.std.proofs.lemmas.Bool.{and_parts}
 use Rattle.sr_calls.specs.Calls.{without_first}
-
-pub and_parts : (a b : Bool) → (a && b) ≡ true → (a ≡ true) × (b ≡ true)
-and_parts true b h = (refl, h)
-and_parts false b h = absurd (true≢false (sym h))
 
 module _ {A : Type 0} where
   pub filter_in : (g : A → Bool) (xs : List A) (x : A) → g x ≡ true → filter g (xs ++ x ∷ []) ≡ filter g xs ++ x ∷ []

@@ -1,6 +1,6 @@
 -- The acts of an entry are on the parts that its request touches.
 use Rattle.std.proofs.Common.{◌≡◌, ℕ, zero, suc, ℤ, pos, negsuc, ◌==◌, ◌||◌, ◌&&◌, ◌+◌, Bool, true, false, not, List, [], ◌∷◌, ◌++◌, length, Option, None, Some, Result, Ok, Err, refl, ap, sym, ◌∙◌, subst, cond, arith, eqb-true, true≢false}
-use Rattle.std.proofs.lemmas.Bool.{eq-eqb}
+use Rattle.std.proofs.lemmas.Bool.{eq-eqb, or_right, or_left}
 use Rattle.std.specs.List.{cons_option, list_all, list_any}
 use Rattle.std.specs.Option.{option_map}
 use Rattle.std.specs.Prelude.{Contains, filter_map, fold, nat_le, nat_lt, slice_get}
@@ -43,14 +43,6 @@ use Rattle.sr_shard.proofs.ListLemmas.{and_parts}
 
 abbrev pub among : List ℕ → ℕ → Bool
 among parts s = list_any (λ other. other == s) parts
-
-or_right : (a b : Bool) → b ≡ true → (a || b) ≡ true
-or_right true b h = refl
-or_right false b h = h
-
-or_left : (a b : Bool) → a ≡ true → (a || b) ≡ true
-or_left true b h = refl
-or_left false b h = absurd (true≢false (sym h))
 
 itself : (s : ℕ) → (s == s) ≡ true
 itself s = eq-eqb s s refl

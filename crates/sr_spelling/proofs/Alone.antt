@@ -1,7 +1,7 @@
 -- A piece reads the same whatever follows it, unless its first byte goes on with the piece.
 use Rattle.std.proofs.Common.{◌≡◌, ℕ, suc, ◌+◌, ◌≤◌, ◌==◌, Bool, true, false, cond, not, ◌&&◌, ◌||◌, List, [], ◌∷◌, ◌++◌, length, take, drop, refl, ap, sym, ◌∙◌, arith, Ok, nat_lt, nat_le, ◌⊎◌, inl, inr, eqb-true}
 use Rattle.std.specs.List.{prefix_len}
-use Rattle.std.proofs.lemmas.Bool.{leb-true}
+use Rattle.std.proofs.lemmas.Bool.{leb-true, and_parts as both_of, or_cases as either_of}
 use Rattle.std.proofs.lemmas.List.{take-append-le}
 use Rattle.std.proofs.lemmas.List.Folds.{length-prefix_len}
 use Rattle.std.proofs.Math.Seq.{drop-append_seam, drop-length}
@@ -45,14 +45,6 @@ pub run_alone : (test : ℕ → Bool) (xs rest : List ℕ) → run_len test xs �
 run_alone test xs rest e f = run_is test (xs ++ rest) ∙ prefix_alone test xs rest (sym (run_is test xs) ∙ e) f ∙ sym e
 
 -- ---- the class of a first byte
-
-both_of : (a b : Bool) → (a && b) ≡ true → (a ≡ true) × (b ≡ true)
-both_of true b e = (refl, e)
-both_of false b e = absurd (cc)
-
-either_of : (a b : Bool) → (a || b) ≡ true → (a ≡ true) ⊎ (b ≡ true)
-either_of true b e = inl refl
-either_of false b e = inr e
 
 letter_above : (byte : ℕ) → is_letter byte ≡ true → 65 ≤ byte
 letter_above byte e =

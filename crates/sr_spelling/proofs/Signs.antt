@@ -1,14 +1,11 @@
 -- A sign reads the same whatever follows it, unless both are a longer sign or begin a comment.
-use Rattle.std.proofs.Common.{◌≡◌, ℕ, Bool, true, false, ◌||◌, List, ◌∷◌, ◌++◌, refl, nat_eq}
+use Rattle.std.proofs.Common.{◌≡◌, ℕ, false, List, ◌∷◌, ◌++◌, refl, nat_eq}
+use Rattle.std.proofs.lemmas.Bool.{or_parts as neither}
 use Rattle.sr_tree.specs.declared.token.Sign.{Sign}
 use Rattle.sr_tree.specs.declared.token.Sign.TheVariants.{Exchange, Assign, Colon, Arrow, Decrement, Minus, Increment, Plus, Star, Parallel, Slash, Percent, Join, Equal, NotEqual, LessEqual, Less, GreaterEqual, Greater, OpenParen, CloseParen, Alternative, OpenBracket, CloseBracket, OpenBrace, CloseBrace, Comma, Point, Query}
 use Rattle.sr_lexer.specs.Symbols.{listed_sign, sign_spelling}
 use Rattle.sr_lexer.specs.Pieces.{piece_at}
 use Rattle.sr_spelling.specs.Longer.{lengthens}
-
-neither : (a b : Bool) → (a || b) ≡ false → (a ≡ false) × (b ≡ false)
-neither true b e = absurd (cc)
-neither false b e = (refl, e)
 
 pub sign_alone : (sign : Sign) (byte : ℕ) (rest : List ℕ) → lengthens sign byte ≡ false → piece_at (sign_spelling sign ++ byte ∷ rest) ≡ piece_at (sign_spelling sign)
 unfolding piece_at listed_sign

@@ -1,13 +1,11 @@
 -- The table of a block's variables, seen as a map.
-use Rattle.std.proofs.Common.{◌≡◌, ◌≢◌, ℕ, Bool, true, false, cond, nat_eq, List, [], ◌∷◌, Option, Some, None, Result, Ok, Err, OnErr, refl, ap, sym, ◌∙◌, eq-eqb, true≢false}
-use Rattle.std.proofs.lemmas.Bool.{eqb-true, false_from_ne_true}
+use Rattle.std.proofs.Common.{◌≡◌, ℕ, cond, nat_eq, List, [], ◌∷◌, Option, Some, None, Result, Ok, Err, OnErr, refl, ap, sym, ◌∙◌}
 use Rattle.std.proofs.lemmas.Map.Steps.{set_value_same}
-use Rattle.std.specs.Cmp.{nat_cmp_total, eq_by_cmp_equiv, ranked}
+use Rattle.std.specs.Cmp.{nat_cmp_total}
 use Rattle.std.specs.FinMap as map
 use Rattle.std.specs.Map.{lookup, set_value}
 use Rattle.std.specs.Ordering.{nat_cmp, is_eq}
-use Rattle.std.specs.declared.cmp.Ordering.{Ordering}
-use Rattle.std.specs.declared.cmp.Ordering.TheVariants.{Less, Equal, Greater}
+use Rattle.sr_buckets.proofs.NumberLemmas.{same_test, turned}
 use Rattle.sr_value.specs.declared.fault.Fault.{Fault}
 use Rattle.sr_value.specs.declared.fault.Fault.TheVariants.{Early}
 use Rattle.sr_value.specs.declared.shape.Sel.{Sel}
@@ -18,45 +16,11 @@ use Rattle.sr_in_place.specs.Puts.{Wrote}
 use Rattle.sr_store.specs.Variables.{ByNumber, block_loaded, block_stored}
 use Rattle.sr_store.specs.declared.variable.Variable.{Variable}
 
--- ---- numbers that are told apart
-
-pub same_number : (p q : ℕ) → is_eq (nat_cmp p q) ≡ true → p ≡ q
-same_number p q e = by (nat_cmp p q) refl e
-  where
-    by : (r : Ordering) → r ≡ nat_cmp p q → is_eq r ≡ true → p ≡ q
-    by Less is h = cc
-    by Equal is h = ranked p q Equal is
-    by Greater is h = cc
-
-pub itself : (p : ℕ) → is_eq (nat_cmp p p) ≡ true
-itself p = (eq_by_cmp_equiv nat_cmp_total).refl p
-
-pub turned : (p q : ℕ) → is_eq (nat_cmp p q) ≡ is_eq (nat_cmp q p)
-turned p q = (eq_by_cmp_equiv nat_cmp_total).symm p q
-
--- a fact by whether two numbers are told apart
-pub by_number : (p q : ℕ) (P : Bool → Type 0) → (p ≡ q → P true) → (is_eq (nat_cmp p q) ≡ false → P false) → P (is_eq (nat_cmp p q))
-by_number p q P here there = by (is_eq (nat_cmp p q)) refl
-  where
-    by : (b : Bool) → is_eq (nat_cmp p q) ≡ b → P b
-    by true is = here (same_number p q is)
-    by false is = there is
-
-pub apart : (p q : ℕ) → q ≢ p → is_eq (nat_cmp p q) ≡ false
-apart p q ne = by_number p q (λ b. b ≡ false) (λ e. absurd (ne (sym e))) (λ is. refl)
-
-pub same-test : (p q : ℕ) → nat_eq p q ≡ is_eq (nat_cmp p q)
-same-test p q = by (nat_eq p q) refl
-  where
-    by : (b : Bool) → nat_eq p q ≡ b → b ≡ is_eq (nat_cmp p q)
-    by true is = sym (ap (λ n. is_eq (nat_cmp p n)) (sym (eqb-true p q is)) ∙ itself p)
-    by false is = sym (false_from_ne_true (is_eq (nat_cmp p q)) (λ e. true≢false (sym (eq-eqb p q (same_number p q e)) ∙ is)))
-
 -- ---- a table, as a map
 
 find-lookup : (es : List (ℕ × Variable)) (q : ℕ) → map.find nat_cmp q es ≡ lookup (nat_eq q) es
 find-lookup [] q = refl
-find-lookup (e ∷ es) q = ap (cond (is_eq (nat_cmp q e.0)) (Some e.1)) (find-lookup es q) ∙ ap (λ b. cond b (Some e.1) (lookup (nat_eq q) es)) (sym (same-test q e.0))
+find-lookup (e ∷ es) q = ap (cond (is_eq (nat_cmp q e.0)) (Some e.1)) (find-lookup es q) ∙ ap (λ b. cond b (Some e.1) (lookup (nat_eq q) es)) (sym (same_test q e.0))
 
 pub get-table : (es : List (ℕ × Variable)) (q : ℕ) → map.get (map.from_entries {R = nat_cmp} es) q ≡ lookup (nat_eq q) es
 get-table es q = map.get-from_entries nat_cmp_total es q ∙ find-lookup es q
@@ -70,7 +34,7 @@ pub set-table : (old new : List (ℕ × Variable)) (k : ℕ) (v : Variable) → 
 set-table old new k v updates =
     map.same_map nat_cmp_total map.nat_cmp-IsAntisymmetric (map.from_entries new) (map.insert (map.from_entries old) k v)
     (λ q. get-table new q ∙ updates q
-    ∙ ap (λ b. cond b (Some v) (lookup (nat_eq q) old)) (same-test k q ∙ turned k q)
+    ∙ ap (λ b. cond b (Some v) (lookup (nat_eq q) old)) (same_test k q ∙ turned k q)
     ∙ ap (cond (is_eq (nat_cmp q k)) (Some v)) (sym (get-table old q))
     ∙ sym (map.get-insert nat_cmp_total (map.from_entries old) k v q))
 

@@ -1,10 +1,9 @@
 -- What a call on one bucket means for all variables.
-use Rattle.std.proofs.Common.{◌≡◌, ℕ, ◌<◌, ◌==◌, Bool, true, false, List, get_or, Some, unwrap_or, Result, Ok, Err, refl, ap, sym, ◌∙◌, subst, arith, eqb-true}
-use Rattle.std.proofs.lemmas.Option.{slice_get-get_or}
+use Rattle.std.proofs.Common.{◌≡◌, ℕ, ◌<◌, List, get_or, Option, Some, unwrap_or, Result, Ok, Err, refl, ap, sym, ◌∙◌, subst}
 use Rattle.std.specs.FinMap as map
 use Rattle.std.specs.Prelude.{slice_get, slice_set}
 use Rattle.sr_buckets.specs.Parts.{gathered, home}
-use Rattle.sr_buckets.proofs.PartLemmas.{IsSet, Sets, gathered-same, gathered-set, is-set, look-at, placed-same, placed-set, same-at}
+use Rattle.sr_buckets.proofs.PartLemmas.{IsSet, Sets, at-home, gathered-same, gathered-set, kept-at, look-at, placed-same, placed-set, set-home}
 use Rattle.sr_in_place.specs.Puts.{Wrote}
 use Rattle.sr_value.specs.declared.fault.Fault.{Fault}
 use Rattle.sr_value.specs.declared.fault.ValueFail.{ValueFail}
@@ -26,16 +25,13 @@ pub record Turns (old new : List Stored) (stored : Stored) (p : ℕ) (was bucket
   pub at : slice_get old (home p) ≡ Some was
   pub set : IsSet old new (home p) bucket
 
-pub at-home : (old : List Stored) (p i : ℕ) (other : Stored) → AreBuckets old → i ≡ home p → slice_get old (home p) ≡ Some (get_or old i other)
-at-home old p i other placed is = subst (λ k. slice_get old k ≡ Some (get_or old i other)) is (slice_get-get_or old i other (omega (arith, placed.all, is)))
-
 pub turned : (old : List Stored) (stored : Stored) (p i : ℕ) (other bucket : Stored) → all_in old ≡ stored → AreBuckets old → i ≡ home p
     → Turns old (slice_set old i bucket) stored p (get_or old i other) bucket
 turned old stored p i other bucket seen placed is = record {
   seen = seen;
   placed = placed;
-  at = at-home old p i other placed is;
-  set = subst (λ k. IsSet old (slice_set old i bucket) k bucket) is (is-set old i bucket (omega (arith, placed.all, is)));
+  at = at-home old p i placed.all is other;
+  set = set-home old p i placed.all is bucket;
 }
 
 -- the variables of a block are those in its bucket
@@ -158,14 +154,5 @@ module _ (old new : List Stored) (stored : Stored) (p : ℕ) (was bucket : Store
 
   -- a block that has room in its bucket has it
   pub keeps : (q : ℕ) → (CanPlace was q → CanPlace bucket q) → CanPlace stored q → CanPlace (all_in new) q
-  keeps q kept can = by (home q == home p) refl
-    where
-      by : (b : Bool) → (home q == home p) ≡ b → CanPlace (all_in new) q
-      by true is =
-          let here : home q ≡ home p = eqb-true (home q) (home p) is in
-          let before : room_of stored q ≡ room_of was q = ap (λ s. room_of s q) (sym t.seen) ∙ room-look old q was (ap (slice_get old) here ∙ t.at) in
-          subst (λ n. 0 < n) (sym (room-look new q bucket (ap (slice_get new) here ∙ t.set.here))) (kept (subst (λ n. 0 < n) before can))
-      by false is =
-          let same : room_of (all_in new) q ≡ room_of stored q =
-          ap (λ o. unwrap_or o 0) (same-at (λ s. s.room) old new q (t.set.others (home q) is)) ∙ ap (λ s. room_of s q) t.seen in
-          subst (λ n. 0 < n) (sym same) can
+  keeps q kept can =
+      kept-at (λ s. s.room) old new (home p) was bucket t.at t.set (λ (o : Option ℕ). 0 < unwrap_or o 0) q kept (subst (λ s. CanPlace s q) (sym t.seen) can)

@@ -12,10 +12,11 @@ use Rattle.std.specs.List.Sorted.{IsStrictlySortedBy}
 use Rattle.std.specs.Map.{keys_of, lookup}
 use Rattle.std.specs.Option.{option_or}
 use Rattle.std.specs.Ordering.{eq_by_cmp, is_eq, nat_cmp}
+use Rattle.sr_buckets.proofs.NumberLemmas.{same_test}
 use Rattle.sr_store.specs.Kept.{Kept, stored_on, variables_on}
 use Rattle.sr_store.specs.Variables.{ByNumber, Stored, Variables, block_of, with_block}
 use Rattle.sr_store.specs.declared.variable.Variable.{Variable}
-use Rattle.sr_store.proofs.BlockLemmas.{get-table, same-test}
+use Rattle.sr_store.proofs.BlockLemmas.{get-table}
 use Rattle.sr_store.proofs.KeptLemmas.{block-variables_on, changes, get-variables_on, get-with_block, listed, listed-empty, no_block, unwrap_or-listed, variables-changed}
 
 -- a key isn't there a second time
@@ -50,7 +51,7 @@ module _ (rest more : List (ℕ × Variable)) (k : ℕ) (variable : Variable) (i
   pub left-more : (now next all : ByNumber Variable) (copy : Variable) → Left rest now all → next ≡ map.insert now k copy → copy ≡ variable → Left more next all
   left-more now next all copy left inserted same q =
       ap (λ b. option_or (lookup (nat_eq q) more) (map.get b q)) (inserted ∙ ap (map.insert now k) same)
-      ∙ ap (option_or (lookup (nat_eq q) more)) (map.get-insert nat_cmp_total now k variable q ∙ ap (λ b. cond b (Some variable) (map.get now q)) (sym (same-test q k)))
+      ∙ ap (option_or (lookup (nat_eq q) more)) (map.get-insert nat_cmp_total now k variable q ∙ ap (λ b. cond b (Some variable) (map.get now q)) (sym (same_test q k)))
       ∙ choose (nat_eq q k) (lookup (nat_eq q) more) (map.get now q) (later-none nat_eq nat_eq_equiv q k variable more distinct-here)
       ∙ ap (λ r. option_or (lookup (nat_eq q) r) (map.get now q)) (sym is)
       ∙ left q

@@ -18,7 +18,7 @@ use Rattle.sr_store.specs.Kept.{Kept, stored_on, variables_on}
 use Rattle.sr_in_place.specs.Puts.{Wrote}
 use Rattle.sr_store.specs.Variables.{ByNumber, CanPlace, KeepsOtherRoom, KeepsRoom, Stored, Variables, block_loaded, block_of, block_stored, loaded_in, room_of, stored_in, with_block, with_variable}
 use Rattle.sr_store.specs.declared.variable.Variable.{Variable}
-use Rattle.sr_store.proofs.BlockLemmas.{apart, by_number, itself, turned}
+use Rattle.sr_buckets.proofs.NumberLemmas.{apart, by_number, itself, turned}
 
 pub on_ok : {T E : Type 0} {P Q : Type 0} (r : Result T E) → OnOk r P → (P → Q) → OnOk r Q
 on_ok (Ok x) h f = f h

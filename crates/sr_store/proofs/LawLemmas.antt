@@ -13,7 +13,7 @@ use Rattle.sr_in_place.proofs.PlaceLemmas.{others-stay as places-stay, stored-lo
 use Rattle.sr_in_place.proofs.ResultLemmas.{found-back, same-ok, step-back}
 use Rattle.sr_store.specs.Variables.{ByNumber, Variables, block_of, block_stored, loaded_in, stored_in, variable_at, with_block, with_variable}
 use Rattle.sr_store.specs.declared.variable.Variable.{Variable}
-use Rattle.sr_store.proofs.BlockLemmas.{apart, by_number, itself, turned}
+use Rattle.sr_buckets.proofs.NumberLemmas.{apart, by_number, itself, turned}
 use Rattle.sr_store.proofs.KeptLemmas.{block-with_block, block-with_block_other}
 
 -- ---- a store to a variable

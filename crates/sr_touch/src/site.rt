@@ -11,17 +11,8 @@ use crate::homes::{class_in, line_home};
 use crate::parts::{Parts, adding};
 use sr_buckets::home;
 use sr_core::{Arm, Classes, Core, Me, Named, Scope, SharedRead, Site};
-use sr_select::{block_of, names_listed};
+use sr_select::{block_of, names_listed, owner_in};
 use sr_value::{Owner, Value};
-
-fn owner_in(scope: Scope, me: Me) -> Owner
-    ensures { result ≡ owner_in scope me }
-{
-    match scope {
-        Scope::Own => Owner::Proc(me.process),
-        Scope::Shared => Owner::Inst(me.instance),
-    }
-}
 
 fn with_line(parts: Parts, classes: &Classes, owner: Owner, arms: &[Arm]) -> Option<Parts>
     requires { IsAscending parts }

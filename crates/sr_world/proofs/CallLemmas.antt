@@ -6,7 +6,8 @@ use Rattle.std.specs.Cmp.{nat_cmp_total}
 use Rattle.std.specs.FinMap as map
 use Rattle.std.specs.Ordering.{nat_cmp}
 use Rattle.sr_calls.specs.Calls.{ByProcess, items_of, with_item, with_items, without_first}
-use Rattle.sr_calls.proofs.ProcessCallsLemmas.{apart, items-with_items, items-with_items_other, itself}
+use Rattle.sr_buckets.proofs.NumberLemmas.{apart, itself}
+use Rattle.sr_calls.proofs.ProcessCallsLemmas.{items-with_items, items-with_items_other}
 use Rattle.sr_world.proofs.CountLemmas.{count-push, count-without_first, nothing-first, one}
 
 pub and-true : (b : Bool) → one (b && true) ≡ one b

@@ -18,7 +18,8 @@ use Rattle.sr_select.specs.declared.least.Keyed.{Keyed}
 use Rattle.sr_value.specs.declared.capability.Owner.{Owner}
 use Rattle.sr_value.specs.declared.fault.Fault.{Fault}
 use Rattle.sr_value.specs.declared.value.Value.{Value}
-use Rattle.sr_world.specs.Laws.{ClassesAreSeparate, Taken, Takes, TakesElse, TakesNothing, Faults, is_serviced, taken}
+use Rattle.sr_select.specs.Laws.{is_named}
+use Rattle.sr_world.specs.Laws.{ClassesAreSeparate, Taken, Takes, TakesElse, TakesNothing, Faults, taken}
 
 abbrev or_first : {A : Type 0} → Option A → Option A → Option A
 or_first (Some a) later = Some a
@@ -305,14 +306,14 @@ otherwise-is items false None = refl
 
 choice-bare : (reading : Reading) (site : Site) (me : Me) (env : List Value) (items : List Pending)
     → taken items (choice reading site me env items)
-    ≡ otherwise_taken site.has_else (bare (sees_of reading site me env) (owner_in site.scope me) (enumerate_from 0 site.arms) (filter (is_serviced (owner_in site.scope me) site.arms) items))
+    ≡ otherwise_taken site.has_else (bare (sees_of reading site me env) (owner_in site.scope me) (enumerate_from 0 site.arms) (filter (is_named (owner_in site.scope me) site.arms) items))
 choice-bare reading site me env items =
     let sees : Seeing = sees_of reading site me env in
     let owner : Owner = owner_in site.scope me in
     otherwise-is items site.has_else (choice_among sees owner items (all_pairs site owner items))
     ∙ ap (otherwise_taken site.has_else)
     (bare-is sees owner (enumerate_from 0 site.arms) items 0 items refl
-    ∙ sym (bare-filter sees owner (is_serviced owner site.arms) (enumerate_from 0 site.arms) items (all-cover sees owner (is_serviced owner site.arms) 0 site.arms (λ q is. is))))
+    ∙ sym (bare-filter sees owner (is_named owner site.arms) (enumerate_from 0 site.arms) items (all-cover sees owner (is_named owner site.arms) 0 site.arms (λ q is. is))))
 
 pub classes_are_separate : ClassesAreSeparate
 classes_are_separate reading site me env items others same =

@@ -82,3 +82,8 @@ module _ {A : Type 0} where
       by : (b : Bool) → is_some (find t (xs ++ y ∷ [])) ≡ true → is_some (cond b (Some x) (find t (xs ++ y ∷ []))) ≡ true
       by true more = refl
       by false more = more
+
+-- more are no fewer
+pub count-grows : (p : ℕ → Bool) (xs ys : List ℕ) → count_by p xs ≤ count_by p (xs ++ ys)
+count-grows p [] ys = omega arith
+count-grows p (x ∷ xs) ys = omega (arith, count-cons p x xs, count-cons p x (xs ++ ys), count-grows p xs ys)

@@ -2,6 +2,7 @@
 use Rattle.std.proofs.Common.{◌≡◌, ℕ, Bool, true, false, cond, List, [], ◌∷◌, ◌++◌, length, drop, Option, None, Some, refl, ap, sym, ◌∙◌, true≢false}
 use Rattle.std.proofs.lemmas.List.Sums.{take_while-cons}
 use Rattle.std.specs.Prelude.{◌&&◌, take_while}
+use Rattle.std.proofs.lemmas.Bool.{and_parts as both, and_from as of-both}
 use Rattle.sr_ask.specs.declared.request.ReadKind.{ReadKind}
 use Rattle.sr_ask.specs.declared.request.ReadKind.TheVariants as kind
 use Rattle.sr_value.specs.declared.value.Value.{Value}
@@ -10,13 +11,6 @@ use Rattle.sr_world.specs.Inputs.{after_token, fitting_read, is_blank, is_decide
 some-append : (xs ys : List ℕ) → some_are xs ≡ true → some_are (xs ++ ys) ≡ true
 some-append [] ys some = absurd (true≢false (sym some))
 some-append (x ∷ xs) ys some = refl
-
-both : (a b : Bool) → (a && b) ≡ true → (a ≡ true) × (b ≡ true)
-both true b h = (refl, h)
-both false b h = absurd (true≢false (sym h))
-
-of-both : (a b : Bool) → a ≡ true → b ≡ true → (a && b) ≡ true
-of-both a b is also = ap (λ t. t && b) is ∙ also
 
 module _ (p : ℕ → Bool) where
   -- what stands after the longest run of bytes that pass

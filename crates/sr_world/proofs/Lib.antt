@@ -4,6 +4,7 @@ pub mod ClassLemmas
 pub mod CountLemmas
 pub mod DecideLemmas
 pub mod EndLemmas
+pub mod FoundLemmas
 pub mod HistoryLemmas
 pub mod InputLemmas
 pub mod KeepLemmas

@@ -5,6 +5,7 @@ use Rattle.std.proofs.lemmas.List.Folds.{list_any-append}
 use Rattle.std.proofs.lemmas.List.Sums.{sum_by-le-sum_by}
 use Rattle.std.specs.Prelude.{count_by}
 use Rattle.std.specs.List.{list_any}
+pub use Rattle.std.proofs.lemmas.Bool.{or_left as either-true, or_right as other-true, and_parts as both-true}
 use Rattle.sr_ask.specs.declared.answer.Answer.{Answer}
 use Rattle.sr_ask.specs.declared.answer.Answer.TheVariants as answer
 use Rattle.sr_ask.specs.declared.ask.Asks.{Asks}
@@ -36,14 +37,6 @@ use Rattle.sr_world.proofs.RequestLemmas.{Well, well}
 
 -- ---- tests and counts
 
-pub either-true : (a b : Bool) → a ≡ true → (a || b) ≡ true
-either-true true b is = refl
-either-true false b is = absurd (true≢false (sym is))
-
-pub other-true : (a b : Bool) → b ≡ true → (a || b) ≡ true
-other-true true b is = refl
-other-true false b is = is
-
 count-none : {A : Type 0} (t : A → Bool) (xs : List A) → list_any t xs ≡ false → count_by t xs ≡ 0
 count-none t [] none = refl
 count-none t (x ∷ xs) none = by (t x) refl none (count-none t xs)
@@ -51,11 +44,6 @@ count-none t (x ∷ xs) none = by (t x) refl none (count-none t xs)
     by : (b : Bool) → t x ≡ b → (b || list_any t xs) ≡ false → (list_any t xs ≡ false → count_by t xs ≡ 0) → count_by t (x ∷ xs) ≡ 0
     by true is h more = absurd (true≢false h)
     by false is h more = count-cons t x xs ∙ ap (λ b. one b + count_by t xs) is ∙ let rest = more h in omega (arith, rest)
-
-pub both-true : (a b : Bool) → (a && b) ≡ true → (a ≡ true) × (b ≡ true)
-both-true true true is = (refl, refl)
-both-true true false is = absurd (true≢false (sym is))
-both-true false b is = absurd (true≢false (sym is))
 
 not-true : (a : Bool) → not a ≡ true → a ≡ false
 not-true true is = absurd (true≢false (sym is))

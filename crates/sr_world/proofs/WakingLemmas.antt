@@ -98,7 +98,7 @@ module _ (core : Core) (actor : ℕ) (old new : World) where
   same_can request.Age same = refl
   same_can (request.Wake until) same = ap (λ moment. not (nat_lt moment until)) same
 
-is_not : (outcome : Outcome) → is_possible outcome ≡ false → outcome ≡ IsNot
+pub is_not : (outcome : Outcome) → is_possible outcome ≡ false → outcome ≡ IsNot
 is_not IsDone h = cc
 is_not IsMade h = cc
 is_not IsNot h = refl

@@ -1,6 +1,5 @@
 -- Laws of whole runs, in the language's own words.
 use Rattle.std.specs.Prelude.{◌≡◌, ℕ, ◌<◌, ◌≤◌, ◌==◌, Bool, true, false, List, [], ◌∷◌, ◌++◌, Option, Some, count_by, filter, slice_get}
-use Rattle.std.specs.List.{list_any}
 use Rattle.sr_ask.specs.declared.ask.Ask.{Ask}
 use Rattle.sr_ask.specs.declared.ask.Asks.TheVariants.{Asked}
 use Rattle.sr_ask.specs.declared.item.Item.{Item}
@@ -9,12 +8,10 @@ use Rattle.sr_ask.specs.declared.start.Start.{Start}
 use Rattle.sr_calls.specs.Calls.{items_of}
 use Rattle.sr_core.specs.declared.component.Core.{Core}
 use Rattle.sr_core.specs.declared.owner.Me.{Me}
-use Rattle.sr_core.specs.declared.site.Arm.{Arm}
 use Rattle.sr_core.specs.declared.site.Site.{Site}
-use Rattle.sr_queue.specs.Queues.{is_of}
 use Rattle.sr_queue.specs.declared.pending.Pending.{Pending}
 use Rattle.sr_select.specs.Choices.{choice, owner_in}
-use Rattle.sr_select.specs.Laws.{chosen_in}
+use Rattle.sr_select.specs.Laws.{chosen_in, is_named}
 use Rattle.sr_select.specs.Readings.{Reading}
 use Rattle.sr_select.specs.declared.choice.Choice.{Choice}
 use Rattle.sr_select.specs.declared.choice.Choice.TheVariants as chosen
@@ -179,10 +176,6 @@ ItemsGiveTheRun = (core : Core) (limit : ℕ) (events : List Event) (more : List
 
 -- ---- classes
 
--- whether a statement can service an invocation at all
-abbrev pub is_serviced : Owner → List Arm → Pending → Bool
-is_serviced owner arms p = list_any (λ arm. is_of owner arm.op p) arms
-
 -- what a choice comes to, wherever the invocation stands that it takes up
 pub data Taken : Type 0 where
   Takes : Option Pending → ℕ → Taken
@@ -200,7 +193,7 @@ taken items (chosen.Bad fault arm) = Faults fault arm
 -- its guards read the same, the statement makes the same choice.
 abbrev pub ClassesAreSeparate : Type 0
 ClassesAreSeparate = (reading : Reading) (site : Site) (me : Me) (env : List Value) (items others : List Pending)
-    → filter (is_serviced (owner_in site.scope me) site.arms) items ≡ filter (is_serviced (owner_in site.scope me) site.arms) others
+    → filter (is_named (owner_in site.scope me) site.arms) items ≡ filter (is_named (owner_in site.scope me) site.arms) others
     → taken items (choice reading site me env items) ≡ taken others (choice reading site me env others)
 
 -- The same for two worlds: where they have the same invocations of the statement's class and owner that wait, and hold the

@@ -3,7 +3,7 @@ use Rattle.sr_ask.specs.declared.answer.Answer.{Answer}
 use Rattle.sr_code.specs.declared.instruction.Instruction.TheVariants.{TakeReply}
 use Rattle.sr_execute.specs.Executes.{Leads, Moved}
 use Rattle.sr_execute.specs.Meant.{resumes}
-use Rattle.sr_execute.proofs.Drops.{first_out}
+use Rattle.sr_frame.proofs.Drops.{first_out}
 use Rattle.sr_execute.proofs.Taking.{took_at, took_none}
 use Rattle.sr_execute.proofs.co.complete.Goals as goal
 

@@ -3,7 +3,7 @@ use Rattle.sr_order.specs.Names.{file_names}
 use Rattle.sr_order.specs.Spans.{statement_spans, operation_spans, component_spans}
 use Rattle.sr_order.proofs.FileNames.{names-picked}
 use Rattle.sr_order.proofs.Files.{statements-picked, operations-picked, components-picked}
-use Rattle.sr_front.proofs.SpotsApart.{spots-apart}
+use Rattle.sr_front.proofs.Names.SpotsApart.{spots-apart}
 use Rattle.sr_front.proofs.laws.spots_apart.Goals as goal
 
 pub returns : goal.returns

@@ -3,7 +3,7 @@ use Rattle.std.proofs.Common.{◌+◌, ◌++◌, ◌∷◌, [], take, refl, sym,
 use Rattle.std.proofs.lemmas.List.{take_more, take_all}
 use Rattle.sr_front.specs.Phases.{AllPass}
 use Rattle.sr_front.specs.Reading.{KeepsLimits, BreaksLimits, tokens_of}
-use Rattle.sr_front.proofs.FileByFile.{goes_on, is_refused, all_passed}
+use Rattle.sr_front.proofs.Lists.FileByFile.{goes_on, is_refused, all_passed}
 use Rattle.sr_front.proofs.phases.check_limits.Goals as goal
 
 pub returns-in-Err-clause-refused : goal.returns-in-Err-clause-refused

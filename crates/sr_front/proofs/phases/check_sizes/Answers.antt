@@ -3,7 +3,7 @@ use Rattle.std.proofs.Common.{◌+◌, ◌≤◌, ◌<◌, ◌++◌, ◌∷◌, 
 use Rattle.std.proofs.lemmas.List.{take_more, take_all}
 use Rattle.sr_front.specs.Phases.{AllPass}
 use Rattle.sr_front.specs.Reading.{HasItsSize, IsTooLarge, contents_of}
-use Rattle.sr_front.proofs.FileByFile.{goes_on, is_refused, all_passed, each}
+use Rattle.sr_front.proofs.Lists.FileByFile.{goes_on, is_refused, all_passed, each}
 use Rattle.sr_front.proofs.phases.check_sizes.Goals as goal
 
 pub returns-then-len-gt-MOST_BYTES-clause-refused : goal.returns-then-len-gt-MOST_BYTES-clause-refused

@@ -1,7 +1,7 @@
 -- What the other files lead to, all lead to.
 use Rattle.std.proofs.Common.{◌≡◌, take}
 use Rattle.sr_front.specs.Reading.{HasItsSize, IsTooLarge}
-use Rattle.sr_front.proofs.FileByFile.{LeadsOn}
+use Rattle.sr_front.proofs.Lists.FileByFile.{LeadsOn}
 use Rattle.sr_front.proofs.phases.check_sizes.Given as goal
 
 abbrev pub invariant-loop-content : goal.invariant-loop-content

@@ -5,7 +5,7 @@ use Rattle.sr_text.specs.declared.refusal.FrontFail.TheVariants.{Refused, NoMemo
 use Rattle.sr_text.specs.declared.refusal.Refusal.{Refusal}
 use Rattle.sr_front.specs.Reading.{IsRefusal}
 use Rattle.sr_lexer.specs.Tokens.{Lexes, RefusesToLex, FailsToLex}
-use Rattle.sr_front.proofs.FileByFile.{goes_on, is_refused, all_passed}
+use Rattle.sr_front.proofs.Lists.FileByFile.{goes_on, is_refused, all_passed}
 use Rattle.sr_front.proofs.phases.lex_all.Goals as goal
 
 failed : (holds : Refusal → Type 0) (number : ℕ) (bytes : List ℕ) (fail : FrontFail) → FailsToLex number bytes fail

@@ -10,7 +10,7 @@ use Rattle.sr_parser.specs.Programs.{SpellsNoFile}
 use Rattle.sr_program_reader.specs.Files.{SpellsFile}
 use Rattle.sr_front.specs.Phases.{AllPass}
 use Rattle.sr_front.specs.Reading.{HasTree, HasNoTree, IsRefusal, tokens_of}
-use Rattle.sr_front.proofs.FileByFile.{goes_on, is_refused, all_passed}
+use Rattle.sr_front.proofs.Lists.FileByFile.{goes_on, is_refused, all_passed}
 use Rattle.sr_front.proofs.phases.parse_all.Goals as goal
 
 failed : (holds : Refusal → Type 0) (tokens : List Token) (fail : FrontFail) → SpellsNoFile tokens fail → IsRefusedIn SpellsFile tokens 0 fail

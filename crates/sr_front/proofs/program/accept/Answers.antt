@@ -11,7 +11,7 @@ use Rattle.sr_check.specs.Checked.{verdict}
 use Rattle.sr_front.specs.declared.program.Checked.{Checked}
 use Rattle.sr_front.specs.Program.{IsAccepted, IsRefused, IsChecked, in_reading, in_names, in_types}
 use Rattle.sr_front.specs.Reading.{AreRead, AreRefused, IsRefusal, contents_of}
-use Rattle.sr_front.proofs.FileByFile.{as_many}
+use Rattle.sr_front.proofs.Lists.FileByFile.{as_many}
 use Rattle.sr_front.proofs.program.accept.Goals as goal
 
 refused_in_reading : (contents : List (List ℕ)) (fail : FrontFail) → IsRefusal (AreRefused contents) fail → IsRefusal (IsRefused contents) fail

@@ -1,6 +1,7 @@
 use Rattle.std.proofs.Common.{◌<◌, ◌∙◌, ap, get_or, subst, sym}
 use Rattle.std.specs.Prelude.{slice_set}
-use Rattle.sr_store.proofs.BucketLemmas.{Turns, at-home, block-placed, keeps, room-look, turned, variable-set}
+use Rattle.sr_buckets.proofs.PartLemmas.{at-home}
+use Rattle.sr_store.proofs.BucketLemmas.{Turns, block-placed, keeps, room-look, turned, variable-set}
 use Rattle.sr_store.specs.Variables.{room_of}
 use Rattle.sr_store.proofs.blocks.Blocks.place.Goals as goal
 
@@ -21,5 +22,5 @@ place-requires c =
     subst (λ n. 0 < n)
     (ap (λ s. room_of s c.args.block) (sym c.self.view_is)
     ∙ room-look c.self.inside.buckets c.args.block (get_or c.self.inside.buckets c.home.result c.index-self-home.result)
-    (at-home c.self.inside.buckets c.args.block c.home.result c.index-self-home.result c.self.invariant c.home.ensures.home))
+    (at-home c.self.inside.buckets c.args.block c.home.result c.self.invariant.all c.home.ensures.home c.index-self-home.result))
     c.requires

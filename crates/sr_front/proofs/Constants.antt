@@ -1,0 +1,22 @@
+-- Constants, and what waits for its type: what is static, and when it is known.
+pub mod AllSettled
+pub mod ConstantNames
+pub mod ConstantTypes
+pub mod ConstantsChecked
+pub mod ConstantsMet
+pub mod ConstantsThen
+pub mod ConstantsTyped
+pub mod ConstantsWait
+pub mod Placeless
+pub mod SharedRulesMet
+pub mod StaticExprs
+pub mod StaticNames
+pub mod StaticTyped
+pub mod UnknownValues
+pub mod WaitingChecked
+pub mod WaitingConstants
+pub mod WaitingItems
+pub mod WaitingTyped
+pub mod WavedEnds
+pub mod WavesIdle
+pub mod WavesSettle

@@ -1,0 +1,24 @@
+-- What the code of an accepted program mentions is there.
+pub mod CodeMentions
+pub mod CodeRules
+pub mod GuardCode
+pub mod GuardSites
+pub mod ImportedCode
+pub mod MentionRules
+pub mod MentionedCode
+pub mod Mentions
+pub mod MentionsThere
+pub mod PartMentions
+pub mod ReadsCode
+pub mod RootedActions
+pub mod RootedCode
+pub mod RootedCore
+pub mod RootedDecls
+pub mod RootedExprs
+pub mod RootedFits
+pub mod RootedHere
+pub mod RootedNames
+pub mod RootedParts
+pub mod RootsHad
+pub mod VariablesReads
+pub mod VariablesStand
