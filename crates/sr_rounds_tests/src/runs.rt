@@ -42,8 +42,7 @@ fn sink_of(alloc: Global, fails: u64) -> Result<MemSink, NoMemory> {
     Ok(MemSink::new(alloc, 4096, calls))
 }
 
-fn came_of(alloc: Global, program: &Compiled, case: &Case<'_>) -> Result<Came, NoMemory>
-{
+fn came_of(alloc: Global, program: &Compiled, case: &Case<'_>) -> Result<Came, NoMemory> {
     let mut rounds = Counted {
         passes: 0,
         fails_at: case.fails_pass,
@@ -65,8 +64,7 @@ fn came_of(alloc: Global, program: &Compiled, case: &Case<'_>) -> Result<Came, N
 }
 
 /// Whether a run ends and writes as it should, and can be made again from its items.
-pub fn is_right(alloc: Global, case: &Case<'_>) -> Result<bool, NoMemory>
-{
+pub fn is_right(alloc: Global, case: &Case<'_>) -> Result<bool, NoMemory> {
     let program = program_of(alloc, case.text)?;
     let came = came_of(alloc, &program, case)?;
     is_wanted(alloc, &program, case, &came)
@@ -84,12 +82,14 @@ fn is_wanted(
 }
 
 fn with_items(rounds: &[Stretch], count: u32) -> usize {
-    rounds.iter().filter(|stretch| stretch.count == count).count()
+    rounds
+        .iter()
+        .filter(|stretch| stretch.count == count)
+        .count()
 }
 
 /// How many items a run makes, and how many of its stretches have so many items.
-pub fn counts(alloc: Global, case: &Case<'_>, count: u32) -> Result<(usize, usize), NoMemory>
-{
+pub fn counts(alloc: Global, case: &Case<'_>, count: u32) -> Result<(usize, usize), NoMemory> {
     let program = program_of(alloc, case.text)?;
     let came = came_of(alloc, &program, case)?;
     Ok((

@@ -112,13 +112,16 @@ module _ {A : Type 0} (after : A → List Answer → Asks) (can_feed : A → Typ
         cut added part = cut_in_write arrangement call intake state_of events_of come item (stepped.turn_of, stepped.named) items added held write_faults stepped.later stepped.goes text stepped.written part
 
         goes_further : (result : Option RunEnd) → PutsItem item text call.items items call.now.held held call.now.write_faults write_faults result → Advances after can_feed arrangement call.items next_call intake later result
-        goes_further None puts = inr (omega (arith, ap (λ is. length is) puts.0, length-append call.items (item ∷ [])), record {
-          state = stepped.later;
-          events = events_of ++ Makes_item item ∷ [];
-          come = made_come arrangement call intake state_of events_of come item (stepped.turn_of, stepped.named) items puts.0 held write_faults stepped.later stepped.goes text stepped.written puts.1;
-          no_faults = next_faults puts.2;
-          engine = stepped.engine;
-        })
+        goes_further None puts = inr (
+          omega (arith, ap (λ is. length is) puts.0, length-append call.items (item ∷ [])),
+          record {
+            state = stepped.later;
+            events = events_of ++ Makes_item item ∷ [];
+            come = made_come arrangement call intake state_of events_of come item (stepped.turn_of, stepped.named) items puts.0 held write_faults stepped.later stepped.goes text stepped.written puts.1;
+            no_faults = next_faults puts.2;
+            engine = stepped.engine;
+          },
+        )
         goes_further (Some end.WriteFault) puts =
             record { cut = cut puts.0 puts.1; failed = subst (λ n. Rose n write_faults) no_faults.write puts.2; no_read_fault = no_faults.read }
         goes_further (Some end.NoMemory) puts = by puts.0

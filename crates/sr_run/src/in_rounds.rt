@@ -119,7 +119,9 @@ fn run_rounds_on<A: Actor, T: Rounds<A>, I: Source, O: Sink>(
             return end;
         }
         if made < items.len() {
-            match add_stretch(plain, program, classes, steps, workers, rounds, items, stretches) {
+            match add_stretch(
+                plain, program, classes, steps, workers, rounds, items, stretches,
+            ) {
                 Ok(later) => plain = later,
                 Err(_) => return RunEnd::NoMemory,
             }

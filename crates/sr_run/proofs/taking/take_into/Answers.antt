@@ -11,10 +11,13 @@ returns-in-Ok-eq0-clause-advances g c =
     let present = as_of call (g.A.Actor.core_of program) (record { left = g.I.Source.left c.args.input.now; read_faults = g.I.Source.faults c.args.input.now; held = call.now.held; write_faults = call.now.write_faults }) call.items in
     let zero : c.in-Ok-eq0.field-0 ≡ 0 = omega arith in
     let passed = passed-none (g.I.Source.left c.args.input.now) (g.I.Source.left c.take.new.self) c.in-Ok-eq0.field-0 c.take.new.room zero c.in-Ok-eq0.ensures.bytes.1 in
-    inl (refl, input_ended (g.A.Actor.asks_after program) g.A.Actor.can_feed arrangement present c.args.intake.now c.args.plain.now waiting (g.I.Source.left c.take.new.self) passed
-    (at-end (g.I.Source.left c.args.input.now) (g.I.Source.left c.take.new.self) c.in-Ok-eq0.field-0 zero passed c.in-Ok-eq0.ensures.end) (g.I.Source.faults c.take.new.self) c.in-Ok-eq0.ensures.cause c.end_input.new.self
-    (c.end_input.ensures program call.ticks waiting.under_way.state waiting.under_way.events waiting.under_way.engine
-    (world_open (g.A.Actor.asks_after program) g.A.Actor.can_feed arrangement present c.args.intake.now c.args.plain.now waiting)))
+    inl (
+      refl,
+      input_ended (g.A.Actor.asks_after program) g.A.Actor.can_feed arrangement present c.args.intake.now c.args.plain.now waiting (g.I.Source.left c.take.new.self) passed
+          (at-end (g.I.Source.left c.args.input.now) (g.I.Source.left c.take.new.self) c.in-Ok-eq0.field-0 zero passed c.in-Ok-eq0.ensures.end) (g.I.Source.faults c.take.new.self) c.in-Ok-eq0.ensures.cause c.end_input.new.self
+          (c.end_input.ensures program call.ticks waiting.under_way.state waiting.under_way.events waiting.under_way.engine
+          (world_open (g.A.Actor.asks_after program) g.A.Actor.can_feed arrangement present c.args.intake.now c.args.plain.now waiting)),
+    )
 
 pub returns-in-Ok-clause-advances : goal.returns-in-Ok-clause-advances
 returns-in-Ok-clause-advances g c =
