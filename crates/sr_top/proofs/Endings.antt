@@ -3,7 +3,6 @@ use Rattle.std.proofs.Common.{◌≡◌, ◌∙◌, ℕ, ◌≤◌, ◌⊎◌, �
 use Rattle.std.specs.Prelude.{Option}
 use Rattle.sr_core.specs.declared.component.Core.{Core}
 use Rattle.sr_ports.proofs.Growth.{PutInPart-after}
-use Rattle.sr_ports.specs.Faults.{Rose}
 use Rattle.sr_ports.specs.Streams.{PutInPart}
 use Rattle.sr_run.specs.Causes as run
 use Rattle.sr_run.specs.Runs as runs
@@ -13,7 +12,7 @@ use Rattle.sr_run.specs.declared.end.RunEnd.{RunEnd}
 use Rattle.sr_run.specs.declared.end.RunEnd.TheVariants as run_end
 use Rattle.sr_top.specs.Causes.{Call, Compiles, EndsEarly, EndsEarlyInLines, EndsInLines, EndsNoFile, EndsRun, HasCause, HasLines, IsCutInLines, PutsLines, RunsNothing, ending_of, run_of}
 use Rattle.sr_top.specs.Headline.{Headline, IsComplete, MakesRun, NoneRose, RunsInPart, RunsWhole}
-use Rattle.sr_top.specs.Reading.{EndsCompiling, IsUnreadIn}
+use Rattle.sr_top.specs.Reading.{EndsCompiling, FailsAt, IsUnreadIn}
 use Rattle.sr_top.specs.Tasks.{Named, Origin, Sampled, origin_in}
 use Rattle.sr_top.specs.declared.report.Ending.{Ending}
 use Rattle.sr_top.specs.declared.report.Ending.TheVariants.{Done, Quiet, Stopped, Failed, Limit, Refused, NoFile, ReadFault, WriteFault, NoMemory, Usage}
@@ -111,7 +110,7 @@ complete call (Stopped status) cause = λ named none. tt
 complete call (Failed fault place) cause = λ named none. tt
 complete call (Limit kind) cause = λ named none. tt
 complete call (Refused refusal) cause = λ named none. tt
-complete call (NoFile file) cause = λ named none. none.files cause.failed
+complete call (NoFile file) cause = λ named none. none.files cause.failed.rose
 complete call ReadFault cause = λ named none. none.input cause.cause.failed
 complete call WriteFault cause = λ named none. output_failed call cause none
 complete call NoMemory cause = λ named none. tt
@@ -120,13 +119,13 @@ complete call Usage cause = λ named none. named cause.unknown
 -- ---- before a run
 
 -- what there is no program for says why the call ended
-unread : (call : Call) (origin : Origin) (file : ℕ) → origin_in call.words ≡ Some origin → RunsNothing call → IsUnreadIn call.files origin file → Rose call.file_faults call.file_faults_now
+unread : (call : Call) (origin : Origin) (file : ℕ) → origin_in call.words ≡ Some origin → RunsNothing call → IsUnreadIn call.files origin file → FailsAt file call.reads call.reads_now
     → EndsNoFile call file
 unread call (Named names) file named nothing is failed = record { names = names; named = named; unread = is; failed = failed; nothing = nothing }
 unread call (Sampled seed) file named nothing is failed = absurd is
 
 pub stopped : (call : Call) (origin : Origin) (ending : Ending) → origin_in call.words ≡ Some origin → RunsNothing call
-    → EndsCompiling call.files origin call.file_faults call.file_faults_now ending → HasCause call ending
+    → EndsCompiling call.files origin call.reads call.reads_now ending → HasCause call ending
 stopped call origin Done named nothing ends = absurd ends
 stopped call origin Quiet named nothing ends = absurd ends
 stopped call origin (Stopped status) named nothing ends = absurd ends

@@ -14,19 +14,19 @@ use Rattle.sr_run.specs.Runs as runs
 use Rattle.sr_run.specs.declared.end.RunEnd.{RunEnd}
 use Rattle.sr_run.specs.declared.end.RunEnd.TheVariants as run_end
 use Rattle.sr_text.specs.declared.refusal.Refusal.{Refusal}
-use Rattle.sr_top.specs.Reading.{AreCompiled, AreRefused, IsUnread}
+use Rattle.sr_top.specs.Reading.{AreCompiled, AreRefused, FailsAt, IsUnread, Reads}
 use Rattle.sr_top.specs.Tasks.{Checks, ListsClasses, Named, Origin, Runs, origin_in, task}
 use Rattle.sr_top.specs.declared.report.Ending.{Ending}
 use Rattle.sr_top.specs.declared.report.Ending.TheVariants.{Done, Quiet, Stopped, Failed, Limit, Refused, NoFile, ReadFault, WriteFault, NoMemory, Usage}
 use Rattle.sr_world.specs.declared.ends.End.TheVariants as end
 
--- A call of the program: its words; what the files tell; the count of their faults, before and after; input and output,
--- before and after; and the items that it made.
+-- A call of the program: its words; what the files tell; the reads of files, before and after; input and output, before
+-- and after; and the items that it made.
 pub record Call : Type 0 where
   pub words : List (List ℕ)
   pub files : Option (List (List ℕ × List ℕ))
-  pub file_faults : ℕ
-  pub file_faults_now : ℕ
+  pub reads : Reads
+  pub reads_now : Reads
   pub before : runs.Devices
   pub now : runs.Devices
   pub items : List Item
@@ -36,12 +36,12 @@ abbrev pub devices : Option (List ℕ) → ℕ → Option (List ℕ) → ℕ →
 devices left read_faults held write_faults = record { left = left; read_faults = read_faults; held = held; write_faults = write_faults }
 
 -- a call by its parts, in this order
-abbrev pub call_of : List (List ℕ) → Option (List (List ℕ × List ℕ)) → ℕ → ℕ → runs.Devices → runs.Devices → List Item → Call
-call_of words files file_faults file_faults_now before now items = record {
+abbrev pub call_of : List (List ℕ) → Option (List (List ℕ × List ℕ)) → Reads → Reads → runs.Devices → runs.Devices → List Item → Call
+call_of words files reads reads_now before now items = record {
   words = words;
   files = files;
-  file_faults = file_faults;
-  file_faults_now = file_faults_now;
+  reads = reads;
+  reads_now = reads_now;
   before = before;
   now = now;
   items = items;
@@ -57,15 +57,15 @@ pub record RunsNothing (call : Call) : Type 0 where
 -- the words are none that the program knows
 pub record EndsUsage (call : Call) : Type 0 where
   pub unknown : task call.words ≡ None
-  pub nothing_read : call.file_faults_now ≡ call.file_faults
+  pub nothing_read : call.reads_now.faults ≡ call.reads.faults
   pub nothing : RunsNothing call
 
--- the files failed while the one of this place was read; those before it were read
+-- the file of this place couldn't be read; those before it were read, and nothing after it
 pub record EndsNoFile (call : Call) (file : ℕ) : Type 0 where
   pub names : List (List ℕ)
   pub named : origin_in call.words ≡ Some (Named names)
   pub unread : IsUnread call.files names file
-  pub failed : Rose call.file_faults call.file_faults_now
+  pub failed : FailsAt file call.reads call.reads_now
   pub nothing : RunsNothing call
 
 -- this is the refusal of the program that the words name
@@ -73,12 +73,12 @@ pub record EndsRefused (call : Call) (refusal : Refusal) : Type 0 where
   pub origin : Origin
   pub named : origin_in call.words ≡ Some origin
   pub refused : AreRefused call.files origin refusal
-  pub no_fault : call.file_faults_now ≡ call.file_faults
+  pub no_fault : call.reads_now.faults ≡ call.reads.faults
   pub nothing : RunsNothing call
 
 -- memory ran out before a run
 pub record EndsEarly (call : Call) : Type 0 where
-  pub no_fault : call.file_faults_now ≡ call.file_faults
+  pub no_fault : call.reads_now.faults ≡ call.reads.faults
   pub nothing : RunsNothing call
 
 -- ---- `check`
@@ -90,7 +90,7 @@ pub record EndsChecked (call : Call) : Type 0 where
   pub core : Core
   pub classes : Classes
   pub compiled : AreCompiled call.files (Named names) core classes
-  pub no_fault : call.file_faults_now ≡ call.file_faults
+  pub no_fault : call.reads_now.faults ≡ call.reads.faults
   pub nothing : RunsNothing call
 
 -- ---- `classes`
@@ -104,7 +104,7 @@ pub record HasLines (call : Call) (lines : List ℕ) : Type 0 where
   pub classes : Classes
   pub compiled : AreCompiled call.files (Named names) core classes
   pub are : lines ≡ class_text core classes.of
-  pub no_fault : call.file_faults_now ≡ call.file_faults
+  pub no_fault : call.reads_now.faults ≡ call.reads.faults
   pub no_items : call.items ≡ []
   pub left : call.now.left ≡ call.before.left
   pub no_read_fault : call.now.read_faults ≡ call.before.read_faults
@@ -149,7 +149,7 @@ pub record Compiles (call : Call) (steps ticks : ℕ) (core : Core) : Type 0 whe
   pub asked : task call.words ≡ Some (Runs origin steps ticks journal)
   pub classes : Classes
   pub compiled : AreCompiled call.files origin core classes
-  pub no_fault : call.file_faults_now ≡ call.file_faults
+  pub no_fault : call.reads_now.faults ≡ call.reads.faults
 
 -- what the call made of a core, with these limits
 abbrev pub run_of : Call → ℕ → ℕ → Core → runs.Call

@@ -63,7 +63,7 @@ Headline call Usage = RunsNothing call
 
 -- no count of the faults of the files, the input or the output rose
 pub record NoneRose (call : Call) : Type 0 where
-  pub files : ¬ Rose call.file_faults call.file_faults_now
+  pub files : ¬ Rose call.reads.faults call.reads_now.faults
   pub input : ¬ Rose call.before.read_faults call.now.read_faults
   pub output : ¬ Rose call.before.write_faults call.now.write_faults
 

@@ -2,6 +2,7 @@ ghost use Rattle.std.specs.Prelude.{◌≡◌, ℕ, List, None, Option, Some};
 ghost use Rattle.sr_class_text.specs.Lines as lines;
 ghost use Rattle.sr_top.specs.Causes.{HasCause, PutsLines, call_of, devices};
 ghost use Rattle.sr_top.specs.Programs.{classes_in, core_in};
+ghost use Rattle.sr_top.specs.Reading.{reads_by};
 ghost use Rattle.sr_top.specs.Tasks.{ListsClasses, task};
 
 use crate::compiling::compile_files;
@@ -21,7 +22,7 @@ pub fn list_classes<F: Files, O: Sink>(
     output: &mut O,
 ) -> Outcome
     ensures cause { (words : List (List ℕ)) (left : Option (List ℕ)) (read_faults : ℕ) → task words ≡ Some (ListsClasses names.now) → HasCause
-        (call_of words (F.content files.old) (F.faults files.old) (F.faults files.new)
+        (call_of words (F.content files.old) (reads_by (F.readings files.old) (F.faults files.old)) (reads_by (F.readings files.new) (F.faults files.new))
         (devices left read_faults (O.held output.old) (O.faults output.old))
         (devices left read_faults (O.held output.new) (O.faults output.new))
         result.items)

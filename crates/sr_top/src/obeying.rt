@@ -3,6 +3,7 @@ ghost use Rattle.sr_journal.specs.Journal.{IsInRange};
 ghost use Rattle.sr_run.specs.Runs.{Devices};
 ghost use Rattle.sr_top.specs.Causes.{HasCause, call_of, devices};
 ghost use Rattle.sr_top.specs.Journal.{CanBeAsked, HasHeaderIf};
+ghost use Rattle.sr_top.specs.Reading.{Reads, reads_by};
 ghost use Rattle.sr_top.specs.Report as report_of;
 ghost use Rattle.sr_top.specs.Tasks as tasks;
 ghost use Rattle.sr_words.specs.Commands.{command_of, default_of};
@@ -81,13 +82,13 @@ pub fn obey<F: Files, I: Source, O: Sink>(
     output: &mut O,
 ) -> Obeyed
     ensures cause { (words : List (List ℕ)) → command_of words ≡ Some command → HasCause
-        (call_of words (F.content files.old) (F.faults files.old) (F.faults files.new)
+        (call_of words (F.content files.old) (reads_by (F.readings files.old) (F.faults files.old)) (reads_by (F.readings files.new) (F.faults files.new))
         (devices (I.left input.old) (I.faults input.old) (O.held output.old) (O.faults output.old))
         (devices (I.left input.new) (I.faults input.new) (O.held output.new) (O.faults output.new))
         result.items)
         result.ending }
     ensures header { (words : List (List ℕ)) → command_of words ≡ Some command → HasHeaderIf
-        (call_of words (F.content files.old) (F.faults files.old) (F.faults files.new)
+        (call_of words (F.content files.old) (reads_by (F.readings files.old) (F.faults files.old)) (reads_by (F.readings files.new) (F.faults files.new))
         (devices (I.left input.old) (I.faults input.old) (O.held output.old) (O.faults output.old))
         (devices (I.left input.new) (I.faults input.new) (O.held output.new) (O.faults output.new))
         result.items)
@@ -157,13 +158,13 @@ fn run_files<F: Files, I: Source, O: Sink>(
     output: &mut O,
 ) -> Outcome
     ensures cause { (words : List (List ℕ)) → tasks.task words ≡ Some (tasks.Runs (tasks.Named names.now) steps ticks journal) → HasCause
-        (call_of words (F.content files.old) (F.faults files.old) (F.faults files.new)
+        (call_of words (F.content files.old) (reads_by (F.readings files.old) (F.faults files.old)) (reads_by (F.readings files.new) (F.faults files.new))
         (devices (I.left input.old) (I.faults input.old) (O.held output.old) (O.faults output.old))
         (devices (I.left input.new) (I.faults input.new) (O.held output.new) (O.faults output.new))
         result.items)
         result.ending }
     ensures header { (words : List (List ℕ)) → tasks.task words ≡ Some (tasks.Runs (tasks.Named names.now) steps ticks journal) → HasHeaderIf
-        (call_of words (F.content files.old) (F.faults files.old) (F.faults files.new)
+        (call_of words (F.content files.old) (reads_by (F.readings files.old) (F.faults files.old)) (reads_by (F.readings files.new) (F.faults files.new))
         (devices (I.left input.old) (I.faults input.old) (O.held output.old) (O.faults output.old))
         (devices (I.left input.new) (I.faults input.new) (O.held output.new) (O.faults output.new))
         result.items)
@@ -186,9 +187,9 @@ fn run_sample<I: Source, O: Sink>(
     input: &mut I,
     output: &mut O,
 ) -> Outcome
-    ensures cause { (words : List (List ℕ)) (files : Option (List (List ℕ × List ℕ))) (faults : ℕ)
+    ensures cause { (words : List (List ℕ)) (files : Option (List (List ℕ × List ℕ))) (reads : Reads)
         → tasks.task words ≡ Some (tasks.Runs (tasks.Sampled seed) (default_of settings.Steps) (default_of settings.Ticks) false) → HasCause
-        (call_of words files faults faults
+        (call_of words files reads reads
         (devices (I.left input.old) (I.faults input.old) (O.held output.old) (O.faults output.old))
         (devices (I.left input.new) (I.faults input.new) (O.held output.new) (O.faults output.new))
         result.items)
@@ -212,7 +213,7 @@ fn run_sample<I: Source, O: Sink>(
 /// Says whether the files of these names are a program.
 fn check_files<F: Files>(alloc: Global, names: &[Text], files: &mut F) -> Outcome
     ensures cause { (words : List (List ℕ)) (devices : Devices) → tasks.task words ≡ Some (tasks.Checks names.now) → HasCause
-        (call_of words (F.content files.old) (F.faults files.old) (F.faults files.new) devices devices result.items)
+        (call_of words (F.content files.old) (reads_by (F.readings files.old) (F.faults files.old)) (reads_by (F.readings files.new) (F.faults files.new)) devices devices result.items)
         result.ending }
     ensures header { result.header ≡ None }
     ensures files { F.content files.new ≡ F.content files.old }

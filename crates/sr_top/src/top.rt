@@ -3,6 +3,7 @@ ghost use Rattle.sr_journal.specs.Journal.{IsInRange};
 ghost use Rattle.sr_top.specs.Causes.{HasCause, call_of, devices};
 ghost use Rattle.sr_top.specs.Headline.{Headline, IsComplete};
 ghost use Rattle.sr_top.specs.Journal.{HasHeaderIf, HasNoJournal, PutsJournal};
+ghost use Rattle.sr_top.specs.Reading.{reads_by};
 ghost use Rattle.sr_top.specs.Report as report_of;
 ghost use Rattle.sr_top.specs.Tasks.{file_names};
 
@@ -30,19 +31,19 @@ pub fn sr_top<F: Files, I: Source, O: Sink, D: Sink, J: Sink, G: Gate + Sync>(
     gate: &G,
 ) -> Report
     ensures cause { HasCause
-        (call_of (map string_bytes words.now) (F.content files.old) (F.faults files.old) (F.faults files.new)
+        (call_of (map string_bytes words.now) (F.content files.old) (reads_by (F.readings files.old) (F.faults files.old)) (reads_by (F.readings files.new) (F.faults files.new))
         (devices (I.left input.old) (I.faults input.old) (O.held output.old) (O.faults output.old))
         (devices (I.left input.new) (I.faults input.new) (O.held output.new) (O.faults output.new))
         result.items)
         result.ending }
     ensures headline { Headline
-        (call_of (map string_bytes words.now) (F.content files.old) (F.faults files.old) (F.faults files.new)
+        (call_of (map string_bytes words.now) (F.content files.old) (reads_by (F.readings files.old) (F.faults files.old)) (reads_by (F.readings files.new) (F.faults files.new))
         (devices (I.left input.old) (I.faults input.old) (O.held output.old) (O.faults output.old))
         (devices (I.left input.new) (I.faults input.new) (O.held output.new) (O.faults output.new))
         result.items)
         result.ending }
     ensures complete { IsComplete
-        (call_of (map string_bytes words.now) (F.content files.old) (F.faults files.old) (F.faults files.new)
+        (call_of (map string_bytes words.now) (F.content files.old) (reads_by (F.readings files.old) (F.faults files.old)) (reads_by (F.readings files.new) (F.faults files.new))
         (devices (I.left input.old) (I.faults input.old) (O.held output.old) (O.faults output.old))
         (devices (I.left input.new) (I.faults input.new) (O.held output.new) (O.faults output.new))
         result.items)
@@ -52,13 +53,13 @@ pub fn sr_top<F: Files, I: Source, O: Sink, D: Sink, J: Sink, G: Gate + Sync>(
         (D.held diag.old) (D.held diag.new) (D.faults diag.old) (D.faults diag.new) }
     ensures status { result.status ≡ report_of.status_of result.ending result.journal }
     ensures journal { PutsJournal
-        (call_of (map string_bytes words.now) (F.content files.old) (F.faults files.old) (F.faults files.new)
+        (call_of (map string_bytes words.now) (F.content files.old) (reads_by (F.readings files.old) (F.faults files.old)) (reads_by (F.readings files.new) (F.faults files.new))
         (devices (I.left input.old) (I.faults input.old) (O.held output.old) (O.faults output.old))
         (devices (I.left input.new) (I.faults input.new) (O.held output.new) (O.faults output.new))
         result.items)
         result.ending result.journal (J.held journal.old) (J.held journal.new) (J.faults journal.old) (J.faults journal.new)
         ⊎ (HasNoJournal
-        (call_of (map string_bytes words.now) (F.content files.old) (F.faults files.old) (F.faults files.new)
+        (call_of (map string_bytes words.now) (F.content files.old) (reads_by (F.readings files.old) (F.faults files.old)) (reads_by (F.readings files.new) (F.faults files.new))
         (devices (I.left input.old) (I.faults input.old) (O.held output.old) (O.faults output.old))
         (devices (I.left input.new) (I.faults input.new) (O.held output.new) (O.faults output.new))
         result.items)
@@ -93,13 +94,13 @@ fn obey_words<F: Files, I: Source, O: Sink>(
     output: &mut O,
 ) -> Obeyed
     ensures cause { HasCause
-        (call_of (map string_bytes words.now) (F.content files.old) (F.faults files.old) (F.faults files.new)
+        (call_of (map string_bytes words.now) (F.content files.old) (reads_by (F.readings files.old) (F.faults files.old)) (reads_by (F.readings files.new) (F.faults files.new))
         (devices (I.left input.old) (I.faults input.old) (O.held output.old) (O.faults output.old))
         (devices (I.left input.new) (I.faults input.new) (O.held output.new) (O.faults output.new))
         result.items)
         result.ending }
     ensures header { HasHeaderIf
-        (call_of (map string_bytes words.now) (F.content files.old) (F.faults files.old) (F.faults files.new)
+        (call_of (map string_bytes words.now) (F.content files.old) (reads_by (F.readings files.old) (F.faults files.old)) (reads_by (F.readings files.new) (F.faults files.new))
         (devices (I.left input.old) (I.faults input.old) (O.held output.old) (O.faults output.old))
         (devices (I.left input.new) (I.faults input.new) (O.held output.new) (O.faults output.new))
         result.items)

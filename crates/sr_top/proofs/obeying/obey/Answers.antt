@@ -9,12 +9,13 @@ use Rattle.sr_top.proofs.Commands.{can_be_asked}
 use Rattle.sr_top.specs.Causes.{Call, HasCause, call_of, devices}
 use Rattle.sr_top.specs.Journal.{CanBeAsked, EndsBeforeRun, HasHeaderIf, without}
 use Rattle.sr_top.specs.Tasks.{Checks, ListsClasses, Named, Runs, keeps_journal}
+use Rattle.sr_top.specs.Reading.{reads_by}
 use Rattle.sr_top.proofs.obeying.obey.Goals as goal
 
 pub returns-in-Run-clause-cause : goal.returns-in-Run-clause-cause
 returns-in-Run-clause-cause g c = λ words told.
     let call : List Item → Call =
-    call_of words (g.F.Files.content c.args.files.now) (g.F.Files.faults c.args.files.now) (g.F.Files.faults c.run_files-outcome.new.files)
+    call_of words (g.F.Files.content c.args.files.now) (reads_by (g.F.Files.readings c.args.files.now) (g.F.Files.faults c.args.files.now)) (reads_by (g.F.Files.readings c.run_files-outcome.new.files) (g.F.Files.faults c.run_files-outcome.new.files))
     (devices (g.I.Source.left c.args.input.now) (g.I.Source.faults c.args.input.now) (g.O.Sink.held c.args.output.now) (g.O.Sink.faults c.args.output.now))
     (devices (g.I.Source.left c.run_files-outcome.new.input) (g.I.Source.faults c.run_files-outcome.new.input) (g.O.Sink.held c.run_files-outcome.new.output) (g.O.Sink.faults c.run_files-outcome.new.output)) in
     handed_on (λ items ending header. HasCause (call items) ending) _ _ _ _ _ _ c.named.ensures.items c.named.ensures.ending c.named.ensures.header
@@ -23,7 +24,7 @@ returns-in-Run-clause-cause g c = λ words told.
 pub returns-in-Run-clause-header : goal.returns-in-Run-clause-header
 returns-in-Run-clause-header g c = λ words told.
     let call : List Item → Call =
-    call_of words (g.F.Files.content c.args.files.now) (g.F.Files.faults c.args.files.now) (g.F.Files.faults c.run_files-outcome.new.files)
+    call_of words (g.F.Files.content c.args.files.now) (reads_by (g.F.Files.readings c.args.files.now) (g.F.Files.faults c.args.files.now)) (reads_by (g.F.Files.readings c.run_files-outcome.new.files) (g.F.Files.faults c.run_files-outcome.new.files))
     (devices (g.I.Source.left c.args.input.now) (g.I.Source.faults c.args.input.now) (g.O.Sink.held c.args.output.now) (g.O.Sink.faults c.args.output.now))
     (devices (g.I.Source.left c.run_files-outcome.new.input) (g.I.Source.faults c.run_files-outcome.new.input) (g.O.Sink.held c.run_files-outcome.new.output) (g.O.Sink.faults c.run_files-outcome.new.output)) in
     handed_on (λ items ending header. HasHeaderIf (call items) ending header) _ _ _ _ _ _ c.named.ensures.items c.named.ensures.ending c.named.ensures.header
@@ -40,7 +41,7 @@ returns-in-Run-clause-names g c = λ words told. named_as words c.named.result.n
 pub returns-in-Check-clause-cause : goal.returns-in-Check-clause-cause
 returns-in-Check-clause-cause g c = λ words told.
     let call : List Item → Call =
-    call_of words (g.F.Files.content c.args.files.now) (g.F.Files.faults c.args.files.now) (g.F.Files.faults c.check_files-outcome.new.files)
+    call_of words (g.F.Files.content c.args.files.now) (reads_by (g.F.Files.readings c.args.files.now) (g.F.Files.faults c.args.files.now)) (reads_by (g.F.Files.readings c.check_files-outcome.new.files) (g.F.Files.faults c.check_files-outcome.new.files))
     (devices (g.I.Source.left c.args.input.now) (g.I.Source.faults c.args.input.now) (g.O.Sink.held c.args.output.now) (g.O.Sink.faults c.args.output.now))
     (devices (g.I.Source.left c.args.input.now) (g.I.Source.faults c.args.input.now) (g.O.Sink.held c.args.output.now) (g.O.Sink.faults c.args.output.now)) in
     handed_on (λ items ending header. HasCause (call items) ending) _ _ _ _ _ _ c.named-in-Check.ensures.items c.named-in-Check.ensures.ending c.named-in-Check.ensures.header
@@ -59,7 +60,7 @@ returns-in-Check-clause-names g c = λ words told. named_as words c.named-in-Che
 pub returns-in-Classes-clause-cause : goal.returns-in-Classes-clause-cause
 returns-in-Classes-clause-cause g c = λ words told.
     let call : List Item → Call =
-    call_of words (g.F.Files.content c.args.files.now) (g.F.Files.faults c.args.files.now) (g.F.Files.faults c.list_classes-outcome.new.files)
+    call_of words (g.F.Files.content c.args.files.now) (reads_by (g.F.Files.readings c.args.files.now) (g.F.Files.faults c.args.files.now)) (reads_by (g.F.Files.readings c.list_classes-outcome.new.files) (g.F.Files.faults c.list_classes-outcome.new.files))
     (devices (g.I.Source.left c.args.input.now) (g.I.Source.faults c.args.input.now) (g.O.Sink.held c.args.output.now) (g.O.Sink.faults c.args.output.now))
     (devices (g.I.Source.left c.args.input.now) (g.I.Source.faults c.args.input.now) (g.O.Sink.held c.list_classes-outcome.new.output) (g.O.Sink.faults c.list_classes-outcome.new.output)) in
     handed_on (λ items ending header. HasCause (call items) ending) _ _ _ _ _ _ c.named-in-Classes.ensures.items c.named-in-Classes.ensures.ending c.named-in-Classes.ensures.header
@@ -78,7 +79,7 @@ returns-in-Classes-clause-names g c = λ words told. named_as words c.named-in-C
 pub returns-in-Ok-clause-cause : goal.returns-in-Ok-clause-cause
 returns-in-Ok-clause-cause g c = λ words told.
     let call : List Item → Call =
-    call_of words (g.F.Files.content c.args.files.now) (g.F.Files.faults c.args.files.now) (g.F.Files.faults c.args.files.now)
+    call_of words (g.F.Files.content c.args.files.now) (reads_by (g.F.Files.readings c.args.files.now) (g.F.Files.faults c.args.files.now)) (reads_by (g.F.Files.readings c.args.files.now) (g.F.Files.faults c.args.files.now))
     (devices (g.I.Source.left c.args.input.now) (g.I.Source.faults c.args.input.now) (g.O.Sink.held c.args.output.now) (g.O.Sink.faults c.args.output.now))
     (devices (g.I.Source.left c.run_sample-outcome.new.input) (g.I.Source.faults c.run_sample-outcome.new.input) (g.O.Sink.held c.run_sample-outcome.new.output) (g.O.Sink.faults c.run_sample-outcome.new.output)) in
     handed_on (λ items ending header. HasCause (call items) ending) _ _ _ _ _ _ c.named-in-Ok.ensures.items c.named-in-Ok.ensures.ending c.named-in-Ok.ensures.header
