@@ -3,6 +3,7 @@
 
 mod compiling;
 mod diag;
+mod host;
 mod journal;
 mod listing;
 mod obeying;
@@ -14,6 +15,7 @@ mod reading;
 mod report;
 mod top;
 
+pub use host::run_host;
 pub use report::{Ending, Report, Side, Stretch};
 pub use sr_run::LimitKind;
 pub use top::sr_top;
