@@ -1,3 +1,5 @@
+ghost use Rattle.std.specs.Prelude.{None};
+
 use crate::support::{push_file, words_of};
 use sr_ports::{FreeGate, MemFiles, MemSink, Source, TakeFailed};
 use sr_top::{Ending, LimitKind, sr_top};

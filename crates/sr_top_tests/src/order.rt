@@ -1,3 +1,5 @@
+ghost use Rattle.std.specs.Prelude.{None};
+
 use crate::support::{push_file, words_of};
 use sr_ports::{FreeGate, MemFiles, MemSink, PortFail, Sink, Source, TakeFailed};
 use sr_top::sr_top;
