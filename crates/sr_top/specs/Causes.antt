@@ -1,8 +1,8 @@
 -- Why a call of the program ends as it does.
+pub use Rattle.sr_top.specs.Calls.{Call, PutsNothing, RunsNothing, call_of, devices}
 use Rattle.std.specs.Prelude.{◌≡◌, ℕ, ◌≤◌, ◌⊎◌, Bool, List, [], length, Option, Some, None}
 use Rattle.std.specs.List.{AllByRecursion}
 use Rattle.std.specs.Io.KnownBytes.{append_known}
-use Rattle.sr_ask.specs.declared.item.Item.{Item}
 use Rattle.sr_core.specs.declared.component.Core.{Core}
 use Rattle.sr_core.specs.declared.owner.Classes.{Classes}
 use Rattle.sr_class_text.specs.Lines.{class_text}
@@ -11,48 +11,18 @@ use Rattle.sr_ports.specs.Streams.{PutInPart}
 use Rattle.sr_run.specs.Causes as run
 use Rattle.sr_run.specs.Numbers.{IsNumbered}
 use Rattle.sr_run.specs.Runs as runs
+use Rattle.sr_run.specs.declared.end.LimitKind.TheVariants as limit
 use Rattle.sr_run.specs.declared.end.RunEnd.{RunEnd}
 use Rattle.sr_run.specs.declared.end.RunEnd.TheVariants as run_end
 use Rattle.sr_text.specs.declared.refusal.Refusal.{Refusal}
-use Rattle.sr_top.specs.Reading.{AreCompiled, AreRefused, FailsAt, IsUnread, Reads}
+use Rattle.sr_top.specs.Reading.{AreCompiled, AreRefused, FailsAt, IsUnread}
+use Rattle.sr_top.specs.Replaying.{EndsBadJournal, EndsEarlyInReplay, EndsIllegal, EndsOtherFiles, EndsReplayInput, EndsReplayRead, EndsReplayRefused, EndsUnread, HasSnapshot}
 use Rattle.sr_top.specs.Tasks.{Checks, ListsClasses, Named, Origin, Runs, origin_in, task}
 use Rattle.sr_top.specs.declared.report.Ending.{Ending}
-use Rattle.sr_top.specs.declared.report.Ending.TheVariants.{Done, Quiet, Stopped, Failed, Limit, Refused, NoFile, ReadFault, WriteFault, NoMemory, Usage}
+use Rattle.sr_top.specs.declared.report.Ending.TheVariants.{Done, Quiet, Stopped, Failed, Limit, Refused, NoFile, ReadFault, WriteFault, NoMemory, Usage, BadJournal, OtherFiles, Illegal}
 use Rattle.sr_world.specs.declared.ends.End.TheVariants as end
 
--- A call of the program: its words; what the files tell; the reads of files, before and after; input and output, before
--- and after; and the items that it made.
-pub record Call : Type 0 where
-  pub words : List (List ℕ)
-  pub files : Option (List (List ℕ × List ℕ))
-  pub reads : Reads
-  pub reads_now : Reads
-  pub before : runs.Devices
-  pub now : runs.Devices
-  pub items : List Item
-
--- input and output at one time: what is left, what is held, and the counts of their faults
-abbrev pub devices : Option (List ℕ) → ℕ → Option (List ℕ) → ℕ → runs.Devices
-devices left read_faults held write_faults = record { left = left; read_faults = read_faults; held = held; write_faults = write_faults }
-
--- a call by its parts, in this order
-abbrev pub call_of : List (List ℕ) → Option (List (List ℕ × List ℕ)) → Reads → Reads → runs.Devices → runs.Devices → List Item → Call
-call_of words files reads reads_now before now items = record {
-  words = words;
-  files = files;
-  reads = reads;
-  reads_now = reads_now;
-  before = before;
-  now = now;
-  items = items;
-}
-
 -- ---- before a run
-
--- no item was made, and input and output are as before
-pub record RunsNothing (call : Call) : Type 0 where
-  pub no_items : call.items ≡ []
-  pub untouched : call.now ≡ call.before
 
 -- the words are none that the program knows
 pub record EndsUsage (call : Call) : Type 0 where
@@ -93,11 +63,11 @@ pub record EndsChecked (call : Call) : Type 0 where
   pub no_fault : call.reads_now.faults ≡ call.reads.faults
   pub nothing : RunsNothing call
 
--- ---- `classes`
+-- ---- lines
 
 -- The words ask for classes, the files were read and accepted, and these are the lines of the classes. No item was made,
 -- and nothing was read.
-pub record HasLines (call : Call) (lines : List ℕ) : Type 0 where
+pub record HasClassLines (call : Call) (lines : List ℕ) : Type 0 where
   pub names : List (List ℕ)
   pub asked : task call.words ≡ Some (ListsClasses names)
   pub core : Core
@@ -109,7 +79,11 @@ pub record HasLines (call : Call) (lines : List ℕ) : Type 0 where
   pub left : call.now.left ≡ call.before.left
   pub no_read_fault : call.now.read_faults ≡ call.before.read_faults
 
--- the lines of the classes were put
+-- the lines that the words ask for: those of classes, or those of what is to be seen after a replay
+abbrev pub HasLines : Call → List ℕ → Type 0
+HasLines call lines = HasClassLines call lines ⊎ HasSnapshot call lines
+
+-- the lines were put
 pub record EndsListed (call : Call) : Type 0 where
   pub lines : List ℕ
   pub has : HasLines call lines
@@ -172,13 +146,16 @@ HasCause call Done = EndsChecked call ⊎ EndsListed call
 HasCause call Quiet = EndsRun call (run_end.Ended end.Quiet)
 HasCause call (Stopped status) = EndsRun call (run_end.Ended (end.Stopped status))
 HasCause call (Failed fault place) = EndsRun call (run_end.Ended (end.Failed fault place))
-HasCause call (Limit kind) = EndsRun call (run_end.Limit kind)
-HasCause call (Refused refusal) = EndsRefused call refusal
-HasCause call (NoFile file) = EndsNoFile call file
-HasCause call ReadFault = EndsRun call run_end.ReadFault
+HasCause call (Limit kind) = EndsRun call (run_end.Limit kind) ⊎ ((kind ≡ limit.Input) × EndsReplayInput call)
+HasCause call (Refused refusal) = EndsRefused call refusal ⊎ EndsReplayRefused call refusal
+HasCause call (NoFile file) = EndsNoFile call file ⊎ EndsUnread call file
+HasCause call ReadFault = EndsRun call run_end.ReadFault ⊎ EndsReplayRead call
 HasCause call WriteFault = EndsRun call run_end.WriteFault ⊎ EndsInLines call
-HasCause call NoMemory = EndsEarly call ⊎ EndsRun call run_end.NoMemory ⊎ EndsEarlyInLines call
+HasCause call NoMemory = EndsEarly call ⊎ EndsRun call run_end.NoMemory ⊎ EndsEarlyInLines call ⊎ EndsEarlyInReplay call
 HasCause call Usage = EndsUsage call
+HasCause call (BadJournal fail) = EndsBadJournal call fail
+HasCause call (OtherFiles file) = EndsOtherFiles call file
+HasCause call (Illegal at) = EndsIllegal call at
 
 -- ---- from the run to the call
 

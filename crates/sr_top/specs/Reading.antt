@@ -32,6 +32,13 @@ pub record AreRead (told : Option (List (List ℕ × List ℕ))) (names : List (
   pub named : map (λ file. file.0) files ≡ names
   pub each : AllByRecursion (IsRead told) files
 
+-- the length and the name of a file
+abbrev pub size_of : List ℕ × List ℕ → ℕ × List ℕ
+size_of file = (length file.1, file.0)
+
+abbrev pub sizes_of : List (List ℕ × List ℕ) → List (ℕ × List ℕ)
+sizes_of files = map size_of files
+
 -- one more file was read
 pub record ReadsOne (told : Option (List (List ℕ × List ℕ))) (name : List ℕ) (old new : List (List ℕ × List ℕ)) : Type 0 where
   pub bytes : List ℕ

@@ -4,6 +4,7 @@
 mod compiling;
 mod diag;
 mod host;
+mod input;
 mod journal;
 mod listing;
 mod obeying;
@@ -12,7 +13,10 @@ mod preparing;
 mod program;
 mod putting;
 mod reading;
+mod recorded;
+mod replaying;
 mod report;
+mod told_files;
 mod top;
 
 pub use host::run_host;

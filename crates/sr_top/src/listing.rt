@@ -8,9 +8,10 @@ ghost use Rattle.sr_top.specs.Tasks.{ListsClasses, task};
 use crate::compiling::compile_files;
 use crate::outcome::{Outcome, without_items};
 use crate::program::Program;
+use crate::putting::put_lines;
 use crate::report::Ending;
 use sr_class_text::class_text;
-use sr_ports::{Files, PortFail, Sink, put_all};
+use sr_ports::{Files, Sink};
 use sr_value::Text;
 use std::alloc::Global;
 
@@ -44,9 +45,5 @@ fn put_classes<O: Sink>(alloc: Global, program: &Program, output: &mut O) -> End
     let Ok(text) = class_text(alloc, &program.core, &program.classes) else {
         return Ending::NoMemory;
     };
-    match put_all(output, text.as_bytes()) {
-        Ok(()) => Ending::Done,
-        Err(PortFail::Failed) => Ending::WriteFault,
-        Err(PortFail::NoMemory) => Ending::NoMemory,
-    }
+    put_lines(text.as_bytes(), output)
 }

@@ -14,6 +14,7 @@ use crate::listing::list_classes;
 use crate::outcome::{Outcome, run_program, without_items};
 use crate::preparing::{Prepared, prepare};
 use crate::program::Process;
+use crate::replaying::replay_journal;
 use crate::report::Ending;
 use sr_ask::Item;
 use sr_journal::Header;
@@ -27,10 +28,11 @@ const SAMPLE_STEPS: u32 = 1_000_000;
 
 const SAMPLE_TICKS: u32 = 10_000_000;
 
-/// What a command came to: the names of its files, how it ended, and the items that it made; and what stands before them
-/// in its journal, where one is kept.
+/// What a command came to: the name of the journal that it replayed, where it was to, and those of its files; how it
+/// ended; and the items that it made, and what stands before them in its journal, where one is kept.
 #[derive(Debug, Drop)]
 pub struct Obeyed {
+    pub replayed: Option<Text>,
     pub names: Row<Text>,
     pub ending: Ending,
     pub items: Row<Item>,
@@ -40,12 +42,14 @@ pub struct Obeyed {
 impl Obeyed {
     /// An ending before any file.
     pub fn early(alloc: Global, ending: Ending) -> Obeyed
+        ensures replayed { result.replayed ≡ None }
         ensures names { result.names ≡ [] }
         ensures ending { result.ending ≡ ending }
         ensures items { result.items ≡ [] }
         ensures header { result.header ≡ None }
     {
         Obeyed {
+            replayed: None,
             names: Row::new(alloc),
             ending,
             items: Row::new(alloc),
@@ -53,7 +57,8 @@ impl Obeyed {
         }
     }
 
-    fn named(names: Row<Text>, outcome: Outcome) -> Obeyed
+    fn named(replayed: Option<Text>, names: Row<Text>, outcome: Outcome) -> Obeyed
+        ensures replayed { result.replayed ≡ replayed }
         ensures names { result.names ≡ names }
         ensures ending { result.ending ≡ outcome.ending }
         ensures items { result.items ≡ outcome.items }
@@ -65,6 +70,7 @@ impl Obeyed {
             header,
         } = outcome;
         Obeyed {
+            replayed,
             names,
             ending,
             items,
@@ -95,7 +101,7 @@ pub fn obey<F: Files, I: Source, O: Sink>(
         result.ending result.header }
     ensures in_range { (words : List (List ℕ)) → command_of words ≡ Some command → IfSome result.header (λ header. IsInRange header result.items) }
     ensures names { (words : List (List ℕ)) → command_of words ≡ Some command
-        → report_of.diag_text result.names result.ending ≡ report_of.diag_text (tasks.file_names words) result.ending }
+        → report_of.diag_text result.replayed result.names result.ending ≡ report_of.diag_text (tasks.replayed_journal words) (tasks.file_names words) result.ending }
     ensures files { F.content files.new ≡ F.content files.old }
 {
     match command {
@@ -116,23 +122,39 @@ pub fn obey<F: Files, I: Source, O: Sink>(
                 input,
                 output,
             );
-            Obeyed::named(names, outcome)
+            Obeyed::named(None, names, outcome)
         }
         Command::Check { files: names } => {
             let outcome = check_files(alloc, names.as_slice(), files);
-            Obeyed::named(names, outcome)
+            Obeyed::named(None, names, outcome)
         }
         Command::Classes { files: names } => {
             let outcome = list_classes(alloc, names.as_slice(), files, output);
-            Obeyed::named(names, outcome)
+            Obeyed::named(None, names, outcome)
         }
         Command::Gen { seed, workers: _ } => match sample_names(alloc) {
             Ok(names) => {
                 let outcome = run_sample(alloc, seed, input, output);
-                Obeyed::named(names, outcome)
+                Obeyed::named(None, names, outcome)
             }
             Err(_) => Obeyed::early(alloc, Ending::NoMemory),
         },
+        Command::Replay {
+            journal,
+            files: names,
+            upto,
+        } => {
+            let outcome = replay_journal(
+                alloc,
+                &journal,
+                names.as_slice(),
+                upto,
+                files,
+                input,
+                output,
+            );
+            Obeyed::named(Some(journal), names, outcome)
+        }
     }
 }
 
