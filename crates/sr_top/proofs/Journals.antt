@@ -17,14 +17,14 @@ use Rattle.sr_run.specs.Numbers.{IsNumbered}
 use Rattle.sr_run.specs.declared.end.RunEnd.{RunEnd}
 use Rattle.sr_run.specs.declared.end.RunEnd.TheVariants as run_end
 use Rattle.sr_top.specs.Causes.{Call, ending_of}
-use Rattle.sr_top.specs.Journal.{CanBeAsked, EndsBeforeRun, EndsWithRun, HasHeaderIf, with_header, without, HasNoJournal, IsPrepared, PutsJournal, header_if, header_of, size_of, sizes_of}
+use Rattle.sr_top.specs.Journal.{CanBeAsked, EndsBeforeRun, EndsWithRun, HasHeaderIf, with_header, without, HasNoJournal, IsPrepared, PutsJournal, header_if, header_of}
 use Rattle.sr_top.specs.Report.{GotAsFar}
 use Rattle.sr_top.specs.Programs.{classes_in, core_in}
-use Rattle.sr_top.specs.Reading.{AreRead, EndsCompiling, IsRead, Reads}
+use Rattle.sr_top.specs.Reading.{AreRead, EndsCompiling, IsRead, Reads, size_of, sizes_of}
 use Rattle.sr_top.specs.Tasks.{Named, Origin, Runs, keeps_journal, task}
 use Rattle.sr_top.specs.declared.preparing.Prepared.{Prepared}
 use Rattle.sr_top.specs.declared.report.Ending.{Ending}
-use Rattle.sr_top.specs.declared.report.Ending.TheVariants.{Done, Quiet, Stopped, Failed, Limit, Refused, NoFile, ReadFault, WriteFault, NoMemory, Usage}
+use Rattle.sr_top.specs.declared.report.Ending.TheVariants.{Done, Quiet, Stopped, Failed, Limit, Refused, NoFile, ReadFault, WriteFault, NoMemory, Usage, BadJournal, OtherFiles, Illegal}
 use Rattle.sr_top.specs.declared.report.Side.{Side}
 use Rattle.sr_top.specs.declared.report.Side.TheVariants as sides
 use Rattle.sr_world.specs.declared.ends.End.TheVariants as end
@@ -72,6 +72,9 @@ came_before told origin before now (Limit kind) ends = absurd ends
 came_before told origin before now ReadFault ends = absurd ends
 came_before told origin before now WriteFault ends = absurd ends
 came_before told origin before now Usage ends = absurd ends
+came_before told origin before now (BadJournal fail) ends = absurd ends
+came_before told origin before now (OtherFiles file) ends = absurd ends
+came_before told origin before now (Illegal at) ends = absurd ends
 
 module _ (call : Call) (ending : Ending) (names : List (List ℕ)) (steps ticks : ℕ) (core : Core) (classes : Classes) where
   pub headed : (journal : Bool) (header : Option Header) → task call.words ≡ Some (Runs (Named names) steps ticks journal)

@@ -1,5 +1,9 @@
 pub mod Asked
 pub mod Commands
 pub mod Endings
+pub mod Inputs
 pub mod Journals
 pub mod Readings
+pub mod Recorded
+pub mod Replayed
+pub mod Sizes

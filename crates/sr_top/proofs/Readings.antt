@@ -15,7 +15,7 @@ use Rattle.sr_top.specs.Journal.{IsPrepared}
 use Rattle.sr_top.specs.Reading.{AreCompiled, AreFiles, AreRead, EndsCompiling, FailsAt, IsRead, StopsCompiling, Reads, first_bytes, reads_after, sample_files}
 use Rattle.sr_top.specs.Tasks.{Named, Origin, Sampled}
 use Rattle.sr_top.specs.declared.report.Ending.{Ending}
-use Rattle.sr_top.specs.declared.report.Ending.TheVariants.{Done, Quiet, Stopped, Failed, Limit, Refused, NoFile, ReadFault, WriteFault, NoMemory, Usage}
+use Rattle.sr_top.specs.declared.report.Ending.TheVariants.{Done, Quiet, Stopped, Failed, Limit, Refused, NoFile, ReadFault, WriteFault, NoMemory, Usage, BadJournal, OtherFiles, Illegal}
 
 -- ---- the program in the files
 
@@ -38,6 +38,9 @@ ended_as told origin files before now (NoFile file) read same stops = absurd sto
 ended_as told origin files before now ReadFault read same stops = stops
 ended_as told origin files before now WriteFault read same stops = stops
 ended_as told origin files before now Usage read same stops = stops
+ended_as told origin files before now (BadJournal fail) read same stops = stops
+ended_as told origin files before now (OtherFiles file) read same stops = stops
+ended_as told origin files before now (Illegal at) read same stops = stops
 
 pub stopped_as : {P : Type 0} (told : Option (List (List ℕ × List ℕ))) (names : List (List ℕ)) (files : List (List ℕ × List ℕ)) (before now : Reads)
     (result : Result P Ending) → AreRead told names files → now.faults ≡ before.faults → IfErr result (StopsCompiling files)

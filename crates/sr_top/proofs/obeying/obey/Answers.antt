@@ -36,7 +36,7 @@ returns-in-Run-clause-in_range g c = λ words told.
     (c.run_files-outcome.ensures.in_range (subst (λ names. CanBeAsked names c.in-Run.steps c.in-Run.ticks) (sym c.as_slice.ensures) (can_be_asked _ _ _ _ _ words (told ∙ ap Some c.in-Run.is))))
 
 pub returns-in-Run-clause-names : goal.returns-in-Run-clause-names
-returns-in-Run-clause-names g c = λ words told. named_as words c.named.result.names _ _ (task_is words _ _ _ told c.in-Run.is refl) c.named.ensures.names
+returns-in-Run-clause-names g c = λ words told. named_as words c.named.result.names c.named.result.replayed _ _ (task_is words _ _ _ told c.in-Run.is refl) c.named.ensures.names c.named.ensures.replayed
 
 pub returns-in-Check-clause-cause : goal.returns-in-Check-clause-cause
 returns-in-Check-clause-cause g c = λ words told.
@@ -55,7 +55,7 @@ pub returns-in-Check-clause-in_range : goal.returns-in-Check-clause-in_range
 returns-in-Check-clause-in_range g c = λ words told. subst (λ o. IfSome o (λ h. IsInRange h c.named-in-Check.result.items)) (sym (c.named-in-Check.ensures.header ∙ c.check_files-outcome.ensures.header)) tt
 
 pub returns-in-Check-clause-names : goal.returns-in-Check-clause-names
-returns-in-Check-clause-names g c = λ words told. named_as words c.named-in-Check.result.names _ _ (task_is words _ _ _ told c.in-Check.is refl) c.named-in-Check.ensures.names
+returns-in-Check-clause-names g c = λ words told. named_as words c.named-in-Check.result.names c.named-in-Check.result.replayed _ _ (task_is words _ _ _ told c.in-Check.is refl) c.named-in-Check.ensures.names c.named-in-Check.ensures.replayed
 
 pub returns-in-Classes-clause-cause : goal.returns-in-Classes-clause-cause
 returns-in-Classes-clause-cause g c = λ words told.
@@ -74,7 +74,7 @@ pub returns-in-Classes-clause-in_range : goal.returns-in-Classes-clause-in_range
 returns-in-Classes-clause-in_range g c = λ words told. subst (λ o. IfSome o (λ h. IsInRange h c.named-in-Classes.result.items)) (sym (c.named-in-Classes.ensures.header ∙ c.list_classes-outcome.ensures.header)) tt
 
 pub returns-in-Classes-clause-names : goal.returns-in-Classes-clause-names
-returns-in-Classes-clause-names g c = λ words told. named_as words c.named-in-Classes.result.names _ _ (task_is words _ _ _ told c.in-Classes.is refl) c.named-in-Classes.ensures.names
+returns-in-Classes-clause-names g c = λ words told. named_as words c.named-in-Classes.result.names c.named-in-Classes.result.replayed _ _ (task_is words _ _ _ told c.in-Classes.is refl) c.named-in-Classes.ensures.names c.named-in-Classes.ensures.replayed
 
 pub returns-in-Ok-clause-cause : goal.returns-in-Ok-clause-cause
 returns-in-Ok-clause-cause g c = λ words told.
@@ -93,7 +93,7 @@ pub returns-in-Ok-clause-in_range : goal.returns-in-Ok-clause-in_range
 returns-in-Ok-clause-in_range g c = λ words told. subst (λ o. IfSome o (λ h. IsInRange h c.named-in-Ok.result.items)) (sym (c.named-in-Ok.ensures.header ∙ c.run_sample-outcome.ensures.header)) tt
 
 pub returns-in-Ok-clause-names : goal.returns-in-Ok-clause-names
-returns-in-Ok-clause-names g c = λ words told. named_as words c.named-in-Ok.result.names _ _ (task_is words _ _ _ told c.in-Gen.is refl) (c.named-in-Ok.ensures.names ∙ c.in-Ok.ensures)
+returns-in-Ok-clause-names g c = λ words told. named_as words c.named-in-Ok.result.names c.named-in-Ok.result.replayed _ _ (task_is words _ _ _ told c.in-Gen.is refl) (c.named-in-Ok.ensures.names ∙ c.in-Ok.ensures) c.named-in-Ok.ensures.replayed
 
 pub returns-in-Err-clause-header : goal.returns-in-Err-clause-header
 returns-in-Err-clause-header g c = λ words told.

@@ -1,6 +1,6 @@
 -- The sample is run, and the call ends as its run; or it isn't accepted, and the call ends for that reason.
 use Rattle.std.proofs.Common.{ap, false, refl, subst, sym}
-use Rattle.std.specs.Option.{option_map}
+use Rattle.std.specs.Prelude.{option_and_then}
 use Rattle.sr_top.proofs.Endings.{caused, stopped}
 use Rattle.sr_top.proofs.Readings.{ended_as, sampled_of}
 use Rattle.sr_top.specs.Causes.{HasCause}
@@ -19,5 +19,5 @@ returns-in-Ok-clause-cause g c = λ words files reads asked.
 pub returns-in-Err-clause-cause : goal.returns-in-Err-clause-cause
 returns-in-Err-clause-cause g c = λ words files reads asked.
     subst (HasCause _) (sym c.without_items.ensures.ending)
-    (stopped _ (Sampled c.args.seed) _ (ap (option_map origin_of) asked) (record { no_items = c.without_items.ensures.items; untouched = refl })
+    (stopped _ (Sampled c.args.seed) _ (ap (option_and_then origin_of) asked) (record { no_items = c.without_items.ensures.items; untouched = refl })
     (ended_as files (Sampled c.args.seed) (sample_files c.args.seed) reads reads _ refl refl c.in-Err.ensures.ends))
