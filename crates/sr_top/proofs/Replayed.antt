@@ -1,17 +1,21 @@
 -- From the stages of a replay to why the call ends.
-use Rattle.std.proofs.Common.{◌≡◌, ◌∙◌, ◌+◌, ◌⊎◌, ℕ, zero, suc, List, [], Some, add-one, ap, inl, inr, refl, subst, sym}
+use Rattle.std.proofs.Common.{◌≡◌, ◌∙◌, ◌+◌, ◌⊎◌, ℕ, zero, suc, List, [], length, min, Some, add-one, ap, inl, inr, refl, subst, sym}
 use Rattle.std.specs.Prelude.{Option, Result, Ok, Err, IfOk, IfErr}
 use Rattle.sr_core.specs.declared.component.Core.{Core}
 use Rattle.sr_core.specs.declared.owner.Classes.{Classes}
 use Rattle.sr_ports.specs.Faults.{Rose}
 use Rattle.sr_ports.specs.Files.{next_read}
+use Rattle.sr_replay.specs.Replays.{Replays}
+use Rattle.sr_replay.specs.Texts.{snapshot_text}
+use Rattle.sr_replay.specs.declared.snapshot.Snapshot.{Snapshot}
+use Rattle.sr_replay.specs.declared.whole.Replayed.TheVariants as replayed
 use Rattle.sr_run.specs.declared.end.LimitKind.TheVariants as limit
 use Rattle.sr_top.proofs.Endings.{devices_same}
 use Rattle.sr_top.specs.Causes.{Call, HasCause, PutsNothing, RunsNothing}
 use Rattle.sr_top.specs.Reading.{FailsAt, Reads, reads_after}
 use Rattle.sr_top.specs.Replaying.{AreBytesOf, AsksReplay, HasInput, HasJournal, HasProgram, HasSnapshot, IsWhole, ReadsJournal}
 use Rattle.sr_top.specs.Stages.{AreLines, AreProgram, EndsAfterJournal, EndsAfterProgram, EndsInItems, EndsInput, EndsItems, EndsJournal, EndsProgram, EndsText, EndsWithJournal, EndsWithProgram, HasLinesOf, Inputs, IsJournalOf, IsText, IsTextOf, Told, inputs}
-use Rattle.sr_top.specs.Tasks.{Replays, task}
+use Rattle.sr_top.specs.Tasks as tasks
 use Rattle.sr_top.specs.declared.recorded.Journal.{Journal}
 use Rattle.sr_top.specs.declared.report.Ending.{Ending}
 use Rattle.sr_top.specs.declared.report.Ending.TheVariants.{Done, Quiet, Stopped, Failed, Limit, Refused, NoFile, ReadFault, WriteFault, NoMemory, Usage, BadJournal, OtherFiles, Illegal}
@@ -32,7 +36,7 @@ later file word before mid now place one same fails = record {
 
 -- ---- what is there
 
-module _ (call : Call) (name : List ℕ) (names : List (List ℕ)) (upto : ℕ) (asked : task call.words ≡ Some (Replays name names upto)) where
+module _ (call : Call) (name : List ℕ) (names : List (List ℕ)) (upto : ℕ) (asked : tasks.task call.words ≡ Some (tasks.Replays name names upto)) where
   abbrev asks : AsksReplay call
   asks = record { journal = name; names = names; upto = upto; asked = asked }
 
@@ -199,3 +203,14 @@ module _ (core : Core) (journal : Journal) (upto : ℕ) (before now : Inputs) (t
   pub no_lines_as : (result : Result (List ℕ) Ending) → IfErr result (EndsItems core journal taken upto) → IfErr result (EndsAfterProgram core journal upto before now)
   no_lines_as (Ok lines) ends = tt
   no_lines_as (Err ending) ends = inr (record { taken = taken; whole = whole; ends = ends; no_fault = same })
+
+module _ (core : Core) (journal : Journal) (input : List ℕ) (upto : ℕ) where
+  pub shown_as : (snapshot : Snapshot) (result : Result (List ℕ) Ending)
+      → Replays core journal.header.steps journal.header.ticks input journal.items (min upto (length journal.items)) (replayed.Reached snapshot)
+      → IfOk result (λ lines. lines ≡ snapshot_text core snapshot) → IfOk result (AreLines core journal input upto)
+  shown_as snapshot (Ok lines) replays are = record { snapshot = snapshot; replays = replays; are = are }
+  shown_as snapshot (Err ending) replays are = tt
+
+  pub no_shown_as : (result : Result (List ℕ) Ending) → IfErr result (λ ending. ending ≡ NoMemory) → IfErr result (EndsItems core journal input upto)
+  no_shown_as (Ok lines) ends = tt
+  no_shown_as (Err ending) ends = subst (EndsItems core journal input upto) (sym ends) tt

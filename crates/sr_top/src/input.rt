@@ -33,13 +33,24 @@ fn take_all<I: Source>(input: &mut I, taken: &mut Text) -> Result<(), Ending>
     ensures ends { IfErr result (EndsInput (I.left input.old) (I.left input.new) (I.faults input.old) (I.faults input.new)) }
 {
     'pieces: loop {
-        if !take_piece(input, taken)? {
+        let some = take_piece(input, taken)?;
+        if !some {
             return Ok(());
         }
         if taken.len() > INPUT_MOST {
             return Err(Ending::Limit(LimitKind::Input));
         }
     }
+}
+
+/// How many bytes may be taken now, after so many.
+fn piece_after(taken: usize) -> usize
+    requires { taken ≤ 67108864 }
+    ensures some { 0 < result }
+    ensures fits { result ≤ 4096 }
+    ensures most { taken + result ≤ 67108865 }
+{
+    PIECE.min(INPUT_MOST + 1 - taken)
 }
 
 /// Takes the next bytes, and says whether there were any. In all at most one more is taken than the input may have.
@@ -49,7 +60,7 @@ fn take_piece<I: Source>(input: &mut I, taken: &mut Text) -> Result<bool, Ending
     ensures no_fault { OnOk result (I.faults input.new ≡ I.faults input.old) }
     ensures ends { IfErr result (EndsPiece (I.faults input.old) (I.faults input.new)) }
 {
-    let most = PIECE.min(INPUT_MOST + 1 - taken.len());
+    let most = piece_after(taken.len());
     let mut room = [0; PIECE];
     take_into(input, taken, &mut room[..most])
 }

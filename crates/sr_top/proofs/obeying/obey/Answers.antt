@@ -8,7 +8,7 @@ use Rattle.sr_top.proofs.Asked.{handed_on, named_as, task_is}
 use Rattle.sr_top.proofs.Commands.{can_be_asked}
 use Rattle.sr_top.specs.Causes.{Call, HasCause, call_of, devices}
 use Rattle.sr_top.specs.Journal.{CanBeAsked, EndsBeforeRun, HasHeaderIf, without}
-use Rattle.sr_top.specs.Tasks.{Checks, ListsClasses, Named, Runs, keeps_journal}
+use Rattle.sr_top.specs.Tasks.{Checks, ListsClasses, Named, Replays, Runs, keeps_journal}
 use Rattle.sr_top.specs.Reading.{reads_by}
 use Rattle.sr_top.proofs.obeying.obey.Goals as goal
 
@@ -94,6 +94,27 @@ returns-in-Ok-clause-in_range g c = λ words told. subst (λ o. IfSome o (λ h. 
 
 pub returns-in-Ok-clause-names : goal.returns-in-Ok-clause-names
 returns-in-Ok-clause-names g c = λ words told. named_as words c.named-in-Ok.result.names c.named-in-Ok.result.replayed _ _ (task_is words _ _ _ told c.in-Gen.is refl) (c.named-in-Ok.ensures.names ∙ c.in-Ok.ensures) c.named-in-Ok.ensures.replayed
+
+pub returns-in-Replay-clause-cause : goal.returns-in-Replay-clause-cause
+returns-in-Replay-clause-cause g c = λ words told.
+    let call : List Item → Call =
+    call_of words (g.F.Files.content c.args.files.now)
+    (reads_by (g.F.Files.readings c.args.files.now) (g.F.Files.faults c.args.files.now)) (reads_by (g.F.Files.readings c.replay_journal-outcome.new.files) (g.F.Files.faults c.replay_journal-outcome.new.files))
+    (devices (g.I.Source.left c.args.input.now) (g.I.Source.faults c.args.input.now) (g.O.Sink.held c.args.output.now) (g.O.Sink.faults c.args.output.now))
+    (devices (g.I.Source.left c.replay_journal-outcome.new.input) (g.I.Source.faults c.replay_journal-outcome.new.input) (g.O.Sink.held c.replay_journal-outcome.new.output) (g.O.Sink.faults c.replay_journal-outcome.new.output)) in
+    handed_on (λ items ending header. HasCause (call items) ending) _ _ _ _ _ _ c.named-in-Replay.ensures.items c.named-in-Replay.ensures.ending c.named-in-Replay.ensures.header
+    (c.replay_journal-outcome.ensures.cause words
+    (task_is words _ _ _ told c.in-Replay.is refl ∙ ap (λ names. Some (Replays c.in-Replay.journal names c.in-Replay.upto)) (sym c.as_slice-in-Replay.ensures)))
+
+pub returns-in-Replay-clause-header : goal.returns-in-Replay-clause-header
+returns-in-Replay-clause-header g c = λ words told.
+    subst (HasHeaderIf _ _) (sym (c.named-in-Replay.ensures.header ∙ c.replay_journal-outcome.ensures.header)) (without (inl (ap (λ t. unwrap_or (option_map keeps_journal t) false) (task_is words _ _ _ told c.in-Replay.is refl))))
+
+pub returns-in-Replay-clause-in_range : goal.returns-in-Replay-clause-in_range
+returns-in-Replay-clause-in_range g c = λ words told. subst (λ o. IfSome o (λ h. IsInRange h c.named-in-Replay.result.items)) (sym (c.named-in-Replay.ensures.header ∙ c.replay_journal-outcome.ensures.header)) tt
+
+pub returns-in-Replay-clause-names : goal.returns-in-Replay-clause-names
+returns-in-Replay-clause-names g c = λ words told. named_as words c.named-in-Replay.result.names c.named-in-Replay.result.replayed _ _ (task_is words _ _ _ told c.in-Replay.is refl) c.named-in-Replay.ensures.names c.named-in-Replay.ensures.replayed
 
 pub returns-in-Err-clause-header : goal.returns-in-Err-clause-header
 returns-in-Err-clause-header g c = λ words told.
