@@ -1,7 +1,7 @@
 -- The journal was read by its name, and its bytes are one, or none.
 use Rattle.std.proofs.Common.{◌∙◌, refl, subst, sym}
 use Rattle.std.specs.Str.{IsUtf8}
-use Rattle.sr_top.proofs.Recorded.{bytes_as, journal_as, no_journal_as}
+use Rattle.sr_top.proofs.JournalFiles.{bytes_as, journal_as, no_journal_as}
 use Rattle.sr_top.specs.Reading.{reads_by}
 use Rattle.sr_top.specs.Replaying.{AreBytesOf}
 use Rattle.sr_top.proofs.recorded.journal_in.Goals as goal

@@ -1,6 +1,6 @@
 -- The first file that differs from what the journal tells, or the program in the files.
 use Rattle.std.proofs.Common.{◌∙◌, subst}
-use Rattle.sr_top.proofs.Recorded.{not_told_as, told_as}
+use Rattle.sr_top.proofs.JournalFiles.{not_told_as, told_as}
 use Rattle.sr_top.specs.Reading.{sizes_of}
 use Rattle.sr_top.specs.Replaying.{IsFirstOther}
 use Rattle.sr_top.proofs.told_files.program_in.Goals as goal

@@ -1,6 +1,6 @@
 -- The files were read after the journal, and are a program, or none.
 use Rattle.std.proofs.Common.{arith, subst, sym}
-use Rattle.sr_top.proofs.Recorded.{no_program_as, program_as, unread_after}
+use Rattle.sr_top.proofs.JournalFiles.{no_program_as, program_as, unread_after}
 use Rattle.sr_top.specs.Reading.{AreRead, reads_by}
 use Rattle.sr_top.specs.Stages.{EndsProgram}
 use Rattle.sr_top.proofs.told_files.program_of.Goals as goal
