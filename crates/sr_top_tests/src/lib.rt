@@ -12,4 +12,6 @@ mod journals;
 #[cfg(test)]
 mod order;
 #[cfg(test)]
+mod replays;
+#[cfg(test)]
 mod support;
