@@ -1,5 +1,7 @@
 -- From the stages of a replay to why the call ends.
-use Rattle.std.proofs.Common.{◌≡◌, ◌∙◌, ◌+◌, ◌⊎◌, ℕ, zero, suc, List, [], length, min, Some, add-one, ap, inl, inr, refl, subst, sym}
+use Rattle.std.proofs.Common.{◌≡◌, ◌∙◌, ◌+◌, ◌<◌, ◌≤◌, ◌⊎◌, ℕ, zero, suc, List, [], length, min, Some, add-one, ap, arith, inl, inr, refl, subst, sym}
+use Rattle.std.proofs.Math.Nat.{min-eq_left, min-eq_right}
+use Rattle.std.proofs.lemmas.Bool.{cases_lt}
 use Rattle.std.specs.Prelude.{Option, Result, Ok, Err, IfOk, IfErr}
 use Rattle.sr_core.specs.declared.component.Core.{Core}
 use Rattle.sr_core.specs.declared.owner.Classes.{Classes}
@@ -203,6 +205,13 @@ module _ (core : Core) (journal : Journal) (upto : ℕ) (before now : Inputs) (t
   pub no_lines_as : (result : Result (List ℕ) Ending) → IfErr result (EndsItems core journal taken upto) → IfErr result (EndsAfterProgram core journal upto before now)
   no_lines_as (Ok lines) ends = tt
   no_lines_as (Err ending) ends = inr (record { taken = taken; whole = whole; ends = ends; no_fault = same })
+
+pub min_is : (n a b : ℕ) → (a ≤ b → n ≡ a) → (b < a → n ≡ b) → n ≡ min a b
+min_is n a b less more = by (cases_lt b a)
+  where
+    by : (b < a) ⊎ (a ≤ b) → n ≡ min a b
+    by (inl after) = let most : b ≤ a = omega arith in more after ∙ sym (min-eq_right most)
+    by (inr before) = less before ∙ sym (min-eq_left before)
 
 module _ (core : Core) (journal : Journal) (input : List ℕ) (upto : ℕ) where
   pub shown_as : (snapshot : Snapshot) (result : Result (List ℕ) Ending)

@@ -1,4 +1,4 @@
-ghost use Rattle.std.specs.Prelude.{◌≡◌, ℕ, List, IfErr, IfOk, None, Some};
+ghost use Rattle.std.specs.Prelude.{◌≡◌, ◌<◌, ◌≤◌, ℕ, List, IfErr, IfOk, None, Some};
 ghost use Rattle.sr_replay.specs.Texts.{snapshot_text as text_of_snapshot};
 ghost use Rattle.sr_top.specs.Causes.{HasCause, call_of, devices};
 ghost use Rattle.sr_top.specs.Programs.{core_in};
@@ -113,7 +113,7 @@ fn text_of_items(
 {
     let items = &journal.items;
     let header = &journal.header;
-    let upto = (upto as usize).min(items.len()) as u32;
+    let upto = fewer(upto as usize, items.len()) as u32;
     match replay::<Process>(
         alloc,
         program,
@@ -127,6 +127,16 @@ fn text_of_items(
         Ok(Replayed::Illegal { at }) => Err(Ending::Illegal(at)),
         Err(_) => Err(Ending::NoMemory),
     }
+}
+
+/// The less of two numbers.
+fn fewer(one: usize, other: usize) -> usize
+    ensures one { one ≤ other → result ≡ one }
+    ensures other { other < one → result ≡ other }
+    ensures most { result ≤ one }
+    ensures least { result ≤ other }
+{
+    if one <= other { one } else { other }
 }
 
 /// The lines of a snapshot.

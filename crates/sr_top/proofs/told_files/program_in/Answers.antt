@@ -9,7 +9,7 @@ pub returns-in-Some-clause-ends : goal.returns-in-Some-clause-ends
 returns-in-Some-clause-ends c = subst (λ told. IsFirstOther (sizes_of c.args.texts.now) told c.in-Some.file) c.as_slice.ensures c.in-Some.ensures.other
 
 pub returns-in-None-clause-program : goal.returns-in-None-clause-program
-returns-in-None-clause-program c = told_as _ _ c.compiled.result (c.in-None.ensures.same ∙ c.as_slice.ensures) c.compiled.ensures.core
+returns-in-None-clause-program c = told_as c.args.header.now c.args.texts.now c.compiled.result (c.in-None.ensures.same ∙ c.as_slice.ensures) c.compiled.ensures.core
 
 pub returns-in-None-clause-ends : goal.returns-in-None-clause-ends
-returns-in-None-clause-ends c = not_told_as _ _ c.compiled.result (c.in-None.ensures.same ∙ c.as_slice.ensures) c.compiled.ensures.ends
+returns-in-None-clause-ends c = not_told_as c.args.header.now c.args.texts.now c.compiled.result (c.in-None.ensures.same ∙ c.as_slice.ensures) c.compiled.ensures.ends

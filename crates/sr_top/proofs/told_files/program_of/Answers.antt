@@ -14,8 +14,8 @@ returns-in-Ok-clause-ends g c =
     no_program_as _ _ _ c.as_slice.result.now (reads_by (g.F.Files.readings c.args.files.now) (g.F.Files.faults c.args.files.now)) (reads_by (g.F.Files.readings c.read_files.new.files) (g.F.Files.faults c.read_files.new.files)) c.program_in.result
     (subst (AreRead _ _) (sym c.as_slice.ensures) c.in-Ok.ensures.read) c.in-Ok.ensures.no_fault c.program_in.ensures.ends
 
-pub returns-in-Err-clause-ends : goal.returns-in-Err-clause-ends
-returns-in-Err-clause-ends g c =
+pub returns-clause-ends : goal.returns-clause-ends
+returns-clause-ends g c =
     let before = reads_by (g.F.Files.readings c.args.files.now) (g.F.Files.faults c.args.files.now) in
     let now = reads_by (g.F.Files.readings c.read_files.new.files) (g.F.Files.faults c.read_files.new.files) in
     subst (EndsProgram _ _ _ before now) (sym c.after_journal.ensures) (unread_after _ _ _ before now (omega arith) c.in-Err.ending c.in-Err.ensures.ends)
