@@ -154,3 +154,15 @@ pub fn constant(
     let value = const_value(alloc, facts, diagnostics, in_spec, &kind, &tree.value)?;
     Ok(const_typed(in_spec, kind, value))
 }
+
+/// What a constant is, where what is found in its declaration is noted elsewhere.
+pub(crate) fn constant_value(
+    alloc: Global,
+    facts: &Facts,
+    in_spec: bool,
+    tree: &ConstDecl,
+) -> Result<Typed, NoMemory>
+    ensures { IfOk result (λ typed. typed ≡ const_of in_spec facts.now tree.now) }
+{
+    constant(alloc, facts, &mut Diagnostics::new(alloc), in_spec, tree)
+}

@@ -6,7 +6,7 @@ ghost use Rattle.sr_check_decl.specs.TypeTrees.{type_kinding, fixed_bounds};
 ghost use Rattle.sr_check_decl.specs.Entering.{formals_entered, signed_entered};
 ghost use Rattle.sr_check_decl.specs.Declaring.{declared_if, const_declared, var_declared, literal_info, literals_declared, enumeration_declared, field_info, fields_of, types_declared, type_declared, spec_item_declared, item_declared, spec_items_declared, items_declared, params_declared, making, component_typed, component_formals, with_formals, component_declared, components_declared, files_declared, components_named, files_named, no_facts, program_declared, declare_name, at_facts};
 
-use crate::constants::{constant, is_static};
+use crate::constants::{constant_value, is_static};
 use crate::entering::{enter_formals, enter_operations, enter_signed, enter_type, enter_written};
 use crate::kind::{NamedParam, Signed};
 use crate::operations::{
@@ -16,9 +16,9 @@ use crate::parts::component_decl;
 use crate::signatures::signature_type;
 use crate::tally::{Tally, count_of, declare, declare_name, next, stand, variable};
 use crate::variables::{declare_variables, may_be_untyped};
-use crate::written::{FIXED, FREE, all_formals, type_kind};
+use crate::written::{FIXED, FREE, written_formals, written_type};
 use sr_check_expr::{Facts, FieldInfo, Here, Info, Infos, type_spot};
-use sr_names::{Decl, Diagnostics, Members, Sort, Spot, Uses};
+use sr_names::{Decl, Members, Sort, Spot, Uses};
 use sr_tree::{
     Component, ConstDecl, File, Formal, Item, Name, Returned, Signature, SpecItem, TypeDecl,
     TypeTree, VarDecl,
@@ -46,7 +46,7 @@ fn declare_constant(
     ensures { OnOk result (facts.new ≡ const_declared in_spec tree.now facts.old) }
 {
     enter_written(alloc, facts, &tree.ty)?;
-    let typed = constant(alloc, facts, &mut Diagnostics::new(alloc), in_spec, tree)?;
+    let typed = constant_value(alloc, facts, in_spec, tree)?;
     let met = tree.ty.is_some() || is_static(&typed.value);
     declare_if(facts, met, &tree.name, typed)
 }
@@ -65,8 +65,8 @@ fn declare_var(alloc: Global, facts: &mut Facts, tree: &VarDecl) -> Result<(), N
             declare_variables(alloc, facts, &Ty::Untyped, decls)
         }
         Some(written) => {
-            let kind = type_kind(alloc, written, facts, &mut Diagnostics::new(alloc), FREE)?;
-            declare_variables(alloc, facts, &kind.ty, decls)
+            let ty = written_type(alloc, written, facts, FREE)?;
+            declare_variables(alloc, facts, &ty, decls)
         }
     }
 }
@@ -138,7 +138,7 @@ fn field_infos(alloc: Global, params: &[NamedParam]) -> Result<Row<FieldInfo>, N
 fn fields_of(alloc: Global, facts: &Facts, trees: &[Formal]) -> Result<Row<FieldInfo>, NoMemory>
     ensures { IfOk result (λ fields. fields ≡ fields_of facts.now trees.now) }
 {
-    let params = all_formals(alloc, trees, facts, &mut Diagnostics::new(alloc), true)?;
+    let params = written_formals(alloc, trees, facts, true)?;
     field_infos(alloc, params.as_slice())
 }
 
@@ -226,8 +226,8 @@ fn declare_within_signature(
 fn declare_type_name(alloc: Global, facts: &mut Facts, tree: &TypeDecl) -> Result<(), NoMemory>
     ensures { OnOk result (facts.new ≡ declare_name facts.old tree.now.name (Info.«Type» (type_kinding tree.now.ty facts.old fixed_bounds).kind.ty)) }
 {
-    let kind = type_kind(alloc, &tree.ty, facts, &mut Diagnostics::new(alloc), FIXED)?;
-    declare_name(facts, &tree.name, Info::Type(kind.ty))
+    let ty = written_type(alloc, &tree.ty, facts, FIXED)?;
+    declare_name(facts, &tree.name, Info::Type(ty))
 }
 
 /// Declares a type, and the enumerations and records that are written in it.
@@ -364,7 +364,7 @@ fn component_formals(
 ) -> Result<Row<NamedParam>, NoMemory>
     ensures { IfOk result (λ params. params ≡ component_formals facts.now trees.now) }
 {
-    all_formals(alloc, trees, facts, &mut Diagnostics::new(alloc), false)
+    written_formals(alloc, trees, facts, false)
 }
 
 /// Declares a component by its formals, and these.

@@ -6,6 +6,7 @@ ghost use Rattle.sr_check_decl.specs.Needers.{with_all_needs};
 ghost use Rattle.sr_check_decl.specs.Needs.{needs_in, FirstAreKnown};
 ghost use Rattle.sr_check_decl.specs.Picked.{settling, picked};
 ghost use Rattle.sr_names.specs.Diagnostics.{all_noted};
+ghost use Rattle.sr_check_expr.specs.Exprs.{infer_expr};
 ghost use Rattle.sr_check_decl.specs.Cycles.{type_cycles_found, leads_left};
 ghost use Rattle.sr_check_decl.specs.Waiting.{files_waiting};
 
@@ -16,9 +17,9 @@ use crate::needers::{Needers, in_order, needers_after, needers_of_all, places_be
 use crate::needs::{Needs, needs_of_all};
 use crate::tally::{declare, stand, variable};
 use crate::waiting::{Waits, files_waiting};
-use sr_check_expr::{Facts, Info, expr};
+use sr_check_expr::{Facts, Info, TypedExpr, expr};
 use sr_names::{Diagnostics, Members, Uses};
-use sr_tree::File;
+use sr_tree::{Expr, File};
 use sr_types::{Typed, refused};
 use sr_value::{NoMemory, Row};
 use std::alloc::Global;
@@ -41,13 +42,20 @@ fn info_by(is_constant: bool, in_spec: bool, value: Typed) -> Info
     }
 }
 
+/// What a value is, where what is found in it is noted elsewhere.
+fn typed_value(alloc: Global, facts: &Facts, value: &Expr) -> Result<TypedExpr, NoMemory>
+    ensures { IfOk result (λ typed_expr. typed_expr ≡ (infer_expr value.now facts.now).typed_expr) }
+{
+    expr(alloc, value, facts, &mut Diagnostics::new(alloc))
+}
+
 /// Gives a declaration the type of its value.
 fn settle(alloc: Global, facts: &mut Facts, waiting: &Waits<'_>) -> Result<(), NoMemory>
     ensures { OnOk result (facts.new ≡ settled facts.old (seen waiting.now)) }
 {
     let around = facts.here;
     stand(facts, waiting.component);
-    let typed_expr = expr(alloc, waiting.value, facts, &mut Diagnostics::new(alloc))?;
+    let typed_expr = typed_value(alloc, facts, waiting.value)?;
     facts.here = around;
     let info = info_by(waiting.is_constant, waiting.in_spec, typed_expr.typed);
     declare(facts, waiting.spot, info)

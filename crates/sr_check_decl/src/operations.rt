@@ -62,6 +62,13 @@ pub(crate) fn signed_type(
     signature_type(alloc, facts, &signed)
 }
 
+/// The type that a signature makes, where what is found in it is noted elsewhere.
+fn type_of_signature(alloc: Global, facts: &Facts, tree: &Signature) -> Result<Ty, NoMemory>
+    ensures { IfOk result (λ ty. ty ≡ written_type tree.now facts.now) }
+{
+    signed_type(alloc, facts, &mut Diagnostics::new(alloc), tree)
+}
+
 /// Notes what is found in the signature of an operation, or in the name of its type, and answers its type.
 pub(crate) fn op_type(
     alloc: Global,
@@ -85,6 +92,13 @@ pub(crate) fn op_type(
     }
 }
 
+/// The type of an operation, where what is found in it is noted elsewhere.
+fn type_of_op(alloc: Global, facts: &Facts, item: &OpItem) -> Result<Ty, NoMemory>
+    ensures { IfOk result (λ ty. ty ≡ op_type facts.now item.now) }
+{
+    op_type(alloc, facts, &mut Diagnostics::new(alloc), item)
+}
+
 fn op_item_name(item: &OpItem) -> &Name
     ensures { result.now ≡ op_item_name item.now }
 {
@@ -102,7 +116,7 @@ fn declare_operation(
 ) -> Result<(), NoMemory>
     ensures { OnOk result (facts.new ≡ declare_name facts.old (op_item_name item.now) (operation facts.old is_local (op_type facts.old item.now))) }
 {
-    let ty = op_type(alloc, facts, &mut Diagnostics::new(alloc), item)?;
+    let ty = type_of_op(alloc, facts, item)?;
     let info = operation(facts, is_local, ty);
     declare_name(facts, op_item_name(item), info)
 }
@@ -224,7 +238,7 @@ pub(crate) fn declare_procedure(
     ensures { OnOk result (facts.new ≡ procedure_declared name.now tree.now facts.old) }
 {
     enter_signature(alloc, facts, tree)?;
-    let ty = signed_type(alloc, facts, &mut Diagnostics::new(alloc), tree)?;
+    let ty = type_of_signature(alloc, facts, tree)?;
     let info = operation(facts, false, ty);
     declare_name(facts, name, info)
 }
@@ -238,6 +252,6 @@ pub(crate) fn declare_optype(
     ensures { OnOk result (facts.new ≡ optype_declared tree.now facts.old) }
 {
     enter_signature(alloc, facts, &tree.signature)?;
-    let ty = signed_type(alloc, facts, &mut Diagnostics::new(alloc), &tree.signature)?;
+    let ty = type_of_signature(alloc, facts, &tree.signature)?;
     declare_name(facts, &tree.name, Info::OpType(ty))
 }

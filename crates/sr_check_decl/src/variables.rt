@@ -7,12 +7,12 @@ use crate::constants::type_of_value;
 use crate::kind::Kind;
 use crate::tally::{declare_name, variable};
 use crate::types::{decl_type, note_decls};
-use crate::written::{FREE, type_kind};
+use crate::written::{FREE, type_kind, written_type};
 use sr_check_expr::{Facts, TypedExpr, all, as_many, note_unless, note_values};
 use sr_names::{Diagnostics, Rule};
 use sr_tree::{Decl, DimsTree, Expr, VarDecl};
 use sr_types::{Ty, fits};
-use sr_value::{Duplicate, NoMemory, Span};
+use sr_value::{Duplicate, NoMemory, Row, Span};
 use std::alloc::Global;
 
 /// Declares variables of this type, apart from their own dims.
@@ -195,26 +195,27 @@ fn type_by_values(alloc: Global, values: &[TypedExpr]) -> Result<Ty, NoMemory>
     }
 }
 
+/// What values are, where what is found in them is noted elsewhere.
+fn typed_values(alloc: Global, facts: &Facts, trees: &[Expr]) -> Result<Row<TypedExpr>, NoMemory>
+    ensures { IfOk result (λ values. values ≡ typed_exprs_of (typings_of facts.now trees.now)) }
+{
+    all(alloc, trees, facts, &mut Diagnostics::new(alloc))
+}
+
 fn type_of_values(alloc: Global, facts: &Facts, trees: &[Expr]) -> Result<Ty, NoMemory>
     ensures { IfOk result (λ ty. ty ≡ type_by_values (typed_exprs_of (typings_of facts.now trees.now))) }
 {
-    let values = all(alloc, trees, facts, &mut Diagnostics::new(alloc))?;
+    let values = typed_values(alloc, facts, trees)?;
     type_by_values(alloc, values.as_slice())
 }
 
 /// The type of variables of a block: the type that is written, or the type of their value.
-fn vars_type(alloc: Global, facts: &Facts, tree: &VarDecl) -> Result<Kind, NoMemory>
-    ensures { IfOk result (λ kind. kind.ty ≡ vars_type facts.now tree.now.ty tree.now.values) }
+fn vars_type(alloc: Global, facts: &Facts, tree: &VarDecl) -> Result<Ty, NoMemory>
+    ensures { IfOk result (λ ty. ty ≡ vars_type facts.now tree.now.ty tree.now.values) }
 {
     match &tree.ty {
-        Some(written) => type_kind(alloc, written, facts, &mut Diagnostics::new(alloc), FREE),
-        None => {
-            let ty = type_of_values(alloc, facts, tree.values.as_slice())?;
-            Ok(Kind {
-                span: tree.span,
-                ty,
-            })
-        }
+        Some(written) => written_type(alloc, written, facts, FREE),
+        None => type_of_values(alloc, facts, tree.values.as_slice()),
     }
 }
 
@@ -222,6 +223,6 @@ fn vars_type(alloc: Global, facts: &Facts, tree: &VarDecl) -> Result<Kind, NoMem
 pub fn declare_locals(alloc: Global, facts: &mut Facts, tree: &VarDecl) -> Result<(), NoMemory>
     ensures { OnOk result (facts.new ≡ local_var tree.now facts.old) }
 {
-    let kind = vars_type(alloc, facts, tree)?;
-    declare_variables(alloc, facts, &kind.ty, tree.decls.as_slice())
+    let ty = vars_type(alloc, facts, tree)?;
+    declare_variables(alloc, facts, &ty, tree.decls.as_slice())
 }

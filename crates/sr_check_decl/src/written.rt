@@ -123,6 +123,37 @@ pub fn type_kind(
     }
 }
 
+/// What type is written, where what is found in it is noted elsewhere.
+pub(crate) fn written_type(
+    alloc: Global,
+    tree: &TypeTree,
+    facts: &Facts,
+    bound_policy: BoundPolicy,
+) -> Result<Ty, NoMemory>
+    ensures { IfOk result (λ ty. ty ≡ (type_kinding tree.now facts.now bound_policy).kind.ty) }
+{
+    let kind = type_kind(
+        alloc,
+        tree,
+        facts,
+        &mut Diagnostics::new(alloc),
+        bound_policy,
+    )?;
+    Ok(kind.ty)
+}
+
+/// What formals or fields are written, where what is found in them is noted elsewhere.
+pub(crate) fn written_formals(
+    alloc: Global,
+    trees: &[Formal],
+    facts: &Facts,
+    is_field: bool,
+) -> Result<Row<NamedParam>, NoMemory>
+    ensures { IfOk result (λ params. params ≡ all_params (formals_at (map formal_read trees.now) facts.now is_field)) }
+{
+    all_formals(alloc, trees, facts, &mut Diagnostics::new(alloc), is_field)
+}
+
 /// Notes what is found in formals or fields, and answers them.
 #[cycle(written_types)]
 pub fn all_formals(

@@ -20,6 +20,7 @@ pub mod RotationLemmas
 pub mod SettleLemmas
 pub mod StayLemmas
 pub mod StoreLemmas
+pub mod StretchInputLemmas
 pub mod StretchLemmas
 pub mod TurnLemmas
 pub mod WaitLemmas

@@ -1,9 +1,10 @@
 -- A pass: the engine asks each of those that may be able to make a step once, and leaves what is wide or ends the run.
-use Rattle.std.specs.Prelude.{◌≡◌, ◌⊎◌, ◌↔◌, ◌<◌, ◌≤◌, ◌++◌, ℕ, Bool, true, false, List, [], ◌∷◌, Option, Some, None, length, map}
+use Rattle.std.specs.Prelude.{◌≡◌, ◌⊎◌, ◌↔◌, ◌<◌, ◌≤◌, ◌^◌, ◌++◌, ℕ, Bool, true, false, List, [], ◌∷◌, Option, Some, None, length, map}
+use Rattle.std.specs.List.{AllByRecursion}
 use Rattle.sr_ask.specs.declared.answer.Answer.{Answer}
 use Rattle.sr_ask.specs.declared.ask.Asks.{Asks}
 use Rattle.sr_ask.specs.declared.item.Item.{Item}
-use Rattle.sr_ask.specs.declared.item.Item.TheVariants.{Step}
+use Rattle.sr_ask.specs.declared.item.Item.TheVariants.{Step, Quiesce, Tick}
 use Rattle.sr_ask.specs.declared.start.Start.{Start}
 use Rattle.sr_core.specs.declared.component.Core.{Core}
 use Rattle.sr_world.specs.Runs.{Event, Makes_item, Goes, State, asks_next, next}
@@ -15,6 +16,19 @@ use Rattle.sr_plain.specs.Stretches.{IsStretch, asks_wide, could, is_narrow, nob
 use Rattle.sr_plain.specs.declared.plain.Plain.{Plain}
 use Rattle.sr_plain.specs.declared.plainly.Plainly.{Plainly}
 use Rattle.sr_plain.specs.declared.plainly.Plainly.TheVariants.{Stepped, Wants, Over, Ended}
+
+-- the numbers have 32 bits
+abbrev pub FitsItem : Item → Type 0
+FitsItem (Step actor name) = (actor < 2 ^ 32) × (name < 2 ^ 32)
+FitsItem (Quiesce name) = name < 2 ^ 32
+FitsItem (Tick to) = to < 2 ^ 32
+
+-- at most so many items were added, whose numbers have 32 bits
+pub record AddsItems (room : ℕ) (old new : List Item) : Type 0 where
+  pub items : List Item
+  pub added : new ≡ old ++ items
+  pub within : length items ≤ room
+  pub fit : AllByRecursion FitsItem items
 
 -- The items were added, a stretch of at most `room`, and the engine stands for where they lead. Nothing was written. Where
 -- there is room, none was added exactly where nobody could take part.

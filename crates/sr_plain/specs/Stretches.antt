@@ -9,7 +9,8 @@ use Rattle.sr_ask.specs.declared.start.Start.{Start}
 use Rattle.sr_core.specs.declared.component.Core.{Core}
 use Rattle.sr_touch.specs.Touched.{is_wide}
 use Rattle.sr_world.specs.Does.{Outcome, IsDone, IsMade, IsNot, IsEnd, IsOpen, comes_to}
-use Rattle.sr_world.specs.Runs.{Goes, Illegal, Next, Over, State, asks_next, next, run_from}
+use Rattle.sr_world.specs.Laws.{with_all_in}
+use Rattle.sr_world.specs.Runs.{Event, Goes, Illegal, Next, Over, State, asks_next, led, next, run_from}
 use Rattle.sr_world.specs.Steps.{does}
 use Rattle.sr_world.specs.Worlds.{World, started}
 use Rattle.sr_plain.specs.Ready.{me_at}
@@ -68,3 +69,11 @@ pub record IsStretch (core : Core) (class : ℕ → ℕ) (limit : ℕ) (state : 
   pub leads : run_from core limit (Goes state) items ≡ Goes later
   pub living : AllByRecursion (IsOfLiving state.world) items
   pub narrow : AreNarrow core class limit (Goes state) items
+
+-- ---- laws
+
+-- A stretch is one with all of the input, whatever still comes of it, and who could take part is the same.
+abbrev pub StretchesStay : Type 0
+StretchesStay = (core : Core) (class : ℕ → ℕ) (limit : ℕ) (events : List Event) (state later : State) (items : List Item) (bytes : List ℕ) → led core limit events ≡ Goes state
+    → (state.world.ended ≡ true → bytes ≡ []) → IsStretch core class limit state items later
+    → IsStretch core class limit (with_all_in bytes state) items (with_all_in bytes later) × (nobody_could core class limit (with_all_in bytes state) ≡ nobody_could core class limit state)

@@ -4,6 +4,7 @@ ghost use Rattle.sr_core.specs.declared.component.Core.{Core};
 ghost use Rattle.sr_plain.specs.Leaving.{LeavesIf, written_by};
 ghost use Rattle.sr_plain.specs.Order.{AreInLine};
 ghost use Rattle.sr_plain.specs.Rotation.{InTurnIsRotation, NextIsLeastUnused, OneMoreInTurn};
+ghost use Rattle.sr_plain.specs.Stretches.{StretchesStay};
 ghost use Rattle.sr_queue.specs.declared.pending.Pending.{Pending};
 ghost use Rattle.sr_world.specs.Endings.{quiesce};
 ghost use Rattle.sr_world.specs.Steps.{does};
@@ -35,4 +36,9 @@ pub fn new_numbers_are_least()
 /// The items of events in turn are a rotation, in whatever pieces the input came.
 pub fn turns_are_a_rotation()
     ensures { InTurnIsRotation }
+{}
+
+/// A stretch is one with all of the input, whatever still comes of it.
+pub fn stretches_stay()
+    ensures { StretchesStay }
 {}

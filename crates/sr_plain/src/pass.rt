@@ -1,8 +1,9 @@
 //! A pass: each process that may be able to make a step is asked once, and what is wide or ends the run is left.
 ghost use Rattle.std.specs.Prelude.{◌≡◌, ◌<◌, ◌≤◌, ◌+◌, ℕ, [], List, IfNone, IfOk, IfSome, None, OnErr, OnOk, length, true};
+ghost use Rattle.std.specs.List.{AllByRecursion};
 ghost use Rattle.sr_classes.specs.Classes.{class_of};
 ghost use Rattle.sr_plain.specs.Crew.{member_of};
-ghost use Rattle.sr_plain.specs.Passing.{AddsItem, HasPassed, IsAskedOnce, IsPassing, NoneCould, is_left, item_of as item_in};
+ghost use Rattle.sr_plain.specs.Passing.{AddsItem, AddsItems, FitsItem, HasPassed, IsAskedOnce, IsPassing, NoneCould, is_left, item_of as item_in};
 ghost use Rattle.sr_plain.specs.Waiting.{IsNextToAsk, is_ready};
 ghost use Rattle.sr_world.specs.Runs.{Event, State};
 ghost use Rattle.sr_world.specs.Worlds.{started};
@@ -25,7 +26,8 @@ fn item_of(came: Option<Plainly>) -> Option<Item>
 }
 
 fn add_item(made: &mut Row<Item>, item: Option<Item>) -> Result<(), NoMemory>
-    ensures { OnOk result (AddsItem item made.old made.new) }
+    ensures adds { OnOk result (AddsItem item made.old made.new) }
+    ensures fit { AllByRecursion FitsItem made.old → AllByRecursion FitsItem made.new }
 {
     match item {
         Some(item) => made.push(item),
@@ -46,6 +48,7 @@ impl<A: Actor> Plain<A> {
         items: &mut Row<Item>,
     ) -> Result<(), NoMemory>
         ensures passed { OnOk result ((limit : ℕ) (state : State) (events : List Event) → IsEngine (A.asks_after program.now) A.can_feed (A.core_of program.now) limit state events self.old → HasPassed (A.asks_after program.now) A.can_feed (A.core_of program.now) (class_of classes.now.of) limit state events room items.old items.new self.new) }
+        ensures added { OnOk result (AddsItems room items.old items.new) }
         ensures err { OnErr result (items.new ≡ items.old) }
     {
         let mut made = Row::new(self.alloc);
@@ -62,7 +65,9 @@ impl<A: Actor> Plain<A> {
         made: &mut Row<Item>,
     ) -> Result<(), NoMemory>
         requires { made.old ≡ [] }
-        ensures { OnOk result ((limit : ℕ) (state : State) (events : List Event) → IsEngine (A.asks_after program.now) A.can_feed (A.core_of program.now) limit state events self.old → HasPassed (A.asks_after program.now) A.can_feed (A.core_of program.now) (class_of classes.now.of) limit state events room [] made.new self.new) }
+        ensures passed { OnOk result ((limit : ℕ) (state : State) (events : List Event) → IsEngine (A.asks_after program.now) A.can_feed (A.core_of program.now) limit state events self.old → HasPassed (A.asks_after program.now) A.can_feed (A.core_of program.now) (class_of classes.now.of) limit state events room [] made.new self.new) }
+        ensures within { OnOk result (length made.new ≤ room) }
+        ensures fit { OnOk result (AllByRecursion FitsItem made.new) }
     {
         let last = self.last;
         let greatest = self.world.greatest_used();
@@ -84,6 +89,7 @@ impl<A: Actor> Plain<A> {
         requires { self.old.woken ≡ None }
         ensures over { OnOk result ((limit : ℕ) (state : State) (events : List Event) (bound : ℕ) → high ≤ bound → IsPassing (A.asks_after program.now) A.can_feed (A.core_of program.now) (class_of classes.now.of) limit state events bound made.old self.old → IsPassing (A.asks_after program.now) A.can_feed (A.core_of program.now) (class_of classes.now.of) limit state events bound made.new self.new × (made.new ≡ [] → (made.old ≡ []) × (0 < room → NoneCould (A.core_of program.now) (class_of classes.now.of) limit state low high))) }
         ensures within { OnOk result (length made.old ≤ room → length made.new ≤ room) }
+        ensures fit { OnOk result (AllByRecursion FitsItem made.old → AllByRecursion FitsItem made.new) }
         ensures awake { OnOk result (self.new.woken ≡ None) }
     {
         let mut at = low;
@@ -118,6 +124,7 @@ impl<A: Actor> Plain<A> {
         requires awake { self.old.woken ≡ None }
         ensures once { OnOk result ((limit : ℕ) (state : State) (events : List Event) → IsEngine (A.asks_after program.now) A.can_feed (A.core_of program.now) limit state events self.old → IsAskedOnce (A.asks_after program.now) A.can_feed (A.core_of program.now) (class_of classes.now.of) limit state events process made.old made.new self.new) }
         ensures within { OnOk result (length made.new ≤ length made.old + 1) }
+        ensures fit { OnOk result (AllByRecursion FitsItem made.old → AllByRecursion FitsItem made.new) }
         ensures awake { OnOk result (self.new.woken ≡ None) }
     {
         let left = self.is_left(program, classes, process)?;

@@ -1,7 +1,7 @@
-ghost use Rattle.std.specs.Prelude.{◌≡◌, ℕ, List, IfOk, OnErr};
+ghost use Rattle.std.specs.Prelude.{◌≡◌, ℕ, List, IfOk, OnErr, OnOk};
 ghost use Rattle.sr_classes.specs.Classes.{class_of};
 ghost use Rattle.sr_plain.specs.Engine.{IsEngine};
-ghost use Rattle.sr_plain.specs.Passing.{HasPassed};
+ghost use Rattle.sr_plain.specs.Passing.{AddsItems, HasPassed};
 ghost use Rattle.sr_world.specs.Runs.{Event, State};
 
 use crate::plain::Plain;
@@ -22,6 +22,7 @@ pub trait Rounds<A: Actor> {
         items: &mut Row<Item>,
     ) -> Result<Plain<A>, NoMemory>
         ensures passed { IfOk result (λ later. (limit : ℕ) (state : State) (events : List Event) → IsEngine (A.asks_after program.now) A.can_feed (A.core_of program.now) limit state events plain → HasPassed (A.asks_after program.now) A.can_feed (A.core_of program.now) (class_of classes.now.of) limit state events room items.old items.new later) }
+        ensures added { OnOk result (AddsItems room items.old items.new) }
         ensures err { OnErr result (items.new ≡ items.old) };
 }
 
@@ -39,6 +40,7 @@ impl<A: Actor> Rounds<A> for Passes {
         items: &mut Row<Item>,
     ) -> Result<Plain<A>, NoMemory>
         ensures passed { IfOk result (λ later. (limit : ℕ) (state : State) (events : List Event) → IsEngine (A.asks_after program.now) A.can_feed (A.core_of program.now) limit state events plain → HasPassed (A.asks_after program.now) A.can_feed (A.core_of program.now) (class_of classes.now.of) limit state events room items.old items.new later) }
+        ensures added { OnOk result (AddsItems room items.old items.new) }
         ensures err { OnErr result (items.new ≡ items.old) }
     {
         let mut plain = plain;

@@ -2,7 +2,10 @@ pub mod ItemLemmas
 pub mod LawProofs
 pub mod ListLemmas
 pub mod LocalLemmas
+pub mod LocalStepLemmas
 pub mod MapLemmas
+pub mod RunLemmas
 pub mod SoundLemmas
 pub mod StepLemmas
 pub mod TouchedLemmas
+pub mod WrittenLemmas

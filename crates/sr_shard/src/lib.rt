@@ -4,6 +4,6 @@
 mod laws;
 
 pub use laws::{
-    acts_are_local, entries_are_items, entries_are_steps, entries_in_any_order,
-    journals_are_a_history, touched_parts_are_all,
+    acts_are_local, entries_are_a_run, entries_are_items, entries_are_steps, entries_in_any_order,
+    journals_are_a_history, steps_are_local, steps_have_entries, touched_parts_are_all,
 };

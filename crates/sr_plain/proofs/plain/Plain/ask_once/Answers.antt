@@ -31,7 +31,10 @@ returns-clause-once g c = ok_then c.note_step.result c.note_step.ensures.engine 
     let left = sym (c.in_ok-left.ensures.left limit state events engine) ∙ c.if-left.false in
     asked-once after g.A.Actor.can_feed core class limit state events c.args.process (item_of c.in_ok-came.came) c.try_ready.new.self c.note_step.new.self
     (asked-for after g.A.Actor.can_feed core class limit state events c.args.process c.in_ok-came.came c.try_ready.new.self tries) left (λ s es. noted limit s es) c.args.made.now c.add_item.new.made
-    (subst (λ (o : Option Item). AddsItem o c.args.made.now c.add_item.new.made) c.item_of.ensures c.in_ok-add_item.ensures))
+    (subst (λ (o : Option Item). AddsItem o c.args.made.now c.add_item.new.made) c.item_of.ensures c.in_ok-add_item.ensures.adds))
 
 pub returns-clause-within : goal.returns-clause-within
-returns-clause-within g c = ok_then c.note_step.result c.note_step.ensures.awake (λ awake. adds-one c.item_of.result c.args.made.now c.add_item.new.made c.in_ok-add_item.ensures)
+returns-clause-within g c = ok_then c.note_step.result c.note_step.ensures.awake (λ awake. adds-one c.item_of.result c.args.made.now c.add_item.new.made c.in_ok-add_item.ensures.adds)
+
+pub returns-clause-fit : goal.returns-clause-fit
+returns-clause-fit g c = ok_then c.note_step.result c.note_step.ensures.awake (λ awake. c.add_item.ensures.fit)
