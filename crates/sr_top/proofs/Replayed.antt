@@ -2,7 +2,7 @@
 use Rattle.std.proofs.Common.{◌≡◌, ◌∙◌, ◌+◌, ◌<◌, ◌≤◌, ◌⊎◌, ℕ, zero, suc, List, [], length, min, Some, add-one, ap, arith, inl, inr, refl, subst, sym}
 use Rattle.std.proofs.Math.Nat.{min-eq_left, min-eq_right}
 use Rattle.std.proofs.lemmas.Bool.{cases_lt}
-use Rattle.std.specs.Prelude.{Option, Result, Ok, Err, IfOk, IfErr}
+use Rattle.std.specs.Prelude.{Result, Ok, Err, IfOk, IfErr}
 use Rattle.sr_core.specs.declared.component.Core.{Core}
 use Rattle.sr_core.specs.declared.owner.Classes.{Classes}
 use Rattle.sr_ports.specs.Faults.{Rose}
@@ -16,7 +16,7 @@ use Rattle.sr_top.proofs.Endings.{devices_same}
 use Rattle.sr_top.specs.Causes.{Call, HasCause, PutsNothing, RunsNothing}
 use Rattle.sr_top.specs.Reading.{FailsAt, Reads, reads_after}
 use Rattle.sr_top.specs.Replaying.{AreBytesOf, AsksReplay, HasInput, HasJournal, HasProgram, HasSnapshot, IsWhole, ReadsJournal}
-use Rattle.sr_top.specs.Stages.{AreLines, AreProgram, EndsAfterJournal, EndsAfterProgram, EndsInItems, EndsInput, EndsItems, EndsJournal, EndsProgram, EndsText, EndsWithJournal, EndsWithProgram, HasLinesOf, Inputs, IsJournalOf, IsText, IsTextOf, Told, inputs}
+use Rattle.sr_top.specs.Stages.{AreLines, AreProgram, EndsAfterJournal, EndsAfterProgram, EndsInput, EndsItems, EndsJournal, EndsProgram, EndsText, HasLinesOf, Inputs, IsJournalOf, IsText, IsTextOf, Told, inputs}
 use Rattle.sr_top.specs.Tasks as tasks
 use Rattle.sr_top.specs.declared.recorded.Journal.{Journal}
 use Rattle.sr_top.specs.declared.report.Ending.{Ending}

@@ -15,7 +15,6 @@ use Rattle.sr_replay.specs.Replays.{Replays}
 use Rattle.sr_replay.specs.Texts.{snapshot_text}
 use Rattle.sr_replay.specs.declared.snapshot.Snapshot.{Snapshot}
 use Rattle.sr_replay.specs.declared.whole.Replayed.TheVariants as replayed
-use Rattle.sr_run.specs.declared.end.LimitKind.{LimitKind}
 use Rattle.sr_run.specs.declared.end.LimitKind.TheVariants as limit
 use Rattle.sr_text.specs.declared.refusal.Refusal.{Refusal}
 use Rattle.sr_top.specs.Reading.{AreRead, FailsAt, IsUnread, Reads, sizes_of}
