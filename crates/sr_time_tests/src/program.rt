@@ -1,7 +1,7 @@
 use sr_ask::{Role, Start};
-use sr_case_code::compiled;
 use sr_code::Program;
 use sr_core::{Action, Body, Classes, Component, Core, Expr, Kind, Leaf, Statement};
+use sr_gen::generate;
 use sr_value::{NoMemory, Place, Row, Text, Value};
 use std::alloc::Global;
 
@@ -65,10 +65,16 @@ fn core_of(alloc: Global, time: i32) -> Result<Core, NoMemory> {
 
 /// The program with its code.
 pub fn program_of(alloc: Global, time: i32) -> Result<Program, NoMemory> {
+    let core = core_of(alloc, time)?;
+    let code = generate(alloc, &core)?;
     let classes = Classes {
         of: Row::new(alloc),
     };
-    compiled(alloc, core_of(alloc, time)?, classes)
+    Ok(Program {
+        core,
+        classes,
+        code,
+    })
 }
 
 /// What the process of the initial code is made with.
