@@ -114,12 +114,13 @@ fn writes(
     let mut journal = MemSink::new(alloc, 1000, Row::new(alloc));
     let report = called_with(
         alloc,
+        &silent(&[], &[]),
         &words,
         &mut files,
         &mut output,
         &mut diag,
         &mut journal,
-    );
+    )?;
     Ok(
         report.status == 0
             && output.held() == text
@@ -323,12 +324,13 @@ fn status_of(alloc: Global, count: usize) -> Result<u8, NoMemory> {
     let mut journal = MemSink::new(alloc, 1000, Row::new(alloc));
     let report = called_with(
         alloc,
+        &silent(&[], &[]),
         &words,
         &mut files,
         &mut output,
         &mut diag,
         &mut journal,
-    );
+    )?;
     Ok(report.status)
 }
 
