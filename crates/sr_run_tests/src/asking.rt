@@ -1,4 +1,4 @@
-use crate::program::{program_of, start_of};
+use crate::coded::{program_of, start_of};
 use sr_ask::{Answer, Asks, Request, Start};
 use sr_case_code::code_asks;
 use sr_code::Program;

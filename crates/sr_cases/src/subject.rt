@@ -1,7 +1,8 @@
 //! What the cases of a file are about.
 
-use crate::{checks, cores, edits, names, processes};
+use crate::{checks, cores};
 use sr_case_files::{Case, CaseFile, Tally, cases_in};
+use sr_case_reports::{tell_edit, tell_names};
 use sr_case_trees::{Fragment, tell_fragment, tell_limits, tell_tokens};
 use sr_case_values::tell_call;
 use sr_value::NoMemory;
@@ -23,6 +24,7 @@ pub enum Subject {
     Values,
     Processes,
     Code,
+    Lists,
 }
 
 impl Subject {
@@ -42,6 +44,7 @@ impl Subject {
             "values.txt" => Some(Subject::Values),
             "processes.txt" => Some(Subject::Processes),
             "code.txt" => Some(Subject::Code),
+            "lists.txt" => Some(Subject::Lists),
             _ => None,
         }
     }
@@ -58,13 +61,14 @@ impl Subject {
             Subject::Limits => tell_limits(alloc, case),
             Subject::Expressions => tell_fragment(alloc, Fragment::Expr, case),
             Subject::Types => tell_fragment(alloc, Fragment::Type, case),
-            Subject::Names => names::tell(alloc, case),
+            Subject::Names => tell_names(alloc, case),
             Subject::Pieces => checks::tell_piece(alloc, head, case),
             Subject::Programs => checks::tell(alloc, case),
             Subject::Abbreviations => cores::tell_abbreviation(alloc, case),
             Subject::Classes => cores::tell_classes(alloc, case),
-            Subject::Processes => processes::tell(alloc, case),
-            Subject::Code => processes::tell(alloc, case),
+            Subject::Processes => cores::tell_asked(alloc, case),
+            Subject::Code => cores::tell_asked(alloc, case),
+            Subject::Lists => cores::tell_lists(alloc, case),
             Subject::Files | Subject::Values => Ok(String::new(alloc)),
         }
     }
@@ -73,7 +77,7 @@ impl Subject {
     fn tell_line(self, alloc: Global, case: &Case, line: &str) -> Result<String, NoMemory> {
         match self {
             Subject::Values => tell_call(alloc, line),
-            _ => edits::tell(alloc, case, line),
+            _ => tell_edit(alloc, case, line),
         }
     }
 }

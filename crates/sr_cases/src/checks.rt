@@ -1,23 +1,17 @@
 //! Whether programs, and pieces within one program, are accepted, or which rule is broken.
 
+use crate::programs::program_of;
 use sr_case_files::{Case, tell_fail, tell_refusal};
-use sr_front::accept;
 use sr_text::{FrontFail, Refusal};
 use sr_value::{NoMemory, Place, Row, Text};
 use std::alloc::{AllocError, Global};
-
-/// The most files of a program.
-const MOST_FILES: usize = 64;
 
 /// The line of the head of a file of pieces in whose place the pieces stand.
 const HERE: &str = "  ...\n";
 
 /// Why a program is refused, where it is.
 fn refusal_of(alloc: Global, files: &[(Text, Text)]) -> Result<Option<Refusal>, FrontFail> {
-    if files.len() > MOST_FILES {
-        return Err(FrontFail::NoMemory);
-    }
-    match accept(alloc, files) {
+    match program_of(alloc, files) {
         Ok(_) => Ok(None),
         Err(FrontFail::Refused(refusal)) => Ok(Some(refusal)),
         Err(fail) => Err(fail),
