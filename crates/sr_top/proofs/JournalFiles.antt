@@ -24,10 +24,10 @@ use Rattle.sr_top.specs.declared.report.Ending.TheVariants.{Done, Quiet, Stopped
 -- ---- the journal
 
 -- the first read failed
-pub first_failed : {T : Type 0} (readings readings_now : Readings) (faults faults_now : ℕ) (fail : PortFail) → fail ≡ port.Failed → readings_now.reads ≡ next_read readings.reads
+pub first_failed : (T : Type 0) (readings readings_now : Readings) (faults faults_now : ℕ) (fail : PortFail) → fail ≡ port.Failed → readings_now.reads ≡ next_read readings.reads
     → readings_now.failed ≡ failed_after {T = T} readings (Err fail) → Counts {T = T} faults faults_now (Err fail) → FailsAt 0 (reads_by readings faults) (reads_by readings_now faults_now)
-first_failed readings readings_now faults faults_now port.Failed is reads failed counts = record { last = reads; failed = failed ∙ sym reads; rose = counts }
-first_failed readings readings_now faults faults_now port.NoMemory is reads failed counts = absurd (cc)
+first_failed T readings readings_now faults faults_now port.Failed is reads failed counts = record { last = reads; failed = failed ∙ sym reads; rose = counts }
+first_failed T readings readings_now faults faults_now port.NoMemory is reads failed counts = absurd (cc)
 
 -- a journal that was read by its path, which is text, was read by its name
 pub bytes_as : (told : Told) (path name bytes : List ℕ) → path ≡ name → IsUtf8 name → IfSome told (λ held. option_map (take 536870912) (bytes_of held path) ≡ Some bytes) → AreBytesOf told name bytes

@@ -43,7 +43,7 @@ other_here files told place number file same within is unknown before most =
 -- the list that is told is longer
 pub other_after : (files : List (List ℕ × List ℕ)) (told : List (ℕ × List ℕ)) (number : ℕ) → number ≡ length files → length files < length told
     → take (length files) (sizes_of files) ≡ take (length files) told → IsFirstOther (sizes_of files) told number
-other_after [] [] number same more before = absurd (let none : 0 < 0 = more in omega arith)
+other_after files [] number same more before = absurd (let none : length files < 0 = more in omega arith)
 other_after files (first ∷ told) number same more before =
     subst (IsFirstOther (sizes_of files) (first ∷ told)) (sym same)
     (record {

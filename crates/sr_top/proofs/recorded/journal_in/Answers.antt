@@ -20,4 +20,4 @@ returns-in-Ok-read-clause-ends g c =
 
 pub returns-in-Err-Failed-clause-ends : goal.returns-in-Err-Failed-clause-ends
 returns-in-Err-Failed-clause-ends g c =
-    (refl, first_failed _ _ _ _ c.in-Err-Failed.field-0 c.in-Err-Failed.field-0-is c.in-Err-Failed.ensures.reads c.in-Err-Failed.ensures.failed c.in-Err-Failed.ensures.cause)
+    (refl, first_failed _ _ _ _ _ c.in-Err-Failed.field-0 c.in-Err-Failed.field-0-is c.in-Err-Failed.ensures.reads c.in-Err-Failed.ensures.failed c.in-Err-Failed.ensures.cause)

@@ -1,5 +1,5 @@
 -- What the replay came to, and its lines.
-use Rattle.std.proofs.Common.{length, min, subst}
+use Rattle.std.proofs.Common.{◌∙◌, ap, length, min, subst}
 use Rattle.sr_replay.specs.Replays.{Replays}
 use Rattle.sr_top.proofs.Replayed.{min_is, no_shown_as, shown_as}
 use Rattle.sr_top.specs.Programs.{core_in}
@@ -10,7 +10,7 @@ returns-in-Ok-Reached-clause-lines c =
     let core = core_in c.args.program.now in
     let journal = c.args.journal.now in
     let header = journal.header in
-    let few = min_is c.fewer-upto.result c.args.upto (length journal.items) c.fewer-upto.ensures.one c.fewer-upto.ensures.other in
+    let few = min_is c.fewer-upto.result c.args.upto c.len.result c.fewer-upto.ensures.one c.fewer-upto.ensures.other ∙ ap (min c.args.upto) c.len.ensures in
     shown_as core journal c.args.input.now c.args.upto c.in-Ok-Reached.snapshot c.lines_of.result
     (subst (Replays core header.steps header.ticks c.args.input.now journal.items (min c.args.upto (length journal.items))) c.in-Ok-Reached.field-0-is
     (subst (λ n. Replays core header.steps header.ticks c.args.input.now journal.items n c.in-Ok-Reached.field-0) few c.in-Ok-Reached.ensures))
@@ -24,6 +24,6 @@ returns-in-Ok-Illegal-clause-ends c =
     let core = core_in c.args.program.now in
     let journal = c.args.journal.now in
     let header = journal.header in
-    let few = min_is c.fewer-upto.result c.args.upto (length journal.items) c.fewer-upto.ensures.one c.fewer-upto.ensures.other in
+    let few = min_is c.fewer-upto.result c.args.upto c.len.result c.fewer-upto.ensures.one c.fewer-upto.ensures.other ∙ ap (min c.args.upto) c.len.ensures in
     subst (Replays core header.steps header.ticks c.args.input.now journal.items (min c.args.upto (length journal.items))) c.in-Ok-Illegal.field-0-is
     (subst (λ n. Replays core header.steps header.ticks c.args.input.now journal.items n c.in-Ok-Illegal.field-0) few c.in-Ok-Illegal.ensures)
