@@ -9,12 +9,10 @@ use Rattle.sr_front.specs.Cores.{IsCoreOf}
 use Rattle.sr_front.specs.Reading.{contents_of}
 use Rattle.sr_journal.specs.Causes.{IsJournal}
 use Rattle.sr_journal.specs.declared.header.Header.{Header}
-use Rattle.sr_ports.specs.Faults.{Counts}
-use Rattle.sr_ports.specs.Files.{Readings, bytes_of, failed_after, next_read}
-use Rattle.sr_ports.specs.declared.fault.PortFail.{PortFail}
-use Rattle.sr_ports.specs.declared.fault.PortFail.TheVariants as port
+use Rattle.sr_ports.specs.Faults.{Rose}
+use Rattle.sr_ports.specs.Files.{bytes_of, next_read}
 use Rattle.sr_top.specs.Programs.{classes_in, core_in}
-use Rattle.sr_top.specs.Reading.{AreRead, EndsReading, FailsAt, Reads, StopsCompiling, reads_by, sizes_of}
+use Rattle.sr_top.specs.Reading.{AreRead, EndsReading, FailsAt, Reads, StopsCompiling, sizes_of}
 use Rattle.sr_top.specs.Replaying.{AreBytesOf}
 use Rattle.sr_top.specs.Stages.{AreProgram, EndsBytes, EndsFiles, EndsJournal, EndsProgram, IsJournalOf, IsProgramOf, Told, after_journal}
 use Rattle.sr_top.specs.declared.recorded.Journal.{Journal}
@@ -24,10 +22,8 @@ use Rattle.sr_top.specs.declared.report.Ending.TheVariants.{Done, Quiet, Stopped
 -- ---- the journal
 
 -- the first read failed
-pub first_failed : (T : Type 0) (readings readings_now : Readings) (faults faults_now : ℕ) (fail : PortFail) → fail ≡ port.Failed → readings_now.reads ≡ next_read readings.reads
-    → readings_now.failed ≡ failed_after {T = T} readings (Err fail) → Counts {T = T} faults faults_now (Err fail) → FailsAt 0 (reads_by readings faults) (reads_by readings_now faults_now)
-first_failed T readings readings_now faults faults_now port.Failed is reads failed counts = record { last = reads; failed = failed ∙ sym reads; rose = counts }
-first_failed T readings readings_now faults faults_now port.NoMemory is reads failed counts = absurd (cc)
+pub first_failed : (before now : Reads) → now.reads ≡ next_read before.reads → now.failed ≡ now.reads → Rose before.faults now.faults → FailsAt 0 before now
+first_failed before now reads failed rose = record { last = reads; failed = failed; rose = rose }
 
 -- a journal that was read by its path, which is text, was read by its name
 pub bytes_as : (told : Told) (path name bytes : List ℕ) → path ≡ name → IsUtf8 name → IfSome told (λ held. option_map (take 536870912) (bytes_of held path) ≡ Some bytes) → AreBytesOf told name bytes

@@ -52,7 +52,7 @@ other_after files (first ∷ told) number same more before =
       here = λ alike.
           let past = slice_get_past (sizes_of files) (length files) (let many = length-sizes files in omega arith) in
           let there = slice_get-get_or (first ∷ told) (length files) first more in
-          true≢false (sym (ap is_some (sym there)) ∙ ap is_some (sym alike) ∙ ap is_some past);
+          true≢false (ap is_some (sym there) ∙ ap is_some (sym alike) ∙ ap is_some past);
     })
 
 -- the lists are as long, and the same

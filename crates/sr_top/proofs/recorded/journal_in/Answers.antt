@@ -1,5 +1,5 @@
 -- The journal was read by its name, and its bytes are one, or none.
-use Rattle.std.proofs.Common.{◌∙◌, refl, subst, sym}
+use Rattle.std.proofs.Common.{◌∙◌, refl, rules, subst, sym}
 use Rattle.std.specs.Str.{IsUtf8}
 use Rattle.sr_top.proofs.JournalFiles.{bytes_as, first_failed, journal_as, no_journal_as}
 use Rattle.sr_top.specs.Reading.{reads_by}
@@ -20,4 +20,4 @@ returns-in-Ok-read-clause-ends g c =
 
 pub returns-in-Err-Failed-clause-ends : goal.returns-in-Err-Failed-clause-ends
 returns-in-Err-Failed-clause-ends g c =
-    (refl, first_failed _ _ _ _ _ c.in-Err-Failed.field-0 c.in-Err-Failed.field-0-is c.in-Err-Failed.ensures.reads c.in-Err-Failed.ensures.failed c.in-Err-Failed.ensures.cause)
+    (refl, first_failed (reads_by (g.F.Files.readings c.args.files.now) (g.F.Files.faults c.args.files.now)) (reads_by (g.F.Files.readings c.read.new.self) (g.F.Files.faults c.read.new.self)) (search rules) (search rules) (search rules))
