@@ -28,16 +28,28 @@ fn head_of(alloc: Global, command: &Command) -> Result<String, NoMemory> {
         Command::Check { .. } => Ok(format!(in alloc; "check")?),
         Command::Classes { .. } => Ok(format!(in alloc; "classes")?),
         Command::Gen { seed, workers } => Ok(format!(in alloc; "gen {seed} {workers}")?),
+        Command::Replay { upto, .. } => Ok(format!(in alloc; "replay {upto}")?),
     }
+}
+
+/// Adds a file after a space.
+fn add_file(shown: &mut Text, file: &Text) -> Result<(), NoMemory> {
+    shown.push(b' ')?;
+    shown.push_all(file.as_bytes())
 }
 
 /// Adds the files, each after a space.
 fn add_files(shown: &mut Text, files: &[Text]) -> Result<(), NoMemory> {
     for file in files {
-        shown.push(b' ')?;
-        shown.push_all(file.as_bytes())?;
+        add_file(shown, file)?;
     }
     Ok(())
+}
+
+/// Adds a journal and the files, each after a space.
+fn add_journal(shown: &mut Text, journal: &Text, files: &[Text]) -> Result<(), NoMemory> {
+    add_file(shown, journal)?;
+    add_files(shown, files)
 }
 
 /// The command in one line.
@@ -48,6 +60,9 @@ fn shown(alloc: Global, command: &Command) -> Result<Text, NoMemory> {
             add_files(&mut shown, files.as_slice())?
         }
         Command::Gen { .. } => {}
+        Command::Replay { journal, files, .. } => {
+            add_journal(&mut shown, journal, files.as_slice())?
+        }
     }
     Ok(shown)
 }
@@ -63,7 +78,7 @@ fn gives(alloc: Global, line: &str, wanted: &str) -> Result<bool, NoMemory> {
 }
 
 /// Lines, and the commands that they give.
-const RIGHT: [(&str, &str); 34] = [
+const RIGHT: [(&str, &str); 40] = [
     ("run a.sr", "run 1 1000000 10000000 false a.sr"),
     ("run a.sr b.sr", "run 1 1000000 10000000 false a.sr b.sr"),
     ("run a.sr a.sr", "run 1 1000000 10000000 false a.sr a.sr"),
@@ -119,10 +134,22 @@ const RIGHT: [(&str, &str); 34] = [
     ("gen 07 --workers 4", "gen 7 4"),
     ("gen --workers=16 3", "gen 3 16"),
     ("gen -- 5", "gen 5 1"),
+    ("replay a.journal a.sr", "replay 16000000 a.journal a.sr"),
+    (
+        "replay a.journal a.sr b.sr --upto 0",
+        "replay 0 a.journal a.sr b.sr",
+    ),
+    ("replay --upto=7 a.journal a.sr", "replay 7 a.journal a.sr"),
+    (
+        "replay a.journal --upto 16000000 a.sr",
+        "replay 16000000 a.journal a.sr",
+    ),
+    ("replay -- --upto 5", "replay 16000000 --upto 5"),
+    ("replay replay replay", "replay 16000000 replay replay"),
 ];
 
 /// Lines that give no command.
-const WRONG: [&str; 60] = [
+const WRONG: [&str; 69] = [
     "",
     "run",
     "run --",
@@ -183,6 +210,15 @@ const WRONG: [&str; 60] = [
     "gen 5 --workers 17",
     "check a.sr --workers 1",
     "run a.sr --workers=1 --workers 1",
+    "replay",
+    "replay a.journal",
+    "replay --upto 5 a.journal",
+    "replay a.journal a.sr --upto 16000001",
+    "replay a.journal a.sr --upto -1",
+    "replay a.journal a.sr --upto",
+    "replay a.journal a.sr --upto 1 --upto 1",
+    "replay a.journal a.sr --steps 5",
+    "run a.sr --upto 5",
 ];
 
 #[test]
