@@ -5,7 +5,9 @@ pub mod LocalLemmas
 pub mod LocalStepLemmas
 pub mod MapLemmas
 pub mod RunLemmas
+pub mod ShardLemmas
 pub mod SoundLemmas
+pub mod SplitLemmas
 pub mod StepLemmas
 pub mod TouchedLemmas
 pub mod WrittenLemmas
