@@ -1,5 +1,5 @@
 -- Dividing what comes apart of a world, and joining it.
-use Rattle.std.proofs.Common.{◌≡◌, ◌≢◌, ℕ, zero, suc, ◌+◌, ◌<◌, ◌≤◌, ◌%◌, ◌==◌, ◌⊎◌, inl, inr, Bool, true, false, List, [], ◌∷◌, ◌++◌, length, Option, Some, None, refl, ap, sym, ◌∙◌, subst, cond, arith, eqb-true, true≢false}
+use Rattle.std.proofs.Common.{◌≡◌, ◌≢◌, ℕ, zero, suc, ◌+◌, ◌<◌, ◌≤◌, ◌%◌, ◌==◌, ◌⊎◌, inl, inr, Bool, true, false, List, [], ◌∷◌, ◌++◌, length, Some, None, refl, ap, sym, ◌∙◌, subst, cond, arith, eqb-true, true≢false}
 use Rattle.std.proofs.lemmas.Bool.{eq-eqb}
 use Rattle.std.proofs.lemmas.List.{map_more, take_all}
 use Rattle.std.proofs.lemmas.Option.{get_or_from_slice_get, slice_get_within}
@@ -16,7 +16,7 @@ use Rattle.sr_queue.specs.declared.pending.Pending.{Pending}
 use Rattle.sr_store.specs.Variables.{Stored}
 use Rattle.sr_touch.specs.Homes.{owner_number}
 use Rattle.sr_world.specs.Worlds.{World}
-use Rattle.sr_shard.specs.Dividing.{AreInPlace, HasPart, HasPartsFrom, IsTaken, KeepsOthers, Moved, line_of, moved_in, moved_part, moved_to, with_moved, with_portion, without_moved}
+use Rattle.sr_shard.specs.Dividing.{AreInPlace, HasPart, HasPartsFrom, IsTaken, KeepsOthers, Moved, line_of, moved_in, moved_part, moved_to, with_moved, with_portion}
 use Rattle.sr_shard.specs.Masks.{mask}
 use Rattle.sr_shard.specs.Shards.{AreNumbered, AreOpened, IsGathered, IsJoined, IsOpened, Opened, Sharded}
 use Rattle.sr_shard.specs.declared.divided.Divided.{Divided}
