@@ -28,7 +28,7 @@ complete_reply-complete_arm-requires g t c =
       arm_within weight_of_arm c.args.arms.now c.arm_out.result c.in-Some.arm.now
           (there c.args.arms.now c.arm_out.result c.in-Some.arm.now c.in-Some.ensures.lookup.3.0 c.in-Some.ensures.lookup.1),
     ) in
-    (less, c.requires)
+    λ κs within. (less, (within, c.requires))
 
 pub complete_reply-returns-in-None : goal.complete_reply-returns-in-None
 complete_reply-returns-in-None g t c =
@@ -67,7 +67,7 @@ run_pick-run_service-requires g t c =
     let found : Some c.as_slice.result.now ≡ slice_get c.args.arms.now c.args.pick.arm = ap (λ block. Some block) c.as_slice.ensures
     ∙ there c.args.arms.now c.args.pick.arm c.in-Some-get.block.now c.in-Some-get.ensures.lookup.3.0 c.in-Some-get.ensures.lookup.1 in
     let less : 1 + weight_of_block c.as_slice.result.now < t = omega (arith, block_within c.args.arms.now c.args.pick.arm c.as_slice.result.now found) in
-    (less, tt)
+    λ κs within. (less, within)
 
 pub run_pick-returns-in-None-get : goal.run_pick-returns-in-None-get
 run_pick-returns-in-None-get g t c =
