@@ -1,15 +1,18 @@
 -- What the lemmas on pieces say at each return, and that what is found within has less to carry out.
 use Rattle.std.proofs.Common.{◌≡◌, ◌+◌, ◌-◌, ◌<◌, length, map, take, drop, Some, ap, ◌∙◌, subst, to_z, of_z, w32, arith, rules}
 use Rattle.std.specs.List.{slice_get}
+use Rattle.std.proofs.lemmas.Result.{err_from_is_err_and}
+use Rattle.sr_ask.specs.Behaviors.{Came}
 use Rattle.sr_ask.specs.declared.forms.Selection.TheVariants.{Service, Otherwise}
 use Rattle.sr_meaning.specs.Pieces.{co_part_of, guarded_of, optional_block}
 use Rattle.sr_interpreter.specs.Blocks.{inner_meaning}
-use Rattle.sr_meaning.specs.Statements.{meaning_of, quantified, site_at, start_calls}
+use Rattle.sr_meaning.specs.Statements.{do_turn, meaning_of, quantified, site_at, start_calls}
 use Rattle.sr_interpreter_parts.specs.Turns.{listed}
 use Rattle.sr_interpreter_expr.specs.Interpreters.{Agrees, here_of, stage_of}
 use Rattle.sr_interpreter.proofs.Completions.{reply_given, no_reply_given}
 use Rattle.sr_interpreter.proofs.Executions.{arm_given, arm_within, block_given, block_within, calls_end, calls_go_on, do_stops, first_and_rest, in_given, in_stops, no_arm, no_block, not_there, quantified_fails, quantified_given, there}
 use Rattle.sr_meaning.proofs.Weights.{weight_of_arm, weight_of_block}
+use Rattle.sr_interpreter.proofs.Steps.{looped_ends, looped_stops}
 use Rattle.sr_interpreter.proofs.statement.+execution.Goals as goal
 
 pub complete_next-returns-in-Ok : goal.complete_next-returns-in-Ok
@@ -116,3 +119,18 @@ start_calls-loop-at-preserved g t c =
     calls_go_on c.args.arms.now c.loop-at.at c.in_ok-arm_number.field-0 c.index-arms-at.result c.as_slice-in-loop-at.result.now c.as_slice.result.now (here_of g.C.HasCore.core_of c.args.scene.now) (stage_of c.loop-at.interpreter)
     (stage_of c.run_quantified.new.interpreter) c.run_quantified.result c.in-Ok.field-0 (start_calls 0 (map co_part_of c.args.arms.now) (here_of g.C.HasCore.core_of c.args.scene.now) (stage_of c.args.interpreter.now))
     (omega arith) c.index-arms-at.is c.in_ok-arm_number.ensures c.as_slice-in-loop-at.ensures c.as_slice.ensures c.in-Ok.is c.run_quantified.ensures c.loop-at.invariant
+
+pub run_turns-returns-in_err-ending : goal.run_turns-returns-in_err-ending
+run_turns-returns-in_err-ending g t c =
+    let same = err_from_is_err_and c.from_residual-in_err-ending.result c.from_residual-in_err-ending.ensures.1 in
+    rw (same.1, same.2)
+    (looped_stops c.args.scene.now.limit c.turns.most (c.room-most.result + 1) (do_turn (map guarded_of c.args.guards.now) (optional_block c.args.otherwise.now) (here_of g.C.HasCore.core_of c.args.scene.now))
+    (stage_of c.args.interpreter.now) (stage_of c.turns.interpreter) (stage_of c.tick.new.interpreter) (stage_of c.run_turn.new.interpreter) c.in_err-ending.field-0.0
+    (omega arith) (ap (λ n. n + 1) c.room-most.ensures.value) c.turns.invariant c.in_ok-tick.ensures c.in_err-ending.ensures)
+
+pub run_turns-returns-in-Some : goal.run_turns-returns-in-Some
+run_turns-returns-in-Some g t c =
+    looped_ends c.args.scene.now.limit c.turns.most (c.room-most.result + 1) (do_turn (map guarded_of c.args.guards.now) (optional_block c.args.otherwise.now) (here_of g.C.HasCore.core_of c.args.scene.now))
+    (stage_of c.args.interpreter.now) (stage_of c.turns.interpreter) (stage_of c.tick.new.interpreter) (stage_of c.run_turn.new.interpreter) c.in-Some.ending
+    (omega arith) (ap (λ n. n + 1) c.room-most.ensures.value) c.turns.invariant c.in_ok-tick.ensures
+    (c.in_ok-ending.ensures ∙ ap (λ end. Came end (stage_of c.run_turn.new.interpreter)) c.in-Some.is)
