@@ -3,4 +3,4 @@
 
 mod running;
 
-pub use running::{code_asks, compiled};
+pub use running::code_asks;

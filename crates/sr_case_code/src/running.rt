@@ -1,20 +1,8 @@
 use sr_ask::{Answer, Asks, Start};
 use sr_code::Program;
-use sr_core::{Classes, Core};
-use sr_gen::generate;
 use sr_process::Process;
 use sr_value::{Duplicate, NoMemory, Row};
 use std::alloc::Global;
-
-/// A program with its code.
-pub fn compiled(alloc: Global, core: Core, classes: Classes) -> Result<Program, NoMemory> {
-    let code = generate(alloc, &core)?;
-    Ok(Program {
-        core,
-        classes,
-        code,
-    })
-}
 
 /// Runs a process to what it asks after these answers.
 fn run(

@@ -76,12 +76,18 @@ fn next_alike(
     answer_if_same(alloc, program, start, answerer, answers, &asks)
 }
 
+/// Puts a copy in the place of a process, which goes on from there.
+fn go_on_as_copy(process: &mut Process) -> Result<(), NoMemory> {
+    *process = process.copy()?;
+    Ok(())
+}
+
 fn note(alloc: Global, answers: &mut Row<Answer>, answer: &Answer) -> Result<(), NoMemory> {
     answers.push(answer.copy(alloc)?)
 }
 
-/// Gives a process that has begun its answers, one after the other. After how many of them its code first asks something
-/// else than its tree, where it does.
+/// Gives a process that has begun its answers, one after the other, and goes on with a copy of it after each. After how
+/// many of them its code first asks something else than its tree, where it does.
 fn difference_of(
     alloc: Global,
     program: &Program,
@@ -96,6 +102,7 @@ fn difference_of(
             Some(answer) => {
                 note(alloc, &mut answers, &answer)?;
                 process.feed(answer);
+                go_on_as_copy(process)?;
             }
         }
     }

@@ -8,9 +8,8 @@ mod comparing;
 mod kept;
 mod picks;
 mod replies;
-mod reporting;
 mod starts;
 mod telling;
 mod values;
 
-pub use reporting::report_of;
+pub use telling::tell_program;

@@ -113,7 +113,7 @@ fn found(alloc: Global, case: &Case, edit: &str) -> Result<u32, NoMemory> {
 }
 
 /// What is told of a line such as `7: TEXT => 9`.
-pub fn tell(alloc: Global, case: &Case, line: &str) -> Result<String, NoMemory> {
+pub fn tell_edit(alloc: Global, case: &Case, line: &str) -> Result<String, NoMemory> {
     let edit = match line.rsplit_once(" => ") {
         Some((edit, _)) => edit,
         None => line,

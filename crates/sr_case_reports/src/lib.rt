@@ -1,13 +1,13 @@
-//! Compares what the parts of the compiler say of the cases in a file with what is written there.
+//! What the parts of the compiler say of cases: of edited texts whether they spell a file, of programs what their names
+//! mean, and of processes what they ask.
 #![tactic(auto)]
 
 mod answers;
 mod asks;
-mod checks;
-mod cores;
 mod edits;
 mod names;
 mod processes;
-mod subject;
 
-pub use subject::{Subject, report_of};
+pub use edits::tell_edit;
+pub use names::tell_names;
+pub use processes::tell_process;

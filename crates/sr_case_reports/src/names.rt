@@ -77,18 +77,18 @@ fn tell_uses(alloc: Global, names: &Names, tokens: &[Token]) -> Result<String, A
 }
 
 /// What is told of the names of a program that is read.
-fn tell_names(alloc: Global, names: &Names, files: &[(Text, Text)]) -> Result<String, NoMemory> {
+fn tell_resolved(alloc: Global, names: &Names, files: &[(Text, Text)]) -> Result<String, NoMemory> {
     match tokens_of(alloc, files) {
         Ok(tokens) => Ok(tell_uses(alloc, names, tokens.as_slice())?),
         Err(fail) => tell_fail(alloc, fail, 0),
     }
 }
 
-/// What is told of a program.
-pub fn tell(alloc: Global, case: &Case) -> Result<String, NoMemory> {
+/// What is told of the names of a program.
+pub fn tell_names(alloc: Global, case: &Case) -> Result<String, NoMemory> {
     let files = case.files(alloc)?;
     match names_of(alloc, files.as_slice()) {
-        Ok(names) => tell_names(alloc, &names, files.as_slice()),
+        Ok(names) => tell_resolved(alloc, &names, files.as_slice()),
         Err(fail) => tell_fail(alloc, fail, 0),
     }
 }

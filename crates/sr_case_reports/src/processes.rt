@@ -4,12 +4,10 @@
 
 use crate::answers::{Origin, answer_of, origin_of};
 use crate::asks::print_ask;
-use crate::cores::program_of;
 use sr_ask::{Answer, Asks, Role};
-use sr_case_code::{code_asks, compiled};
-use sr_case_files::{Case, push_line, tell_fail};
+use sr_case_code::code_asks;
+use sr_case_files::push_line;
 use sr_code::Program;
-use sr_core::{Classes, Core};
 use sr_interpreter::tree_ask;
 use sr_value::{NoMemory, Row};
 use std::alloc::Global;
@@ -97,29 +95,10 @@ fn tell_steps(
     Ok(told)
 }
 
-/// What is told of a process of a program.
-fn tell_process(alloc: Global, program: &Program, wanted: &str) -> Result<String, NoMemory> {
+/// What is told of a process of a program, of which this is wanted.
+pub fn tell_process(alloc: Global, program: &Program, wanted: &str) -> Result<String, NoMemory> {
     match wanted.split_once('\n') {
         Some((origin, steps)) => tell_steps(alloc, program, origin, steps),
         None => Ok(String::new(alloc)),
-    }
-}
-
-fn tell_program(
-    alloc: Global,
-    core: Core,
-    classes: Classes,
-    wanted: &str,
-) -> Result<String, NoMemory> {
-    let program = compiled(alloc, core, classes)?;
-    tell_process(alloc, &program, wanted)
-}
-
-/// What is told of the process of a case.
-pub fn tell(alloc: Global, case: &Case) -> Result<String, NoMemory> {
-    let files = case.files(alloc)?;
-    match program_of(alloc, files.as_slice()) {
-        Ok((core, classes)) => tell_program(alloc, core, classes, case.wanted.as_str()),
-        Err(fail) => tell_fail(alloc, fail, 0),
     }
 }

@@ -5,11 +5,15 @@
 #![tactic(auto)]
 
 mod calls;
+mod checks;
+mod cores;
 mod divided;
+mod programs;
 mod repeats;
+mod subject;
 mod telling;
 
-use sr_case_reports::Subject;
+use crate::subject::Subject;
 use sr_value::NoMemory;
 use std::alloc::Global;
 use std::rt::{Env, Files};
@@ -20,11 +24,8 @@ fn report_of(alloc: Global, name: &str, content: &str) -> Result<String, NoMemor
     if name.starts_with("runs/") {
         return calls::report_of(alloc, name, content);
     }
-    if name == "lists.txt" {
-        return sr_case_lists::report_of(alloc, name, content);
-    }
     match Subject::of(name) {
-        Some(subject) => sr_case_reports::report_of(alloc, subject, name, content),
+        Some(subject) => subject::report_of(alloc, subject, name, content),
         None => Ok(format!(in alloc; "{name}: of no known subject\n")?),
     }
 }

@@ -28,7 +28,7 @@ own_no owners a i other = ap (λ b. cond b 1 0) (ne_eqb (slice_index owners i) a
 nobody : (a : ℕ) → 0 < a → 0 ≢ a
 nobody a pos e = omega arith
 
-made_suc : (owners : List ℕ) (a n : ℕ) → 0 < a → made owners a (suc n) ≡ made owners a n + own owners a n
+pub made_suc : (owners : List ℕ) (a n : ℕ) → 0 < a → made owners a (suc n) ≡ made owners a n + own owners a n
 made_suc [] a zero pos = omega (arith, own_no [] a 0 (nobody a pos))
 made_suc [] a (suc n) pos = omega (arith, own_no [] a (suc n) (nobody a pos))
 made_suc (x ∷ xs) a zero pos = omega arith

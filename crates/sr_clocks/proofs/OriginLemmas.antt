@@ -4,12 +4,12 @@ use Rattle.std.specs.Prelude.{Contains, slice_index_or}
 use Rattle.sr_clocks.specs.Clocks.{AreFrom, AreRows, IsOrigin, Rows, greatest}
 use Rattle.sr_clocks.proofs.ClockLemmas.{order}
 
-above : (f : ℕ → ℕ) (xs : List ℕ) (k x : ℕ) → k < length xs → slice_index_or xs k x ≡ x → f x ≤ greatest (map f xs)
+pub above : (f : ℕ → ℕ) (xs : List ℕ) (k x : ℕ) → k < length xs → slice_index_or xs k x ≡ x → f x ≤ greatest (map f xs)
 above f [] k x short is = absurd (omega arith)
 above f (y ∷ ys) zero x short is = let same : f y ≡ f x = ap f is in omega arith
 above f (y ∷ ys) (suc k) x short is = omega (arith, above f ys k x (omega arith) is)
 
-reached : (f : ℕ → ℕ) (xs : List ℕ) → (greatest (map f xs) ≡ 0) ⊎ ((x : ℕ) × Contains xs x × (greatest (map f xs) ≡ f x))
+pub reached : (f : ℕ → ℕ) (xs : List ℕ) → (greatest (map f xs) ≡ 0) ⊎ ((x : ℕ) × Contains xs x × (greatest (map f xs) ≡ f x))
 reached f [] = inl refl
 reached f (y ∷ ys) = ⊎_elim (λ less. later less (reached f ys)) (λ rest. inr (y, (0, omega arith, refl), ⊎_elim (λ e. omega arith) (λ l. omega arith) rest)) (order (f y) (greatest (map f ys)))
   where

@@ -6,20 +6,8 @@ ghost use Rattle.sr_core.specs.Values.{formal_shape, high_bound, sent_extent};
 ghost use Rattle.sr_core.specs.Formals.{after_first, sent_after, sent_to};
 
 use crate::{FormalShape, Mode};
-use sr_value::{Dims, Duplicate, Fault, Shape, Shared, Value, ValueFail};
+use sr_value::{Dims, Duplicate, Fault, Shape, Shared, Value, ValueFail, indices};
 use std::alloc::Global;
-
-/// How many indices there are from `lo` to `hi`.
-pub fn indices(lo: i32, hi: i32) -> u64
-    ensures value { result ≡ extent lo hi }
-    ensures bound { result ≤ 4294967296 }
-{
-    if hi < lo {
-        0
-    } else {
-        u64::from(hi.abs_diff(lo)) + 1
-    }
-}
 
 /// How many rows an argument has; none where it is no array.
 fn rows_sent(sent: Option<&Value>) -> u64

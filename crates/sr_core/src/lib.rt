@@ -23,7 +23,7 @@ pub use brackets::array;
 pub use component::{Body, Component, Core, Kind, Operation, Parameter, Proc};
 pub use expression::{Argument, Expr, Function, Leaf, Part, PlaceExpr, Readable, Reading, Step};
 pub use formal::{Formal, FormalShape, Mode, Returned};
-pub use formals::{formal_shape, high_bound, indices, sent_after, sent_to};
+pub use formals::{formal_shape, high_bound, sent_after, sent_to};
 pub use operand::{capability, count, member, number, truth};
 pub use owner::{Classes, Home, Me, OperationOwner, Root};
 pub use piece::Piece;

@@ -81,7 +81,7 @@ unfolding piece_at
 hash_front more = record { len = refl; comment = λ _. refl; tokens = λ _ _ _. refl }
 
 -- `/*`
-block_is : (more : List ℕ) → starts_with nat_eq (47 ∷ more) (codes "/*") ≡ true → piece_at (47 ∷ more) ≡ closed_comment (close_of (drop 2 (47 ∷ more)))
+pub block_is : (more : List ℕ) → starts_with nat_eq (47 ∷ more) (codes "/*") ≡ true → piece_at (47 ∷ more) ≡ closed_comment (close_of (drop 2 (47 ∷ more)))
 unfolding piece_at
 block_is more e = rw e refl
 
@@ -110,10 +110,10 @@ quoted_tokens kind quote inner rest None ok before text span =
       | inr e ↦ (let bad : false ≡ true = rw e at ok in absurd (cc))
     ]
 
-literal_tokens : (kind : TokenKind) (quote : ℕ) (after : List ℕ) → is_ok (literal_piece kind quote after) ≡ true → (before : List Placed) (text : List ℕ) (span : Span) → on_ok (literal_piece kind quote after) (λ piece. tokens_at before piece.kind text span) [] ≡ told_after before kind text span
+pub literal_tokens : (kind : TokenKind) (quote : ℕ) (after : List ℕ) → is_ok (literal_piece kind quote after) ≡ true → (before : List Placed) (text : List ℕ) (span : Span) → on_ok (literal_piece kind quote after) (λ piece. tokens_at before piece.kind text span) [] ≡ told_after before kind text span
 literal_tokens kind quote after ok before text span = quoted_tokens kind quote _ _ _ ok before text span
 
-number_tokens : (bytes : List ℕ) → is_ok (number_piece bytes) ≡ true → (before : List Placed) (text : List ℕ) (span : Span) → on_ok (number_piece bytes) (λ piece. tokens_at before piece.kind text span) [] ≡ told_after before kinds.Number text span
+pub number_tokens : (bytes : List ℕ) → is_ok (number_piece bytes) ≡ true → (before : List Placed) (text : List ℕ) (span : Span) → on_ok (number_piece bytes) (λ piece. tokens_at before piece.kind text span) [] ≡ told_after before kinds.Number text span
 number_tokens bytes ok before text span =
     elim (split (is_number (take (run_len is_digit bytes) bytes) (drop (run_len is_digit bytes) bytes))) [
       | inl e ↦ rw e refl

@@ -3,7 +3,7 @@ use sr_value::Text;
 
 /// What decides how the next token is written.
 #[derive(Drop)]
-pub(crate) struct Pen {
+pub struct Pen {
     /// How many `(` and `[` are open.
     pub depth: u32,
     /// How many levels of indentation are open.

@@ -2,7 +2,7 @@ ghost use Rattle.std.specs.Prelude.{map};
 ghost use Rattle.sr_value.specs.Parts.{all_fit, each_fits, fitted_in};
 ghost use Rattle.sr_in_place.specs.Puts.{Fitted};
 
-use crate::indices::check_extents;
+use crate::extents::check_extents;
 use sr_value::{Fault, Row, Shape, Value};
 
 /// Gives a value the bounds of its place. E5 where a string is too long, E4 where arrays have other

@@ -1,8 +1,8 @@
 //! Stores of a value into a place that stands.
 #![tactic(auto)]
 
+mod extents;
 mod fitting;
-mod indices;
 mod laws;
 mod putting;
 

@@ -1,10 +1,10 @@
 -- Pieces of work, one after the other.
-use Rattle.std.proofs.Common.{◌≡◌, ◌≢◌, ℕ, zero, suc, ◌+◌, ◌-◌, ◌*◌, ◌<◌, ℤ, List, [], ◌∷◌, length, map, Option, option_map, refl, sym, ap, ◌∙◌, arith}
+use Rattle.std.proofs.Common.{◌≡◌, ◌≢◌, ℕ, zero, suc, ◌+◌, ◌-◌, ◌*◌, ◌<◌, ℤ, List, [], ◌∷◌, length, map, Option, option_map, Some, Err, refl, sym, ap, ◌∙◌, arith}
 use Rattle.std.specs.List.{slice_get}
 use Rattle.std.proofs.lemmas.List.{length-map}
 use Rattle.std.proofs.lemmas.Option.{slice_get-map}
 use Rattle.sr_ask.specs.Asking.{selected}
-use Rattle.sr_ask.specs.Behaviors.{Stage, Outcome, Came, Stops, Doing, give, and_then, tick, turned, turns}
+use Rattle.sr_ask.specs.Behaviors.{Stage, Outcome, Came, Stops, Doing, give, and_then, looped, room, tick, turned, turns}
 use Rattle.sr_ask.specs.declared.forms.Selection.{Selection}
 use Rattle.sr_ask.specs.declared.request.Request.TheVariants.{Select}
 use Rattle.sr_core.specs.declared.expression.Expr.{Expr}
@@ -23,6 +23,9 @@ use Rattle.sr_meaning.specs.Pieces.{call_part, co_part_of, each_block}
 use Rattle.sr_interpreter_parts.specs.StatementParts.{choosing}
 use Rattle.sr_interpreter.specs.Blocks.{next_completion, value_turn}
 use Rattle.sr_ask.specs.Places.{set_own}
+use Rattle.sr_interpreter_expr.specs.Interpreters.{Agrees}
+use Rattle.sr_interpreter_expr.specs.declared.stop.Stop.{Stop}
+use Rattle.sr_interpreter_expr.specs.declared.stop.Stop.TheVariants.{Asks as stopped, NoMemory as out_of_memory}
 
 pub regroup : {A B C : Type 0} (o : Outcome A) (f : A → Doing B) (g : B → Doing C) → and_then (and_then o f) g ≡ and_then o (λ a stage. and_then (f a stage) g)
 regroup (Came a stage) f g = refl
@@ -54,6 +57,32 @@ turns_step zero turn stage above = absurd (omega arith)
 turns_step (suc most) turn stage above =
     let back : most ≡ suc most - 1 = omega arith in
     ap (λ n. and_then (tick stage) (λ _ begun. and_then (turn begun) (λ end. turned end (turns n turn)))) back
+
+-- the turn after those so far is what is left of the loop
+turn_next : {A : Type 0} (limit most first : ℕ) (turn : Doing (Option A)) (whole stage begun : Stage) → 0 < most → first ≡ room limit whole + 1
+    → turns most turn stage ≡ turns first turn whole → tick stage ≡ Came tt begun
+    → looped limit turn whole ≡ and_then (turn begun) (λ end. turned end (turns (most - 1) turn))
+turn_next limit most first turn whole stage begun above all so_far ticked =
+    let same : suc (room limit whole) ≡ first = omega (arith, all) in
+    ap (λ n. turns n turn whole) same ∙ sym so_far ∙ turns_step most turn stage above
+    ∙ ap (λ o. and_then o (λ _ next. and_then (turn next) (λ end. turned end (turns (most - 1) turn)))) ticked
+
+-- a turn that ends the loop
+pub looped_ends : {A : Type 0} (limit most first : ℕ) (turn : Doing (Option A)) (whole stage begun last : Stage) (a : A) → 0 < most → first ≡ room limit whole + 1
+    → turns most turn stage ≡ turns first turn whole → tick stage ≡ Came tt begun → turn begun ≡ Came (Some a) last
+    → looped limit turn whole ≡ Came a last
+looped_ends limit most first turn whole stage begun last a above all so_far ticked ended =
+    turn_next limit most first turn whole stage begun above all so_far ticked
+    ∙ ap (λ o. and_then o (λ end. turned end (turns (most - 1) turn))) ended
+
+-- a turn that stops
+pub looped_stops : {A : Type 0} (limit most first : ℕ) (turn : Doing (Option A)) (whole stage begun last : Stage) (stop : Stop) → 0 < most → first ≡ room limit whole + 1
+    → turns most turn stage ≡ turns first turn whole → tick stage ≡ Came tt begun → Agrees (turn begun) (Err stop) last
+    → Agrees (looped limit turn whole) (Err stop) last
+looped_stops limit most first turn whole stage begun last (stopped asks) above all so_far ticked stops =
+    turn_next limit most first turn whole stage begun above all so_far ticked
+    ∙ ap (λ o. and_then o (λ end. turned end (turns (most - 1) turn))) stops
+looped_stops limit most first turn whole stage begun last out_of_memory above all so_far ticked stops = tt
 
 -- the next send, and then the others
 pub sends_step : (target : Expr) (left : ℕ) (here : Here) (stage : Stage) → 0 < left

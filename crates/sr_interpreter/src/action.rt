@@ -7,16 +7,21 @@ use sr_ask::Request;
 use sr_core::{Action, Argument, Bump, Expr, PlaceExpr};
 use sr_frame::joined;
 use sr_interpreter_expr::{
-    Interpreter, IsDone, IsMade, IsMoment, Scene, Stop, ask, cap_of, evaluate, evaluate_all,
-    evaluate_arguments, failed, load, locate, number_of, operated, reply_to, store, values_in,
+    HasCore, Interpreter, IsDone, IsMade, IsMoment, Scene, Stop, ask, cap_of, evaluate,
+    evaluate_all, evaluate_arguments, failed, load, locate, number_of, operated, reply_to, store,
+    values_in,
 };
 use sr_interpreter_parts::{ask_for_good, forward, reply, settle_texts};
 use sr_meaning::Ending;
 use sr_value::{Fault, Operator, Value};
 
 /// What a statement without blocks asks, and how it ends.
-pub fn act(scene: &Scene, interpreter: &mut Interpreter, action: &Action) -> Result<Ending, Stop>
-    ensures { Agrees (action_meaning action.now (here_of scene.now) (stage_of interpreter.old)) result (stage_of interpreter.new) }
+pub fn act<C: HasCore>(
+    scene: &Scene<C>,
+    interpreter: &mut Interpreter,
+    action: &Action,
+) -> Result<Ending, Stop>
+    ensures { Agrees (action_meaning action.now (here_of C.core_of scene.now) (stage_of interpreter.old)) result (stage_of interpreter.new) }
 {
     match action {
         Action::Skip => Ok(Ending::Through),
@@ -38,21 +43,25 @@ pub fn act(scene: &Scene, interpreter: &mut Interpreter, action: &Action) -> Res
 }
 
 /// A call, `create` or `read` whose value isn't used.
-fn evaluate_only(scene: &Scene, interpreter: &mut Interpreter, expr: &Expr) -> Result<Ending, Stop>
-    ensures { Agrees (action_meaning (Action.Evaluate expr.now) (here_of scene.now) (stage_of interpreter.old)) result (stage_of interpreter.new) }
+fn evaluate_only<C: HasCore>(
+    scene: &Scene<C>,
+    interpreter: &mut Interpreter,
+    expr: &Expr,
+) -> Result<Ending, Stop>
+    ensures { Agrees (action_meaning (Action.Evaluate expr.now) (here_of C.core_of scene.now) (stage_of interpreter.old)) result (stage_of interpreter.new) }
 {
     let _ = evaluate(scene, interpreter, expr)?;
     Ok(Ending::Through)
 }
 
 /// `send`, with its arguments from left to right.
-pub fn send(
-    scene: &Scene,
+pub fn send<C: HasCore>(
+    scene: &Scene<C>,
     interpreter: &mut Interpreter,
     target: &Expr,
     args: &[Argument],
 ) -> Result<Ending, Stop>
-    ensures { Agrees (action_meaning (Action.Send target.now args.now) (here_of scene.now) (stage_of interpreter.old)) result (stage_of interpreter.new) }
+    ensures { Agrees (action_meaning (Action.Send target.now args.now) (here_of C.core_of scene.now) (stage_of interpreter.old)) result (stage_of interpreter.new) }
 {
     let target = cap_of(scene, interpreter, target)?;
     let sent = evaluate_arguments(scene, interpreter, args)?;
@@ -65,13 +74,13 @@ pub fn send(
     Ok(Ending::Through)
 }
 
-fn forward_to(
-    scene: &Scene,
+fn forward_to<C: HasCore>(
+    scene: &Scene<C>,
     interpreter: &mut Interpreter,
     target: &Expr,
     args: &[Argument],
 ) -> Result<Ending, Stop>
-    ensures { Agrees (action_meaning (Action.Forward target.now args.now) (here_of scene.now) (stage_of interpreter.old)) result (stage_of interpreter.new) }
+    ensures { Agrees (action_meaning (Action.Forward target.now args.now) (here_of C.core_of scene.now) (stage_of interpreter.old)) result (stage_of interpreter.new) }
 {
     let target = cap_of(scene, interpreter, target)?;
     let sent = evaluate_arguments(scene, interpreter, args)?;
@@ -81,13 +90,13 @@ fn forward_to(
 }
 
 /// The place, then the value, then the store.
-fn assign(
-    scene: &Scene,
+fn assign<C: HasCore>(
+    scene: &Scene<C>,
     interpreter: &mut Interpreter,
     place: &PlaceExpr,
     value: &Expr,
 ) -> Result<Ending, Stop>
-    ensures { Agrees (action_meaning (Action.Assign place.now value.now) (here_of scene.now) (stage_of interpreter.old)) result (stage_of interpreter.new) }
+    ensures { Agrees (action_meaning (Action.Assign place.now value.now) (here_of C.core_of scene.now) (stage_of interpreter.old)) result (stage_of interpreter.new) }
 {
     let at = locate(scene, interpreter, place)?;
     let x = evaluate(scene, interpreter, value)?;
@@ -96,13 +105,13 @@ fn assign(
 }
 
 /// Both places, the left value, the right value, and the stores, left and then right.
-fn swap(
-    scene: &Scene,
+fn swap<C: HasCore>(
+    scene: &Scene<C>,
     interpreter: &mut Interpreter,
     left: &PlaceExpr,
     right: &PlaceExpr,
 ) -> Result<Ending, Stop>
-    ensures { Agrees (action_meaning (Action.Swap left.now right.now) (here_of scene.now) (stage_of interpreter.old)) result (stage_of interpreter.new) }
+    ensures { Agrees (action_meaning (Action.Swap left.now right.now) (here_of C.core_of scene.now) (stage_of interpreter.old)) result (stage_of interpreter.new) }
 {
     let at = locate(scene, interpreter, left)?;
     let to = locate(scene, interpreter, right)?;
@@ -123,13 +132,13 @@ fn operator_of(bump: Bump) -> Operator
 }
 
 /// `++` and `--`.
-fn bump_by_one(
-    scene: &Scene,
+fn bump_by_one<C: HasCore>(
+    scene: &Scene<C>,
     interpreter: &mut Interpreter,
     place: &PlaceExpr,
     bump: Bump,
 ) -> Result<Ending, Stop>
-    ensures { Agrees (action_meaning (Action.Bump place.now bump) (here_of scene.now) (stage_of interpreter.old)) result (stage_of interpreter.new) }
+    ensures { Agrees (action_meaning (Action.Bump place.now bump) (here_of C.core_of scene.now) (stage_of interpreter.old)) result (stage_of interpreter.new) }
 {
     let at = locate(scene, interpreter, place)?;
     let x = load(scene, interpreter, &at)?;
@@ -139,13 +148,13 @@ fn bump_by_one(
 }
 
 /// `write`, or `writes` where it isn't a line.
-fn write(
-    scene: &Scene,
+fn write<C: HasCore>(
+    scene: &Scene<C>,
     interpreter: &mut Interpreter,
     args: &[Expr],
     line: bool,
 ) -> Result<Ending, Stop>
-    ensures { Agrees (action_meaning (Action.Write args.now line) (here_of scene.now) (stage_of interpreter.old)) result (stage_of interpreter.new) }
+    ensures { Agrees (action_meaning (Action.Write args.now line) (here_of C.core_of scene.now) (stage_of interpreter.old)) result (stage_of interpreter.new) }
 {
     let values = evaluate_all(scene, interpreter, args)?;
     let texts = settle_texts(scene, interpreter, values.as_slice())?;
@@ -157,12 +166,12 @@ fn write(
 }
 
 /// The status of a `stop`, which is 0 where none is written.
-fn status_of(
-    scene: &Scene,
+fn status_of<C: HasCore>(
+    scene: &Scene<C>,
     interpreter: &mut Interpreter,
     status: &Option<Expr>,
 ) -> Result<i32, Stop>
-    ensures { Agrees (status_meaning status.now (here_of scene.now) (stage_of interpreter.old)) result (stage_of interpreter.new) }
+    ensures { Agrees (status_meaning status.now (here_of C.core_of scene.now) (stage_of interpreter.old)) result (stage_of interpreter.new) }
 {
     match status {
         None => Ok(0),
@@ -170,20 +179,24 @@ fn status_of(
     }
 }
 
-fn stop_run(
-    scene: &Scene,
+fn stop_run<C: HasCore>(
+    scene: &Scene<C>,
     interpreter: &mut Interpreter,
     status: &Option<Expr>,
 ) -> Result<Ending, Stop>
-    ensures { Agrees (action_meaning (Action.Stop status.now) (here_of scene.now) (stage_of interpreter.old)) result (stage_of interpreter.new) }
+    ensures { Agrees (action_meaning (Action.Stop status.now) (here_of C.core_of scene.now) (stage_of interpreter.old)) result (stage_of interpreter.new) }
 {
     let status = status_of(scene, interpreter, status)?;
     ask_for_good(scene, interpreter, Request::Stop { status })
 }
 
 /// Ends an instance, and waits for its end.
-fn destroy(scene: &Scene, interpreter: &mut Interpreter, target: &Expr) -> Result<Ending, Stop>
-    ensures { Agrees (action_meaning (Action.Destroy target.now) (here_of scene.now) (stage_of interpreter.old)) result (stage_of interpreter.new) }
+fn destroy<C: HasCore>(
+    scene: &Scene<C>,
+    interpreter: &mut Interpreter,
+    target: &Expr,
+) -> Result<Ending, Stop>
+    ensures { Agrees (action_meaning (Action.Destroy target.now) (here_of C.core_of scene.now) (stage_of interpreter.old)) result (stage_of interpreter.new) }
 {
     let target = cap_of(scene, interpreter, target)?;
     let name = ask(scene, interpreter, &IsMade, Request::Destroy { target })?;
@@ -192,8 +205,8 @@ fn destroy(scene: &Scene, interpreter: &mut Interpreter, target: &Expr) -> Resul
 }
 
 /// A time to wait; E6 below 0.
-fn time_of(scene: &Scene, interpreter: &Interpreter, time: i32) -> Result<i32, Stop>
-    ensures { Agrees (settle (time_of time) (here_of scene.now) (stage_of interpreter.now)) result (stage_of interpreter.now) }
+fn time_of<C: HasCore>(scene: &Scene<C>, interpreter: &Interpreter, time: i32) -> Result<i32, Stop>
+    ensures { Agrees (settle (time_of time) (here_of C.core_of scene.now) (stage_of interpreter.now)) result (stage_of interpreter.now) }
 {
     if time < 0 {
         failed(scene, interpreter, Fault::Range)
@@ -203,8 +216,13 @@ fn time_of(scene: &Scene, interpreter: &Interpreter, time: i32) -> Result<i32, S
 }
 
 /// The moment to wake at; E1 past the last.
-fn wake_at(scene: &Scene, interpreter: &Interpreter, now: i32, time: i32) -> Result<u32, Stop>
-    ensures { Agrees (settle (wake_at now time) (here_of scene.now) (stage_of interpreter.now)) result (stage_of interpreter.now) }
+fn wake_at<C: HasCore>(
+    scene: &Scene<C>,
+    interpreter: &Interpreter,
+    now: i32,
+    time: i32,
+) -> Result<u32, Stop>
+    ensures { Agrees (settle (wake_at now time) (here_of C.core_of scene.now) (stage_of interpreter.now)) result (stage_of interpreter.now) }
 {
     let until = i64::from(now) + i64::from(time);
     if until < 0 || until > 2_147_483_647 {
@@ -215,8 +233,12 @@ fn wake_at(scene: &Scene, interpreter: &Interpreter, now: i32, time: i32) -> Res
 }
 
 /// Waits until as many milliseconds have gone by.
-fn wait(scene: &Scene, interpreter: &mut Interpreter, time: &Expr) -> Result<Ending, Stop>
-    ensures { Agrees (action_meaning (Action.Until time.now) (here_of scene.now) (stage_of interpreter.old)) result (stage_of interpreter.new) }
+fn wait<C: HasCore>(
+    scene: &Scene<C>,
+    interpreter: &mut Interpreter,
+    time: &Expr,
+) -> Result<Ending, Stop>
+    ensures { Agrees (action_meaning (Action.Until time.now) (here_of C.core_of scene.now) (stage_of interpreter.old)) result (stage_of interpreter.new) }
 {
     let time = number_of(scene, interpreter, time)?;
     let time = time_of(scene, interpreter, time)?;
@@ -227,8 +249,8 @@ fn wait(scene: &Scene, interpreter: &mut Interpreter, time: &Expr) -> Result<End
 }
 
 /// `reply`.
-fn reply_now(scene: &Scene, interpreter: &mut Interpreter) -> Result<Ending, Stop>
-    ensures { Agrees (action_meaning Action.Reply (here_of scene.now) (stage_of interpreter.old)) result (stage_of interpreter.new) }
+fn reply_now<C: HasCore>(scene: &Scene<C>, interpreter: &mut Interpreter) -> Result<Ending, Stop>
+    ensures { Agrees (action_meaning Action.Reply (here_of C.core_of scene.now) (stage_of interpreter.old)) result (stage_of interpreter.new) }
 {
     reply(scene, interpreter)?;
     Ok(Ending::Through)

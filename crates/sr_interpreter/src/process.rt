@@ -10,7 +10,7 @@ use crate::statement::run_block;
 use sr_ask::{Answer, Asks, Request, Role, Start};
 use sr_core::{Body, Component, Core, Proc, Scope};
 use sr_interpreter_expr::{
-    Interpreter, IsMade, Scene, Stop, ask, at_line, ensure, needs, reply_to,
+    HasCore, Interpreter, IsMade, Scene, Stop, ask, at_line, ensure, needs, reply_to,
 };
 use sr_interpreter_parts::{ask_for_good, make_formals, make_returned, results};
 use sr_meaning::Ending;
@@ -28,12 +28,17 @@ fn main_number(core: &Core) -> Result<u32, NoMemory>
 }
 
 /// The boot process makes main's globals and main, and waits for it.
-fn boot(scene: &Scene, interpreter: &mut Interpreter) -> Result<(), Stop>
-    ensures { Agrees (boot_meaning (here_of scene.now) (stage_of interpreter.old)) result (stage_of interpreter.new) }
+fn boot<C: HasCore>(scene: &Scene<C>, interpreter: &mut Interpreter) -> Result<(), Stop>
+    ensures { Agrees (boot_meaning (here_of C.core_of scene.now) (stage_of interpreter.old)) result (stage_of interpreter.new) }
 {
-    let resource = main_number(scene.core)?;
+    let resource = main_number(scene.program.core())?;
     let vm = Cap::Vm(scene.start.vm);
-    ensure(scene, interpreter, needs(scene.core, resource), vm)?;
+    ensure(
+        scene,
+        interpreter,
+        needs(scene.program.core(), resource),
+        vm,
+    )?;
     let request = Request::Create {
         resource,
         args: Row::new(scene.alloc),
@@ -45,12 +50,12 @@ fn boot(scene: &Scene, interpreter: &mut Interpreter) -> Result<(), Stop>
 }
 
 /// Makes the formals of the component, which are shared variables, and runs its block.
-fn run_initial(
-    scene: &Scene,
+fn run_initial<C: HasCore>(
+    scene: &Scene<C>,
     interpreter: &mut Interpreter,
     component: Option<&Component>,
 ) -> Result<(), Stop>
-    ensures { Agrees (initial_meaning (option_copied component.entry) (here_of scene.now) (stage_of interpreter.old)) result (stage_of interpreter.new) }
+    ensures { Agrees (initial_meaning (option_copied component.entry) (here_of C.core_of scene.now) (stage_of interpreter.old)) result (stage_of interpreter.new) }
 {
     match component {
         None => Ok(()),
@@ -70,8 +75,12 @@ fn run_initial(
 }
 
 /// Makes the formals and the returned name of a proc, and runs its block.
-fn run_proc(scene: &Scene, interpreter: &mut Interpreter, proc: Option<&Proc>) -> Result<(), Stop>
-    ensures { Agrees (proc_meaning (option_copied proc.entry) (here_of scene.now) (stage_of interpreter.old)) result (stage_of interpreter.new) }
+fn run_proc<C: HasCore>(
+    scene: &Scene<C>,
+    interpreter: &mut Interpreter,
+    proc: Option<&Proc>,
+) -> Result<(), Stop>
+    ensures { Agrees (proc_meaning (option_copied proc.entry) (here_of C.core_of scene.now) (stage_of interpreter.old)) result (stage_of interpreter.new) }
 {
     match proc {
         None => Ok(()),
@@ -93,8 +102,12 @@ fn run_proc(scene: &Scene, interpreter: &mut Interpreter, proc: Option<&Proc>) -
 }
 
 /// Runs final code.
-fn run_final(scene: &Scene, interpreter: &mut Interpreter, body: Option<&Body>) -> Result<(), Stop>
-    ensures { Agrees (final_meaning (option_copied body.entry) (here_of scene.now) (stage_of interpreter.old)) result (stage_of interpreter.new) }
+fn run_final<C: HasCore>(
+    scene: &Scene<C>,
+    interpreter: &mut Interpreter,
+    body: Option<&Body>,
+) -> Result<(), Stop>
+    ensures { Agrees (final_meaning (option_copied body.entry) (here_of C.core_of scene.now) (stage_of interpreter.old)) result (stage_of interpreter.new) }
 {
     match body {
         None => Ok(()),
@@ -106,20 +119,32 @@ fn run_final(scene: &Scene, interpreter: &mut Interpreter, body: Option<&Body>) 
 }
 
 /// What a process does before its end.
-fn run_role(scene: &Scene, interpreter: &mut Interpreter) -> Result<(), Stop>
-    ensures { Agrees (role_meaning scene.now.start.now.role (here_of scene.now) (stage_of interpreter.old)) result (stage_of interpreter.new) }
+fn run_role<C: HasCore>(scene: &Scene<C>, interpreter: &mut Interpreter) -> Result<(), Stop>
+    ensures { Agrees (role_meaning scene.now.start.now.role (here_of C.core_of scene.now) (stage_of interpreter.old)) result (stage_of interpreter.new) }
 {
     match scene.start.role {
         Role::Boot => boot(scene, interpreter),
-        Role::Initial => run_initial(scene, interpreter, component_of(scene.core, scene.start)),
-        Role::Proc => run_proc(scene, interpreter, proc_at(scene.core, scene.start.code)),
-        Role::Final => run_final(scene, interpreter, body_for(scene.core, scene.start)),
+        Role::Initial => run_initial(
+            scene,
+            interpreter,
+            component_of(scene.program.core(), scene.start),
+        ),
+        Role::Proc => run_proc(
+            scene,
+            interpreter,
+            proc_at(scene.program.core(), scene.start.code),
+        ),
+        Role::Final => run_final(
+            scene,
+            interpreter,
+            body_for(scene.program.core(), scene.start),
+        ),
     }
 }
 
 /// The end of a process, which gives the present results, for good.
-fn finish(scene: &Scene, interpreter: &Interpreter) -> Result<Ending, Stop>
-    ensures { Agrees (finish (here_of scene.now) (stage_of interpreter.now)) result (stage_of interpreter.now) }
+fn finish<C: HasCore>(scene: &Scene<C>, interpreter: &Interpreter) -> Result<Ending, Stop>
+    ensures { Agrees (finish (here_of C.core_of scene.now) (stage_of interpreter.now)) result (stage_of interpreter.now) }
 {
     let request = Request::Finish {
         answered: interpreter.service.answered,
@@ -130,8 +155,8 @@ fn finish(scene: &Scene, interpreter: &Interpreter) -> Result<Ending, Stop>
 }
 
 /// The whole of a process.
-fn run_process(scene: &Scene, interpreter: &mut Interpreter) -> Result<Ending, Stop>
-    ensures { Agrees (process_meaning (here_of scene.now) (stage_of interpreter.old)) result (stage_of interpreter.new) }
+fn run_process<C: HasCore>(scene: &Scene<C>, interpreter: &mut Interpreter) -> Result<Ending, Stop>
+    ensures { Agrees (process_meaning (here_of C.core_of scene.now) (stage_of interpreter.old)) result (stage_of interpreter.new) }
 {
     run_role(scene, interpreter)?;
     finish(scene, interpreter)
@@ -183,7 +208,7 @@ pub fn tree_ask(
     let mut interpreter = begin(alloc, core, start, ticks, answers)?;
     let scene = Scene {
         alloc,
-        core,
+        program: core,
         start,
         limit: ticks,
         place: first_line(component_of(core, start)),

@@ -17,8 +17,8 @@ use sr_ask::{Asks, Pick, Selection};
 use sr_core::{Action, Arm, CoArm, Declaration, Guarded, Quantifier, Scope, Statement};
 use sr_frame::number_own;
 use sr_interpreter_expr::{
-    Interpreter, Scene, Stop, at_line, failed, give_back, holds, number_of, put_own, room, tick,
-    truth_of,
+    HasCore, Interpreter, Scene, Stop, at_line, failed, give_back, holds, number_of, put_own, room,
+    tick, truth_of,
 };
 use sr_interpreter_parts::{
     PlacedReply, Values, arm_at, arm_out, choose, declare, make_formals, make_returned, reply,
@@ -31,12 +31,12 @@ use sr_value::{NoMemory, Place, Row};
 /// What a statement asks, and how it ends.
 #[cycle(execution)]
 #[tactic(auto, using(sr_meaning::proofs::Weights::weight_if, sr_meaning::proofs::Weights::weight_do, sr_meaning::proofs::Weights::weight_fa, sr_meaning::proofs::Weights::weight_in, sr_meaning::proofs::Weights::weight_co, sr_meaning::proofs::Nodes::meaning_of_do))]
-pub fn run(
-    scene: &Scene,
+pub fn run<C: HasCore>(
+    scene: &Scene<C>,
     interpreter: &mut Interpreter,
     statement: &Statement,
 ) -> Result<Ending, Stop>
-    ensures { Agrees (meaning_of statement.now (here_of scene.now) (stage_of interpreter.old)) result (stage_of interpreter.new) }
+    ensures { Agrees (meaning_of statement.now (here_of C.core_of scene.now) (stage_of interpreter.old)) result (stage_of interpreter.new) }
 {
     match statement {
         Statement::Declare { place, declaration } => {
@@ -93,26 +93,26 @@ pub fn run(
 }
 
 /// A declaration takes no tick.
-fn run_declaration(
-    scene: &Scene,
+fn run_declaration<C: HasCore>(
+    scene: &Scene<C>,
     interpreter: &mut Interpreter,
     place: Place,
     declaration: &Declaration,
 ) -> Result<Ending, Stop>
-    ensures { Agrees (statement_meaning (Statement-F.Declare place declaration.now) (here_of scene.now) (stage_of interpreter.old)) result (stage_of interpreter.new) }
+    ensures { Agrees (statement_meaning (Statement-F.Declare place declaration.now) (here_of C.core_of scene.now) (stage_of interpreter.old)) result (stage_of interpreter.new) }
 {
     declare(&at_line(scene, place), interpreter, declaration)?;
     Ok(Ending::Through)
 }
 
 /// A statement without blocks, with its tick.
-fn run_action(
-    scene: &Scene,
+fn run_action<C: HasCore>(
+    scene: &Scene<C>,
     interpreter: &mut Interpreter,
     place: Place,
     action: &Action,
 ) -> Result<Ending, Stop>
-    ensures { Agrees (statement_meaning (Statement-F.Act place action.now) (here_of scene.now) (stage_of interpreter.old)) result (stage_of interpreter.new) }
+    ensures { Agrees (statement_meaning (Statement-F.Act place action.now) (here_of C.core_of scene.now) (stage_of interpreter.old)) result (stage_of interpreter.new) }
 {
     tick(interpreter)?;
     act(&at_line(scene, place), interpreter, action)
@@ -121,12 +121,12 @@ fn run_action(
 /// What a block asks, and how it ends.
 #[cycle(execution)]
 #[tactic(auto, using(sr_meaning::proofs::Weights::item_within, crate::proofs::Steps::before_other))]
-pub fn run_block(
-    scene: &Scene,
+pub fn run_block<C: HasCore>(
+    scene: &Scene<C>,
     interpreter: &mut Interpreter,
     statements: &[Statement],
 ) -> Result<Ending, Stop>
-    ensures { Agrees (block_of statements.now (here_of scene.now) (stage_of interpreter.old)) result (stage_of interpreter.new) }
+    ensures { Agrees (block_of statements.now (here_of C.core_of scene.now) (stage_of interpreter.old)) result (stage_of interpreter.new) }
 {
     for statement in statements {
         match run(scene, interpreter, statement)? {
@@ -140,12 +140,12 @@ pub fn run_block(
 /// Runs the block of the first guard that holds, and says how it ended.
 #[cycle(execution)]
 #[tactic(auto, using(sr_meaning::proofs::Weights::item_within))]
-fn run_guards(
-    scene: &Scene,
+fn run_guards<C: HasCore>(
+    scene: &Scene<C>,
     interpreter: &mut Interpreter,
     guards: &[Guarded],
 ) -> Result<Option<Ending>, Stop>
-    ensures { Agrees (first_true (map guarded_of guards.now) (here_of scene.now) (stage_of interpreter.old)) result (stage_of interpreter.new) }
+    ensures { Agrees (first_true (map guarded_of guards.now) (here_of C.core_of scene.now) (stage_of interpreter.old)) result (stage_of interpreter.new) }
 {
     for guarded in guards {
         if let Some(ending) = run_guarded(scene, interpreter, guarded)? {
@@ -158,12 +158,12 @@ fn run_guards(
 /// Runs a block where its condition holds.
 #[cycle(execution)]
 #[tactic(auto, using(sr_meaning::proofs::Weights::weight_guarded))]
-fn run_guarded(
-    scene: &Scene,
+fn run_guarded<C: HasCore>(
+    scene: &Scene<C>,
     interpreter: &mut Interpreter,
     guarded: &Guarded,
 ) -> Result<Option<Ending>, Stop>
-    ensures { Agrees (guarded_of guarded.now (here_of scene.now) (stage_of interpreter.old)) result (stage_of interpreter.new) }
+    ensures { Agrees (guarded_of guarded.now (here_of C.core_of scene.now) (stage_of interpreter.old)) result (stage_of interpreter.new) }
 {
     if truth_of(scene, interpreter, &guarded.condition)? {
         let ending = run_block(scene, interpreter, guarded.body.as_slice())?;
@@ -175,14 +175,14 @@ fn run_guarded(
 
 /// `if` without a true guard runs its `else`.
 #[cycle(execution)]
-fn run_if(
-    scene: &Scene,
+fn run_if<C: HasCore>(
+    scene: &Scene<C>,
     interpreter: &mut Interpreter,
     place: Place,
     guards: &[Guarded],
     otherwise: &[Statement],
 ) -> Result<Ending, Stop>
-    ensures { Agrees (statement_meaning (Statement-F.If place (map guarded_of guards.now) (map meaning_of otherwise.now)) (here_of scene.now) (stage_of interpreter.old)) result (stage_of interpreter.new) }
+    ensures { Agrees (statement_meaning (Statement-F.If place (map guarded_of guards.now) (map meaning_of otherwise.now)) (here_of C.core_of scene.now) (stage_of interpreter.old)) result (stage_of interpreter.new) }
 {
     tick(interpreter)?;
     let scene = at_line(scene, place);
@@ -194,14 +194,14 @@ fn run_if(
 
 /// `do`, with its tick.
 #[cycle(execution)]
-fn run_do(
-    scene: &Scene,
+fn run_do<C: HasCore>(
+    scene: &Scene<C>,
     interpreter: &mut Interpreter,
     place: Place,
     guards: &[Guarded],
     otherwise: &Option<Row<Statement>>,
 ) -> Result<Ending, Stop>
-    ensures { Agrees (statement_meaning (Statement-F.Do place (map guarded_of guards.now) (optional_block otherwise.now)) (here_of scene.now) (stage_of interpreter.old)) result (stage_of interpreter.new) }
+    ensures { Agrees (statement_meaning (Statement-F.Do place (map guarded_of guards.now) (optional_block otherwise.now)) (here_of C.core_of scene.now) (stage_of interpreter.old)) result (stage_of interpreter.new) }
 {
     tick(interpreter)?;
     match run_turns(&at_line(scene, place), interpreter, guards, otherwise) {
@@ -213,13 +213,13 @@ fn run_do(
 /// The turns of a `do`, each with its tick.
 #[cycle(execution)]
 #[tactic(auto, using(crate::proofs::Steps::turns_step))]
-fn run_turns(
-    scene: &Scene,
+fn run_turns<C: HasCore>(
+    scene: &Scene<C>,
     interpreter: &mut Interpreter,
     guards: &[Guarded],
     otherwise: &Option<Row<Statement>>,
 ) -> Result<Ending, Stop>
-    ensures { Agrees (looped scene.now.limit (do_turn (map guarded_of guards.now) (optional_block otherwise.now) (here_of scene.now)) (stage_of interpreter.old)) result (stage_of interpreter.new) }
+    ensures { Agrees (looped scene.now.limit (do_turn (map guarded_of guards.now) (optional_block otherwise.now) (here_of C.core_of scene.now)) (stage_of interpreter.old)) result (stage_of interpreter.new) }
 {
     let mut most = room(scene, interpreter) + 1;
     'turns: while most > 0 {
@@ -234,13 +234,13 @@ fn run_turns(
 
 /// One turn of a `do`: whether it ends the `do`, and how.
 #[cycle(execution)]
-fn run_turn(
-    scene: &Scene,
+fn run_turn<C: HasCore>(
+    scene: &Scene<C>,
     interpreter: &mut Interpreter,
     guards: &[Guarded],
     otherwise: &Option<Row<Statement>>,
 ) -> Result<Option<Ending>, Stop>
-    ensures { Agrees (do_turn (map guarded_of guards.now) (optional_block otherwise.now) (here_of scene.now) (stage_of interpreter.old)) result (stage_of interpreter.new) }
+    ensures { Agrees (do_turn (map guarded_of guards.now) (optional_block otherwise.now) (here_of C.core_of scene.now) (stage_of interpreter.old)) result (stage_of interpreter.new) }
 {
     match run_guards(scene, interpreter, guards)? {
         Some(ending) => Ok(after_turn(ending)),
@@ -256,14 +256,14 @@ fn run_turn(
 
 /// `fa`, with its tick.
 #[cycle(execution)]
-fn run_fa(
-    scene: &Scene,
+fn run_fa<C: HasCore>(
+    scene: &Scene<C>,
     interpreter: &mut Interpreter,
     place: Place,
     quantifiers: &[Quantifier],
     body: &[Statement],
 ) -> Result<Ending, Stop>
-    ensures { Agrees (statement_meaning (Statement-F.Fa place quantifiers.now (map meaning_of body.now)) (here_of scene.now) (stage_of interpreter.old)) result (stage_of interpreter.new) }
+    ensures { Agrees (statement_meaning (Statement-F.Fa place quantifiers.now (map meaning_of body.now)) (here_of C.core_of scene.now) (stage_of interpreter.old)) result (stage_of interpreter.new) }
 {
     tick(interpreter)?;
     let ending = run_quantified(
@@ -277,13 +277,13 @@ fn run_fa(
 
 /// What stands after quantifiers, for all their values.
 #[cycle(execution)]
-fn run_quantified(
-    scene: &Scene,
+fn run_quantified<C: HasCore>(
+    scene: &Scene<C>,
     interpreter: &mut Interpreter,
     quantifiers: &[Quantifier],
     inner: &Inner,
 ) -> Result<Ending, Stop>
-    ensures { Agrees (quantified quantifiers.now (inner_meaning inner.now) (here_of scene.now) (stage_of interpreter.old)) result (stage_of interpreter.new) }
+    ensures { Agrees (quantified quantifiers.now (inner_meaning inner.now) (here_of C.core_of scene.now) (stage_of interpreter.old)) result (stage_of interpreter.new) }
 {
     match quantifiers {
         [] => run_inner(scene, interpreter, inner),
@@ -301,8 +301,12 @@ fn run_quantified(
 
 /// What stands after quantifiers.
 #[cycle(execution)]
-fn run_inner(scene: &Scene, interpreter: &mut Interpreter, inner: &Inner) -> Result<Ending, Stop>
-    ensures { Agrees (inner_meaning inner.now (here_of scene.now) (stage_of interpreter.old)) result (stage_of interpreter.new) }
+fn run_inner<C: HasCore>(
+    scene: &Scene<C>,
+    interpreter: &mut Interpreter,
+    inner: &Inner,
+) -> Result<Ending, Stop>
+    ensures { Agrees (inner_meaning inner.now (here_of C.core_of scene.now) (stage_of interpreter.old)) result (stage_of interpreter.new) }
 {
     match inner {
         Inner::Block(body) => run_block(scene, interpreter, body),
@@ -317,8 +321,8 @@ fn run_inner(scene: &Scene, interpreter: &mut Interpreter, inner: &Inner) -> Res
 /// What stands after a quantifier, for the values that it has.
 #[cycle(execution)]
 #[tactic(auto, using(crate::proofs::Steps::for_values_step, crate::proofs::Steps::listed_step))]
-fn run_values(
-    scene: &Scene,
+fn run_values<C: HasCore>(
+    scene: &Scene<C>,
     interpreter: &mut Interpreter,
     first: &Quantifier,
     rest: &[Quantifier],
@@ -326,7 +330,7 @@ fn run_values(
     inner: &Inner,
 ) -> Result<Ending, Stop>
     requires { AllFit values }
-    ensures { Agrees (for_values first.now.var first.now.condition (quantified rest.now (inner_meaning inner.now)) (listed values) (here_of scene.now) (stage_of interpreter.old)) result (stage_of interpreter.new) }
+    ensures { Agrees (for_values first.now.var first.now.condition (quantified rest.now (inner_meaning inner.now)) (listed values) (here_of C.core_of scene.now) (stage_of interpreter.old)) result (stage_of interpreter.new) }
 {
     for k in 0..values.count {
         let value = value_at(&values, k);
@@ -339,15 +343,15 @@ fn run_values(
 
 /// What stands after a quantifier, for one value, with its tick.
 #[cycle(execution)]
-fn run_value(
-    scene: &Scene,
+fn run_value<C: HasCore>(
+    scene: &Scene<C>,
     interpreter: &mut Interpreter,
     first: &Quantifier,
     rest: &[Quantifier],
     value: i32,
     inner: &Inner,
 ) -> Result<Option<Ending>, Stop>
-    ensures { Agrees (value_turn first.now.var first.now.condition (quantified rest.now (inner_meaning inner.now)) value (here_of scene.now) (stage_of interpreter.old)) result (stage_of interpreter.new) }
+    ensures { Agrees (value_turn first.now.var first.now.condition (quantified rest.now (inner_meaning inner.now)) value (here_of C.core_of scene.now) (stage_of interpreter.old)) result (stage_of interpreter.new) }
 {
     tick(interpreter)?;
     put_own(interpreter, first.var, number_own(value));
@@ -361,15 +365,15 @@ fn run_value(
 
 /// `in`, with its tick.
 #[cycle(execution)]
-fn run_in(
-    scene: &Scene,
+fn run_in<C: HasCore>(
+    scene: &Scene<C>,
     interpreter: &mut Interpreter,
     place: Place,
     site: u32,
     arms: &[Row<Statement>],
     otherwise: &[Statement],
 ) -> Result<Ending, Stop>
-    ensures { Agrees (statement_meaning (Statement-F.In place site (each_block arms.now) (map meaning_of otherwise.now)) (here_of scene.now) (stage_of interpreter.old)) result (stage_of interpreter.new) }
+    ensures { Agrees (statement_meaning (Statement-F.In place site (each_block arms.now) (map meaning_of otherwise.now)) (here_of C.core_of scene.now) (stage_of interpreter.old)) result (stage_of interpreter.new) }
 {
     tick(interpreter)?;
     let scene = at_line(scene, place);
@@ -383,14 +387,14 @@ fn run_in(
 /// The service of a picked invocation.
 #[cycle(execution)]
 #[tactic(auto, using(sr_meaning::proofs::Weights::item_within))]
-fn run_pick(
-    scene: &Scene,
+fn run_pick<C: HasCore>(
+    scene: &Scene<C>,
     interpreter: &mut Interpreter,
     site: u32,
     pick: Pick,
     arms: &[Row<Statement>],
 ) -> Result<Ending, Stop>
-    ensures { Agrees (service_meaning pick (slice_get (site_at site (here_of scene.now)).arms pick.arm) (slice_get (each_block arms.now) pick.arm) (here_of scene.now) (stage_of interpreter.old)) result (stage_of interpreter.new) }
+    ensures { Agrees (service_meaning pick (slice_get (site_at site (here_of C.core_of scene.now)).arms pick.arm) (slice_get (each_block arms.now) pick.arm) (here_of C.core_of scene.now) (stage_of interpreter.old)) result (stage_of interpreter.new) }
 {
     match arm_at(scene, site, pick.arm) {
         None => Ok(Ending::Through),
@@ -403,14 +407,14 @@ fn run_pick(
 
 /// The service of an invocation: however its block ends, it replies if it hasn't.
 #[cycle(execution)]
-fn run_service(
-    scene: &Scene,
+fn run_service<C: HasCore>(
+    scene: &Scene<C>,
     interpreter: &mut Interpreter,
     pick: Pick,
     arm: &Arm,
     block: &[Statement],
 ) -> Result<Ending, Stop>
-    ensures { Agrees (service_meaning pick (Some arm.now) (Some (map meaning_of block.now)) (here_of scene.now) (stage_of interpreter.old)) result (stage_of interpreter.new) }
+    ensures { Agrees (service_meaning pick (Some arm.now) (Some (map meaning_of block.now)) (here_of C.core_of scene.now) (stage_of interpreter.old)) result (stage_of interpreter.new) }
 {
     let service = service_for(scene.alloc, &pick, arm)?;
     let outer = set_service(interpreter, service);
@@ -430,13 +434,13 @@ fn run_service(
 
 /// `co`, with its tick.
 #[cycle(execution)]
-fn run_co(
-    scene: &Scene,
+fn run_co<C: HasCore>(
+    scene: &Scene<C>,
     interpreter: &mut Interpreter,
     place: Place,
     arms: &[CoArm],
 ) -> Result<Ending, Stop>
-    ensures { Agrees (statement_meaning (Statement-F.Co place (map co_part_of arms.now)) (here_of scene.now) (stage_of interpreter.old)) result (stage_of interpreter.new) }
+    ensures { Agrees (statement_meaning (Statement-F.Co place (map co_part_of arms.now)) (here_of C.core_of scene.now) (stage_of interpreter.old)) result (stage_of interpreter.new) }
 {
     tick(interpreter)?;
     let scene = at_line(scene, place);
@@ -460,8 +464,12 @@ fn arm_number(at: usize) -> Result<u32, NoMemory>
 /// All invocations of a `co`, in the order of the text and of the quantifiers.
 #[cycle(execution)]
 #[tactic(auto, using(sr_meaning::proofs::Weights::item_within, sr_meaning::proofs::Weights::weight_arm, crate::proofs::Steps::start_calls_step))]
-fn start_calls(scene: &Scene, interpreter: &mut Interpreter, arms: &[CoArm]) -> Result<(), Stop>
-    ensures { Agrees (start_calls 0 (map co_part_of arms.now) (here_of scene.now) (stage_of interpreter.old)) result (stage_of interpreter.new) }
+fn start_calls<C: HasCore>(
+    scene: &Scene<C>,
+    interpreter: &mut Interpreter,
+    arms: &[CoArm],
+) -> Result<(), Stop>
+    ensures { Agrees (start_calls 0 (map co_part_of arms.now) (here_of C.core_of scene.now) (stage_of interpreter.old)) result (stage_of interpreter.new) }
 {
     for (at, arm) in arms.iter().enumerate() {
         let inner = Inner::Call {
@@ -480,12 +488,12 @@ fn start_calls(scene: &Scene, interpreter: &mut Interpreter, arms: &[CoArm]) -> 
 /// Takes replies until none is out, or the statement is left.
 #[cycle(execution)]
 #[tactic(auto, using(crate::proofs::Steps::complete_step))]
-fn complete_outs(
-    scene: &Scene,
+fn complete_outs<C: HasCore>(
+    scene: &Scene<C>,
     interpreter: &mut Interpreter,
     arms: &[CoArm],
 ) -> Result<Ending, Stop>
-    ensures { Agrees (complete_outs (map co_part_of arms.now) (here_of scene.now) (stage_of interpreter.old)) result (stage_of interpreter.new) }
+    ensures { Agrees (complete_outs (map co_part_of arms.now) (here_of C.core_of scene.now) (stage_of interpreter.old)) result (stage_of interpreter.new) }
 {
     let mut count = interpreter.out.len();
     'replies: while count > 0 {
@@ -500,12 +508,12 @@ fn complete_outs(
 /// Takes one reply, and does what it leads to.
 #[cycle(execution)]
 #[tactic(auto, using(sr_meaning::proofs::Weights::item_within))]
-fn complete_next(
-    scene: &Scene,
+fn complete_next<C: HasCore>(
+    scene: &Scene<C>,
     interpreter: &mut Interpreter,
     arms: &[CoArm],
 ) -> Result<Option<Ending>, Stop>
-    ensures { Agrees (next_completion (map co_part_of arms.now) (here_of scene.now) (stage_of interpreter.old)) result (stage_of interpreter.new) }
+    ensures { Agrees (next_completion (map co_part_of arms.now) (here_of C.core_of scene.now) (stage_of interpreter.old)) result (stage_of interpreter.new) }
 {
     match take_reply(scene, interpreter) {
         Ok(reply) => complete_reply(scene, interpreter, reply, arms),
@@ -515,14 +523,14 @@ fn complete_next(
 
 /// Does what a reply leads to.
 #[cycle(execution)]
-fn complete_reply(
-    scene: &Scene,
+fn complete_reply<C: HasCore>(
+    scene: &Scene<C>,
     interpreter: &mut Interpreter,
     reply: PlacedReply,
     arms: &[CoArm],
 ) -> Result<Option<Ending>, Stop>
     requires { IsFirstOut interpreter.old.out reply.at }
-    ensures { (out : Out) → slice_get interpreter.old.out reply.at ≡ Some out → Agrees (completing out reply.results (option_map co_part_of (slice_get arms.now out.arm)) (here_of scene.now) (stage_of interpreter.old)) result (stage_of interpreter.new) }
+    ensures { (out : Out) → slice_get interpreter.old.out reply.at ≡ Some out → Agrees (completing out reply.results (option_map co_part_of (slice_get arms.now out.arm)) (here_of C.core_of scene.now) (stage_of interpreter.old)) result (stage_of interpreter.new) }
 {
     match arms.get(arm_out(interpreter, reply.at) as usize) {
         None => Ok(None),
@@ -533,14 +541,14 @@ fn complete_reply(
 /// The stores of a reply, and then the block of its arm.
 #[cycle(execution)]
 #[tactic(auto, using(sr_meaning::proofs::Weights::weight_arm, crate::proofs::Steps::co_part_is))]
-fn complete_arm(
-    scene: &Scene,
+fn complete_arm<C: HasCore>(
+    scene: &Scene<C>,
     interpreter: &mut Interpreter,
     reply: PlacedReply,
     arm: &CoArm,
 ) -> Result<Option<Ending>, Stop>
     requires { IsFirstOut interpreter.old.out reply.at }
-    ensures { (out : Out) → slice_get interpreter.old.out reply.at ≡ Some out → Agrees (completing out reply.results (Some (co_part_of arm.now)) (here_of scene.now) (stage_of interpreter.old)) result (stage_of interpreter.new) }
+    ensures { (out : Out) → slice_get interpreter.old.out reply.at ≡ Some out → Agrees (completing out reply.results (Some (co_part_of arm.now)) (here_of C.core_of scene.now) (stage_of interpreter.old)) result (stage_of interpreter.new) }
 {
     let PlacedReply { at, results } = reply;
     let out = take_out(interpreter, at);

@@ -15,6 +15,7 @@ use Rattle.sr_meaning.specs.Expressions.{Meaning, choice, created, in_order}
 use Rattle.sr_meaning.specs.Here.{Here, settle}
 use Rattle.sr_meaning.specs.Laws.{after_arguments}
 use Rattle.sr_core.specs.Values.{cap_of, member_of, truth_of}
+use Rattle.sr_core.specs.declared.component.Core.{Core}
 use Rattle.sr_ask.specs.declared.environment.Sent.{Sent}
 use Rattle.sr_interpreter_expr.specs.declared.scene.Scene.{Scene}
 use Rattle.sr_interpreter_expr.specs.declared.stop.Stop.{Stop}
@@ -31,8 +32,9 @@ stage_of interpreter = record {
   out = interpreter.out;
 }
 
-abbrev pub here_of : Scene → Here
-here_of scene = record { core = scene.core.now; start = scene.start.now; limit = scene.limit; place = scene.place }
+-- of a program that has a core
+abbrev pub here_of : {C : Type 0} → (C → Core) → Scene C → Here
+here_of core_of scene = record { core = core_of scene.program.now; start = scene.start.now; limit = scene.limit; place = scene.place }
 
 -- it found what is meant, unless memory ran out
 abbrev pub Agrees : {A : Type 0} → Outcome A → Result A Stop → Stage → Type 0

@@ -7,7 +7,7 @@ ghost use Rattle.sr_ask.specs.Invocations.{places_back, values_sent};
 use crate::interpreter::Interpreter;
 use crate::invoke::{default_value, reply_to, store_from};
 use crate::listening::{IsMade, ask};
-use crate::scene::Scene;
+use crate::scene::{HasCore, Scene};
 use crate::stop::Stop;
 use sr_ask::{Located, Request, Sent};
 use sr_frame::value_after;
@@ -41,14 +41,14 @@ pub fn places_in(alloc: Global, sent: &[Sent]) -> Result<Row<Located>, NoMemory>
 }
 
 /// Stores the results of a reply, and gives the value.
-pub fn give_back(
-    scene: &Scene,
+pub fn give_back<C: HasCore>(
+    scene: &Scene<C>,
     interpreter: &mut Interpreter,
     places: &[Located],
     returns: &Option<Shape>,
     reply: &Option<Row<Value>>,
 ) -> Result<Value, Stop>
-    ensures { Agrees (give_back places.now returns.now reply.now (here_of scene.now) (stage_of interpreter.old)) result (stage_of interpreter.new) }
+    ensures { Agrees (give_back places.now returns.now reply.now (here_of C.core_of scene.now) (stage_of interpreter.old)) result (stage_of interpreter.new) }
 {
     match reply {
         None => default_value(scene, interpreter, returns),
@@ -60,14 +60,14 @@ pub fn give_back(
 }
 
 /// A call whose target and arguments are there.
-pub fn call(
-    scene: &Scene,
+pub fn call<C: HasCore>(
+    scene: &Scene<C>,
     interpreter: &mut Interpreter,
     target: Cap,
     sent: &Row<Sent>,
     returns: &Option<Shape>,
 ) -> Result<Value, Stop>
-    ensures { Agrees (after_arguments target sent.now returns.now (here_of scene.now) (stage_of interpreter.old)) result (stage_of interpreter.new) }
+    ensures { Agrees (after_arguments target sent.now returns.now (here_of C.core_of scene.now) (stage_of interpreter.old)) result (stage_of interpreter.new) }
 {
     let places = places_in(scene.alloc, sent.as_slice())?;
     let request = Request::Invoke {

@@ -10,7 +10,7 @@ use crate::interpreter::Interpreter;
 use crate::leaf::leaf_value;
 use crate::places::{load, part, spot_of};
 use crate::reading::{kind_of, read_from};
-use crate::scene::Scene;
+use crate::scene::{HasCore, Scene};
 use crate::settle::{capability, count, member, number, operated, operated_on, truth};
 use crate::stop::Stop;
 use sr_ask::{Located, ReadTarget, Sent};
@@ -19,8 +19,12 @@ use sr_value::{Operator, Row, Sel, Shape, Value};
 
 /// What an expression asks, and what it gives.
 #[cycle(evaluation)]
-pub fn evaluate(scene: &Scene, interpreter: &mut Interpreter, expr: &Expr) -> Result<Value, Stop>
-    ensures { Agrees (expr_meaning expr.now (here_of scene.now) (stage_of interpreter.old)) result (stage_of interpreter.new) }
+pub fn evaluate<C: HasCore>(
+    scene: &Scene<C>,
+    interpreter: &mut Interpreter,
+    expr: &Expr,
+) -> Result<Value, Stop>
+    ensures { Agrees (expr_meaning expr.now (here_of C.core_of scene.now) (stage_of interpreter.old)) result (stage_of interpreter.new) }
 {
     match expr {
         Expr::Leaf(leaf) => leaf_value(scene, interpreter, leaf),
@@ -85,14 +89,14 @@ pub fn evaluate(scene: &Scene, interpreter: &mut Interpreter, expr: &Expr) -> Re
 
 /// An operator whose left operand is there.
 #[cycle(evaluation)]
-fn operate(
-    scene: &Scene,
+fn operate<C: HasCore>(
+    scene: &Scene<C>,
     interpreter: &mut Interpreter,
     right: &Expr,
     op: Operator,
     x: &Value,
 ) -> Result<Value, Stop>
-    ensures { Agrees (after_operand op x.now (expr_meaning right.now) (here_of scene.now) (stage_of interpreter.old)) result (stage_of interpreter.new) }
+    ensures { Agrees (after_operand op x.now (expr_meaning right.now) (here_of C.core_of scene.now) (stage_of interpreter.old)) result (stage_of interpreter.new) }
 {
     let y = evaluate(scene, interpreter, right)?;
     operated(scene, interpreter, op, x, &y)
@@ -100,13 +104,13 @@ fn operate(
 
 /// `and` doesn't evaluate the right side after false.
 #[cycle(evaluation)]
-fn after_and(
-    scene: &Scene,
+fn after_and<C: HasCore>(
+    scene: &Scene<C>,
     interpreter: &mut Interpreter,
     right: &Expr,
     x: &Value,
 ) -> Result<Value, Stop>
-    ensures { Agrees (after_and x.now (expr_meaning right.now) (here_of scene.now) (stage_of interpreter.old)) result (stage_of interpreter.new) }
+    ensures { Agrees (after_and x.now (expr_meaning right.now) (here_of C.core_of scene.now) (stage_of interpreter.old)) result (stage_of interpreter.new) }
 {
     if truth(scene, interpreter, x)? {
         operate(scene, interpreter, right, Operator::And, x)
@@ -117,13 +121,13 @@ fn after_and(
 
 /// `or` doesn't evaluate the right side after true.
 #[cycle(evaluation)]
-fn after_or(
-    scene: &Scene,
+fn after_or<C: HasCore>(
+    scene: &Scene<C>,
     interpreter: &mut Interpreter,
     right: &Expr,
     x: &Value,
 ) -> Result<Value, Stop>
-    ensures { Agrees (after_or x.now (expr_meaning right.now) (here_of scene.now) (stage_of interpreter.old)) result (stage_of interpreter.new) }
+    ensures { Agrees (after_or x.now (expr_meaning right.now) (here_of C.core_of scene.now) (stage_of interpreter.old)) result (stage_of interpreter.new) }
 {
     if truth(scene, interpreter, x)? {
         Ok(Value::Bool(true))
@@ -134,26 +138,26 @@ fn after_or(
 
 /// The part of a value that a step selects.
 #[cycle(evaluation)]
-fn select_part(
-    scene: &Scene,
+fn select_part<C: HasCore>(
+    scene: &Scene<C>,
     interpreter: &mut Interpreter,
     step: &Step,
     value: &Value,
 ) -> Result<Value, Stop>
-    ensures { Agrees (after_whole value.now (step_of_expr step.now) (here_of scene.now) (stage_of interpreter.old)) result (stage_of interpreter.new) }
+    ensures { Agrees (after_whole value.now (step_of_expr step.now) (here_of C.core_of scene.now) (stage_of interpreter.old)) result (stage_of interpreter.new) }
 {
     let sel = evaluate_step(scene, interpreter, step)?;
     part(scene, interpreter, value, sel)
 }
 
 /// `r.f`, where `r` is there.
-fn member_in(
-    scene: &Scene,
+fn member_in<C: HasCore>(
+    scene: &Scene<C>,
     interpreter: &mut Interpreter,
     op: u32,
     value: &Value,
 ) -> Result<Value, Stop>
-    ensures { Agrees (after_resource op value.now (here_of scene.now) (stage_of interpreter.old)) result (stage_of interpreter.new) }
+    ensures { Agrees (after_resource op value.now (here_of C.core_of scene.now) (stage_of interpreter.old)) result (stage_of interpreter.new) }
 {
     let cap = capability(scene, interpreter, value)?;
     member(scene, interpreter, op, cap)
@@ -161,14 +165,14 @@ fn member_in(
 
 /// A call whose target is there.
 #[cycle(evaluation)]
-fn call_with(
-    scene: &Scene,
+fn call_with<C: HasCore>(
+    scene: &Scene<C>,
     interpreter: &mut Interpreter,
     args: &[Argument],
     target: &Value,
     returns: &Option<Shape>,
 ) -> Result<Value, Stop>
-    ensures { Agrees (after_target target.now (map argument_of args.now) returns.now (here_of scene.now) (stage_of interpreter.old)) result (stage_of interpreter.new) }
+    ensures { Agrees (after_target target.now (map argument_of args.now) returns.now (here_of C.core_of scene.now) (stage_of interpreter.old)) result (stage_of interpreter.new) }
 {
     let cap = capability(scene, interpreter, target)?;
     let sent = evaluate_arguments(scene, interpreter, args)?;
@@ -177,14 +181,14 @@ fn call_with(
 
 /// `create` whose arguments are there.
 #[cycle(evaluation)]
-fn create_on(
-    scene: &Scene,
+fn create_on<C: HasCore>(
+    scene: &Scene<C>,
     interpreter: &mut Interpreter,
     machine: &Expr,
     resource: u32,
     values: Row<Value>,
 ) -> Result<Value, Stop>
-    ensures { Agrees (after_values resource values (expr_meaning machine.now) (here_of scene.now) (stage_of interpreter.old)) result (stage_of interpreter.new) }
+    ensures { Agrees (after_values resource values (expr_meaning machine.now) (here_of C.core_of scene.now) (stage_of interpreter.old)) result (stage_of interpreter.new) }
 {
     let value = evaluate(scene, interpreter, machine)?;
     let vm = capability(scene, interpreter, &value)?;
@@ -193,12 +197,12 @@ fn create_on(
 
 /// What expressions ask, and what they give, from left to right.
 #[cycle(evaluation)]
-pub fn evaluate_all(
-    scene: &Scene,
+pub fn evaluate_all<C: HasCore>(
+    scene: &Scene<C>,
     interpreter: &mut Interpreter,
     exprs: &[Expr],
 ) -> Result<Row<Value>, Stop>
-    ensures { Agrees (in_order (map expr_meaning exprs.now) (here_of scene.now) (stage_of interpreter.old)) result (stage_of interpreter.new) }
+    ensures { Agrees (in_order (map expr_meaning exprs.now) (here_of C.core_of scene.now) (stage_of interpreter.old)) result (stage_of interpreter.new) }
 {
     let mut values = Row::new(scene.alloc);
     for expr in exprs {
@@ -210,12 +214,12 @@ pub fn evaluate_all(
 
 /// The place that a place expression gives. Its indices are evaluated once.
 #[cycle(evaluation)]
-pub fn locate(
-    scene: &Scene,
+pub fn locate<C: HasCore>(
+    scene: &Scene<C>,
     interpreter: &mut Interpreter,
     place: &PlaceExpr,
 ) -> Result<Located, Stop>
-    ensures { Agrees (place_of_expr place.now (here_of scene.now) (stage_of interpreter.old)) result (stage_of interpreter.new) }
+    ensures { Agrees (place_of_expr place.now (here_of C.core_of scene.now) (stage_of interpreter.old)) result (stage_of interpreter.new) }
 {
     let path = evaluate_steps(scene, interpreter, place.path.as_slice())?;
     Ok(Located {
@@ -225,12 +229,12 @@ pub fn locate(
 }
 
 #[cycle(evaluation)]
-fn evaluate_steps(
-    scene: &Scene,
+fn evaluate_steps<C: HasCore>(
+    scene: &Scene<C>,
     interpreter: &mut Interpreter,
     steps: &[Step],
 ) -> Result<Row<Sel>, Stop>
-    ensures { Agrees (in_order (map step_of_expr steps.now) (here_of scene.now) (stage_of interpreter.old)) result (stage_of interpreter.new) }
+    ensures { Agrees (in_order (map step_of_expr steps.now) (here_of C.core_of scene.now) (stage_of interpreter.old)) result (stage_of interpreter.new) }
 {
     let mut path = Row::new(scene.alloc);
     for step in steps {
@@ -241,8 +245,12 @@ fn evaluate_steps(
 }
 
 #[cycle(evaluation)]
-fn evaluate_step(scene: &Scene, interpreter: &mut Interpreter, step: &Step) -> Result<Sel, Stop>
-    ensures { Agrees (step_of_expr step.now (here_of scene.now) (stage_of interpreter.old)) result (stage_of interpreter.new) }
+fn evaluate_step<C: HasCore>(
+    scene: &Scene<C>,
+    interpreter: &mut Interpreter,
+    step: &Step,
+) -> Result<Sel, Stop>
+    ensures { Agrees (step_of_expr step.now (here_of C.core_of scene.now) (stage_of interpreter.old)) result (stage_of interpreter.new) }
 {
     match step {
         Step::At(index) => {
@@ -262,12 +270,12 @@ fn evaluate_step(scene: &Scene, interpreter: &mut Interpreter, step: &Step) -> R
 }
 
 #[cycle(evaluation)]
-fn evaluate_parts(
-    scene: &Scene,
+fn evaluate_parts<C: HasCore>(
+    scene: &Scene<C>,
     interpreter: &mut Interpreter,
     parts: &[Part],
 ) -> Result<Row<Piece>, Stop>
-    ensures { Agrees (in_order (map part_of_expr parts.now) (here_of scene.now) (stage_of interpreter.old)) result (stage_of interpreter.new) }
+    ensures { Agrees (in_order (map part_of_expr parts.now) (here_of C.core_of scene.now) (stage_of interpreter.old)) result (stage_of interpreter.new) }
 {
     let mut pieces = Row::new(scene.alloc);
     for part in parts {
@@ -278,8 +286,12 @@ fn evaluate_parts(
 }
 
 #[cycle(evaluation)]
-fn evaluate_part(scene: &Scene, interpreter: &mut Interpreter, part: &Part) -> Result<Piece, Stop>
-    ensures { Agrees (part_of_expr part.now (here_of scene.now) (stage_of interpreter.old)) result (stage_of interpreter.new) }
+fn evaluate_part<C: HasCore>(
+    scene: &Scene<C>,
+    interpreter: &mut Interpreter,
+    part: &Part,
+) -> Result<Piece, Stop>
+    ensures { Agrees (part_of_expr part.now (here_of C.core_of scene.now) (stage_of interpreter.old)) result (stage_of interpreter.new) }
 {
     match part {
         Part::One(value) => {
@@ -301,12 +313,12 @@ fn evaluate_part(scene: &Scene, interpreter: &mut Interpreter, part: &Part) -> R
 
 /// What arguments ask, and what they send, from left to right.
 #[cycle(evaluation)]
-pub fn evaluate_arguments(
-    scene: &Scene,
+pub fn evaluate_arguments<C: HasCore>(
+    scene: &Scene<C>,
     interpreter: &mut Interpreter,
     args: &[Argument],
 ) -> Result<Row<Sent>, Stop>
-    ensures { Agrees (in_order (map argument_of args.now) (here_of scene.now) (stage_of interpreter.old)) result (stage_of interpreter.new) }
+    ensures { Agrees (in_order (map argument_of args.now) (here_of C.core_of scene.now) (stage_of interpreter.old)) result (stage_of interpreter.new) }
 {
     let mut sent = Row::new(scene.alloc);
     for arg in args {
@@ -317,12 +329,12 @@ pub fn evaluate_arguments(
 }
 
 #[cycle(evaluation)]
-fn evaluate_argument(
-    scene: &Scene,
+fn evaluate_argument<C: HasCore>(
+    scene: &Scene<C>,
     interpreter: &mut Interpreter,
     arg: &Argument,
 ) -> Result<Sent, Stop>
-    ensures { Agrees (argument_of arg.now (here_of scene.now) (stage_of interpreter.old)) result (stage_of interpreter.new) }
+    ensures { Agrees (argument_of arg.now (here_of C.core_of scene.now) (stage_of interpreter.old)) result (stage_of interpreter.new) }
 {
     match arg {
         Argument::Val(value) => {
@@ -351,12 +363,12 @@ fn evaluate_argument(
 }
 
 #[cycle(evaluation)]
-fn evaluate_readings(
-    scene: &Scene,
+fn evaluate_readings<C: HasCore>(
+    scene: &Scene<C>,
     interpreter: &mut Interpreter,
     readings: &[Reading],
 ) -> Result<Row<ReadTarget>, Stop>
-    ensures { Agrees (in_order (map reading_of readings.now) (here_of scene.now) (stage_of interpreter.old)) result (stage_of interpreter.new) }
+    ensures { Agrees (in_order (map reading_of readings.now) (here_of C.core_of scene.now) (stage_of interpreter.old)) result (stage_of interpreter.new) }
 {
     let mut read_targets = Row::new(scene.alloc);
     for reading in readings {

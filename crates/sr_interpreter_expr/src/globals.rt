@@ -5,7 +5,7 @@ ghost use Rattle.sr_interpreter_expr.specs.Interpreters.{Agrees, here_of, stage_
 use crate::interpreter::Interpreter;
 use crate::invoke::reply_to;
 use crate::listening::{IsMade, IsReady, ask};
-use crate::scene::Scene;
+use crate::scene::{HasCore, Scene};
 use crate::stop::Stop;
 use sr_ask::Request;
 use sr_core::Core;
@@ -13,13 +13,13 @@ use sr_frame::instance_in;
 use sr_value::{Cap, Row, Value};
 
 /// Each global is asked for until it is ready.
-pub fn ensure(
-    scene: &Scene,
+pub fn ensure<C: HasCore>(
+    scene: &Scene<C>,
     interpreter: &mut Interpreter,
     globals: &[u32],
     vm: Cap,
 ) -> Result<(), Stop>
-    ensures { Agrees (ensured globals.now vm (here_of scene.now) (stage_of interpreter.old)) result (stage_of interpreter.new) }
+    ensures { Agrees (ensured globals.now vm (here_of C.core_of scene.now) (stage_of interpreter.old)) result (stage_of interpreter.new) }
 {
     for global in globals {
         ask(
@@ -46,16 +46,21 @@ pub fn needs(core: &Core, component: u32) -> &[u32]
 }
 
 /// Makes an instance, and waits for its reply.
-pub fn create(
-    scene: &Scene,
+pub fn create<C: HasCore>(
+    scene: &Scene<C>,
     interpreter: &mut Interpreter,
     resource: u32,
     args: Row<Value>,
     vm: Cap,
 ) -> Result<Value, Stop>
-    ensures { Agrees (created resource args vm (here_of scene.now) (stage_of interpreter.old)) result (stage_of interpreter.new) }
+    ensures { Agrees (created resource args vm (here_of C.core_of scene.now) (stage_of interpreter.old)) result (stage_of interpreter.new) }
 {
-    ensure(scene, interpreter, needs(scene.core, resource), vm)?;
+    ensure(
+        scene,
+        interpreter,
+        needs(scene.program.core(), resource),
+        vm,
+    )?;
     let request = Request::Create { resource, args, vm };
     let name = ask(scene, interpreter, &IsMade, request)?;
     let reply = reply_to(scene, interpreter, name)?;

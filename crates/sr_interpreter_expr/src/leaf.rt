@@ -4,15 +4,15 @@ ghost use Rattle.sr_interpreter_expr.specs.Interpreters.{Agrees, here_of, stage_
 
 use crate::interpreter::Interpreter;
 use crate::listening::{IsMade, IsMoment, IsNumber, ask};
-use crate::scene::Scene;
+use crate::scene::{HasCore, Scene};
 use crate::stop::Stop;
 use sr_ask::Request;
 use sr_core::{Leaf, OperationOwner};
 use sr_value::{Cap, Duplicate, Owner, Value};
 
 /// The owner that an operation's capability names.
-fn owner_of(scene: &Scene, whose: OperationOwner) -> Owner
-    ensures { result ≡ owner_of whose (here_of scene.now) }
+fn owner_of<C: HasCore>(scene: &Scene<C>, whose: OperationOwner) -> Owner
+    ensures { result ≡ owner_of whose (here_of C.core_of scene.now) }
 {
     match whose {
         OperationOwner::Mine => Owner::Inst(scene.start.instance),
@@ -25,8 +25,12 @@ fn owner_of(scene: &Scene, whose: OperationOwner) -> Owner
 }
 
 /// What an expression without operands asks, and what it gives.
-pub fn leaf_value(scene: &Scene, interpreter: &mut Interpreter, leaf: &Leaf) -> Result<Value, Stop>
-    ensures { Agrees (leaf_meaning leaf.now (here_of scene.now) (stage_of interpreter.old)) result (stage_of interpreter.new) }
+pub fn leaf_value<C: HasCore>(
+    scene: &Scene<C>,
+    interpreter: &mut Interpreter,
+    leaf: &Leaf,
+) -> Result<Value, Stop>
+    ensures { Agrees (leaf_meaning leaf.now (here_of C.core_of scene.now) (stage_of interpreter.old)) result (stage_of interpreter.new) }
 {
     match leaf {
         Leaf::Constant(value) => Ok(value.copy(scene.alloc)?),

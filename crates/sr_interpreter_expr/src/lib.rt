@@ -25,7 +25,7 @@ pub use interpreter::Interpreter;
 pub use invoke::reply_to;
 pub use listening::{IsDone, IsMade, IsMoment, Takes, ask};
 pub use places::{load, put_own, store};
-pub use scene::Scene;
+pub use scene::{HasCore, Scene};
 pub use settle::{count, failed, operated};
 pub use stop::Stop;
 pub use ticking::{at_line, room, tick};

@@ -6,7 +6,7 @@ ghost use Rattle.sr_meaning.specs.Here.{request as ask_by};
 ghost use Rattle.sr_interpreter_expr.specs.Interpreters.{Agrees, HearsAnswer, UsesNextAnswer, here_of, stage_of};
 
 use crate::interpreter::Interpreter;
-use crate::scene::Scene;
+use crate::scene::{HasCore, Scene};
 use crate::stop::Stop;
 use sr_ask::{Answer, Ask, Asks, InputItem, Request, Taken};
 use sr_frame::{done, got, made, moment, number, read_item, ready, took};
@@ -150,13 +150,13 @@ fn asked<T, F: Takes<T>>(
 }
 
 /// Asks at the line of the statement, in the role of the process.
-pub fn ask<T, F: Takes<T>>(
-    scene: &Scene,
+pub fn ask<C: HasCore, T, F: Takes<T>>(
+    scene: &Scene<C>,
     interpreter: &mut Interpreter,
     form: &F,
     request: Request,
 ) -> Result<T, Stop>
-    ensures { Agrees (ask_by (F.takes form.now) request (here_of scene.now) (stage_of interpreter.old)) result (stage_of interpreter.new) }
+    ensures { Agrees (ask_by (F.takes form.now) request (here_of C.core_of scene.now) (stage_of interpreter.old)) result (stage_of interpreter.new) }
 {
     let ask = Ask {
         place: scene.place,

@@ -8,7 +8,7 @@ ghost use Rattle.sr_ask.specs.Places.{own_at, own_after, declare_own};
 
 use crate::interpreter::Interpreter;
 use crate::listening::{IsDone, IsGot, ask};
-use crate::scene::Scene;
+use crate::scene::{HasCore, Scene};
 use crate::settle::failed;
 use crate::stop::Stop;
 use sr_ask::{Located, Own, Request, Spot};
@@ -16,8 +16,8 @@ use sr_core::{Home, Root};
 use sr_value::{Duplicate, Fault, Row, Sel, Value, ValueFail, loaded, part_of, stored};
 
 /// The instance whose shared variables are meant.
-fn block_of(scene: &Scene, home: Home) -> u32
-    ensures { result ≡ block_of home (here_of scene.now) }
+fn block_of<C: HasCore>(scene: &Scene<C>, home: Home) -> u32
+    ensures { result ≡ block_of home (here_of C.core_of scene.now) }
 {
     match home {
         Home::Mine => scene.start.instance,
@@ -29,8 +29,8 @@ fn block_of(scene: &Scene, home: Home) -> u32
 }
 
 /// The variable that a place is in.
-pub fn spot_of(scene: &Scene, root: Root) -> Spot
-    ensures { result ≡ spot_of root (here_of scene.now) }
+pub fn spot_of<C: HasCore>(scene: &Scene<C>, root: Root) -> Spot
+    ensures { result ≡ spot_of root (here_of C.core_of scene.now) }
 {
     match root {
         Root::Own(var) => Spot::Own(var),
@@ -42,13 +42,13 @@ pub fn spot_of(scene: &Scene, root: Root) -> Spot
 }
 
 /// What a part of an own variable holds.
-fn own_value(
-    scene: &Scene,
+fn own_value<C: HasCore>(
+    scene: &Scene<C>,
     interpreter: &Interpreter,
     var: u32,
     path: &Row<Sel>,
 ) -> Result<Value, Stop>
-    ensures { Agrees (own_load var path.now (here_of scene.now) (stage_of interpreter.now)) result (stage_of interpreter.now) }
+    ensures { Agrees (own_load var path.now (here_of C.core_of scene.now) (stage_of interpreter.now)) result (stage_of interpreter.now) }
 {
     match interpreter.own.get(var as usize) {
         Some(Some(own)) => match loaded(scene.alloc, &own.value, path.as_slice()) {
@@ -61,8 +61,12 @@ fn own_value(
 }
 
 /// The value at a place. A shared place is loaded by one request, with its whole path.
-pub fn load(scene: &Scene, interpreter: &mut Interpreter, place: &Located) -> Result<Value, Stop>
-    ensures { Agrees (load_place place.now (here_of scene.now) (stage_of interpreter.old)) result (stage_of interpreter.new) }
+pub fn load<C: HasCore>(
+    scene: &Scene<C>,
+    interpreter: &mut Interpreter,
+    place: &Located,
+) -> Result<Value, Stop>
+    ensures { Agrees (load_place place.now (here_of C.core_of scene.now) (stage_of interpreter.old)) result (stage_of interpreter.new) }
 {
     match place.spot {
         Spot::Own(var) => own_value(scene, interpreter, var, &place.path),
@@ -87,14 +91,14 @@ pub fn put_own(interpreter: &mut Interpreter, var: u32, own: Own)
 }
 
 /// An own variable after a store, or the fault in its place.
-fn own_after(
-    scene: &Scene,
+fn own_after<C: HasCore>(
+    scene: &Scene<C>,
     interpreter: &Interpreter,
     var: u32,
     path: &Row<Sel>,
     value: &Value,
 ) -> Result<Own, Stop>
-    ensures { Agrees (settle (with_ok (own_at interpreter.now.own var) (λ own. own_after own path.now value.now)) (here_of scene.now) (stage_of interpreter.now)) result (stage_of interpreter.now) }
+    ensures { Agrees (settle (with_ok (own_at interpreter.now.own var) (λ own. own_after own path.now value.now)) (here_of C.core_of scene.now) (stage_of interpreter.now)) result (stage_of interpreter.now) }
 {
     match interpreter.own.get(var as usize) {
         Some(Some(own)) => match stored(
@@ -116,14 +120,14 @@ fn own_after(
 }
 
 /// Stores in a part of an own variable.
-fn store_own(
-    scene: &Scene,
+fn store_own<C: HasCore>(
+    scene: &Scene<C>,
     interpreter: &mut Interpreter,
     var: u32,
     path: &Row<Sel>,
     value: &Value,
 ) -> Result<(), Stop>
-    ensures { Agrees (own_store var path.now value.now (here_of scene.now) (stage_of interpreter.old)) result (stage_of interpreter.new) }
+    ensures { Agrees (own_store var path.now value.now (here_of C.core_of scene.now) (stage_of interpreter.old)) result (stage_of interpreter.new) }
 {
     let own = own_after(scene, interpreter, var, path, value)?;
     put_own(interpreter, var, own);
@@ -131,13 +135,13 @@ fn store_own(
 }
 
 /// Stores at a place.
-pub fn store(
-    scene: &Scene,
+pub fn store<C: HasCore>(
+    scene: &Scene<C>,
     interpreter: &mut Interpreter,
     place: &Located,
     value: Value,
 ) -> Result<(), Stop>
-    ensures { Agrees (store_place place.now value (here_of scene.now) (stage_of interpreter.old)) result (stage_of interpreter.new) }
+    ensures { Agrees (store_place place.now value (here_of C.core_of scene.now) (stage_of interpreter.old)) result (stage_of interpreter.new) }
 {
     match place.spot {
         Spot::Own(var) => store_own(scene, interpreter, var, &place.path, &value),
@@ -154,13 +158,13 @@ pub fn store(
 }
 
 /// The part of a value that one step selects.
-pub fn part(
-    scene: &Scene,
+pub fn part<C: HasCore>(
+    scene: &Scene<C>,
     interpreter: &Interpreter,
     value: &Value,
     step: Sel,
 ) -> Result<Value, Stop>
-    ensures { Agrees (settle (part_of value.now step) (here_of scene.now) (stage_of interpreter.now)) result (stage_of interpreter.now) }
+    ensures { Agrees (settle (part_of value.now step) (here_of C.core_of scene.now) (stage_of interpreter.now)) result (stage_of interpreter.now) }
 {
     match part_of(scene.alloc, value, step) {
         Ok(part) => Ok(part),

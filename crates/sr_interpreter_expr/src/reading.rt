@@ -5,7 +5,7 @@ ghost use Rattle.sr_interpreter_expr.specs.Interpreters.{Agrees, here_of, stage_
 use crate::interpreter::Interpreter;
 use crate::listening::{IsItem, ask};
 use crate::places::store;
-use crate::scene::Scene;
+use crate::scene::{HasCore, Scene};
 use crate::settle::failed;
 use crate::stop::Stop;
 use sr_ask::{InputItem, ReadKind, ReadTarget, Request};
@@ -25,8 +25,12 @@ pub fn kind_of(kind: Readable) -> ReadKind
 }
 
 /// The number of items read.
-fn number_read(scene: &Scene, interpreter: &Interpreter, count: usize) -> Result<Value, Stop>
-    ensures { Agrees (number_read count (here_of scene.now) (stage_of interpreter.now)) result (stage_of interpreter.now) }
+fn number_read<C: HasCore>(
+    scene: &Scene<C>,
+    interpreter: &Interpreter,
+    count: usize,
+) -> Result<Value, Stop>
+    ensures { Agrees (number_read count (here_of C.core_of scene.now) (stage_of interpreter.now)) result (stage_of interpreter.now) }
 {
     match i32::try_from(count) {
         Ok(number) => Ok(Value::Int(number)),
@@ -35,8 +39,12 @@ fn number_read(scene: &Scene, interpreter: &Interpreter, count: usize) -> Result
 }
 
 /// The number of items read, or -1 where the input had ended before the first.
-fn number_at_end(scene: &Scene, interpreter: &Interpreter, count: usize) -> Result<Value, Stop>
-    ensures { Agrees (at_end count (here_of scene.now) (stage_of interpreter.now)) result (stage_of interpreter.now) }
+fn number_at_end<C: HasCore>(
+    scene: &Scene<C>,
+    interpreter: &Interpreter,
+    count: usize,
+) -> Result<Value, Stop>
+    ensures { Agrees (at_end count (here_of C.core_of scene.now) (stage_of interpreter.now)) result (stage_of interpreter.now) }
 {
     if count == 0 {
         Ok(Value::Int(-1))
@@ -46,13 +54,13 @@ fn number_at_end(scene: &Scene, interpreter: &Interpreter, count: usize) -> Resu
 }
 
 /// Reads and stores items from one on, up to the first that isn't there or doesn't fit.
-pub fn read_from(
-    scene: &Scene,
+pub fn read_from<C: HasCore>(
+    scene: &Scene<C>,
     interpreter: &mut Interpreter,
     read_targets: &[ReadTarget],
     at: usize,
 ) -> Result<Value, Stop>
-    ensures { Agrees (read_all at (drop at read_targets.now) (here_of scene.now) (stage_of interpreter.old)) result (stage_of interpreter.new) }
+    ensures { Agrees (read_all at (drop at read_targets.now) (here_of C.core_of scene.now) (stage_of interpreter.old)) result (stage_of interpreter.new) }
 {
     let mut at = at;
     'targets: while let Some(read_target) = read_targets.get(at) {

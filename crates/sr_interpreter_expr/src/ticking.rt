@@ -4,7 +4,7 @@ ghost use Rattle.sr_meaning.specs.Here.{at_line};
 ghost use Rattle.sr_interpreter_expr.specs.Interpreters.{Agrees, here_of, stage_of};
 
 use crate::interpreter::Interpreter;
-use crate::scene::Scene;
+use crate::scene::{HasCore, Scene};
 use crate::stop::Stop;
 use sr_ask::Asks;
 use sr_value::Place;
@@ -21,12 +21,12 @@ pub fn tick(interpreter: &mut Interpreter) -> Result<(), Stop>
 }
 
 /// The same at another line.
-pub fn at_line<'a>(scene: &Scene<'a>, place: Place) -> Scene<'a>
-    ensures { here_of result ≡ at_line place (here_of scene.now) }
+pub fn at_line<'a, C: HasCore>(scene: &Scene<'a, C>, place: Place) -> Scene<'a, C>
+    ensures { here_of C.core_of result ≡ at_line place (here_of C.core_of scene.now) }
 {
     Scene {
         alloc: scene.alloc,
-        core: scene.core,
+        program: scene.program,
         start: scene.start,
         limit: scene.limit,
         place,
@@ -34,7 +34,7 @@ pub fn at_line<'a>(scene: &Scene<'a>, place: Place) -> Scene<'a>
 }
 
 /// How often a process can tick before it stops, whatever it does.
-pub fn room(scene: &Scene, interpreter: &Interpreter) -> u128
+pub fn room<C: HasCore>(scene: &Scene<C>, interpreter: &Interpreter) -> u128
     ensures value { result ≡ room scene.now.limit (stage_of interpreter.now) }
     ensures bound { result < 2 ^ 100 }
 {

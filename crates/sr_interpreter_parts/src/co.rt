@@ -11,20 +11,20 @@ use sr_ask::{Answer, Located, Out, Request, SharedNumbers};
 use sr_core::{CoCall, PlaceExpr, Quantifier};
 use sr_frame::{number_held, number_own};
 use sr_interpreter_expr::{
-    Interpreter, IsMade, Scene, Stop, Takes, ask, cap_of, evaluate_arguments, locate, places_in,
-    put_own, store, values_in,
+    HasCore, Interpreter, IsMade, Scene, Stop, Takes, ask, cap_of, evaluate_arguments, locate,
+    places_in, put_own, store, values_in,
 };
 use sr_meaning::Ending;
 use sr_value::{Duplicate, NoMemory, Row, Value};
 use std::alloc::Global;
 
 /// The place that the value of an invocation goes to, where it goes to one.
-fn optional_place(
-    scene: &Scene,
+fn optional_place<C: HasCore>(
+    scene: &Scene<C>,
     interpreter: &mut Interpreter,
     place: &Option<PlaceExpr>,
 ) -> Result<Option<Located>, Stop>
-    ensures { Agrees (optional_place place.now (here_of scene.now) (stage_of interpreter.old)) result (stage_of interpreter.new) }
+    ensures { Agrees (optional_place place.now (here_of C.core_of scene.now) (stage_of interpreter.old)) result (stage_of interpreter.new) }
 {
     match place {
         None => Ok(None),
@@ -66,14 +66,14 @@ pub fn set_out(interpreter: &mut Interpreter, out: Row<Out>) -> Row<Out>
 }
 
 /// One invocation of a `co`: its place, its target, its arguments.
-pub fn start_call(
-    scene: &Scene,
+pub fn start_call<C: HasCore>(
+    scene: &Scene<C>,
     interpreter: &mut Interpreter,
     arm: u32,
     call: &CoCall,
     quantifiers: &[Quantifier],
 ) -> Result<Ending, Stop>
-    ensures { Agrees (start_call arm (call_part quantifiers.now call.now) (here_of scene.now) (stage_of interpreter.old)) result (stage_of interpreter.new) }
+    ensures { Agrees (start_call arm (call_part quantifiers.now call.now) (here_of C.core_of scene.now) (stage_of interpreter.old)) result (stage_of interpreter.new) }
 {
     let place = optional_place(scene, interpreter, &call.place)?;
     let target = cap_of(scene, interpreter, &call.target)?;
@@ -141,8 +141,11 @@ fn ids_out(alloc: Global, outs: &[Out]) -> Result<SharedNumbers, NoMemory>
 }
 
 /// Takes the earliest reply to one of the invocations that are out.
-pub fn take_reply(scene: &Scene, interpreter: &mut Interpreter) -> Result<PlacedReply, Stop>
-    ensures taken { Agrees (take_place (here_of scene.now) (stage_of interpreter.old)) result (stage_of interpreter.new) }
+pub fn take_reply<C: HasCore>(
+    scene: &Scene<C>,
+    interpreter: &mut Interpreter,
+) -> Result<PlacedReply, Stop>
+    ensures taken { Agrees (take_place (here_of C.core_of scene.now) (stage_of interpreter.old)) result (stage_of interpreter.new) }
     ensures first { IfOk result (λ reply. IsFirstOut interpreter.new.out reply.at) }
 {
     let ids = ids_out(scene.alloc, interpreter.out.as_slice())?;
@@ -186,13 +189,13 @@ pub fn set_turn(interpreter: &mut Interpreter, quantifiers: &[Quantifier], turn:
 }
 
 /// Stores the value of an invocation, where it goes to a place.
-pub fn store_value(
-    scene: &Scene,
+pub fn store_value<C: HasCore>(
+    scene: &Scene<C>,
     interpreter: &mut Interpreter,
     place: &Option<Located>,
     value: Value,
 ) -> Result<(), Stop>
-    ensures { Agrees (store_value place.now value (here_of scene.now) (stage_of interpreter.old)) result (stage_of interpreter.new) }
+    ensures { Agrees (store_value place.now value (here_of C.core_of scene.now) (stage_of interpreter.old)) result (stage_of interpreter.new) }
 {
     match place {
         None => Ok(()),

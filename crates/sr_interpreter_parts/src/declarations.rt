@@ -10,13 +10,17 @@ use sr_ask::{Located, Own, Request, Spot};
 use sr_core::{Declaration, DimsExpr, Expr, ItemShape, Range, Scope, Setup, ShapeExpr};
 use sr_frame::bounded_by;
 use sr_interpreter_expr::{
-    Interpreter, IsDone, Scene, Stop, ask, evaluate, failed, number_of, put_own, store,
+    HasCore, Interpreter, IsDone, Scene, Stop, ask, evaluate, failed, number_of, put_own, store,
 };
 use sr_value::{Dims, Duplicate, Fault, Row, Shape, Shared, Value, ValueFail, default_of};
 
 /// A string of at most so many bytes; E6 below 0.
-fn string_shape(scene: &Scene, interpreter: &Interpreter, most: i32) -> Result<Shape, Stop>
-    ensures { Agrees (settle (string_of_length most) (here_of scene.now) (stage_of interpreter.now)) result (stage_of interpreter.now) }
+fn string_shape<C: HasCore>(
+    scene: &Scene<C>,
+    interpreter: &Interpreter,
+    most: i32,
+) -> Result<Shape, Stop>
+    ensures { Agrees (settle (string_of_length most) (here_of C.core_of scene.now) (stage_of interpreter.now)) result (stage_of interpreter.now) }
 {
     match u32::try_from(most) {
         Ok(most) => Ok(Shape::Str { most }),
@@ -25,8 +29,12 @@ fn string_shape(scene: &Scene, interpreter: &Interpreter, most: i32) -> Result<S
 }
 
 /// The type after the dimensions.
-fn item_shape(scene: &Scene, interpreter: &mut Interpreter, item: &ItemShape) -> Result<Shape, Stop>
-    ensures { Agrees (item_shape item.now (here_of scene.now) (stage_of interpreter.old)) result (stage_of interpreter.new) }
+fn item_shape<C: HasCore>(
+    scene: &Scene<C>,
+    interpreter: &mut Interpreter,
+    item: &ItemShape,
+) -> Result<Shape, Stop>
+    ensures { Agrees (item_shape item.now (here_of C.core_of scene.now) (stage_of interpreter.old)) result (stage_of interpreter.new) }
 {
     match item {
         ItemShape::Fixed(shape) => Ok(shape.copy(scene.alloc)?),
@@ -38,13 +46,13 @@ fn item_shape(scene: &Scene, interpreter: &mut Interpreter, item: &ItemShape) ->
 }
 
 /// An array of one dimension.
-fn row_shape(
-    scene: &Scene,
+fn row_shape<C: HasCore>(
+    scene: &Scene<C>,
     interpreter: &mut Interpreter,
     range: &Range,
     item: &ItemShape,
 ) -> Result<Shape, Stop>
-    ensures { Agrees (dims_shape (DimsExpr.One range.now) item.now (here_of scene.now) (stage_of interpreter.old)) result (stage_of interpreter.new) }
+    ensures { Agrees (dims_shape (DimsExpr.One range.now) item.now (here_of C.core_of scene.now) (stage_of interpreter.old)) result (stage_of interpreter.new) }
 {
     let lo = number_of(scene, interpreter, &range.lo)?;
     let hi = number_of(scene, interpreter, &range.hi)?;
@@ -56,14 +64,14 @@ fn row_shape(
 }
 
 /// An array of two dimensions.
-fn table_shape(
-    scene: &Scene,
+fn table_shape<C: HasCore>(
+    scene: &Scene<C>,
     interpreter: &mut Interpreter,
     rows: &Range,
     columns: &Range,
     item: &ItemShape,
 ) -> Result<Shape, Stop>
-    ensures { Agrees (dims_shape (DimsExpr.Two rows.now columns.now) item.now (here_of scene.now) (stage_of interpreter.old)) result (stage_of interpreter.new) }
+    ensures { Agrees (dims_shape (DimsExpr.Two rows.now columns.now) item.now (here_of C.core_of scene.now) (stage_of interpreter.old)) result (stage_of interpreter.new) }
 {
     let lo = number_of(scene, interpreter, &rows.lo)?;
     let hi = number_of(scene, interpreter, &rows.hi)?;
@@ -77,8 +85,12 @@ fn table_shape(
 }
 
 /// The type that a declaration writes: the bounds from left to right, and then the length of a string.
-fn shape_of(scene: &Scene, interpreter: &mut Interpreter, shape: &ShapeExpr) -> Result<Shape, Stop>
-    ensures { Agrees (shape_meaning shape.now (here_of scene.now) (stage_of interpreter.old)) result (stage_of interpreter.new) }
+fn shape_of<C: HasCore>(
+    scene: &Scene<C>,
+    interpreter: &mut Interpreter,
+    shape: &ShapeExpr,
+) -> Result<Shape, Stop>
+    ensures { Agrees (shape_meaning shape.now (here_of C.core_of scene.now) (stage_of interpreter.old)) result (stage_of interpreter.new) }
 {
     match &shape.dims {
         DimsExpr::None => item_shape(scene, interpreter, &shape.item),
@@ -88,8 +100,12 @@ fn shape_of(scene: &Scene, interpreter: &mut Interpreter, shape: &ShapeExpr) -> 
 }
 
 /// The default of a type, or its fault.
-fn default_for(scene: &Scene, interpreter: &Interpreter, shape: &Shape) -> Result<Value, Stop>
-    ensures { Agrees (settle (default_value shape.now) (here_of scene.now) (stage_of interpreter.now)) result (stage_of interpreter.now) }
+fn default_for<C: HasCore>(
+    scene: &Scene<C>,
+    interpreter: &Interpreter,
+    shape: &Shape,
+) -> Result<Value, Stop>
+    ensures { Agrees (settle (default_value shape.now) (here_of C.core_of scene.now) (stage_of interpreter.now)) result (stage_of interpreter.now) }
 {
     match default_of(scene.alloc, shape) {
         Ok(value) => Ok(value),
@@ -99,13 +115,13 @@ fn default_for(scene: &Scene, interpreter: &Interpreter, shape: &Shape) -> Resul
 }
 
 /// Makes an own variable with its default.
-fn make_own(
-    scene: &Scene,
+fn make_own<C: HasCore>(
+    scene: &Scene<C>,
     interpreter: &mut Interpreter,
     var: u32,
     shape: Shape,
 ) -> Result<(), Stop>
-    ensures { Agrees (make (Spot.Own var) shape (here_of scene.now) (stage_of interpreter.old)) result (stage_of interpreter.new) }
+    ensures { Agrees (make (Spot.Own var) shape (here_of C.core_of scene.now) (stage_of interpreter.old)) result (stage_of interpreter.new) }
 {
     let value = default_for(scene, interpreter, &shape)?;
     put_own(interpreter, var, Own { shape, value });
@@ -113,13 +129,13 @@ fn make_own(
 }
 
 /// Makes a variable: an own one with its default, a shared one by a request.
-pub fn make(
-    scene: &Scene,
+pub fn make<C: HasCore>(
+    scene: &Scene<C>,
     interpreter: &mut Interpreter,
     spot: Spot,
     shape: Shape,
 ) -> Result<(), Stop>
-    ensures { Agrees (make spot shape (here_of scene.now) (stage_of interpreter.old)) result (stage_of interpreter.new) }
+    ensures { Agrees (make spot shape (here_of C.core_of scene.now) (stage_of interpreter.old)) result (stage_of interpreter.new) }
 {
     match spot {
         Spot::Own(var) => make_own(scene, interpreter, var, shape),
@@ -135,8 +151,8 @@ pub fn make(
 }
 
 /// The variable of a number, by who owns it.
-pub fn spot_in(scene: &Scene, scope: Scope, var: u32) -> Spot
-    ensures { result ≡ spot_in scope var (here_of scene.now) }
+pub fn spot_in<C: HasCore>(scene: &Scene<C>, scope: Scope, var: u32) -> Spot
+    ensures { result ≡ spot_in scope var (here_of C.core_of scene.now) }
 {
     match scope {
         Scope::Own => Spot::Own(var),
@@ -148,13 +164,13 @@ pub fn spot_in(scene: &Scene, scope: Scope, var: u32) -> Spot
 }
 
 /// Stores in the whole of a variable.
-pub fn store_whole(
-    scene: &Scene,
+pub fn store_whole<C: HasCore>(
+    scene: &Scene<C>,
     interpreter: &mut Interpreter,
     spot: Spot,
     value: Value,
 ) -> Result<(), Stop>
-    ensures { Agrees (store_place (whole spot) value (here_of scene.now) (stage_of interpreter.old)) result (stage_of interpreter.new) }
+    ensures { Agrees (store_place (whole spot) value (here_of C.core_of scene.now) (stage_of interpreter.old)) result (stage_of interpreter.new) }
 {
     let place = Located {
         spot,
@@ -164,13 +180,13 @@ pub fn store_whole(
 }
 
 /// Stores the value that a declaration writes, where it writes one.
-fn store_first(
-    scene: &Scene,
+fn store_first<C: HasCore>(
+    scene: &Scene<C>,
     interpreter: &mut Interpreter,
     value: &Option<Expr>,
     spot: Spot,
 ) -> Result<(), Stop>
-    ensures { Agrees (first_value value.now spot (here_of scene.now) (stage_of interpreter.old)) result (stage_of interpreter.new) }
+    ensures { Agrees (first_value value.now spot (here_of C.core_of scene.now) (stage_of interpreter.old)) result (stage_of interpreter.new) }
 {
     match value {
         None => Ok(()),
@@ -182,14 +198,14 @@ fn store_first(
 }
 
 /// The bounds, the variable, and then its value.
-fn set_up_typed(
-    scene: &Scene,
+fn set_up_typed<C: HasCore>(
+    scene: &Scene<C>,
     interpreter: &mut Interpreter,
     shape: &ShapeExpr,
     value: &Option<Expr>,
     spot: Spot,
 ) -> Result<(), Stop>
-    ensures { Agrees (setup_meaning (Setup.Typed shape.now value.now) spot (here_of scene.now) (stage_of interpreter.old)) result (stage_of interpreter.new) }
+    ensures { Agrees (setup_meaning (Setup.Typed shape.now value.now) spot (here_of C.core_of scene.now) (stage_of interpreter.old)) result (stage_of interpreter.new) }
 {
     let found = shape_of(scene, interpreter, shape)?;
     make(scene, interpreter, spot, found)?;
@@ -197,14 +213,14 @@ fn set_up_typed(
 }
 
 /// The value, the variable with the value's bounds, and the store.
-fn set_up_untyped(
-    scene: &Scene,
+fn set_up_untyped<C: HasCore>(
+    scene: &Scene<C>,
     interpreter: &mut Interpreter,
     shape: &Shape,
     expr: &Expr,
     spot: Spot,
 ) -> Result<(), Stop>
-    ensures { Agrees (setup_meaning (Setup.Untyped shape.now expr.now) spot (here_of scene.now) (stage_of interpreter.old)) result (stage_of interpreter.new) }
+    ensures { Agrees (setup_meaning (Setup.Untyped shape.now expr.now) spot (here_of C.core_of scene.now) (stage_of interpreter.old)) result (stage_of interpreter.new) }
 {
     let value = evaluate(scene, interpreter, expr)?;
     let found = bounded_by(scene.alloc, shape, &value)?;
@@ -213,12 +229,12 @@ fn set_up_untyped(
 }
 
 /// What a declaration asks.
-pub fn declare(
-    scene: &Scene,
+pub fn declare<C: HasCore>(
+    scene: &Scene<C>,
     interpreter: &mut Interpreter,
     declaration: &Declaration,
 ) -> Result<(), Stop>
-    ensures { Agrees (declaration_meaning declaration.now (here_of scene.now) (stage_of interpreter.old)) result (stage_of interpreter.new) }
+    ensures { Agrees (declaration_meaning declaration.now (here_of C.core_of scene.now) (stage_of interpreter.old)) result (stage_of interpreter.new) }
 {
     let spot = spot_in(scene, declaration.scope, declaration.var);
     match &declaration.setup {

@@ -9,18 +9,18 @@ ghost use Rattle.sr_core.specs.Formals.{is_back, result_vars};
 use crate::declarations::{make, spot_in, store_whole};
 use sr_ask::Spot;
 use sr_core::{Formal, FormalShape, Mode, Returned, Scope, formal_shape, sent_after, sent_to};
-use sr_interpreter_expr::{Interpreter, Scene, Stop, failed};
+use sr_interpreter_expr::{HasCore, Interpreter, Scene, Stop, failed};
 use sr_value::{Duplicate, NoMemory, Row, Shape, Value, ValueFail};
 use std::alloc::Global;
 
 /// The type of a formal, or its fault.
-fn settle_shape(
-    scene: &Scene,
+fn settle_shape<C: HasCore>(
+    scene: &Scene<C>,
     interpreter: &Interpreter,
     shape: &FormalShape,
     sent: Option<&Value>,
 ) -> Result<Shape, Stop>
-    ensures { Agrees (settle (formal_shape shape.now (option_copied sent.entry)) (here_of scene.now) (stage_of interpreter.now)) result (stage_of interpreter.now) }
+    ensures { Agrees (settle (formal_shape shape.now (option_copied sent.entry)) (here_of C.core_of scene.now) (stage_of interpreter.now)) result (stage_of interpreter.now) }
 {
     match formal_shape(scene.alloc, shape, sent) {
         Ok(shape) => Ok(shape),
@@ -30,13 +30,13 @@ fn settle_shape(
 }
 
 /// Stores what a formal was sent in it.
-fn store_sent(
-    scene: &Scene,
+fn store_sent<C: HasCore>(
+    scene: &Scene<C>,
     interpreter: &mut Interpreter,
     sent: Option<&Value>,
     spot: Spot,
 ) -> Result<(), Stop>
-    ensures { Agrees (store_sent (option_copied sent.entry) spot (here_of scene.now) (stage_of interpreter.old)) result (stage_of interpreter.new) }
+    ensures { Agrees (store_sent (option_copied sent.entry) spot (here_of C.core_of scene.now) (stage_of interpreter.old)) result (stage_of interpreter.new) }
 {
     match sent {
         None => Ok(()),
@@ -45,14 +45,14 @@ fn store_sent(
 }
 
 /// Makes formals in order, and stores the argument of each in it as it is made.
-pub fn make_formals(
-    scene: &Scene,
+pub fn make_formals<C: HasCore>(
+    scene: &Scene<C>,
     interpreter: &mut Interpreter,
     scope: Scope,
     formals: &[Formal],
     args: &[Value],
 ) -> Result<(), Stop>
-    ensures { Agrees (make_formals scope formals.now args.now (here_of scene.now) (stage_of interpreter.old)) result (stage_of interpreter.new) }
+    ensures { Agrees (make_formals scope formals.now args.now (here_of C.core_of scene.now) (stage_of interpreter.old)) result (stage_of interpreter.new) }
 {
     match formals {
         [] => Ok(()),
@@ -74,12 +74,12 @@ pub fn make_formals(
 }
 
 /// Makes the returned name, where there is one.
-pub fn make_returned(
-    scene: &Scene,
+pub fn make_returned<C: HasCore>(
+    scene: &Scene<C>,
     interpreter: &mut Interpreter,
     returned: &Option<Returned>,
 ) -> Result<(), Stop>
-    ensures { Agrees (make_returned returned.now (here_of scene.now) (stage_of interpreter.old)) result (stage_of interpreter.new) }
+    ensures { Agrees (make_returned returned.now (here_of C.core_of scene.now) (stage_of interpreter.old)) result (stage_of interpreter.new) }
 {
     match returned {
         None => Ok(()),

@@ -12,7 +12,7 @@ use crate::formals::result_vars;
 use sr_ask::{Answer, Gives, Pick, Request, Selection, Service};
 use sr_core::{Arm, Named};
 use sr_frame::selected;
-use sr_interpreter_expr::{Interpreter, Scene, Stop, Takes, ask, failed};
+use sr_interpreter_expr::{HasCore, Interpreter, Scene, Stop, Takes, ask, failed};
 use sr_value::{Cap, Duplicate, Fault, NoMemory, Row, Value};
 use std::alloc::Global;
 
@@ -32,8 +32,12 @@ impl Takes<Selection> for IsSelected {
 }
 
 /// What goes with a `Select` of one thing that the guards name.
-fn named_value(scene: &Scene, interpreter: &Interpreter, name: Named) -> Result<Value, Stop>
-    ensures { Agrees (named_value name (here_of scene.now) (stage_of interpreter.now)) result (stage_of interpreter.now) }
+fn named_value<C: HasCore>(
+    scene: &Scene<C>,
+    interpreter: &Interpreter,
+    name: Named,
+) -> Result<Value, Stop>
+    ensures { Agrees (named_value name (here_of C.core_of scene.now) (stage_of interpreter.now)) result (stage_of interpreter.now) }
 {
     match name {
         Named::Own(var) => match interpreter.own.get(var as usize) {
@@ -49,12 +53,12 @@ fn named_value(scene: &Scene, interpreter: &Interpreter, name: Named) -> Result<
 }
 
 /// What goes with a `Select`.
-fn named_values(
-    scene: &Scene,
+fn named_values<C: HasCore>(
+    scene: &Scene<C>,
     interpreter: &Interpreter,
     names: &[Named],
 ) -> Result<Row<Value>, Stop>
-    ensures { Agrees (in_order (map named_value names.now) (here_of scene.now) (stage_of interpreter.now)) result (stage_of interpreter.now) }
+    ensures { Agrees (in_order (map named_value names.now) (here_of C.core_of scene.now) (stage_of interpreter.now)) result (stage_of interpreter.now) }
 {
     let mut values = Row::new(scene.alloc);
     for name in names {
@@ -65,43 +69,43 @@ fn named_values(
 }
 
 /// What the guards of a site name of the process.
-fn names_at<'a>(scene: &Scene<'a>, site: u32) -> &'a [Named]
-    ensures { result.now ≡ (site_at site (here_of scene.now)).names }
+fn names_at<'a, C: HasCore>(scene: &Scene<'a, C>, site: u32) -> &'a [Named]
+    ensures { result.now ≡ (site_at site (here_of C.core_of scene.now)).names }
 {
-    match scene.core.sites.get(site as usize) {
+    match scene.program.core().sites.get(site as usize) {
         Some(found) => found.names.as_slice(),
         None => &[],
     }
 }
 
 /// Whether a site has an `else`.
-fn has_else(scene: &Scene, site: u32) -> bool
-    ensures { result ≡ (site_at site (here_of scene.now)).has_else }
+fn has_else<C: HasCore>(scene: &Scene<C>, site: u32) -> bool
+    ensures { result ≡ (site_at site (here_of C.core_of scene.now)).has_else }
 {
-    match scene.core.sites.get(site as usize) {
+    match scene.program.core().sites.get(site as usize) {
         Some(found) => found.has_else,
         None => false,
     }
 }
 
 /// The arm of a site.
-pub fn arm_at<'a>(scene: &Scene<'a>, site: u32, arm: u32) -> Option<&'a Arm>
-    ensures { option_copied result ≡ slice_get (site_at site (here_of scene.now)).arms arm }
+pub fn arm_at<'a, C: HasCore>(scene: &Scene<'a, C>, site: u32, arm: u32) -> Option<&'a Arm>
+    ensures { option_copied result ≡ slice_get (site_at site (here_of C.core_of scene.now)).arms arm }
 {
-    match scene.core.sites.get(site as usize) {
+    match scene.program.core().sites.get(site as usize) {
         Some(found) => found.arms.get(arm as usize),
         None => None,
     }
 }
 
 /// Asks which arm of a site is to run, out of so many.
-pub fn choose(
-    scene: &Scene,
+pub fn choose<C: HasCore>(
+    scene: &Scene<C>,
     interpreter: &mut Interpreter,
     site: u32,
     arms: usize,
 ) -> Result<Selection, Stop>
-    ensures { Agrees (choosing site arms (here_of scene.now) (stage_of interpreter.old)) result (stage_of interpreter.new) }
+    ensures { Agrees (choosing site arms (here_of C.core_of scene.now) (stage_of interpreter.old)) result (stage_of interpreter.new) }
 {
     let request = Request::Select {
         site,

@@ -6,12 +6,15 @@ ghost use Rattle.sr_ask.specs.Replies.{mark_answered};
 
 use sr_ask::{Gives, Request};
 use sr_frame::own_copies;
-use sr_interpreter_expr::{Interpreter, IsDone, IsMade, Scene, Stop, ask};
+use sr_interpreter_expr::{HasCore, Interpreter, IsDone, IsMade, Scene, Stop, ask};
 use sr_value::{Cap, NoMemory, Row, Value};
 
 /// The present results of the invocation in service.
-pub fn results(scene: &Scene, interpreter: &Interpreter) -> Result<Row<Value>, NoMemory>
-    ensures { IfOk result (λ values. values ≡ results_now (here_of scene.now) (stage_of interpreter.now)) }
+pub fn results<C: HasCore>(
+    scene: &Scene<C>,
+    interpreter: &Interpreter,
+) -> Result<Row<Value>, NoMemory>
+    ensures { IfOk result (λ values. values ≡ results_now (here_of C.core_of scene.now) (stage_of interpreter.now)) }
 {
     match &interpreter.service.gives {
         Gives::Values(vars) => own_copies(scene.alloc, &interpreter.own, vars.as_slice()),
@@ -31,8 +34,8 @@ fn mark(interpreter: &mut Interpreter)
 }
 
 /// A reply gives the present results, where none was given before.
-pub fn reply(scene: &Scene, interpreter: &mut Interpreter) -> Result<(), Stop>
-    ensures { Agrees (reply_meaning (here_of scene.now) (stage_of interpreter.old)) result (stage_of interpreter.new) }
+pub fn reply<C: HasCore>(scene: &Scene<C>, interpreter: &mut Interpreter) -> Result<(), Stop>
+    ensures { Agrees (reply_meaning (here_of C.core_of scene.now) (stage_of interpreter.old)) result (stage_of interpreter.new) }
 {
     if interpreter.service.answered {
         return Ok(());
@@ -48,13 +51,13 @@ pub fn reply(scene: &Scene, interpreter: &mut Interpreter) -> Result<(), Stop>
 }
 
 /// The duty to answer goes to another operation; where it is answered already, that is only sent to.
-pub fn forward(
-    scene: &Scene,
+pub fn forward<C: HasCore>(
+    scene: &Scene<C>,
     interpreter: &mut Interpreter,
     target: Cap,
     args: Row<Value>,
 ) -> Result<(), Stop>
-    ensures { Agrees (forward_meaning target args (here_of scene.now) (stage_of interpreter.old)) result (stage_of interpreter.new) }
+    ensures { Agrees (forward_meaning target args (here_of C.core_of scene.now) (stage_of interpreter.old)) result (stage_of interpreter.new) }
 {
     if interpreter.service.answered {
         let wants = false;

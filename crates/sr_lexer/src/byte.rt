@@ -3,7 +3,7 @@ ghost use Rattle.sr_lexer.specs.Bytes.{class_of, is_letter, is_digit, is_name_by
 
 /// What a piece of a source text can be, by its first byte.
 #[derive(Clone, Copy, PartialEq, Eq)]
-pub(crate) enum Class {
+pub enum Class {
     Blank,
     Newline,
     Hash,

@@ -16,7 +16,7 @@ const GREATEST: u64 = 2_147_483_647;
 
 /// What a piece of a source text is.
 #[derive(Clone, Copy, PartialEq, Eq)]
-pub(crate) enum PieceKind {
+pub enum PieceKind {
     Blank,
     Newline,
     Comment,
@@ -25,7 +25,7 @@ pub(crate) enum PieceKind {
 
 /// A piece at the front of some bytes.
 #[derive(Clone, Copy, PartialEq, Eq)]
-pub(crate) struct Piece {
+pub struct Piece {
     pub kind: PieceKind,
     /// How many bytes it has.
     pub len: usize,
@@ -33,7 +33,7 @@ pub(crate) struct Piece {
 
 /// Why no piece begins at the front of some bytes.
 #[derive(Clone, Copy, PartialEq, Eq)]
-pub(crate) struct Fault {
+pub struct Fault {
     pub kind: Kind,
     /// The byte that shows it, counted from the first.
     pub at: usize,

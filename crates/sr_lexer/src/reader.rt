@@ -11,7 +11,7 @@ use std::alloc::Global;
 
 /// The tokens so far, and what decides whether the next newline is a separator.
 #[derive(Drop)]
-pub(crate) struct Reader {
+pub struct Reader {
     pub tokens: Row<Token>,
     /// How many `(` and `[` are open.
     pub depth: u32,

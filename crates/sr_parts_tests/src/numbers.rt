@@ -41,8 +41,8 @@ fn are_taken(alloc: Global, numbers: &mut SharedNumbers) -> bool {
 
 /// Whether all that are left leave from the front.
 fn leave_from_the_front(alloc: Global, numbers: &mut SharedNumbers) -> bool {
-    while numbers.len() > 0 {
-        if numbers.remove(alloc, 0).is_err() {
+    for _ in 0..numbers.len() {
+        if numbers.len() == 0 || numbers.remove(alloc, 0).is_err() {
             return false;
         }
     }

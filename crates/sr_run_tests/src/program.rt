@@ -33,14 +33,14 @@ pub fn add_main(alloc: Global, components: &mut Row<Component>) -> Result<(), No
     add_resource(alloc, block, components)
 }
 
-/// Adds a resource whose initial code writes the moment and waits until ten milliseconds have gone by.
-pub fn add_nap(alloc: Global, components: &mut Row<Component>) -> Result<(), NoMemory> {
+/// Adds a resource whose initial code writes the moment and waits until so many milliseconds have gone by.
+pub fn add_nap(alloc: Global, time: i32, components: &mut Row<Component>) -> Result<(), NoMemory> {
     let mut block = Row::new(alloc);
     add_write(alloc, Leaf::Moment, &mut block)?;
     block.push(Statement::Act {
         place: PLACE,
         action: Action::Until {
-            time: Expr::Leaf(Leaf::Constant(Value::Int(10))),
+            time: Expr::Leaf(Leaf::Constant(Value::Int(time))),
         },
     })?;
     add_resource(alloc, block, components)

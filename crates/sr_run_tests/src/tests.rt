@@ -1,3 +1,4 @@
+use crate::asking::{Told, what_is_asked};
 use crate::choices::chooses;
 use crate::machine::goes_on;
 use crate::program::{add_main, add_nap, no_program};
@@ -19,7 +20,7 @@ fn machine_and_run(rt: HostRuntime) {
 /// Whether the program of a nap is made, and a run of it comes to the nap.
 fn nap_is_right(alloc: Global) -> bool {
     let mut core = no_program(alloc);
-    add_nap(alloc, &mut core.components).is_ok() && naps(alloc, &core)
+    add_nap(alloc, 10, &mut core.components).is_ok() && naps(alloc, &core)
 }
 
 #[test]
@@ -30,4 +31,24 @@ fn a_nap(rt: HostRuntime) {
 #[test]
 fn choices(rt: HostRuntime) {
     assert!(rt; chooses(rt.alloc()));
+}
+
+/// How long a process waits, the moment that it is told, how many answers it got, and what it asks then.
+const ROWS: [(i32, i32, u32, Told); 9] = [
+    (10, 5, 0, Told::Age),
+    (10, 5, 1, Told::Write),
+    (10, 5, 2, Told::Age),
+    (10, 5, 3, Told::Wake(15)),
+    (10, 5, 4, Told::Finish),
+    (0, 7, 3, Told::Wake(7)),
+    (-1, 5, 2, Told::Fail),
+    (2_147_483_647, 1, 3, Told::Fail),
+    (2_147_483_647, 0, 3, Told::Wake(2_147_483_647)),
+];
+
+#[test]
+fn time_is_asked(rt: HostRuntime) {
+    for (time, moment, count, wanted) in ROWS {
+        assert_eq!(rt; what_is_asked(rt.alloc(), time, moment, count), wanted);
+    }
 }

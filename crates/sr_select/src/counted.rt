@@ -3,7 +3,7 @@ ghost use Rattle.sr_value.specs.Operators.{Answers};
 ghost use Rattle.sr_value.specs.Parts.{all_fit, each_fits};
 ghost use Rattle.sr_select.specs.Guards.{counted_in, recounted};
 
-use sr_core::{high_bound, indices};
+use sr_core::high_bound;
 use sr_value::{Dims, Duplicate, Fault, Row, Shape, Value, ValueFail};
 use std::alloc::Global;
 

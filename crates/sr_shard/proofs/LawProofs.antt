@@ -18,7 +18,7 @@ entries_in_any_order core class = order.orders_agree 32 (part class) (mask class
 pub journals_in_parts : JournalsInParts
 journals_in_parts core class = order.journals_replay 32 (part class) (mask class) (Fits core class) (apply core) (acts_are_local core class) (acts_of core)
 
-narrow : (b : Bool) (touched parts : List ℕ) → cond b None (Some touched) ≡ Some parts → (b ≡ false) × (touched ≡ parts)
+pub narrow : (b : Bool) (touched parts : List ℕ) → cond b None (Some touched) ≡ Some parts → (b ≡ false) × (touched ≡ parts)
 narrow true touched parts is = absurd (cc is)
 narrow false touched parts is = (refl, cc is)
 

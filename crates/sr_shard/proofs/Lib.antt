@@ -2,7 +2,12 @@ pub mod ItemLemmas
 pub mod LawProofs
 pub mod ListLemmas
 pub mod LocalLemmas
+pub mod LocalStepLemmas
 pub mod MapLemmas
+pub mod RunLemmas
+pub mod ShardLemmas
 pub mod SoundLemmas
+pub mod SplitLemmas
 pub mod StepLemmas
 pub mod TouchedLemmas
+pub mod WrittenLemmas

@@ -1,10 +1,16 @@
 -- What a part has of a list.
-use Rattle.std.proofs.Common.{◌≡◌, ◌≢◌, ℕ, zero, suc, ◌<◌, Bool, true, false, List, [], ◌∷◌, ◌++◌, length, Some, refl, ap, sym, ◌∙◌, cond, arith, true≢false}
+use Rattle.std.proofs.Common.{◌≡◌, ◌≢◌, ℕ, zero, suc, ◌<◌, Bool, true, false, List, [], ◌∷◌, ◌++◌, ◌==◌, length, Some, refl, ap, sym, ◌∙◌, cond, arith, eqb-true, true≢false}
+use Rattle.std.proofs.lemmas.Bool.{eq-eqb, ne_eqb}
 use Rattle.std.proofs.lemmas.List.Sums.{length-filter}
 use Rattle.std.proofs.lemmas.Option.{get_or_from_slice_get}
 use Rattle.std.specs.Prelude.{AllPairs, count_by, filter, find, remove, slice_get}
 pub use Rattle.std.proofs.lemmas.Bool.{and_parts}
 use Rattle.sr_calls.specs.Calls.{without_first}
+
+-- whether two numbers are the same, from either side
+pub same_number : (n m : ℕ) (b : Bool) → (n == m) ≡ b → (m == n) ≡ b
+same_number n m true is = eq-eqb m n (sym (eqb-true n m is))
+same_number n m false is = ne_eqb m n (λ same. true≢false (sym (eq-eqb n m (sym same)) ∙ is))
 
 module _ {A : Type 0} where
   pub filter_in : (g : A → Bool) (xs : List A) (x : A) → g x ≡ true → filter g (xs ++ x ∷ []) ≡ filter g xs ++ x ∷ []

@@ -1,6 +1,7 @@
 -- An entry whose acts replay is a step of the machine.
-use Rattle.std.proofs.Common.{◌≡◌, ◌≢◌, ◌&&◌, ℕ, zero, suc, ℤ, pos, negsuc, ◌==◌, Bool, true, false, not, List, [], ◌∷◌, Option, None, Some, Result, Ok, Err, refl, ap, sym, ◌∙◌, cond, eqb-true, true≢false}
+use Rattle.std.proofs.Common.{◌≡◌, ◌≢◌, ◌&&◌, ◌+◌, ℕ, zero, suc, ℤ, pos, negsuc, ◌==◌, Bool, true, false, not, List, [], ◌∷◌, Option, None, Some, Result, Ok, Err, refl, ap, sym, ◌∙◌, cond, eqb-true, true≢false}
 use Rattle.std.proofs.lemmas.Bool.{eq-eqb, ne_eqb}
+use Rattle.std.specs.List.{enumerate_from}
 use Rattle.std.specs.Prelude.{AllPairs, filter, find, is_some, slice_get}
 use Rattle.sr_ask.specs.declared.answer.Answer.{Answer}
 use Rattle.sr_ask.specs.declared.answer.Answer.TheVariants as answer
@@ -22,8 +23,9 @@ use Rattle.sr_core.specs.declared.statement.Scope.TheVariants.{Own as own_scope,
 use Rattle.sr_processes.specs.Living.{is_process}
 use Rattle.sr_queue.specs.Queues.{is_of, waiting}
 use Rattle.sr_queue.specs.declared.pending.Pending.{Pending}
-use Rattle.sr_select.specs.Choices.{choice, owner_in}
+use Rattle.sr_select.specs.Choices.{Pair, choice, choice_among, otherwise, owner_in, pairs, sees_of}
 use Rattle.sr_select.specs.Laws.{Services_it, Runs_else, chosen_in}
+use Rattle.sr_select.specs.Shown.{Shows, ShowsAll}
 use Rattle.sr_select.specs.declared.choice.Choice.{Choice}
 use Rattle.sr_select.specs.declared.choice.Choice.TheVariants as choice_of_it
 use Rattle.sr_store.specs.Variables.{Variables, declared_in, stored_in}
@@ -47,7 +49,7 @@ use Rattle.sr_world.specs.Steps.{count, done_by, load, reply, take}
 use Rattle.sr_world.specs.Updates.{add_reply, drop_pending, drop_reply, end_process, hold, release, use_name, with_variables}
 use Rattle.sr_world.specs.Worlds.{World, is_live}
 use Rattle.sr_world.specs.declared.duty.Duty.{Duty}
-use Rattle.sr_shard.specs.Acts.{Act, Holds, IsDone, Never, Passes, Sees, Serves, Shows, ShowsAll, is_it, or_same}
+use Rattle.sr_shard.specs.Acts.{Act, Holds, IsDone, Never, Passes, Sees, Serves, is_it, or_same}
 use Rattle.sr_shard.specs.Entries.{acts_to, all_seen_first, answer_acts, arrival_acts, asked_acts, chosen_acts, counted_acts, counted_by, counted_seen, duty_in, else_acts, finish_acts, invoke_acts, lists_block, lists_count, loaded_acts, me_in, on_done, on_made, operation_acts, owner_act, picked, picked_acts, reply_acts, seen_first, select_acts, taken_acts}
 use Rattle.sr_shard.specs.Laws.{EntriesAreSteps, ReplaysIn, Stands, done_as, world_after}
 use Rattle.sr_shard.proofs.ListLemmas.{removed}
@@ -114,7 +116,7 @@ module _ (core : Core) (class : ℕ → ℕ) (entry : Entry) where
 
   -- ---- counts
 
-  same_owner : (scope : Scope) (w : World) → instance_of_process w entry.actor ≡ entry.instance → owner_for w entry.actor scope ≡ owner_in scope (me_in entry)
+  pub same_owner : (scope : Scope) (w : World) → instance_of_process w entry.actor ≡ entry.instance → owner_for w entry.actor scope ≡ owner_in scope (me_in entry)
   same_owner own_scope w runs = refl
   same_owner shared_scope w runs = ap Inst runs
 
@@ -280,10 +282,10 @@ module _ (core : Core) (class : ℕ → ℕ) (entry : Entry) where
   passed w site choice_of_it.Nothing is = absurd (cc is)
   passed w site (choice_of_it.Bad found number) is = absurd (cc is)
 
-  abbrev choosing : World → List Value → Site → Choice
+  abbrev pub choosing : World → List Value → Site → Choice
   choosing w env site = choice (reading_of core w entry.actor) site (me_in entry) env w.pending
 
-  same_me : (w : World) → instance_of_process w entry.actor ≡ entry.instance → me_of w entry.actor ≡ me_in entry
+  pub same_me : (w : World) → instance_of_process w entry.actor ≡ entry.instance → me_of w entry.actor ≡ me_in entry
   same_me w runs = ap (λ n. record { process = entry.actor; instance = n }) runs
 
   select_same : (w : World) (env : List Value) (site : Site) → instance_of_process w entry.actor ≡ entry.instance
@@ -302,10 +304,28 @@ module _ (core : Core) (class : ℕ → ℕ) (entry : Entry) where
       select_same w env site runs ∙ served w p number site (choosing w env site) stands.ids (chooses (reading_of core w entry.actor) refl shown.0)
       ∙ ap (λ (v : World). Did v (answer.Picked id number args back)) (sym shown.2)
 
-  else_step : (env : List Value) (site : Site) (arms : List Arm) (w : World) → instance_of_process w entry.actor ≡ entry.instance → R (else_acts core entry site env arms) w
+  -- without arms there is nothing to choose
+  none_paired : (owner : Owner) (place : ℕ) (items : List Pending) → pairs owner [] (enumerate_from place items) ≡ []
+  none_paired owner place [] = refl
+  none_paired owner place (p ∷ items) = none_paired owner (place + 1) items
+
+  abbrev pub among : World → List Value → Site → List Pair → Choice
+  among w env site tried = otherwise site.has_else (choice_among (sees_of (reading_of core w entry.actor) site (me_in entry) env) (owner_in site.scope (me_in entry)) w.pending tried)
+
+  pub no_arms : (env : List Value) (site : Site) (w : World) → site.arms ≡ [] → choosing w env site ≡ otherwise site.has_else None
+  no_arms env site w is =
+      ap (λ (arms : List Arm). among w env site (pairs (owner_in site.scope (me_in entry)) (enumerate_from 0 arms) (enumerate_from 0 w.pending))) is
+      ∙ ap (among w env site) (none_paired (owner_in site.scope (me_in entry)) 0 w.pending)
+
+  else_alone : (site : Site) (w : World) (b : Bool) → R (cond b [] (Never entry.actor ∷ [])) w
+      → by_choice w entry.actor site (otherwise b None) ≡ Did (A (cond b [] (Never entry.actor ∷ [])) w) answer.Else
+  else_alone site w true h = refl
+  else_alone site w false h = absurd h.0
+
+  else_step : (env : List Value) (site : Site) (arms : List Arm) (w : World) → site.arms ≡ arms → instance_of_process w entry.actor ≡ entry.instance → R (else_acts core entry site env arms) w
       → select_at core w entry.actor env site ≡ Did (A (else_acts core entry site env arms) w) answer.Else
-  else_step env site [] w runs h = absurd h.0
-  else_step env site (arm ∷ arms) w runs h =
+  else_step env site [] w is runs h = select_same w env site runs ∙ ap (by_choice w entry.actor site) (no_arms env site w is) ∙ else_alone site w site.has_else h
+  else_step env site (arm ∷ arms) w is runs h =
       let shown = all_shown site env entry.reads (Passes (me_in entry) site env entry.reads arm.op ∷ []) w runs h in
       let chooses = shown.1.0.1 in
       select_same w env site runs ∙ passed w site (choosing w env site) (chooses (reading_of core w entry.actor) refl shown.0) ∙ ap (λ (v : World). Did v answer.Else) (sym shown.2)
@@ -313,7 +333,7 @@ module _ (core : Core) (class : ℕ → ℕ) (entry : Entry) where
   by_chosen : (env : List Value) (site : Site) (given : Answer) (w : World) → Stands w → instance_of_process w entry.actor ≡ entry.instance
       → R (chosen_acts core entry env site given) w → select_at core w entry.actor env site ≡ Did (A (chosen_acts core entry env site given) w) given
   by_chosen env site (answer.Picked id number args back) w stands runs h = picked_step env site id number args back (slice_get site.arms number) w stands runs h
-  by_chosen env site answer.Else w stands runs h = else_step env site site.arms w runs h
+  by_chosen env site answer.Else w stands runs h = else_step env site site.arms w refl runs h
   by_chosen env site _ w stands runs h = absurd h.0
 
   select_step : (env : List Value) (site : Option Site) (w : World) → Stands w → instance_of_process w entry.actor ≡ entry.instance → R (select_acts core entry env site) w

@@ -338,7 +338,11 @@ module _ (core : Core) (class : ℕ → ℕ) (entry : Entry) where
       (line_there env site number arm one is, (here (parts_at env site), tt))
 
   else_there : (env : List Value) (site : Site) (arms : List Arm) → site.arms ≡ arms → has_one_class class site.arms ≡ true → Covered (parts_at env site) (else_acts core entry site env arms)
-  else_there env site [] is one = never (parts_at env site)
+  else_there env site [] is one = by site.has_else
+    where
+      by : (b : Bool) → Covered (parts_at env site) (cond b [] (Never entry.actor ∷ []))
+      by true = tt
+      by false = never (parts_at env site)
   else_there env site (arm ∷ arms) is one =
       all_there env site entry.reads (Passes (me_in entry) site env entry.reads arm.op ∷ []) (line_there env site 0 arm one (ap (λ l. slice_get l 0) is), tt)
 

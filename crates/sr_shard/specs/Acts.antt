@@ -1,9 +1,8 @@
 -- The acts that steps are made of. Each is on one part of a world: it says what it demands there, and what it does there.
-use Rattle.std.specs.Prelude.{◌≡◌, ◌==◌, ◌&&◌, ℕ, Bool, true, false, List, [], ◌∷◌, Option, Some, Result, Ok, Err, nat_lt}
+use Rattle.std.specs.Prelude.{◌≡◌, ◌==◌, ◌&&◌, ℕ, Bool, true, false, List, Option, Some, Result, Ok, Err, nat_lt}
 use Rattle.std.specs.List.{list_all}
 use Rattle.sr_ask.specs.declared.ask.Role.TheVariants.{Proc as proc_role}
 use Rattle.sr_ask.specs.declared.entry.Seen.{Seen}
-use Rattle.sr_ask.specs.declared.entry.Seen.TheVariants.{Cell, Pending as pending_count}
 use Rattle.sr_calls.specs.Calls.{earliest_reply, without_first}
 use Rattle.sr_calls.specs.declared.held.Held.{Held}
 use Rattle.sr_calls.specs.declared.held.Reply.{Reply}
@@ -16,6 +15,7 @@ use Rattle.sr_queue.specs.declared.pending.Pending.{Pending}
 use Rattle.sr_select.specs.Choices.{choice, owner_in}
 use Rattle.sr_select.specs.Laws.{Chosen, Services_it, Runs_else, chosen_in}
 use Rattle.sr_select.specs.Readings.{Reading}
+use Rattle.sr_select.specs.Shown.{ShowsAll}
 use Rattle.sr_select.specs.Worlds.{listed, reads_only}
 use Rattle.sr_store.specs.Variables.{Variables, declared_in, loaded_in, stored_in}
 use Rattle.sr_buckets.specs.Parts.{home}
@@ -97,15 +97,6 @@ IsDone (Err fault) = ⊥
 -- all arms are of the class of an operation, and guards read no more than the statement lists
 abbrev pub StandsInLine : (ℕ → ℕ) → ℕ → Site → Type 0
 StandsInLine class op site = (list_all (λ arm. class arm.op == class op) site.arms ≡ true) × (reads_only (listed site) site ≡ true)
-
--- guards that read this find what was seen
-abbrev pub Shows : Reading → Seen → Type 0
-Shows reading (Cell block var path value) = reading.load block var path ≡ Ok value
-Shows reading (pending_count op count) = reading.count op ≡ count
-
-abbrev pub ShowsAll : Reading → List Seen → Type 0
-ShowsAll reading [] = Unit {0}
-ShowsAll reading (one ∷ others) = Shows reading one × ShowsAll reading others
 
 -- whatever else the guards may read: as long as they find what was seen, this is the choice among these invocations
 abbrev pub Chooses : Core → Me → Site → List Value → List Seen → Chosen → List Pending → Type 0

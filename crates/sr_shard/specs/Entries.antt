@@ -144,8 +144,9 @@ picked_acts core entry site env id number args back None = Never entry.actor ∷
 picked_acts core entry site env id number args back (Some arm) = all_seen_first core entry site env entry.reads
     (Serves (me_in entry) site env entry.reads (picked entry site arm id args back) number ∷ Holds entry.actor (held_from (picked entry site arm id args back)) ∷ [])
 
+-- a statement without arms runs its `else`, if it has one
 abbrev pub else_acts : Core → Entry → Site → List Value → List Arm → List Act
-else_acts core entry site env [] = Never entry.actor ∷ []
+else_acts core entry site env [] = if site.has_else then [] else Never entry.actor ∷ []
 else_acts core entry site env (arm ∷ arms) = all_seen_first core entry site env entry.reads (Passes (me_in entry) site env entry.reads arm.op ∷ [])
 
 abbrev pub chosen_acts : Core → Entry → List Value → Site → Answer → List Act

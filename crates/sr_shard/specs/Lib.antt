@@ -1,5 +1,9 @@
 pub mod Acts
+pub mod Dividing
 pub mod Entries
 pub mod Items
 pub mod Laws
 pub mod Masks
+pub mod Runs
+pub mod Shards
+pub mod Written

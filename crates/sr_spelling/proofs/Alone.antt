@@ -8,10 +8,10 @@ use Rattle.std.proofs.Math.Seq.{drop-append_seam, drop-length}
 use Rattle.sr_lexer.specs.Bytes.{class_of, is_between, is_blank, is_digit, is_letter, is_name_byte}
 use Rattle.sr_lexer.specs.Pieces.{first_passes, run_len, line_comment, name_piece, number_of, is_number, number_piece, piece_of_class, piece_at}
 
-along : {A B : Type 0} {x y : A} → x ≡ y → (f : A → B) → f x ≡ f y
+pub along : {A B : Type 0} {x y : A} → x ≡ y → (f : A → B) → f x ≡ f y
 along e f = ap f e
 
-split : (b : Bool) → (b ≡ true) ⊎ (b ≡ false)
+pub split : (b : Bool) → (b ≡ true) ⊎ (b ≡ false)
 split true = inl refl
 split false = inr refl
 
@@ -25,14 +25,14 @@ apart test byte known e f =
 
 -- ---- runs
 
-run_is : (test : ℕ → Bool) (xs : List ℕ) → run_len test xs ≡ prefix_len test xs
+pub run_is : (test : ℕ → Bool) (xs : List ℕ) → run_len test xs ≡ prefix_len test xs
 run_is test xs = length-prefix_len test xs
 
 no_first : (test : ℕ → Bool) (rest : List ℕ) → first_passes test rest ≡ false → prefix_len test rest ≡ 0
 no_first test [] e = refl
 no_first test (byte ∷ rest) e = ap (λ b. cond b (1 + prefix_len test rest) 0) e
 
-one_longer : (b : Bool) (p q n : ℕ) → cond b (1 + p) 0 ≡ suc n → (p ≡ n → q ≡ n) → cond b (1 + q) 0 ≡ suc n
+pub one_longer : (b : Bool) (p q n : ℕ) → cond b (1 + p) 0 ≡ suc n → (p ≡ n → q ≡ n) → cond b (1 + q) 0 ≡ suc n
 one_longer true p q n e f = let same = f (omega (arith, e)) in omega (arith, same)
 one_longer false p q n e f = absurd (omega (arith, e))
 
@@ -60,7 +60,7 @@ letter_no_digit byte e =
       | inr none ↦ none
     ]
 
-not_blank : (byte : ℕ) → (byte == 9) ≡ false → (byte == 13) ≡ false → (byte == 32) ≡ false → is_blank byte ≡ false
+pub not_blank : (byte : ℕ) → (byte == 9) ≡ false → (byte == 13) ≡ false → (byte == 32) ≡ false → is_blank byte ≡ false
 not_blank byte a b c = rw (a, b, c) refl
 
 letter_class : (byte : ℕ) → is_letter byte ≡ true → class_of byte ≡ class_of 97
@@ -84,7 +84,7 @@ digit_class byte e =
 
 -- ---- names and words
 
-name_at : (byte : ℕ) (more : List ℕ) → is_letter byte ≡ true → piece_at (byte ∷ more) ≡ Ok (name_piece (byte ∷ more))
+pub name_at : (byte : ℕ) (more : List ℕ) → is_letter byte ≡ true → piece_at (byte ∷ more) ≡ Ok (name_piece (byte ∷ more))
 unfolding piece_at
 name_at byte more e = along (letter_class byte e) (λ class. piece_of_class class (byte ∷ more))
 
@@ -98,12 +98,12 @@ name_alone byte more rest e whole ends =
 
 -- ---- numbers
 
-number_at : (byte : ℕ) (more : List ℕ) → is_digit byte ≡ true → piece_at (byte ∷ more) ≡ number_piece (byte ∷ more)
+pub number_at : (byte : ℕ) (more : List ℕ) → is_digit byte ≡ true → piece_at (byte ∷ more) ≡ number_piece (byte ∷ more)
 unfolding piece_at
 number_at byte more e = along (digit_class byte e) (λ class. piece_of_class class (byte ∷ more))
 
 -- what a number may not touch goes on with a name
-no_touch : (rest : List ℕ) → first_passes is_name_byte rest ≡ false → (first_passes is_digit rest ≡ false) × (first_passes (λ byte. is_letter byte || byte == 95) rest ≡ false)
+pub no_touch : (rest : List ℕ) → first_passes is_name_byte rest ≡ false → (first_passes is_digit rest ≡ false) × (first_passes (λ byte. is_letter byte || byte == 95) rest ≡ false)
 no_touch [] e = (refl, refl)
 no_touch (byte ∷ rest) e = by_tests (is_letter byte) (is_digit byte) (byte == 95) e
   where
@@ -133,7 +133,7 @@ number_alone byte more rest e whole ends =
 -- ---- comments
 
 -- a comment up to the end of the line
-hash_at : (more : List ℕ) → piece_at (35 ∷ more) ≡ Ok (line_comment (35 ∷ more))
+pub hash_at : (more : List ℕ) → piece_at (35 ∷ more) ≡ Ok (line_comment (35 ∷ more))
 unfolding piece_at
 hash_at more = refl
 

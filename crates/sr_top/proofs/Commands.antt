@@ -4,15 +4,15 @@ use Rattle.std.specs.Option.{option_map}
 use Rattle.std.proofs.lemmas.Bool.{leb-true}
 use Rattle.std.proofs.lemmas.Option.{option_and_then_some}
 use Rattle.sr_top.specs.Journal.{CanBeAsked}
-use Rattle.sr_words.specs.Commands.{Taken, command_of, default_of, files_of, gen_command, most_of, run_command, seed_of, setting_number, taken_of, verb_command}
+use Rattle.sr_words.specs.Commands.{Taken, command_of, default_of, files_of, gen_command, least_of, most_of, replay_command, replay_of, run_command, seed_of, setting_number, taken_of, verb_command}
 use Rattle.sr_words.specs.Verbs.{verb_of}
 use Rattle.sr_words.specs.Numbers.{is_number, number_within, value_of}
 use Rattle.sr_words.specs.declared.command.Command.{Command}
 use Rattle.sr_words.specs.declared.command.Command.TheVariants as command
 use Rattle.sr_words.specs.declared.options.Setting.{Setting}
-use Rattle.sr_words.specs.declared.options.Setting.TheVariants.{Workers, Steps, Ticks}
+use Rattle.sr_words.specs.declared.options.Setting.TheVariants.{Workers, Steps, Ticks, Upto}
 use Rattle.sr_words.specs.declared.verb.Verb.{Verb}
-use Rattle.sr_words.specs.declared.verb.Verb.TheVariants.{Run, Check, Classes, Gen}
+use Rattle.sr_words.specs.declared.verb.Verb.TheVariants.{Run, Check, Classes, Gen, Replay}
 
 -- ---- values that are there
 
@@ -41,17 +41,18 @@ within least most n word is =
     let second = both (is_number word) (nat_le least (value_of word)) first.0 in
     (subst (λ m. least ≤ m) found.1 (le-from least (value_of word) second.1), subst (λ m. m ≤ most) found.1 (le-from (value_of word) most first.1))
 
-default-within : (setting : Setting) → (1 ≤ default_of setting) × (default_of setting ≤ most_of setting)
+default-within : (setting : Setting) → (least_of setting ≤ default_of setting) × (default_of setting ≤ most_of setting)
 default-within Workers = (omega arith, omega arith)
 default-within Steps = (omega arith, omega arith)
 default-within Ticks = (omega arith, omega arith)
+default-within Upto = (omega arith, omega arith)
 
 some-same : {A : Type 0} (x y : A) → Some x ≡ Some y → x ≡ y
 some-same x y is = cc
 
-setting-within : (setting : Setting) (value : Option (List ℕ)) (n : ℕ) → setting_number setting value ≡ Some n → (1 ≤ n) × (n ≤ most_of setting)
-setting-within setting None n is = subst (λ m. (1 ≤ m) × (m ≤ most_of setting)) (some-same (default_of setting) n is) (default-within setting)
-setting-within setting (Some value) n is = within 1 (most_of setting) n value is
+setting-within : (setting : Setting) (value : Option (List ℕ)) (n : ℕ) → setting_number setting value ≡ Some n → (least_of setting ≤ n) × (n ≤ most_of setting)
+setting-within setting None n is = subst (λ m. (least_of setting ≤ m) × (m ≤ most_of setting)) (some-same (default_of setting) n is) (default-within setting)
+setting-within setting (Some value) n is = within (least_of setting) (most_of setting) n value is
 
 files-within : (words files : List (List ℕ)) → files_of words ≡ Some files → (1 ≤ length files) × (length files ≤ 64)
 files-within words files is =
@@ -91,11 +92,19 @@ module _ (names : List (List ℕ)) (workers steps ticks : ℕ) (journal : Bool) 
       option_and_then_some _ (setting_number Workers t.workers) asked is (λ w has more.
       let found = mapped (λ seed. command.Gen seed w) (seed_of t.words) asked more in absurd (cc))
 
+  no-replay-of : (upto : ℕ) (words : List (List ℕ)) → replay_of upto words ≡ Some asked → ⊥
+  no-replay-of upto [] is = absurd (true≢false (sym (ap is_some is)))
+  no-replay-of upto (word ∷ words) is = let found = mapped (λ files. command.Replay word files upto) (files_of words) asked is in absurd (cc)
+
+  no-replay : (t : Taken) → replay_command t ≡ Some asked → ⊥
+  no-replay t is = option_and_then_some _ (setting_number Upto t.upto) asked is (λ upto has more. no-replay-of upto t.words more)
+
   by-verb : (verb : Verb) (t : Taken) → verb_command verb t ≡ Some asked → CanBeAsked names steps ticks
   by-verb Run t is = run-taken t is
   by-verb Check t is = absurd (no-check t is)
   by-verb Classes t is = absurd (no-classes t is)
   by-verb Gen t is = absurd (no-gen t is)
+  by-verb Replay t is = absurd (no-replay t is)
 
   pub can_be_asked : (words : List (List ℕ)) → command_of words ≡ Some asked → CanBeAsked names steps ticks
   can_be_asked [] is = absurd (true≢false (sym (ap is_some is)))

@@ -17,14 +17,14 @@ use Rattle.sr_run.specs.Numbers.{IsNumbered}
 use Rattle.sr_run.specs.declared.end.RunEnd.{RunEnd}
 use Rattle.sr_run.specs.declared.end.RunEnd.TheVariants as run_end
 use Rattle.sr_top.specs.Causes.{Call, ending_of}
-use Rattle.sr_top.specs.Journal.{CanBeAsked, EndsBeforeRun, EndsWithRun, HasHeaderIf, with_header, without, HasNoJournal, IsPrepared, PutsJournal, header_if, header_of, size_of, sizes_of}
+use Rattle.sr_top.specs.Journal.{CanBeAsked, EndsBeforeRun, EndsWithRun, HasHeaderIf, with_header, without, HasNoJournal, IsPrepared, PutsJournal, header_if, header_of}
 use Rattle.sr_top.specs.Report.{GotAsFar}
 use Rattle.sr_top.specs.Programs.{classes_in, core_in}
-use Rattle.sr_top.specs.Reading.{AreRead, EndsCompiling, IsRead}
+use Rattle.sr_top.specs.Reading.{AreRead, EndsCompiling, IsRead, Reads, size_of, sizes_of}
 use Rattle.sr_top.specs.Tasks.{Named, Origin, Runs, keeps_journal, task}
 use Rattle.sr_top.specs.declared.preparing.Prepared.{Prepared}
 use Rattle.sr_top.specs.declared.report.Ending.{Ending}
-use Rattle.sr_top.specs.declared.report.Ending.TheVariants.{Done, Quiet, Stopped, Failed, Limit, Refused, NoFile, ReadFault, WriteFault, NoMemory, Usage}
+use Rattle.sr_top.specs.declared.report.Ending.TheVariants.{Done, Quiet, Stopped, Failed, Limit, Refused, NoFile, ReadFault, WriteFault, NoMemory, Usage, BadJournal, OtherFiles, Illegal}
 use Rattle.sr_top.specs.declared.report.Side.{Side}
 use Rattle.sr_top.specs.declared.report.Side.TheVariants as sides
 use Rattle.sr_world.specs.declared.ends.End.TheVariants as end
@@ -44,10 +44,10 @@ module _ (told : Option (List (List ℕ × List ℕ))) (names : List (List ℕ))
   }
   prepared_as program texts files (Err ending) same read core is header = tt
 
-pub unprepared_as : (told : Option (List (List ℕ × List ℕ))) (origin : Origin) (faults faults_now : ℕ) (result : Result Prepared Ending) → faults_now ≡ faults
-    → IfErr result (λ ending. ending ≡ NoMemory) → IfErr result (EndsCompiling told origin faults faults_now)
-unprepared_as told origin faults faults_now (Ok prepared) same is = tt
-unprepared_as told origin faults faults_now (Err ending) same is = subst (EndsCompiling told origin faults faults_now) (sym is) same
+pub unprepared_as : (told : Option (List (List ℕ × List ℕ))) (origin : Origin) (before now : Reads) (result : Result Prepared Ending) → now.faults ≡ before.faults
+    → IfErr result (λ ending. ending ≡ NoMemory) → IfErr result (EndsCompiling told origin before now)
+unprepared_as told origin before now (Ok prepared) same is = tt
+unprepared_as told origin before now (Err ending) same is = subst (EndsCompiling told origin before now) (sym is) same
 
 -- ---- whether there is a journal
 
@@ -60,18 +60,21 @@ ran_to run_end.ReadFault = tt
 ran_to run_end.WriteFault = tt
 ran_to run_end.NoMemory = tt
 
-pub came_before : (told : Option (List (List ℕ × List ℕ))) (origin : Origin) (faults faults_now : ℕ) (ending : Ending) → EndsCompiling told origin faults faults_now ending → EndsBeforeRun ending
-came_before told origin faults faults_now (Refused refusal) ends = tt
-came_before told origin faults faults_now (NoFile file) ends = tt
-came_before told origin faults faults_now NoMemory ends = tt
-came_before told origin faults faults_now Done ends = absurd ends
-came_before told origin faults faults_now Quiet ends = absurd ends
-came_before told origin faults faults_now (Stopped status) ends = absurd ends
-came_before told origin faults faults_now (Failed fault place) ends = absurd ends
-came_before told origin faults faults_now (Limit kind) ends = absurd ends
-came_before told origin faults faults_now ReadFault ends = absurd ends
-came_before told origin faults faults_now WriteFault ends = absurd ends
-came_before told origin faults faults_now Usage ends = absurd ends
+pub came_before : (told : Option (List (List ℕ × List ℕ))) (origin : Origin) (before now : Reads) (ending : Ending) → EndsCompiling told origin before now ending → EndsBeforeRun ending
+came_before told origin before now (Refused refusal) ends = tt
+came_before told origin before now (NoFile file) ends = tt
+came_before told origin before now NoMemory ends = tt
+came_before told origin before now Done ends = absurd ends
+came_before told origin before now Quiet ends = absurd ends
+came_before told origin before now (Stopped status) ends = absurd ends
+came_before told origin before now (Failed fault place) ends = absurd ends
+came_before told origin before now (Limit kind) ends = absurd ends
+came_before told origin before now ReadFault ends = absurd ends
+came_before told origin before now WriteFault ends = absurd ends
+came_before told origin before now Usage ends = absurd ends
+came_before told origin before now (BadJournal fail) ends = absurd ends
+came_before told origin before now (OtherFiles file) ends = absurd ends
+came_before told origin before now (Illegal at) ends = absurd ends
 
 module _ (call : Call) (ending : Ending) (names : List (List ℕ)) (steps ticks : ℕ) (core : Core) (classes : Classes) where
   pub headed : (journal : Bool) (header : Option Header) → task call.words ≡ Some (Runs (Named names) steps ticks journal)

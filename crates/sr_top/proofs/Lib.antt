@@ -1,5 +1,9 @@
 pub mod Asked
 pub mod Commands
 pub mod Endings
+pub mod Inputs
+pub mod JournalFiles
 pub mod Journals
 pub mod Readings
+pub mod Replayed
+pub mod Sizes

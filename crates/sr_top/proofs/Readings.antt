@@ -1,5 +1,5 @@
 -- From the reading of files to the program in them.
-use Rattle.std.proofs.Common.{◌≡◌, ◌<◌, ◌+◌, ℕ, Bool, List, [], ◌∷◌, ◌++◌, get_or, length, map, take, ap, refl, subst, sym, ◌∙◌}
+use Rattle.std.proofs.Common.{◌≡◌, ◌<◌, ◌+◌, ℕ, Bool, List, [], ◌∷◌, ◌++◌, add-one, get_or, length, map, take, ap, refl, subst, sym, ◌∙◌}
 use Rattle.std.proofs.lemmas.List.{map-append, take_more}
 use Rattle.std.specs.Prelude.{Option, Some, Result, Ok, Err, IfOk, IfErr, IfSome, OnOk}
 use Rattle.std.specs.List.{AllByRecursion}
@@ -9,11 +9,13 @@ use Rattle.sr_core.specs.declared.owner.Classes.{Classes}
 use Rattle.sr_front.specs.Cores.{IsCoreOf}
 use Rattle.sr_front.specs.Reading.{contents_of}
 use Rattle.sr_journal.specs.declared.header.Header.{Header}
+use Rattle.sr_ports.specs.Faults.{Rose}
+use Rattle.sr_ports.specs.Files.{next_read}
 use Rattle.sr_top.specs.Journal.{IsPrepared}
-use Rattle.sr_top.specs.Reading.{AreCompiled, AreFiles, AreRead, EndsCompiling, IsRead, StopsCompiling, first_bytes, sample_files}
+use Rattle.sr_top.specs.Reading.{AreCompiled, AreFiles, AreRead, EndsCompiling, FailsAt, IsRead, StopsCompiling, Reads, first_bytes, reads_after, sample_files}
 use Rattle.sr_top.specs.Tasks.{Named, Origin, Sampled}
 use Rattle.sr_top.specs.declared.report.Ending.{Ending}
-use Rattle.sr_top.specs.declared.report.Ending.TheVariants.{Done, Quiet, Stopped, Failed, Limit, Refused, NoFile, ReadFault, WriteFault, NoMemory, Usage}
+use Rattle.sr_top.specs.declared.report.Ending.TheVariants.{Done, Quiet, Stopped, Failed, Limit, Refused, NoFile, ReadFault, WriteFault, NoMemory, Usage, BadJournal, OtherFiles, Illegal}
 
 -- ---- the program in the files
 
@@ -23,25 +25,28 @@ pub compiled_as : {P : Type 0} (core_of : P → Core) (classes_of : P → Classe
 compiled_as core_of classes_of told names files (Ok program) read core = record { files = files; read = read; written_out = core }
 compiled_as core_of classes_of told names files (Err ending) read core = tt
 
-pub ended_as : (told : Option (List (List ℕ × List ℕ))) (origin : Origin) (files : List (List ℕ × List ℕ)) (faults faults_now : ℕ) (ending : Ending)
-    → AreFiles told origin files → faults_now ≡ faults → StopsCompiling files ending → EndsCompiling told origin faults faults_now ending
-ended_as told origin files faults faults_now (Refused refusal) read same stops = (record { files = files; read = read; refused = stops }, same)
-ended_as told origin files faults faults_now NoMemory read same stops = same
-ended_as told origin files faults faults_now Done read same stops = stops
-ended_as told origin files faults faults_now Quiet read same stops = stops
-ended_as told origin files faults faults_now (Stopped status) read same stops = stops
-ended_as told origin files faults faults_now (Failed fault place) read same stops = stops
-ended_as told origin files faults faults_now (Limit kind) read same stops = stops
-ended_as told origin files faults faults_now (NoFile file) read same stops = absurd stops
-ended_as told origin files faults faults_now ReadFault read same stops = stops
-ended_as told origin files faults faults_now WriteFault read same stops = stops
-ended_as told origin files faults faults_now Usage read same stops = stops
+pub ended_as : (told : Option (List (List ℕ × List ℕ))) (origin : Origin) (files : List (List ℕ × List ℕ)) (before now : Reads) (ending : Ending)
+    → AreFiles told origin files → now.faults ≡ before.faults → StopsCompiling files ending → EndsCompiling told origin before now ending
+ended_as told origin files before now (Refused refusal) read same stops = (record { files = files; read = read; refused = stops }, same)
+ended_as told origin files before now NoMemory read same stops = same
+ended_as told origin files before now Done read same stops = stops
+ended_as told origin files before now Quiet read same stops = stops
+ended_as told origin files before now (Stopped status) read same stops = stops
+ended_as told origin files before now (Failed fault place) read same stops = stops
+ended_as told origin files before now (Limit kind) read same stops = stops
+ended_as told origin files before now (NoFile file) read same stops = absurd stops
+ended_as told origin files before now ReadFault read same stops = stops
+ended_as told origin files before now WriteFault read same stops = stops
+ended_as told origin files before now Usage read same stops = stops
+ended_as told origin files before now (BadJournal fail) read same stops = stops
+ended_as told origin files before now (OtherFiles file) read same stops = stops
+ended_as told origin files before now (Illegal at) read same stops = stops
 
-pub stopped_as : {P : Type 0} (told : Option (List (List ℕ × List ℕ))) (names : List (List ℕ)) (files : List (List ℕ × List ℕ)) (faults faults_now : ℕ)
-    (result : Result P Ending) → AreRead told names files → faults_now ≡ faults → IfErr result (StopsCompiling files)
-    → IfErr result (EndsCompiling told (Named names) faults faults_now)
-stopped_as told names files faults faults_now (Ok program) read same stops = tt
-stopped_as told names files faults faults_now (Err ending) read same stops = ended_as told (Named names) files faults faults_now ending read same stops
+pub stopped_as : {P : Type 0} (told : Option (List (List ℕ × List ℕ))) (names : List (List ℕ)) (files : List (List ℕ × List ℕ)) (before now : Reads)
+    (result : Result P Ending) → AreRead told names files → now.faults ≡ before.faults → IfErr result (StopsCompiling files)
+    → IfErr result (EndsCompiling told (Named names) before now)
+stopped_as told names files before now (Ok program) read same stops = tt
+stopped_as told names files before now (Err ending) read same stops = ended_as told (Named names) files before now ending read same stops
 
 pub compiled_of : (told : Option (List (List ℕ × List ℕ))) (names : List (List ℕ)) (steps ticks : ℕ) (journal : Bool) (core : Core) (classes : Classes) (header : Option Header)
     → IsPrepared told names steps ticks journal core classes header → AreCompiled told (Named names) core classes
@@ -52,6 +57,18 @@ pub sampled_of : (told : Option (List (List ℕ × List ℕ))) (seed : ℕ) (cor
 sampled_of told seed core classes core_of = record { files = sample_files seed; read = refl; written_out = core_of }
 
 -- ---- one file
+
+pub reads-more : (reads more now : ℕ) (last : ℕ) → last ≡ reads_after reads more → now ≡ next_read last → now ≡ reads_after reads (more + 1)
+reads-more reads more now last before is = is ∙ ap next_read before ∙ ap (reads_after reads) (sym (add-one more))
+
+-- a read failed after those before it
+pub failed_at : (file index : ℕ) (before mid now : Reads) → file ≡ index → mid.reads ≡ reads_after before.reads index → mid.faults ≡ before.faults
+    → now.reads ≡ next_read mid.reads → now.failed ≡ now.reads → Rose mid.faults now.faults → FailsAt file before now
+failed_at file index before mid now at reads same next failed rose = record {
+  last = next ∙ ap next_read reads ∙ ap (λ n. next_read (reads_after before.reads n)) (sym at);
+  failed = failed;
+  rose = subst (λ faults. Rose faults now.faults) same rose;
+}
 
 pub added_as : (old new : List (List ℕ × List ℕ)) (file text name bytes : List ℕ) → new ≡ old ++ (file, text) ∷ [] → file ≡ name → text ≡ bytes
     → new ≡ old ++ (name, bytes) ∷ []

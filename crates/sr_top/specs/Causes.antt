@@ -1,8 +1,8 @@
 -- Why a call of the program ends as it does.
+pub use Rattle.sr_top.specs.Calls.{Call, PutsNothing, RunsNothing, call_of, devices}
 use Rattle.std.specs.Prelude.{◌≡◌, ℕ, ◌≤◌, ◌⊎◌, Bool, List, [], length, Option, Some, None}
 use Rattle.std.specs.List.{AllByRecursion}
 use Rattle.std.specs.Io.KnownBytes.{append_known}
-use Rattle.sr_ask.specs.declared.item.Item.{Item}
 use Rattle.sr_core.specs.declared.component.Core.{Core}
 use Rattle.sr_core.specs.declared.owner.Classes.{Classes}
 use Rattle.sr_class_text.specs.Lines.{class_text}
@@ -11,61 +11,31 @@ use Rattle.sr_ports.specs.Streams.{PutInPart}
 use Rattle.sr_run.specs.Causes as run
 use Rattle.sr_run.specs.Numbers.{IsNumbered}
 use Rattle.sr_run.specs.Runs as runs
+use Rattle.sr_run.specs.declared.end.LimitKind.TheVariants as limit
 use Rattle.sr_run.specs.declared.end.RunEnd.{RunEnd}
 use Rattle.sr_run.specs.declared.end.RunEnd.TheVariants as run_end
 use Rattle.sr_text.specs.declared.refusal.Refusal.{Refusal}
-use Rattle.sr_top.specs.Reading.{AreCompiled, AreRefused, IsUnread}
+use Rattle.sr_top.specs.Reading.{AreCompiled, AreRefused, FailsAt, IsUnread}
+use Rattle.sr_top.specs.Replaying.{EndsBadJournal, EndsEarlyInReplay, EndsIllegal, EndsOtherFiles, EndsReplayInput, EndsReplayRead, EndsReplayRefused, EndsUnread, HasSnapshot}
 use Rattle.sr_top.specs.Tasks.{Checks, ListsClasses, Named, Origin, Runs, origin_in, task}
 use Rattle.sr_top.specs.declared.report.Ending.{Ending}
-use Rattle.sr_top.specs.declared.report.Ending.TheVariants.{Done, Quiet, Stopped, Failed, Limit, Refused, NoFile, ReadFault, WriteFault, NoMemory, Usage}
+use Rattle.sr_top.specs.declared.report.Ending.TheVariants.{Done, Quiet, Stopped, Failed, Limit, Refused, NoFile, ReadFault, WriteFault, NoMemory, Usage, BadJournal, OtherFiles, Illegal}
 use Rattle.sr_world.specs.declared.ends.End.TheVariants as end
 
--- A call of the program: its words; what the files tell; the count of their faults, before and after; input and output,
--- before and after; and the items that it made.
-pub record Call : Type 0 where
-  pub words : List (List ℕ)
-  pub files : Option (List (List ℕ × List ℕ))
-  pub file_faults : ℕ
-  pub file_faults_now : ℕ
-  pub before : runs.Devices
-  pub now : runs.Devices
-  pub items : List Item
-
--- input and output at one time: what is left, what is held, and the counts of their faults
-abbrev pub devices : Option (List ℕ) → ℕ → Option (List ℕ) → ℕ → runs.Devices
-devices left read_faults held write_faults = record { left = left; read_faults = read_faults; held = held; write_faults = write_faults }
-
--- a call by its parts, in this order
-abbrev pub call_of : List (List ℕ) → Option (List (List ℕ × List ℕ)) → ℕ → ℕ → runs.Devices → runs.Devices → List Item → Call
-call_of words files file_faults file_faults_now before now items = record {
-  words = words;
-  files = files;
-  file_faults = file_faults;
-  file_faults_now = file_faults_now;
-  before = before;
-  now = now;
-  items = items;
-}
-
 -- ---- before a run
-
--- no item was made, and input and output are as before
-pub record RunsNothing (call : Call) : Type 0 where
-  pub no_items : call.items ≡ []
-  pub untouched : call.now ≡ call.before
 
 -- the words are none that the program knows
 pub record EndsUsage (call : Call) : Type 0 where
   pub unknown : task call.words ≡ None
-  pub nothing_read : call.file_faults_now ≡ call.file_faults
+  pub nothing_read : call.reads_now.faults ≡ call.reads.faults
   pub nothing : RunsNothing call
 
--- the files failed while the one of this place was read; those before it were read
+-- the file of this place couldn't be read; those before it were read, and nothing after it
 pub record EndsNoFile (call : Call) (file : ℕ) : Type 0 where
   pub names : List (List ℕ)
   pub named : origin_in call.words ≡ Some (Named names)
   pub unread : IsUnread call.files names file
-  pub failed : Rose call.file_faults call.file_faults_now
+  pub failed : FailsAt file call.reads call.reads_now
   pub nothing : RunsNothing call
 
 -- this is the refusal of the program that the words name
@@ -73,12 +43,12 @@ pub record EndsRefused (call : Call) (refusal : Refusal) : Type 0 where
   pub origin : Origin
   pub named : origin_in call.words ≡ Some origin
   pub refused : AreRefused call.files origin refusal
-  pub no_fault : call.file_faults_now ≡ call.file_faults
+  pub no_fault : call.reads_now.faults ≡ call.reads.faults
   pub nothing : RunsNothing call
 
 -- memory ran out before a run
 pub record EndsEarly (call : Call) : Type 0 where
-  pub no_fault : call.file_faults_now ≡ call.file_faults
+  pub no_fault : call.reads_now.faults ≡ call.reads.faults
   pub nothing : RunsNothing call
 
 -- ---- `check`
@@ -90,26 +60,30 @@ pub record EndsChecked (call : Call) : Type 0 where
   pub core : Core
   pub classes : Classes
   pub compiled : AreCompiled call.files (Named names) core classes
-  pub no_fault : call.file_faults_now ≡ call.file_faults
+  pub no_fault : call.reads_now.faults ≡ call.reads.faults
   pub nothing : RunsNothing call
 
--- ---- `classes`
+-- ---- lines
 
 -- The words ask for classes, the files were read and accepted, and these are the lines of the classes. No item was made,
 -- and nothing was read.
-pub record HasLines (call : Call) (lines : List ℕ) : Type 0 where
+pub record HasClassLines (call : Call) (lines : List ℕ) : Type 0 where
   pub names : List (List ℕ)
   pub asked : task call.words ≡ Some (ListsClasses names)
   pub core : Core
   pub classes : Classes
   pub compiled : AreCompiled call.files (Named names) core classes
   pub are : lines ≡ class_text core classes.of
-  pub no_fault : call.file_faults_now ≡ call.file_faults
+  pub no_fault : call.reads_now.faults ≡ call.reads.faults
   pub no_items : call.items ≡ []
   pub left : call.now.left ≡ call.before.left
   pub no_read_fault : call.now.read_faults ≡ call.before.read_faults
 
--- the lines of the classes were put
+-- the lines that the words ask for: those of classes, or those of what is to be seen after a replay
+abbrev pub HasLines : Call → List ℕ → Type 0
+HasLines call lines = HasClassLines call lines ⊎ HasSnapshot call lines
+
+-- the lines were put
 pub record EndsListed (call : Call) : Type 0 where
   pub lines : List ℕ
   pub has : HasLines call lines
@@ -149,7 +123,7 @@ pub record Compiles (call : Call) (steps ticks : ℕ) (core : Core) : Type 0 whe
   pub asked : task call.words ≡ Some (Runs origin steps ticks journal)
   pub classes : Classes
   pub compiled : AreCompiled call.files origin core classes
-  pub no_fault : call.file_faults_now ≡ call.file_faults
+  pub no_fault : call.reads_now.faults ≡ call.reads.faults
 
 -- what the call made of a core, with these limits
 abbrev pub run_of : Call → ℕ → ℕ → Core → runs.Call
@@ -172,13 +146,16 @@ HasCause call Done = EndsChecked call ⊎ EndsListed call
 HasCause call Quiet = EndsRun call (run_end.Ended end.Quiet)
 HasCause call (Stopped status) = EndsRun call (run_end.Ended (end.Stopped status))
 HasCause call (Failed fault place) = EndsRun call (run_end.Ended (end.Failed fault place))
-HasCause call (Limit kind) = EndsRun call (run_end.Limit kind)
-HasCause call (Refused refusal) = EndsRefused call refusal
-HasCause call (NoFile file) = EndsNoFile call file
-HasCause call ReadFault = EndsRun call run_end.ReadFault
+HasCause call (Limit kind) = EndsRun call (run_end.Limit kind) ⊎ ((kind ≡ limit.Input) × EndsReplayInput call)
+HasCause call (Refused refusal) = EndsRefused call refusal ⊎ EndsReplayRefused call refusal
+HasCause call (NoFile file) = EndsNoFile call file ⊎ EndsUnread call file
+HasCause call ReadFault = EndsRun call run_end.ReadFault ⊎ EndsReplayRead call
 HasCause call WriteFault = EndsRun call run_end.WriteFault ⊎ EndsInLines call
-HasCause call NoMemory = EndsEarly call ⊎ EndsRun call run_end.NoMemory ⊎ EndsEarlyInLines call
+HasCause call NoMemory = EndsEarly call ⊎ EndsRun call run_end.NoMemory ⊎ EndsEarlyInLines call ⊎ EndsEarlyInReplay call
 HasCause call Usage = EndsUsage call
+HasCause call (BadJournal fail) = EndsBadJournal call fail
+HasCause call (OtherFiles file) = EndsOtherFiles call file
+HasCause call (Illegal at) = EndsIllegal call at
 
 -- ---- from the run to the call
 

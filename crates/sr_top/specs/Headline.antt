@@ -7,9 +7,10 @@ use Rattle.sr_ports.specs.Streams.{PutInPart}
 use Rattle.sr_run.specs.Arranged.{InTurn}
 use Rattle.sr_run.specs.Runs as runs
 use Rattle.sr_top.specs.Causes.{Call, Compiles, EndsChecked, EndsListed, EndsRefused, IsCutInLines, RunsNothing, run_of}
+use Rattle.sr_top.specs.Replaying.{EndsBadJournal, EndsEarlyInReplay, EndsIllegal, EndsOtherFiles, EndsReplayInput, EndsReplayRead, EndsReplayRefused}
 use Rattle.sr_top.specs.Tasks.{task}
 use Rattle.sr_top.specs.declared.report.Ending.{Ending}
-use Rattle.sr_top.specs.declared.report.Ending.TheVariants.{Done, Quiet, Stopped, Failed, Limit, Refused, NoFile, ReadFault, WriteFault, NoMemory, Usage}
+use Rattle.sr_top.specs.declared.report.Ending.TheVariants.{Done, Quiet, Stopped, Failed, Limit, Refused, NoFile, ReadFault, WriteFault, NoMemory, Usage, BadJournal, OtherFiles, Illegal}
 use Rattle.sr_world.specs.declared.ends.End.{End}
 use Rattle.sr_world.specs.declared.ends.End.TheVariants as end
 
@@ -45,26 +46,30 @@ pub record RunsInPart (call : Call) : Type 0 where
 
 -- The items are a run of the program, the bytes put are its output, and the ending is the run's own, or a limit. Where a
 -- device failed or memory ran out the run hasn't ended. Files are refused as the verdict on them says. Where they are
--- refused or can't be read, or the words are unknown or ask for a check or for classes, nothing runs; the lines of classes
--- are put, or some first bytes of them, where the output failed or memory ran out.
+-- refused or can't be read, or the words are unknown or ask for a check, for classes or for a replay, nothing runs; the lines
+-- that are asked for are put, or some first bytes of them, where the output failed or memory ran out. A replay that can't
+-- come to its lines ends for the first cause that there is.
 abbrev pub Headline : Call → Ending → Type 0
 Headline call Done = EndsChecked call ⊎ EndsListed call
 Headline call Quiet = RunsWhole call (Some end.Quiet)
 Headline call (Stopped status) = RunsWhole call (Some (end.Stopped status))
 Headline call (Failed fault place) = RunsWhole call (Some (end.Failed fault place))
-Headline call (Limit kind) = RunsWhole call None
-Headline call (Refused refusal) = EndsRefused call refusal
+Headline call (Limit kind) = RunsWhole call None ⊎ EndsReplayInput call
+Headline call (Refused refusal) = EndsRefused call refusal ⊎ EndsReplayRefused call refusal
 Headline call (NoFile file) = RunsNothing call
-Headline call ReadFault = RunsWhole call None
+Headline call ReadFault = RunsWhole call None ⊎ EndsReplayRead call
 Headline call WriteFault = RunsInPart call ⊎ IsCutInLines call
-Headline call NoMemory = RunsNothing call ⊎ RunsInPart call ⊎ IsCutInLines call
+Headline call NoMemory = RunsNothing call ⊎ RunsInPart call ⊎ IsCutInLines call ⊎ EndsEarlyInReplay call
 Headline call Usage = RunsNothing call
+Headline call (BadJournal fail) = EndsBadJournal call fail
+Headline call (OtherFiles file) = EndsOtherFiles call file
+Headline call (Illegal at) = EndsIllegal call at
 
 -- ---- nothing is left out
 
 -- no count of the faults of the files, the input or the output rose
 pub record NoneRose (call : Call) : Type 0 where
-  pub files : ¬ Rose call.file_faults call.file_faults_now
+  pub files : ¬ Rose call.reads.faults call.reads_now.faults
   pub input : ¬ Rose call.before.read_faults call.now.read_faults
   pub output : ¬ Rose call.before.write_faults call.now.write_faults
 

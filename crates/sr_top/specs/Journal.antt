@@ -1,5 +1,5 @@
 -- The journal of a call: when there is one, and its text.
-use Rattle.std.specs.Prelude.{◌≡◌, ◌⊎◌, ◌≤◌, ℕ, Bool, true, false, List, length, map, Option, Some, None}
+use Rattle.std.specs.Prelude.{◌≡◌, ◌⊎◌, ◌≤◌, ℕ, Bool, true, false, List, length, Option, Some, None}
 use Rattle.sr_core.specs.declared.component.Core.{Core}
 use Rattle.sr_core.specs.declared.owner.Classes.{Classes}
 use Rattle.sr_front.specs.Cores.{IsCoreOf}
@@ -7,20 +7,13 @@ use Rattle.sr_front.specs.Reading.{contents_of}
 use Rattle.sr_journal.specs.Journal.{journal_text}
 use Rattle.sr_journal.specs.declared.header.Header.{Header}
 use Rattle.sr_top.specs.Causes.{Call, RunsNothing}
-use Rattle.sr_top.specs.Reading.{AreRead}
+use Rattle.sr_top.specs.Reading.{AreRead, sizes_of}
 use Rattle.sr_top.specs.Report.{GotAsFar}
 use Rattle.sr_top.specs.Tasks.{Named, Runs, journal_asked, task}
 use Rattle.sr_top.specs.declared.report.Ending.{Ending}
 use Rattle.sr_top.specs.declared.report.Ending.TheVariants.{Done, Refused, NoFile, NoMemory, Usage}
 use Rattle.sr_top.specs.declared.report.Side.{Side}
 use Rattle.sr_top.specs.declared.report.Side.TheVariants as sides
-
--- the length and the name of a file
-abbrev pub size_of : List ℕ × List ℕ → ℕ × List ℕ
-size_of file = (length file.1, file.0)
-
-abbrev pub sizes_of : List (List ℕ × List ℕ) → List (ℕ × List ℕ)
-sizes_of files = map size_of files
 
 -- what stands in a journal before its items: the lengths and the names of the files, and the limits
 abbrev pub header_of : List (List ℕ × List ℕ) → ℕ → ℕ → Header

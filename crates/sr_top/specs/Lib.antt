@@ -1,7 +1,10 @@
+pub mod Calls
 pub mod Causes
 pub mod Headline
 pub mod Journal
 pub mod Programs
 pub mod Reading
+pub mod Replaying
 pub mod Report
+pub mod Stages
 pub mod Tasks

@@ -1,5 +1,5 @@
 -- The files that a call reads, and the program in them.
-use Rattle.std.specs.Prelude.{◌≡◌, ℕ, ◌<◌, List, [], ◌∷◌, ◌++◌, length, map, take, Option, Some, IfSome}
+use Rattle.std.specs.Prelude.{◌≡◌, ℕ, zero, suc, ◌<◌, List, [], ◌∷◌, ◌++◌, length, map, take, Option, Some, Result, Ok, Err, IfSome}
 use Rattle.std.specs.List.{AllByRecursion}
 use Rattle.std.specs.Option.{option_map}
 use Rattle.std.specs.Str.{IsUtf8}
@@ -9,7 +9,9 @@ use Rattle.sr_front.specs.Cores.{IsCoreOf}
 use Rattle.sr_front.specs.Program.{IsRefused}
 use Rattle.sr_front.specs.Reading.{contents_of}
 use Rattle.sr_ports.specs.Faults.{Rose}
-use Rattle.sr_ports.specs.Files.{bytes_of}
+use Rattle.sr_ports.specs.Files.{Readings, bytes_of, next_read}
+use Rattle.sr_ports.specs.declared.fault.PortFail.{PortFail}
+use Rattle.sr_ports.specs.declared.fault.PortFail.TheVariants as fail
 use Rattle.sr_sample.specs.Sample.{sample_text}
 use Rattle.sr_text.specs.declared.refusal.Refusal.{Refusal}
 use Rattle.sr_top.specs.Tasks.{Origin, Named, Sampled, sample_name}
@@ -30,6 +32,13 @@ pub record AreRead (told : Option (List (List ℕ × List ℕ))) (names : List (
   pub named : map (λ file. file.0) files ≡ names
   pub each : AllByRecursion (IsRead told) files
 
+-- the length and the name of a file
+abbrev pub size_of : List ℕ × List ℕ → ℕ × List ℕ
+size_of file = (length file.1, file.0)
+
+abbrev pub sizes_of : List (List ℕ × List ℕ) → List (ℕ × List ℕ)
+sizes_of files = map size_of files
+
 -- one more file was read
 pub record ReadsOne (told : Option (List (List ℕ × List ℕ))) (name : List ℕ) (old new : List (List ℕ × List ℕ)) : Type 0 where
   pub bytes : List ℕ
@@ -42,11 +51,37 @@ pub record IsUnread (told : Option (List (List ℕ × List ℕ))) (names : List 
   pub before : List (List ℕ × List ℕ)
   pub read : AreRead told (take file names) before
 
--- why no more is read: the files failed at this one, or memory ran out
-abbrev pub EndsReading : Option (List (List ℕ × List ℕ)) → List (List ℕ) → ℕ → ℕ → Ending → Type 0
-EndsReading told names faults faults_now (NoFile file) = IsUnread told names file × Rose faults faults_now
-EndsReading told names faults faults_now NoMemory = faults_now ≡ faults
-EndsReading told names faults faults_now _ = ⊥
+-- the reads of files at one time: how many there were, the number of the last that failed, or 0, and how many failed
+pub record Reads : Type 0 where
+  pub reads : ℕ
+  pub failed : ℕ
+  pub faults : ℕ
+
+abbrev pub reads_by : Readings → ℕ → Reads
+reads_by readings faults = record { reads = readings.reads; failed = readings.failed; faults = faults }
+
+-- the count of reads after so many more
+abbrev pub reads_after : ℕ → ℕ → ℕ
+reads_after reads zero = reads
+reads_after reads (suc more) = next_read (reads_after reads more)
+
+-- the file of this place was read after those before it, and nothing since; and that read failed
+pub record FailsAt (file : ℕ) (before now : Reads) : Type 0 where
+  pub last : now.reads ≡ reads_after before.reads (suc file)
+  pub failed : now.failed ≡ now.reads
+  pub rose : Rose before.faults now.faults
+
+-- one more file was read; a read that failed is the last that did
+abbrev pub ReadsNext : {T : Type 0} → Reads → Reads → Result T PortFail → Type 0
+ReadsNext before now (Ok value) = now.reads ≡ next_read before.reads
+ReadsNext before now (Err fail.Failed) = (now.reads ≡ next_read before.reads) × (now.failed ≡ now.reads)
+ReadsNext before now (Err fail.NoMemory) = Unit {0}
+
+-- why no more is read: this file failed, or memory ran out
+abbrev pub EndsReading : Option (List (List ℕ × List ℕ)) → List (List ℕ) → Reads → Reads → Ending → Type 0
+EndsReading told names before now (NoFile file) = IsUnread told names file × FailsAt file before now
+EndsReading told names before now NoMemory = now.faults ≡ before.faults
+EndsReading told names before now _ = ⊥
 
 -- ---- the program in the files
 
@@ -83,8 +118,8 @@ IsUnreadIn told (Named names) file = IsUnread told names file
 IsUnreadIn told (Sampled seed) file = ⊥
 
 -- why there is no program: its files are refused, or one of them can't be read, or memory ran out
-abbrev pub EndsCompiling : Option (List (List ℕ × List ℕ)) → Origin → ℕ → ℕ → Ending → Type 0
-EndsCompiling told origin faults faults_now (Refused refusal) = AreRefused told origin refusal × (faults_now ≡ faults)
-EndsCompiling told origin faults faults_now (NoFile file) = IsUnreadIn told origin file × Rose faults faults_now
-EndsCompiling told origin faults faults_now NoMemory = faults_now ≡ faults
-EndsCompiling told origin faults faults_now _ = ⊥
+abbrev pub EndsCompiling : Option (List (List ℕ × List ℕ)) → Origin → Reads → Reads → Ending → Type 0
+EndsCompiling told origin before now (Refused refusal) = AreRefused told origin refusal × (now.faults ≡ before.faults)
+EndsCompiling told origin before now (NoFile file) = IsUnreadIn told origin file × FailsAt file before now
+EndsCompiling told origin before now NoMemory = now.faults ≡ before.faults
+EndsCompiling told origin before now _ = ⊥

@@ -1,5 +1,5 @@
 -- What a call of the program says at its end: the diagnostic line and the status.
-use Rattle.std.specs.Prelude.{◌≡◌, ℕ, ◌≤◌, List, [], ◌∷◌, ◌++◌, length, take, codes, Option, slice_index_or}
+use Rattle.std.specs.Prelude.{◌≡◌, ℕ, ◌≤◌, List, [], ◌∷◌, ◌++◌, length, take, codes, zero, suc, Option, None, Some, slice_index_or}
 use Rattle.std.specs.Fmt.{decimal}
 use Rattle.std.specs.Io.KnownBytes.{append_known}
 use Rattle.sr_ports.specs.Faults.{Rose}
@@ -7,8 +7,10 @@ use Rattle.sr_value.specs.declared.place.Place.{Place}
 use Rattle.sr_value.specs.declared.fault.Fault.{Fault}
 use Rattle.sr_value.specs.declared.fault.Fault.TheVariants.{Overflow, ZeroDivisor, Index, Shape, StringLength, Range, NullCap, Gone, BadStatus, TooLarge, Early}
 use Rattle.sr_text.specs.Labels.{kind_label}
+use Rattle.sr_journal.specs.declared.fail.JournalFail.{JournalFail}
+use Rattle.sr_journal.specs.declared.fail.JournalFail.TheVariants as fails
 use Rattle.sr_top.specs.declared.report.Ending.{Ending}
-use Rattle.sr_top.specs.declared.report.Ending.TheVariants.{Done, Quiet, Stopped, Failed, Limit, Refused, NoFile, ReadFault, WriteFault, NoMemory, Usage}
+use Rattle.sr_top.specs.declared.report.Ending.TheVariants.{Done, Quiet, Stopped, Failed, Limit, Refused, NoFile, ReadFault, WriteFault, NoMemory, Usage, BadJournal, OtherFiles, Illegal}
 use Rattle.sr_run.specs.declared.end.LimitKind.{LimitKind}
 use Rattle.sr_run.specs.declared.end.LimitKind.TheVariants.{Steps, Ticks, Input}
 use Rattle.sr_top.specs.declared.report.Side.{Side}
@@ -32,6 +34,13 @@ limit_label Steps = codes "steps"
 limit_label (Ticks process) = codes "ticks"
 limit_label Input = codes "input"
 
+-- the number and the name of what a journal isn't
+abbrev pub journal_label : JournalFail → List ℕ
+journal_label fails.NotJournal = codes "J1 NotJournal"
+journal_label fails.Truncated = codes "J2 Truncated"
+journal_label fails.Version = codes "J3 Version"
+journal_label fails.NoMemory = codes "no memory"
+
 abbrev pub file_name : List (List ℕ) → ℕ → List ℕ
 file_name names file = slice_index_or names file []
 
@@ -46,21 +55,31 @@ usage_text =
     codes "usage: sr run FILE... [--workers N] [--steps N] [--ticks N] [--journal]" ++ 10 ∷
     codes "       sr check FILE..." ++ 10 ∷
     codes "       sr classes FILE..." ++ 10 ∷
-    codes "       sr gen SEED [--workers N]" ++ 10 ∷ []
+    codes "       sr gen SEED [--workers N]" ++ 10 ∷
+    codes "       sr replay JOURNAL FILE... [--upto N]" ++ 10 ∷ []
 
--- the diagnostic text of an ending, for files of these names
-abbrev pub diag_text : List (List ℕ) → Ending → List ℕ
-diag_text names Done = []
-diag_text names Quiet = []
-diag_text names (Stopped status) = []
-diag_text names (Failed fault place) = placed_line names place (fault_label fault)
-diag_text names (Limit kind) = codes "sr: limit: " ++ limit_label kind ++ 10 ∷ []
-diag_text names (Refused refusal) = placed_line names refusal.place (kind_label refusal.kind)
-diag_text names (NoFile file) = codes "sr: cannot read " ++ file_name names file ++ 10 ∷ []
-diag_text names ReadFault = codes "sr: input failed" ++ 10 ∷ []
-diag_text names WriteFault = codes "sr: output failed" ++ 10 ∷ []
-diag_text names NoMemory = codes "sr: no memory" ++ 10 ∷ []
-diag_text names Usage = usage_text
+-- the name of what was read of this place: a journal that is replayed comes before the files
+abbrev pub read_name : Option (List ℕ) → List (List ℕ) → ℕ → List ℕ
+read_name None names file = file_name names file
+read_name (Some journal) names zero = journal
+read_name (Some journal) names (suc file) = file_name names file
+
+-- the diagnostic text of an ending, for the name of the journal that is replayed, where one is, and the names of the files
+abbrev pub diag_text : Option (List ℕ) → List (List ℕ) → Ending → List ℕ
+diag_text journal names Done = []
+diag_text journal names Quiet = []
+diag_text journal names (Stopped status) = []
+diag_text journal names (Failed fault place) = placed_line names place (fault_label fault)
+diag_text journal names (Limit kind) = codes "sr: limit: " ++ limit_label kind ++ 10 ∷ []
+diag_text journal names (Refused refusal) = placed_line names refusal.place (kind_label refusal.kind)
+diag_text journal names (NoFile file) = codes "sr: cannot read " ++ read_name journal names file ++ 10 ∷ []
+diag_text journal names ReadFault = codes "sr: input failed" ++ 10 ∷ []
+diag_text journal names WriteFault = codes "sr: output failed" ++ 10 ∷ []
+diag_text journal names NoMemory = codes "sr: no memory" ++ 10 ∷ []
+diag_text journal names Usage = usage_text
+diag_text journal names (BadJournal fail) = codes "sr: journal: " ++ journal_label fail ++ 10 ∷ []
+diag_text journal names (OtherFiles file) = codes "sr: journal: other files" ++ 10 ∷ []
+diag_text journal names (Illegal at) = codes "sr: journal: item " ++ decimal at ++ codes " is no step" ++ 10 ∷ []
 
 abbrev pub ending_status : Ending → ℕ
 ending_status Done = 0
@@ -74,6 +93,9 @@ ending_status ReadFault = 105
 ending_status WriteFault = 106
 ending_status NoMemory = 107
 ending_status Usage = 108
+ending_status (BadJournal fail) = 110
+ending_status (OtherFiles file) = 111
+ending_status (Illegal at) = 109
 
 -- a journal that couldn't be put decides the status, whatever the ending
 abbrev pub status_of : Ending → Side → ℕ

@@ -1,9 +1,9 @@
 -- What the words of a call ask for.
-use Rattle.std.specs.Prelude.{ℕ, Bool, false, List, [], ◌∷◌, codes, Option, unwrap_or}
+use Rattle.std.specs.Prelude.{ℕ, Bool, false, List, [], ◌∷◌, codes, Option, None, Some, option_and_then, unwrap_or}
 use Rattle.std.specs.Option.{option_map}
 use Rattle.sr_words.specs.Commands.{command_of, default_of}
 use Rattle.sr_words.specs.declared.command.Command.{Command}
-use Rattle.sr_words.specs.declared.command.Command.TheVariants.{Run, Check, Classes, Gen}
+use Rattle.sr_words.specs.declared.command.Command.TheVariants.{Run, Check, Classes, Gen, Replay}
 use Rattle.sr_words.specs.declared.options.Setting.TheVariants.{Steps, Ticks}
 
 -- where a program comes from
@@ -21,6 +21,8 @@ pub data Task : Type 0 where
   Checks : List (List ℕ) → Task
   -- write the classes of the operations of the program in these files
   ListsClasses : List (List ℕ) → Task
+  -- replay the first items, at most so many, of the journal of this name, over the program in these files
+  Replays : List ℕ → List (List ℕ) → ℕ → Task
 
 -- the task of a command; a sample is run with the limits that hold where the words give none
 abbrev pub task_of : Command → Task
@@ -28,6 +30,7 @@ task_of (Run files workers steps ticks journal) = Runs (Named files) steps ticks
 task_of (Check files) = Checks files
 task_of (Classes files) = ListsClasses files
 task_of (Gen seed workers) = Runs (Sampled seed) (default_of Steps) (default_of Ticks) false
+task_of (Replay journal files upto) = Replays journal files upto
 
 -- the task that the words give
 abbrev pub task : List (List ℕ) → Option Task
@@ -35,14 +38,16 @@ task words = option_map task_of (command_of words)
 
 -- ---- the files
 
-abbrev pub origin_of : Task → Origin
-origin_of (Runs origin steps ticks journal) = origin
-origin_of (Checks files) = Named files
-origin_of (ListsClasses files) = Named files
+-- where the program comes from that is run, checked or listed; a replay has an order of its own in which it reads
+abbrev pub origin_of : Task → Option Origin
+origin_of (Runs origin steps ticks journal) = Some origin
+origin_of (Checks files) = Some (Named files)
+origin_of (ListsClasses files) = Some (Named files)
+origin_of (Replays journal files upto) = None
 
--- where the program comes from that the words name
+-- where that program comes from, by the words
 abbrev pub origin_in : List (List ℕ) → Option Origin
-origin_in words = option_map origin_of (task words)
+origin_in words = option_and_then origin_of (task words)
 
 -- the name of the one file of a sample
 abbrev pub sample_name : List ℕ
@@ -52,9 +57,23 @@ abbrev pub names_of : Origin → List (List ℕ)
 names_of (Named names) = names
 names_of (Sampled seed) = sample_name ∷ []
 
--- the names of the files
+-- the names of the files of a program
+abbrev pub names_in : Task → List (List ℕ)
+names_in (Runs origin steps ticks journal) = names_of origin
+names_in (Checks files) = files
+names_in (ListsClasses files) = files
+names_in (Replays journal files upto) = files
+
 abbrev pub file_names : List (List ℕ) → List (List ℕ)
-file_names words = unwrap_or (option_map names_of (origin_in words)) []
+file_names words = unwrap_or (option_map names_in (task words)) []
+
+-- the name of the journal that is replayed
+abbrev pub replayed_by : Task → Option (List ℕ)
+replayed_by (Replays journal files upto) = Some journal
+replayed_by _ = None
+
+abbrev pub replayed_journal : List (List ℕ) → Option (List ℕ)
+replayed_journal words = option_and_then replayed_by (task words)
 
 -- ---- the journal
 
@@ -62,6 +81,7 @@ abbrev pub keeps_journal : Task → Bool
 keeps_journal (Runs origin steps ticks journal) = journal
 keeps_journal (Checks files) = false
 keeps_journal (ListsClasses files) = false
+keeps_journal (Replays journal files upto) = false
 
 -- whether the words ask for a journal
 abbrev pub journal_asked : List (List ℕ) → Bool

@@ -2,7 +2,7 @@ ghost use Rattle.std.specs.Prelude.{◌≡◌, [], IfErr, IfOk, OnOk};
 ghost use Rattle.sr_front.specs.Cores.{IsCoreOf};
 ghost use Rattle.sr_front.specs.Reading.{contents_of};
 ghost use Rattle.sr_top.specs.Programs.{classes_in, core_in};
-ghost use Rattle.sr_top.specs.Reading.{AreCompiled, AreRead, EndsCompiling, StopsCompiling, sample_files};
+ghost use Rattle.sr_top.specs.Reading.{AreCompiled, AreRead, EndsCompiling, StopsCompiling, reads_by, sample_files};
 ghost use Rattle.sr_top.specs.Tasks.{Named};
 
 use crate::program::{Program, compiled};
@@ -28,7 +28,7 @@ pub fn compile_files<F: Files>(
 ) -> Result<Program, Ending>
     ensures compiled { IfOk result (λ program. AreCompiled (F.content files.old) (Named names.now) (core_in program) (classes_in program)) }
     ensures no_fault { OnOk result (F.faults files.new ≡ F.faults files.old) }
-    ensures ends { IfErr result (EndsCompiling (F.content files.old) (Named names.now) (F.faults files.old) (F.faults files.new)) }
+    ensures ends { IfErr result (EndsCompiling (F.content files.old) (Named names.now) (reads_by (F.readings files.old) (F.faults files.old)) (reads_by (F.readings files.new) (F.faults files.new))) }
     ensures kept { F.content files.new ≡ F.content files.old }
 {
     let mut texts = Row::new(alloc);
@@ -46,7 +46,7 @@ pub fn compile_into<F: Files>(
     ensures read { OnOk result (AreRead (F.content files.old) names.now texts.new) }
     ensures core { IfOk result (λ program. IsCoreOf (contents_of texts.new) (core_in program, classes_in program)) }
     ensures no_fault { OnOk result (F.faults files.new ≡ F.faults files.old) }
-    ensures ends { IfErr result (EndsCompiling (F.content files.old) (Named names.now) (F.faults files.old) (F.faults files.new)) }
+    ensures ends { IfErr result (EndsCompiling (F.content files.old) (Named names.now) (reads_by (F.readings files.old) (F.faults files.old)) (reads_by (F.readings files.new) (F.faults files.new))) }
     ensures kept { F.content files.new ≡ F.content files.old }
 {
     if names.len() > MOST_FILES {

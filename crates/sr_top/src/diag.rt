@@ -1,10 +1,11 @@
-ghost use Rattle.std.specs.Prelude.{◌≡◌, [], ◌∷◌, ◌++◌, codes, IfOk};
+ghost use Rattle.std.specs.Prelude.{◌≡◌, [], ◌∷◌, ◌++◌, codes, IfOk, None};
 ghost use Rattle.std.specs.Fmt.{decimal};
 ghost use Rattle.sr_top.specs.Report as report_of;
 ghost use Rattle.sr_top.specs.declared.report.Ending.TheVariants as endings;
 
 use crate::putting::put_text;
 use crate::report::{Ending, Side};
+use sr_journal::JournalFail;
 use sr_ports::Sink;
 use sr_run::LimitKind;
 use sr_value::{Fault, NoMemory, Place, Text};
@@ -12,7 +13,7 @@ use std::alloc::Global;
 
 /// The text for words that are no command.
 const USAGE: &str =
-    "usage: sr run FILE... [--workers N] [--steps N] [--ticks N] [--journal]\n       sr check FILE...\n       sr classes FILE...\n       sr gen SEED [--workers N]\n";
+    "usage: sr run FILE... [--workers N] [--steps N] [--ticks N] [--journal]\n       sr check FILE...\n       sr classes FILE...\n       sr gen SEED [--workers N]\n       sr replay JOURNAL FILE... [--upto N]\n";
 
 /// The number and the name of a fault.
 fn fault_label(fault: Fault) -> &'static str
@@ -43,12 +44,35 @@ fn limit_label(kind: LimitKind) -> &'static str
     }
 }
 
+/// The number and the name of what a journal isn't.
+fn journal_label(fail: JournalFail) -> &'static str
+    ensures { result.now ≡ report_of.journal_label fail }
+{
+    match fail {
+        JournalFail::NotJournal => "J1 NotJournal",
+        JournalFail::Truncated => "J2 Truncated",
+        JournalFail::Version => "J3 Version",
+        JournalFail::NoMemory => "no memory",
+    }
+}
+
 fn file_name<'a>(names: &'a [Text], file: u32) -> &'a [u8]
     ensures { result.now ≡ report_of.file_name names.now file }
 {
     match names.get(file as usize) {
         None => b"",
         Some(name) => name.as_bytes(),
+    }
+}
+
+/// The name of what was read of this place: a journal that is replayed comes before the files.
+fn read_name<'a>(journal: &'a Option<Text>, names: &'a [Text], file: u32) -> &'a [u8]
+    ensures { result.now ≡ report_of.read_name journal.now names.now file }
+{
+    match journal {
+        None => file_name(names, file),
+        Some(journal) if file == 0 => journal.as_bytes(),
+        Some(_) => file_name(names, file - 1),
     }
 }
 
@@ -84,9 +108,14 @@ fn line(alloc: Global, words: &str, more: &str) -> Result<Text, NoMemory>
     Ok(text)
 }
 
-/// The diagnostic text of an ending, for files of these names.
-pub fn diag_text(alloc: Global, names: &[Text], ending: Ending) -> Result<Text, NoMemory>
-    ensures { IfOk result (λ text. text ≡ report_of.diag_text names.now ending) }
+/// The diagnostic text of an ending, for the name of the journal that is replayed, where one is, and the names of the files.
+pub fn diag_text(
+    alloc: Global,
+    journal: &Option<Text>,
+    names: &[Text],
+    ending: Ending,
+) -> Result<Text, NoMemory>
+    ensures { IfOk result (λ text. text ≡ report_of.diag_text journal.now names.now ending) }
 {
     match ending {
         Ending::Done => Ok(Text::new(alloc)),
@@ -95,16 +124,39 @@ pub fn diag_text(alloc: Global, names: &[Text], ending: Ending) -> Result<Text, 
         Ending::Failed { fault, place } => placed_line(alloc, names, place, fault_label(fault)),
         Ending::Limit(kind) => limit_line(alloc, kind),
         Ending::Refused(refusal) => placed_line(alloc, names, refusal.place, refusal.kind.label()),
-        Ending::NoFile(file) => no_file_line(alloc, file_name(names, file)),
+        Ending::NoFile(file) => no_file_line(alloc, read_name(journal, names, file)),
         Ending::ReadFault => line(alloc, "sr: input failed", "\n"),
         Ending::WriteFault => line(alloc, "sr: output failed", "\n"),
         Ending::NoMemory => line(alloc, "sr: no memory", "\n"),
         Ending::Usage => line(alloc, USAGE, ""),
+        Ending::BadJournal(fail) => journal_line(alloc, journal_label(fail)),
+        Ending::OtherFiles(_) => line(alloc, "sr: journal: other files", "\n"),
+        Ending::Illegal(at) => illegal_line(alloc, at),
     }
 }
 
+fn journal_line(alloc: Global, label: &str) -> Result<Text, NoMemory>
+    ensures { IfOk result (λ text. text ≡ codes "sr: journal: " ++ label.now ++ 10 ∷ []) }
+{
+    let mut text = Text::from_slice(alloc, b"sr: journal: ")?;
+    text.push_all(label.as_bytes())?;
+    text.push(b'\n')?;
+    Ok(text)
+}
+
+fn illegal_line(alloc: Global, at: u32) -> Result<Text, NoMemory>
+    ensures { IfOk result (λ text. text ≡ codes "sr: journal: item " ++ decimal at ++ codes " is no step" ++ 10 ∷ []) }
+{
+    let number = decimal_text(alloc, at)?;
+    let mut text = Text::from_slice(alloc, b"sr: journal: item ")?;
+    text.push_all(number.as_bytes())?;
+    text.push_all(b" is no step")?;
+    text.push(b'\n')?;
+    Ok(text)
+}
+
 fn limit_line(alloc: Global, kind: LimitKind) -> Result<Text, NoMemory>
-    ensures { IfOk result (λ text. text ≡ report_of.diag_text [] (endings.Limit kind)) }
+    ensures { IfOk result (λ text. text ≡ report_of.diag_text None [] (endings.Limit kind)) }
 {
     let label = limit_label(kind);
     let text = format!(in alloc; "sr: limit: {label}\n")?;
@@ -136,6 +188,9 @@ fn ending_status(ending: Ending) -> u8
         Ending::WriteFault => 106,
         Ending::NoMemory => 107,
         Ending::Usage => 108,
+        Ending::BadJournal(_) => 110,
+        Ending::OtherFiles(_) => 111,
+        Ending::Illegal(_) => 109,
     }
 }
 
@@ -151,10 +206,16 @@ pub fn status_of(ending: Ending, journal: Side) -> u8
 }
 
 /// Puts the diagnostic text of an ending.
-pub fn put_diag<D: Sink>(alloc: Global, names: &[Text], ending: Ending, diag: &mut D) -> Side
-    ensures { report_of.GotAsFar result (report_of.diag_text names.now ending) (D.held diag.old) (D.held diag.new) (D.faults diag.old) (D.faults diag.new) }
+pub fn put_diag<D: Sink>(
+    alloc: Global,
+    journal: &Option<Text>,
+    names: &[Text],
+    ending: Ending,
+    diag: &mut D,
+) -> Side
+    ensures { report_of.GotAsFar result (report_of.diag_text journal.now names.now ending) (D.held diag.old) (D.held diag.new) (D.faults diag.old) (D.faults diag.new) }
 {
-    let Ok(text) = diag_text(alloc, names, ending) else {
+    let Ok(text) = diag_text(alloc, journal, names, ending) else {
         return Side::NoMemory;
     };
     put_text(text.as_bytes(), diag)

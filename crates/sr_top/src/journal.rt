@@ -1,6 +1,7 @@
 ghost use Rattle.std.specs.Prelude.{◌≡◌, [], ◌∷◌, ◌++◌, IfNone, IfOk, IfSome, OnOk};
 ghost use Rattle.sr_journal.specs.Journal.{IsInRange, journal_text};
 ghost use Rattle.sr_top.specs.Journal as defined;
+ghost use Rattle.sr_top.specs.Reading.{size_of, sizes_of};
 ghost use Rattle.sr_top.specs.Report.{GotAsFar};
 ghost use Rattle.sr_top.specs.declared.report.Side.TheVariants as sides;
 
@@ -36,7 +37,7 @@ fn push_sizes(
     files: &[(Text, Text)],
     sizes: &mut Row<(u32, Text)>,
 ) -> Result<(), NoMemory>
-    ensures { OnOk result (sizes.new ≡ sizes.old ++ defined.sizes_of files.now) }
+    ensures { OnOk result (sizes.new ≡ sizes.old ++ sizes_of files.now) }
 {
     for file in files {
         push_size(alloc, file, sizes)?;
@@ -51,7 +52,7 @@ fn push_size(
     file: &(Text, Text),
     sizes: &mut Row<(u32, Text)>,
 ) -> Result<(), NoMemory>
-    ensures { OnOk result (sizes.new ≡ sizes.old ++ defined.size_of file.now ∷ []) }
+    ensures { OnOk result (sizes.new ≡ sizes.old ++ size_of file.now ∷ []) }
 {
     let (name, bytes) = file;
     let Ok(length) = u32::try_from(bytes.len()) else {

@@ -3,6 +3,8 @@
 
 mod compiling;
 mod diag;
+mod host;
+mod input;
 mod journal;
 mod listing;
 mod obeying;
@@ -11,9 +13,13 @@ mod preparing;
 mod program;
 mod putting;
 mod reading;
+mod recorded;
+mod replaying;
 mod report;
+mod told_files;
 mod top;
 
+pub use host::run_host;
 pub use report::{Ending, Report, Side};
 pub use sr_run::{LimitKind, Stretch};
 pub use top::sr_top;

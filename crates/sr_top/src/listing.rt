@@ -2,14 +2,16 @@ ghost use Rattle.std.specs.Prelude.{◌≡◌, ℕ, List, None, Option, Some};
 ghost use Rattle.sr_class_text.specs.Lines as lines;
 ghost use Rattle.sr_top.specs.Causes.{HasCause, PutsLines, call_of, devices};
 ghost use Rattle.sr_top.specs.Programs.{classes_in, core_in};
+ghost use Rattle.sr_top.specs.Reading.{reads_by};
 ghost use Rattle.sr_top.specs.Tasks.{ListsClasses, task};
 
 use crate::compiling::compile_files;
 use crate::outcome::{Outcome, without_items};
 use crate::program::Program;
+use crate::putting::put_lines;
 use crate::report::Ending;
 use sr_class_text::class_text;
-use sr_ports::{Files, PortFail, Sink, put_all};
+use sr_ports::{Files, Sink};
 use sr_value::Text;
 use std::alloc::Global;
 
@@ -21,7 +23,7 @@ pub fn list_classes<F: Files, O: Sink>(
     output: &mut O,
 ) -> Outcome
     ensures cause { (words : List (List ℕ)) (left : Option (List ℕ)) (read_faults : ℕ) → task words ≡ Some (ListsClasses names.now) → HasCause
-        (call_of words (F.content files.old) (F.faults files.old) (F.faults files.new)
+        (call_of words (F.content files.old) (reads_by (F.readings files.old) (F.faults files.old)) (reads_by (F.readings files.new) (F.faults files.new))
         (devices left read_faults (O.held output.old) (O.faults output.old))
         (devices left read_faults (O.held output.new) (O.faults output.new))
         result.items)
@@ -43,9 +45,5 @@ fn put_classes<O: Sink>(alloc: Global, program: &Program, output: &mut O) -> End
     let Ok(text) = class_text(alloc, &program.core, &program.classes) else {
         return Ending::NoMemory;
     };
-    match put_all(output, text.as_bytes()) {
-        Ok(()) => Ending::Done,
-        Err(PortFail::Failed) => Ending::WriteFault,
-        Err(PortFail::NoMemory) => Ending::NoMemory,
-    }
+    put_lines(text.as_bytes(), output)
 }

@@ -3,6 +3,7 @@ ghost use Rattle.sr_journal.specs.Journal.{IsInRange};
 ghost use Rattle.sr_run.specs.Runs.{Devices};
 ghost use Rattle.sr_top.specs.Causes.{HasCause, call_of, devices};
 ghost use Rattle.sr_top.specs.Journal.{CanBeAsked, HasHeaderIf};
+ghost use Rattle.sr_top.specs.Reading.{Reads, reads_by};
 ghost use Rattle.sr_top.specs.Report as report_of;
 ghost use Rattle.sr_top.specs.Tasks as tasks;
 ghost use Rattle.sr_words.specs.Commands.{command_of, default_of};
@@ -13,6 +14,7 @@ use crate::listing::list_classes;
 use crate::outcome::{Outcome, run_program, without_items};
 use crate::preparing::{Prepared, prepare};
 use crate::program::Process;
+use crate::replaying::replay_journal;
 use crate::report::Ending;
 use sr_ask::Item;
 use sr_journal::Header;
@@ -26,10 +28,11 @@ const SAMPLE_STEPS: u32 = 1_000_000;
 
 const SAMPLE_TICKS: u32 = 10_000_000;
 
-/// What a command came to: the names of its files, how it ended, and the items that it made; and what stands before them
-/// in its journal, where one is kept.
+/// What a command came to: the name of the journal that it replayed, where it was to, and those of its files; how it
+/// ended; and the items that it made, and what stands before them in its journal, where one is kept.
 #[derive(Debug, Drop)]
 pub struct Obeyed {
+    pub replayed: Option<Text>,
     pub names: Row<Text>,
     pub ending: Ending,
     pub items: Row<Item>,
@@ -39,12 +42,14 @@ pub struct Obeyed {
 impl Obeyed {
     /// An ending before any file.
     pub fn early(alloc: Global, ending: Ending) -> Obeyed
+        ensures replayed { result.replayed ≡ None }
         ensures names { result.names ≡ [] }
         ensures ending { result.ending ≡ ending }
         ensures items { result.items ≡ [] }
         ensures header { result.header ≡ None }
     {
         Obeyed {
+            replayed: None,
             names: Row::new(alloc),
             ending,
             items: Row::new(alloc),
@@ -52,7 +57,8 @@ impl Obeyed {
         }
     }
 
-    fn named(names: Row<Text>, outcome: Outcome) -> Obeyed
+    fn named(replayed: Option<Text>, names: Row<Text>, outcome: Outcome) -> Obeyed
+        ensures replayed { result.replayed ≡ replayed }
         ensures names { result.names ≡ names }
         ensures ending { result.ending ≡ outcome.ending }
         ensures items { result.items ≡ outcome.items }
@@ -64,6 +70,7 @@ impl Obeyed {
             header,
         } = outcome;
         Obeyed {
+            replayed,
             names,
             ending,
             items,
@@ -81,20 +88,20 @@ pub fn obey<F: Files, I: Source, O: Sink>(
     output: &mut O,
 ) -> Obeyed
     ensures cause { (words : List (List ℕ)) → command_of words ≡ Some command → HasCause
-        (call_of words (F.content files.old) (F.faults files.old) (F.faults files.new)
+        (call_of words (F.content files.old) (reads_by (F.readings files.old) (F.faults files.old)) (reads_by (F.readings files.new) (F.faults files.new))
         (devices (I.left input.old) (I.faults input.old) (O.held output.old) (O.faults output.old))
         (devices (I.left input.new) (I.faults input.new) (O.held output.new) (O.faults output.new))
         result.items)
         result.ending }
     ensures header { (words : List (List ℕ)) → command_of words ≡ Some command → HasHeaderIf
-        (call_of words (F.content files.old) (F.faults files.old) (F.faults files.new)
+        (call_of words (F.content files.old) (reads_by (F.readings files.old) (F.faults files.old)) (reads_by (F.readings files.new) (F.faults files.new))
         (devices (I.left input.old) (I.faults input.old) (O.held output.old) (O.faults output.old))
         (devices (I.left input.new) (I.faults input.new) (O.held output.new) (O.faults output.new))
         result.items)
         result.ending result.header }
     ensures in_range { (words : List (List ℕ)) → command_of words ≡ Some command → IfSome result.header (λ header. IsInRange header result.items) }
     ensures names { (words : List (List ℕ)) → command_of words ≡ Some command
-        → report_of.diag_text result.names result.ending ≡ report_of.diag_text (tasks.file_names words) result.ending }
+        → report_of.diag_text result.replayed result.names result.ending ≡ report_of.diag_text (tasks.replayed_journal words) (tasks.file_names words) result.ending }
     ensures files { F.content files.new ≡ F.content files.old }
 {
     match command {
@@ -115,23 +122,39 @@ pub fn obey<F: Files, I: Source, O: Sink>(
                 input,
                 output,
             );
-            Obeyed::named(names, outcome)
+            Obeyed::named(None, names, outcome)
         }
         Command::Check { files: names } => {
             let outcome = check_files(alloc, names.as_slice(), files);
-            Obeyed::named(names, outcome)
+            Obeyed::named(None, names, outcome)
         }
         Command::Classes { files: names } => {
             let outcome = list_classes(alloc, names.as_slice(), files, output);
-            Obeyed::named(names, outcome)
+            Obeyed::named(None, names, outcome)
         }
         Command::Gen { seed, workers: _ } => match sample_names(alloc) {
             Ok(names) => {
                 let outcome = run_sample(alloc, seed, input, output);
-                Obeyed::named(names, outcome)
+                Obeyed::named(None, names, outcome)
             }
             Err(_) => Obeyed::early(alloc, Ending::NoMemory),
         },
+        Command::Replay {
+            journal,
+            files: names,
+            upto,
+        } => {
+            let outcome = replay_journal(
+                alloc,
+                &journal,
+                names.as_slice(),
+                upto,
+                files,
+                input,
+                output,
+            );
+            Obeyed::named(Some(journal), names, outcome)
+        }
     }
 }
 
@@ -157,13 +180,13 @@ fn run_files<F: Files, I: Source, O: Sink>(
     output: &mut O,
 ) -> Outcome
     ensures cause { (words : List (List ℕ)) → tasks.task words ≡ Some (tasks.Runs (tasks.Named names.now) steps ticks journal) → HasCause
-        (call_of words (F.content files.old) (F.faults files.old) (F.faults files.new)
+        (call_of words (F.content files.old) (reads_by (F.readings files.old) (F.faults files.old)) (reads_by (F.readings files.new) (F.faults files.new))
         (devices (I.left input.old) (I.faults input.old) (O.held output.old) (O.faults output.old))
         (devices (I.left input.new) (I.faults input.new) (O.held output.new) (O.faults output.new))
         result.items)
         result.ending }
     ensures header { (words : List (List ℕ)) → tasks.task words ≡ Some (tasks.Runs (tasks.Named names.now) steps ticks journal) → HasHeaderIf
-        (call_of words (F.content files.old) (F.faults files.old) (F.faults files.new)
+        (call_of words (F.content files.old) (reads_by (F.readings files.old) (F.faults files.old)) (reads_by (F.readings files.new) (F.faults files.new))
         (devices (I.left input.old) (I.faults input.old) (O.held output.old) (O.faults output.old))
         (devices (I.left input.new) (I.faults input.new) (O.held output.new) (O.faults output.new))
         result.items)
@@ -186,9 +209,9 @@ fn run_sample<I: Source, O: Sink>(
     input: &mut I,
     output: &mut O,
 ) -> Outcome
-    ensures cause { (words : List (List ℕ)) (files : Option (List (List ℕ × List ℕ))) (faults : ℕ)
+    ensures cause { (words : List (List ℕ)) (files : Option (List (List ℕ × List ℕ))) (reads : Reads)
         → tasks.task words ≡ Some (tasks.Runs (tasks.Sampled seed) (default_of settings.Steps) (default_of settings.Ticks) false) → HasCause
-        (call_of words files faults faults
+        (call_of words files reads reads
         (devices (I.left input.old) (I.faults input.old) (O.held output.old) (O.faults output.old))
         (devices (I.left input.new) (I.faults input.new) (O.held output.new) (O.faults output.new))
         result.items)
@@ -212,7 +235,7 @@ fn run_sample<I: Source, O: Sink>(
 /// Says whether the files of these names are a program.
 fn check_files<F: Files>(alloc: Global, names: &[Text], files: &mut F) -> Outcome
     ensures cause { (words : List (List ℕ)) (devices : Devices) → tasks.task words ≡ Some (tasks.Checks names.now) → HasCause
-        (call_of words (F.content files.old) (F.faults files.old) (F.faults files.new) devices devices result.items)
+        (call_of words (F.content files.old) (reads_by (F.readings files.old) (F.faults files.old)) (reads_by (F.readings files.new) (F.faults files.new)) devices devices result.items)
         result.ending }
     ensures header { result.header ≡ None }
     ensures files { F.content files.new ≡ F.content files.old }

@@ -1,7 +1,7 @@
 ghost use Rattle.std.specs.Prelude.{◌≡◌, IfErr, IfOk, OnOk};
 ghost use Rattle.sr_top.specs.Journal.{IsPrepared, header_if};
 ghost use Rattle.sr_top.specs.Programs.{classes_in, core_in};
-ghost use Rattle.sr_top.specs.Reading.{EndsCompiling};
+ghost use Rattle.sr_top.specs.Reading.{EndsCompiling, reads_by};
 ghost use Rattle.sr_top.specs.Tasks.{Named};
 ghost use Rattle.sr_top.specs.declared.report.Ending.TheVariants as endings;
 
@@ -32,7 +32,7 @@ pub fn prepare<F: Files>(
 ) -> Result<Prepared, Ending>
     ensures prepared { IfOk result (λ prepared. IsPrepared (F.content files.old) names.now steps ticks journal (core_in prepared.program) (classes_in prepared.program) prepared.header) }
     ensures no_fault { OnOk result (F.faults files.new ≡ F.faults files.old) }
-    ensures ends { IfErr result (EndsCompiling (F.content files.old) (Named names.now) (F.faults files.old) (F.faults files.new)) }
+    ensures ends { IfErr result (EndsCompiling (F.content files.old) (Named names.now) (reads_by (F.readings files.old) (F.faults files.old)) (reads_by (F.readings files.new) (F.faults files.new))) }
     ensures kept { F.content files.new ≡ F.content files.old }
 {
     let mut texts = Row::new(alloc);

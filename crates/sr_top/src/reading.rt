@@ -1,6 +1,6 @@
 ghost use Rattle.std.specs.Prelude.{◌≡◌, [], ◌≤◌, length, IfErr, OnErr, OnOk};
 ghost use Rattle.sr_ports.specs.Faults.{Counts};
-ghost use Rattle.sr_top.specs.Reading.{AreRead, EndsReading, ReadsOne};
+ghost use Rattle.sr_top.specs.Reading.{AreRead, EndsReading, ReadsNext, ReadsOne, reads_by};
 
 use crate::report::Ending;
 use sr_ports::{Files, PortFail};
@@ -21,7 +21,7 @@ pub fn read_files<F: Files>(
     requires none { texts.old ≡ [] }
     ensures read { OnOk result (AreRead (F.content files.old) names.now texts.new) }
     ensures no_fault { OnOk result (F.faults files.new ≡ F.faults files.old) }
-    ensures ends { IfErr result (EndsReading (F.content files.old) names.now (F.faults files.old) (F.faults files.new)) }
+    ensures ends { IfErr result (EndsReading (F.content files.old) names.now (reads_by (F.readings files.old) (F.faults files.old)) (reads_by (F.readings files.new) (F.faults files.new))) }
     ensures kept { F.content files.new ≡ F.content files.old }
 {
     let mut number = 0u32;
@@ -45,6 +45,7 @@ fn read_file<F: Files>(
 ) -> Result<(), PortFail>
     ensures read { OnOk result (ReadsOne (F.content files.old) name.now texts.old texts.new) }
     ensures cause { Counts (F.faults files.old) (F.faults files.new) result }
+    ensures reads { ReadsNext (reads_by (F.readings files.old) (F.faults files.old)) (reads_by (F.readings files.new) (F.faults files.new)) result }
     ensures err { OnErr result (texts.new ≡ texts.old) }
     ensures kept { F.content files.new ≡ F.content files.old }
 {

@@ -1,4 +1,5 @@
 use sr_ask::Item;
+use sr_journal::JournalFail;
 use sr_run::{LimitKind, Stretch};
 use sr_text::Refusal;
 use sr_value::{Fault, Place, Row};
@@ -28,6 +29,12 @@ pub enum Ending {
     NoMemory,
     /// The words are no command.
     Usage,
+    /// The bytes of the journal that is to be replayed are none, for this cause. It is never that memory ran out.
+    BadJournal(JournalFail),
+    /// The file of this place, from 0, isn't the one of the journal.
+    OtherFiles(u32),
+    /// The item of this number in the journal, from 1, is the first that is no step.
+    Illegal(u32),
 }
 
 /// How far the text of a sink got.

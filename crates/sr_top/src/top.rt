@@ -3,8 +3,9 @@ ghost use Rattle.sr_journal.specs.Journal.{IsInRange};
 ghost use Rattle.sr_top.specs.Causes.{HasCause, call_of, devices};
 ghost use Rattle.sr_top.specs.Headline.{Headline, IsComplete};
 ghost use Rattle.sr_top.specs.Journal.{HasHeaderIf, HasNoJournal, PutsJournal};
+ghost use Rattle.sr_top.specs.Reading.{reads_by};
 ghost use Rattle.sr_top.specs.Report as report_of;
-ghost use Rattle.sr_top.specs.Tasks.{file_names};
+ghost use Rattle.sr_top.specs.Tasks.{file_names, replayed_journal};
 
 use crate::diag::{put_diag, status_of};
 use crate::journal::put_journal;
@@ -30,35 +31,35 @@ pub fn sr_top<F: Files, I: Source, O: Sink, D: Sink, J: Sink, G: Gate + Sync>(
     gate: &G,
 ) -> Report
     ensures cause { HasCause
-        (call_of (map string_bytes words.now) (F.content files.old) (F.faults files.old) (F.faults files.new)
+        (call_of (map string_bytes words.now) (F.content files.old) (reads_by (F.readings files.old) (F.faults files.old)) (reads_by (F.readings files.new) (F.faults files.new))
         (devices (I.left input.old) (I.faults input.old) (O.held output.old) (O.faults output.old))
         (devices (I.left input.new) (I.faults input.new) (O.held output.new) (O.faults output.new))
         result.items)
         result.ending }
     ensures headline { Headline
-        (call_of (map string_bytes words.now) (F.content files.old) (F.faults files.old) (F.faults files.new)
+        (call_of (map string_bytes words.now) (F.content files.old) (reads_by (F.readings files.old) (F.faults files.old)) (reads_by (F.readings files.new) (F.faults files.new))
         (devices (I.left input.old) (I.faults input.old) (O.held output.old) (O.faults output.old))
         (devices (I.left input.new) (I.faults input.new) (O.held output.new) (O.faults output.new))
         result.items)
         result.ending }
     ensures complete { IsComplete
-        (call_of (map string_bytes words.now) (F.content files.old) (F.faults files.old) (F.faults files.new)
+        (call_of (map string_bytes words.now) (F.content files.old) (reads_by (F.readings files.old) (F.faults files.old)) (reads_by (F.readings files.new) (F.faults files.new))
         (devices (I.left input.old) (I.faults input.old) (O.held output.old) (O.faults output.old))
         (devices (I.left input.new) (I.faults input.new) (O.held output.new) (O.faults output.new))
         result.items)
         result.ending }
     ensures files { F.content files.new ≡ F.content files.old }
-    ensures diag { report_of.GotAsFar result.diag (report_of.diag_text (file_names (map string_bytes words.now)) result.ending)
+    ensures diag { report_of.GotAsFar result.diag (report_of.diag_text (replayed_journal (map string_bytes words.now)) (file_names (map string_bytes words.now)) result.ending)
         (D.held diag.old) (D.held diag.new) (D.faults diag.old) (D.faults diag.new) }
     ensures status { result.status ≡ report_of.status_of result.ending result.journal }
     ensures journal { PutsJournal
-        (call_of (map string_bytes words.now) (F.content files.old) (F.faults files.old) (F.faults files.new)
+        (call_of (map string_bytes words.now) (F.content files.old) (reads_by (F.readings files.old) (F.faults files.old)) (reads_by (F.readings files.new) (F.faults files.new))
         (devices (I.left input.old) (I.faults input.old) (O.held output.old) (O.faults output.old))
         (devices (I.left input.new) (I.faults input.new) (O.held output.new) (O.faults output.new))
         result.items)
         result.ending result.journal (J.held journal.old) (J.held journal.new) (J.faults journal.old) (J.faults journal.new)
         ⊎ (HasNoJournal
-        (call_of (map string_bytes words.now) (F.content files.old) (F.faults files.old) (F.faults files.new)
+        (call_of (map string_bytes words.now) (F.content files.old) (reads_by (F.readings files.old) (F.faults files.old)) (reads_by (F.readings files.new) (F.faults files.new))
         (devices (I.left input.old) (I.faults input.old) (O.held output.old) (O.faults output.old))
         (devices (I.left input.new) (I.faults input.new) (O.held output.new) (O.faults output.new))
         result.items)
@@ -67,12 +68,13 @@ pub fn sr_top<F: Files, I: Source, O: Sink, D: Sink, J: Sink, G: Gate + Sync>(
 {
     let obeyed = obey_words(alloc, words, files, input, output);
     let Obeyed {
+        replayed,
         names,
         ending,
         items,
         header,
     } = obeyed;
-    let diag = put_diag(alloc, names.as_slice(), ending, diag);
+    let diag = put_diag(alloc, &replayed, names.as_slice(), ending, diag);
     let journal = put_journal(alloc, &header, &items, journal);
     Report {
         ending,
@@ -93,19 +95,19 @@ fn obey_words<F: Files, I: Source, O: Sink>(
     output: &mut O,
 ) -> Obeyed
     ensures cause { HasCause
-        (call_of (map string_bytes words.now) (F.content files.old) (F.faults files.old) (F.faults files.new)
+        (call_of (map string_bytes words.now) (F.content files.old) (reads_by (F.readings files.old) (F.faults files.old)) (reads_by (F.readings files.new) (F.faults files.new))
         (devices (I.left input.old) (I.faults input.old) (O.held output.old) (O.faults output.old))
         (devices (I.left input.new) (I.faults input.new) (O.held output.new) (O.faults output.new))
         result.items)
         result.ending }
     ensures header { HasHeaderIf
-        (call_of (map string_bytes words.now) (F.content files.old) (F.faults files.old) (F.faults files.new)
+        (call_of (map string_bytes words.now) (F.content files.old) (reads_by (F.readings files.old) (F.faults files.old)) (reads_by (F.readings files.new) (F.faults files.new))
         (devices (I.left input.old) (I.faults input.old) (O.held output.old) (O.faults output.old))
         (devices (I.left input.new) (I.faults input.new) (O.held output.new) (O.faults output.new))
         result.items)
         result.ending result.header }
     ensures in_range { IfSome result.header (λ header. IsInRange header result.items) }
-    ensures names { report_of.diag_text result.names result.ending ≡ report_of.diag_text (file_names (map string_bytes words.now)) result.ending }
+    ensures names { report_of.diag_text result.replayed result.names result.ending ≡ report_of.diag_text (replayed_journal (map string_bytes words.now)) (file_names (map string_bytes words.now)) result.ending }
     ensures files { F.content files.new ≡ F.content files.old }
 {
     match read_words(alloc, words) {

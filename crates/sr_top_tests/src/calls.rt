@@ -1,120 +1,69 @@
-use crate::support::{numbers, push_file, words_of};
+use crate::support::{Case, called, goes_so, silent};
 use sr_ask::Item;
-use sr_ports::{FreeGate, MemFiles, MemSink, MemSource};
+use sr_ports::MemSink;
 use sr_text::{Kind, Refusal};
-use sr_top::{Ending, LimitKind, Report, Side, sr_top};
-use sr_value::{NoMemory, Place, Row, Text};
+use sr_top::{Ending, LimitKind};
+use sr_value::{NoMemory, Place, Row};
 use std::alloc::Global;
 use std::test::Fail;
 
-/// A call with ports in memory: its words, the content of `a.sr`, the reads that fail, the input and the takes of it
-/// that fail, the most bytes of one put of the output, the puts of it that fail; and what is to come.
-#[derive(Clone, Copy)]
-struct Case<'a> {
-    words: &'a [&'a str],
-    content: &'a [u8],
-    read_fails: &'a [u64],
-    input: &'a [u8],
-    take_fails: &'a [u64],
-    most: usize,
-    put_fails: &'a [u64],
-    ending: Ending,
-    status: u8,
-    output: &'a [u8],
-    diag: &'a [u8],
-    items: usize,
-}
+/// The files of a call.
+type Files<'a> = &'a [(&'a str, &'a [u8])];
 
 /// A run of two writes.
-const TWO: &[u8] = b"resource main()\n  write(\"one\")\n  write(\"two\")\nend\n";
+const TWO: [(&str, &[u8]); 1] = [(
+    "a.sr",
+    b"resource main()\n  write(\"one\")\n  write(\"two\")\nend\n",
+)];
 
 /// A run that reads a number and writes its double.
-const DOUBLE: &[u8] = b"resource main()\n  var n : int\n  read(n)\n  write(2 * n)\nend\n";
+const DOUBLE: [(&str, &[u8]); 1] = [(
+    "a.sr",
+    b"resource main()\n  var n : int\n  read(n)\n  write(2 * n)\nend\n",
+)];
 
 /// A run that reads a number, reads on, and writes what it has.
-const READ_AGAIN: &[u8] =
-    b"resource main()\n  var n : int\n  read(n)\n  read(n)\n  write(n)\nend\n";
+const READ_AGAIN: [(&str, &[u8]); 1] = [(
+    "a.sr",
+    b"resource main()\n  var n : int\n  read(n)\n  read(n)\n  write(n)\nend\n",
+)];
+
+const HELLO: [(&str, &[u8]); 1] = [("a.sr", b"resource main()\n  write(\"hello\", 3)\nend\n")];
+
+const SPACED: [(&str, &[u8]); 1] = [(
+    "a.sr",
+    b"\t resource  \tmain() \n\n\twrite( 007 ,\"a,\\tb\" )\n  write()\nend",
+)];
+
+const ENDLESS: [(&str, &[u8]); 1] = [("a.sr", b"resource main()\ndo true -> skip od\nend\n")];
 
 /// A component that `b.sr` has.
 const OTHER: &[u8] = b"global Other\n  const c := 7\nend\n";
+
+const BOTH: [(&str, &[u8]); 2] = [
+    (
+        "a.sr",
+        b"resource main()\nimport Other\nwrite(Other.c)\nend",
+    ),
+    ("b.sr", OTHER),
+];
+
+/// A file that is empty, and another one.
+const EMPTY: [(&str, &[u8]); 2] = [("a.sr", b""), ("b.sr", OTHER)];
 
 const NO_MAIN: Ending = Ending::Refused(Refusal {
     kind: Kind::Main,
     place: Place { file: 0, line: 1 },
 });
 
-/// The files `a.sr` and `b.sr`.
-fn files_of(alloc: Global, case: &Case<'_>) -> Result<MemFiles, NoMemory> {
-    let fails = numbers(alloc, case.read_fails)?;
-    let mut files = Row::new(alloc);
-    push_file(alloc, &mut files, b"a.sr", case.content)?;
-    push_file(alloc, &mut files, b"b.sr", OTHER)?;
-    Ok(MemFiles::new(files, fails))
-}
-
-fn source_of(alloc: Global, case: &Case<'_>) -> Result<MemSource, NoMemory> {
-    let fails = numbers(alloc, case.take_fails)?;
-    let input = Text::from_slice(alloc, case.input)?;
-    Ok(MemSource::new(input, 2, fails))
-}
-
-/// Makes the call of a case with these words and files.
-fn called_with(
-    alloc: Global,
-    case: &Case<'_>,
-    words: &[String],
-    files: &mut MemFiles,
-    output: &mut MemSink,
-    diag: &mut MemSink,
-) -> Result<Report, NoMemory> {
-    let mut input = source_of(alloc, case)?;
-    let mut journal = MemSink::new(alloc, 1, Row::new(alloc));
-    Ok(sr_top(
-        alloc,
-        words,
-        files,
-        &mut input,
-        output,
-        diag,
-        &mut journal,
-        &FreeGate,
-    ))
-}
-
-/// Makes the call of a case, and gives its report.
-fn called(
-    alloc: Global,
-    case: &Case<'_>,
-    output: &mut MemSink,
-    diag: &mut MemSink,
-) -> Result<Report, NoMemory> {
-    let words = words_of(alloc, case.words)?;
-    let mut files = files_of(alloc, case)?;
-    called_with(alloc, case, &words, &mut files, output, diag)
-}
-
-/// Whether the call of a case ends and puts what is to come, and makes so many items.
-fn goes_so(alloc: Global, case: &Case<'_>) -> Result<bool, NoMemory> {
-    let fails = numbers(alloc, case.put_fails)?;
-    let mut output = MemSink::new(alloc, case.most.max(1), fails);
-    let mut diag = MemSink::new(alloc, 100, Row::new(alloc));
-    let report = called(alloc, case, &mut output, &mut diag)?;
-    Ok(
-        output.held() == case.output
-            && diag.held() == case.diag
-            && report.ending == case.ending
-            && report.status == case.status
-            && report.items.len() == case.items
-            && report.diag == Side::Whole,
-    )
-}
-
 /// Whether a run of this text makes these items.
 fn makes_items(alloc: Global, text: &[u8], items: &[Item]) -> Result<bool, NoMemory> {
     let mut output = MemSink::new(alloc, 100, Row::new(alloc));
     let mut diag = MemSink::new(alloc, 100, Row::new(alloc));
-    let case = run_case(text, b"", 0);
-    let report = called(alloc, &case, &mut output, &mut diag)?;
+    let mut journal = MemSink::new(alloc, 100, Row::new(alloc));
+    let files = [("a.sr", text)];
+    let case = run_case(&files, b"", 0);
+    let report = called(alloc, &case, &mut output, &mut diag, &mut journal)?;
     Ok(report.items.as_slice() == items)
 }
 
@@ -122,94 +71,74 @@ fn makes_items(alloc: Global, text: &[u8], items: &[Item]) -> Result<bool, NoMem
 fn is_refused_so(alloc: Global, text: &[u8], kind: Kind, line: u32) -> Result<bool, NoMemory> {
     let mut output = MemSink::new(alloc, 100, Row::new(alloc));
     let mut diag = MemSink::new(alloc, 100, Row::new(alloc));
-    let case = run_case(text, b"", 0);
-    let report = called(alloc, &case, &mut output, &mut diag)?;
+    let mut journal = MemSink::new(alloc, 100, Row::new(alloc));
+    let files = [("a.sr", text)];
+    let case = run_case(&files, b"", 0);
+    let report = called(alloc, &case, &mut output, &mut diag, &mut journal)?;
     let place = Place { file: 0, line };
     let ending = Ending::Refused(Refusal { kind, place });
     Ok(report.ending == ending && output.held().is_empty())
 }
 
 /// The call of a run of `a.sr` that goes well.
-fn run_case<'a>(content: &'a [u8], output: &'a [u8], items: usize) -> Case<'a> {
+fn run_case<'a>(files: Files<'a>, output: &'a [u8], items: usize) -> Case<'a> {
     Case {
-        words: &["run", "a.sr"],
-        content,
-        read_fails: &[],
-        input: b"",
-        take_fails: &[],
-        most: 100,
-        put_fails: &[],
-        ending: Ending::Quiet,
-        status: 0,
+        ending: Some(Ending::Quiet),
         output,
-        diag: b"",
         items,
+        ..silent(&["run", "a.sr"], files)
     }
 }
 
 /// A call that ends before a run.
 fn early<'a>(words: &'a [&'a str], ending: Ending, status: u8, diag: &'a [u8]) -> Case<'a> {
     Case {
-        words,
-        content: b"",
-        read_fails: &[],
-        input: b"",
-        take_fails: &[],
-        most: 100,
-        put_fails: &[],
-        ending,
+        ending: Some(ending),
         status,
-        output: b"",
         diag,
-        items: 0,
+        ..silent(words, &EMPTY)
     }
 }
 
 const USAGE: &[u8] =
-    b"usage: sr run FILE... [--workers N] [--steps N] [--ticks N] [--journal]\n       sr check FILE...\n       sr classes FILE...\n       sr gen SEED [--workers N]\n";
+    b"usage: sr run FILE... [--workers N] [--steps N] [--ticks N] [--journal]\n       sr check FILE...\n       sr classes FILE...\n       sr gen SEED [--workers N]\n       sr replay JOURNAL FILE... [--upto N]\n";
 
 #[test]
 fn calls_with_ports_in_memory(rt: HostRuntime) -> Result<(), Fail> {
-    let hello = b"resource main()\n  write(\"hello\", 3)\nend\n";
-    let spaced = b"\t resource  \tmain() \n\n\twrite( 007 ,\"a,\\tb\" )\n  write()\nend";
     let s9 = b"sr: a.sr:1: S9 Main\n";
     let cases = [
-        run_case(hello, b"hello 3\n", 6),
-        run_case(spaced, b"7 a,\tb\n\n", 7),
+        run_case(&HELLO, b"hello 3\n", 6),
+        run_case(&SPACED, b"7 a,\tb\n\n", 7),
         Case {
-            most: 4,
+            piece: 4,
             put_fails: &[2],
-            ending: Ending::WriteFault,
+            ending: Some(Ending::WriteFault),
             status: 106,
             output: b"one\n",
             diag: b"sr: output failed\n",
             items: 3,
-            ..run_case(TWO, b"", 0)
+            ..run_case(&TWO, b"", 0)
         },
         Case {
-            most: 1,
-            ..run_case(TWO, b"one\ntwo\n", 7)
+            piece: 1,
+            ..run_case(&TWO, b"one\ntwo\n", 7)
         },
-        run_case(TWO, b"one\ntwo\n", 7),
+        run_case(&TWO, b"one\ntwo\n", 7),
         Case {
             input: b" 21",
-            ..run_case(DOUBLE, b"42\n", 10)
+            ..run_case(&DOUBLE, b"42\n", 10)
         },
         Case {
             input: b"21 ",
             take_fails: &[1],
-            ending: Ending::ReadFault,
+            ending: Some(Ending::ReadFault),
             status: 105,
             diag: b"sr: input failed\n",
-            ..run_case(DOUBLE, b"", 2)
+            ..run_case(&DOUBLE, b"", 2)
         },
         Case {
             words: &["run", "b.sr", "a.sr"],
-            ..run_case(
-                b"resource main()\nimport Other\nwrite(Other.c)\nend",
-                b"7\n",
-                9,
-            )
+            ..run_case(&BOTH, b"7\n", 9)
         },
         Case {
             read_fails: &[2],
@@ -249,22 +178,22 @@ fn calls_with_ports_in_memory(rt: HostRuntime) -> Result<(), Fail> {
         ),
         Case {
             words: &["run", "a.sr", "--steps", "5"],
-            ending: Ending::Limit(LimitKind::Steps),
+            ending: Some(Ending::Limit(LimitKind::Steps)),
             status: 102,
             diag: b"sr: limit: steps\n",
-            ..run_case(hello, b"hello 3\n", 5)
+            ..run_case(&HELLO, b"hello 3\n", 5)
         },
         Case {
             words: &["run", "a.sr", "--ticks", "1000"],
-            ending: Ending::Limit(LimitKind::Ticks(2)),
+            ending: Some(Ending::Limit(LimitKind::Ticks(2))),
             status: 102,
             diag: b"sr: limit: ticks\n",
-            ..run_case(b"resource main()\ndo true -> skip od\nend\n", b"", 1)
+            ..run_case(&ENDLESS, b"", 1)
         },
         Case {
             words: &["check", "a.sr"],
-            ending: Ending::Done,
-            ..run_case(hello, b"", 0)
+            ending: Some(Ending::Done),
+            ..run_case(&HELLO, b"", 0)
         },
     ];
     for (index, case) in cases.iter().enumerate() {
@@ -280,14 +209,14 @@ fn failing_output(rt: HostRuntime) -> Result<(), Fail> {
     for put in 1..9 {
         let fails = [put as u64];
         let case = Case {
-            most: 1,
+            piece: 1,
             put_fails: &fails,
-            ending: Ending::WriteFault,
+            ending: Some(Ending::WriteFault),
             status: 106,
             output: &written[..put - 1],
             diag: b"sr: output failed\n",
             items: if put <= 4 { 2 } else { 3 },
-            ..run_case(TWO, b"", 0)
+            ..run_case(&TWO, b"", 0)
         };
         assert!(rt; goes_so(rt.alloc(), &case)?, "put {put}");
     }
@@ -299,10 +228,10 @@ fn failing_output(rt: HostRuntime) -> Result<(), Fail> {
 #[test]
 fn failing_input(rt: HostRuntime) -> Result<(), Fail> {
     let failed = Case {
-        ending: Ending::ReadFault,
+        ending: Some(Ending::ReadFault),
         status: 105,
         diag: b"sr: input failed\n",
-        ..run_case(DOUBLE, b"", 2)
+        ..run_case(&DOUBLE, b"", 2)
     };
     let of = |input, take_fails, case| Case {
         input,
@@ -312,12 +241,12 @@ fn failing_input(rt: HostRuntime) -> Result<(), Fail> {
     let cases = [
         of(b"21 ", &[1], failed),
         of(b"21 ", &[2], failed),
-        of(b"21 ", &[3], run_case(DOUBLE, b"42\n", 10)),
+        of(b"21 ", &[3], run_case(&DOUBLE, b"42\n", 10)),
         of(b"", &[1], failed),
         of(b"21", &[2], failed),
-        of(b"21", &[3], run_case(DOUBLE, b"42\n", 10)),
-        of(b"2 1", &[2], run_case(DOUBLE, b"4\n", 10)),
-        of(b"7", &[3], run_case(READ_AGAIN, b"7\n", 11)),
+        of(b"21", &[3], run_case(&DOUBLE, b"42\n", 10)),
+        of(b"2 1", &[2], run_case(&DOUBLE, b"4\n", 10)),
+        of(b"7", &[3], run_case(&READ_AGAIN, b"7\n", 11)),
     ];
     for (index, case) in cases.iter().enumerate() {
         assert!(rt; goes_so(rt.alloc(), case)?, "case {index}");
@@ -401,7 +330,8 @@ fn spaced(alloc: Global, bytes: usize) -> Result<Vec<u8>, NoMemory> {
 /// Whether a program with as many bytes as a file may have runs.
 fn runs_at_the_limit(alloc: Global) -> Result<bool, NoMemory> {
     let text = spaced(alloc, MOST)?;
-    goes_so(alloc, &run_case(&text, b"1\n", 6))
+    let files = [("a.sr", text.as_slice())];
+    goes_so(alloc, &run_case(&files, b"1\n", 6))
 }
 
 /// Brackets in brackets, past the limit on them.

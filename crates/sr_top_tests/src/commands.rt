@@ -1,4 +1,4 @@
-use crate::support::{Case, called_with, goes_so, push_file, silent};
+use crate::support::{Case, called, called_with, goes_so, push_file, silent};
 use sr_ports::{MemFiles, MemSink};
 use sr_value::{NoMemory, Row, Text};
 use std::alloc::Global;
@@ -48,7 +48,7 @@ const CLASSES: &[u8] =
     b"Servant: getforks relforks\nServant: server\nPhilosopher: life\nmain: finished\n";
 
 const USAGE: &[u8] =
-    b"usage: sr run FILE... [--workers N] [--steps N] [--ticks N] [--journal]\n       sr check FILE...\n       sr classes FILE...\n       sr gen SEED [--workers N]\n";
+    b"usage: sr run FILE... [--workers N] [--steps N] [--ticks N] [--journal]\n       sr check FILE...\n       sr classes FILE...\n       sr gen SEED [--workers N]\n       sr replay JOURNAL FILE... [--upto N]\n";
 
 const FILES: [(&str, &[u8]); 3] = [
     ("hello.sr", HELLO),
@@ -105,21 +105,12 @@ fn writes(
     content: &[u8],
     text: &[u8],
 ) -> Result<bool, NoMemory> {
-    let words = crate::support::words_of(alloc, words)?;
-    let mut files = Row::new(alloc);
-    push_file(alloc, &mut files, name.as_bytes(), content)?;
-    let mut files = MemFiles::new(files, Row::new(alloc));
     let mut output = MemSink::new(alloc, 1000, Row::new(alloc));
     let mut diag = MemSink::new(alloc, 1000, Row::new(alloc));
     let mut journal = MemSink::new(alloc, 1000, Row::new(alloc));
-    let report = called_with(
-        alloc,
-        &words,
-        &mut files,
-        &mut output,
-        &mut diag,
-        &mut journal,
-    );
+    let files = [(name, content)];
+    let case = silent(words, &files);
+    let report = called(alloc, &case, &mut output, &mut diag, &mut journal)?;
     Ok(
         report.status == 0
             && output.held() == text
@@ -323,12 +314,13 @@ fn status_of(alloc: Global, count: usize) -> Result<u8, NoMemory> {
     let mut journal = MemSink::new(alloc, 1000, Row::new(alloc));
     let report = called_with(
         alloc,
+        &silent(&[], &[]),
         &words,
         &mut files,
         &mut output,
         &mut diag,
         &mut journal,
-    );
+    )?;
     Ok(report.status)
 }
 

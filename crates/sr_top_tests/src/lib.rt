@@ -6,6 +6,12 @@ mod calls;
 #[cfg(test)]
 mod commands;
 #[cfg(test)]
+mod endless;
+#[cfg(test)]
 mod journals;
+#[cfg(test)]
+mod order;
+#[cfg(test)]
+mod replays;
 #[cfg(test)]
 mod support;

@@ -1,20 +1,26 @@
 use sr_ask::Item;
 use sr_journal::read_journal;
 use sr_ports::{FreeGate, MemFiles, MemSink, MemSource};
-use sr_top::{Report, sr_top};
+use sr_top::{Ending, Report, Side, sr_top};
 use sr_value::{NoMemory, Row, Text};
 use std::alloc::Global;
 
-/// A call with ports in memory: its words and its files; the puts of the output and of the journal that fail, and the most
-/// bytes of one put of the journal. Then what is to come: the status, the number of items, the output, the diagnostic text
-/// and the bytes of the journal.
+/// A call with ports in memory: its words and its files, and the reads of these that fail; the input, and the takes of it
+/// that fail; the puts of the output and of the journal that fail, and the most bytes of one put of each. Then what is to
+/// come: the ending, where it is looked at, the status, the number of items, the output, the diagnostic text and the bytes
+/// of the journal.
 #[derive(Clone, Copy)]
 pub struct Case<'a> {
     pub words: &'a [&'a str],
     pub files: &'a [(&'a str, &'a [u8])],
+    pub read_fails: &'a [u64],
+    pub input: &'a [u8],
+    pub take_fails: &'a [u64],
     pub put_fails: &'a [u64],
+    pub piece: usize,
     pub journal_fails: &'a [u64],
     pub most: usize,
+    pub ending: Option<Ending>,
     pub status: u8,
     pub items: usize,
     pub output: &'a [u8],
@@ -27,9 +33,14 @@ pub fn silent<'a>(words: &'a [&'a str], files: &'a [(&'a str, &'a [u8])]) -> Cas
     Case {
         words,
         files,
+        read_fails: &[],
+        input: b"",
+        take_fails: &[],
         put_fails: &[],
+        piece: 1000,
         journal_fails: &[],
         most: 1000,
+        ending: None,
         status: 0,
         items: 0,
         output: b"",
@@ -62,26 +73,35 @@ pub fn push_file(
 }
 
 fn files_of(alloc: Global, case: &Case<'_>) -> Result<MemFiles, NoMemory> {
+    let fails = numbers(alloc, case.read_fails)?;
     let mut files = Row::new(alloc);
     for (name, content) in case.files {
         push_file(alloc, &mut files, name.as_bytes(), content)?;
     }
-    Ok(MemFiles::new(files, Row::new(alloc)))
+    Ok(MemFiles::new(files, fails))
 }
 
-/// Makes a call with these words and files, without input.
+/// The input of a case, in pieces of two bytes.
+fn source_of(alloc: Global, case: &Case<'_>) -> Result<MemSource, NoMemory> {
+    let fails = numbers(alloc, case.take_fails)?;
+    let input = Text::from_slice(alloc, case.input)?;
+    Ok(MemSource::new(input, 2, fails))
+}
+
+/// Makes a call with these words and files, and with the input of a case.
 pub fn called_with(
     alloc: Global,
+    case: &Case<'_>,
     words: &[String],
     files: &mut MemFiles,
     output: &mut MemSink,
     diag: &mut MemSink,
     journal: &mut MemSink,
-) -> Report {
-    let mut input = MemSource::new(Text::new(alloc), 1, Row::new(alloc));
-    sr_top(
+) -> Result<Report, NoMemory> {
+    let mut input = source_of(alloc, case)?;
+    Ok(sr_top(
         alloc, words, files, &mut input, output, diag, journal, &FreeGate,
-    )
+    ))
 }
 
 /// Makes the call of a case.
@@ -94,13 +114,21 @@ pub fn called(
 ) -> Result<Report, NoMemory> {
     let words = words_of(alloc, case.words)?;
     let mut files = files_of(alloc, case)?;
-    Ok(called_with(alloc, &words, &mut files, output, diag, journal))
+    called_with(alloc, case, &words, &mut files, output, diag, journal)
+}
+
+/// Whether a call ends as it should, where that is looked at, and its diagnostic text is put whole.
+fn ends_so(report: &Report, ending: Option<Ending>) -> bool {
+    match ending {
+        Some(ending) => report.ending == ending && report.diag == Side::Whole,
+        None => true,
+    }
 }
 
 /// Whether the call of a case does what is to come.
 pub fn goes_so(alloc: Global, case: &Case<'_>) -> Result<bool, NoMemory> {
     let fails = numbers(alloc, case.put_fails)?;
-    let mut output = MemSink::new(alloc, 1000, fails);
+    let mut output = MemSink::new(alloc, case.piece.max(1), fails);
     let mut diag = MemSink::new(alloc, 1000, Row::new(alloc));
     let journal_fails = numbers(alloc, case.journal_fails)?;
     let mut journal = MemSink::new(alloc, case.most.max(1), journal_fails);
@@ -110,7 +138,8 @@ pub fn goes_so(alloc: Global, case: &Case<'_>) -> Result<bool, NoMemory> {
             && report.items.len() == case.items
             && output.held() == case.output
             && diag.held() == case.diag
-            && journal.held() == case.journal,
+            && journal.held() == case.journal
+            && ends_so(&report, case.ending),
     )
 }
 

@@ -14,7 +14,7 @@ fitted-rec shapes v =
     ap (λ s. fitted_in s v) (sym (rolls-Rec shapes))
     ∙ ap (λ f. f v) (fold-roll-Shape (Value → Result Value Fault) (λ layer value. fit_layer layer value (out-Value value)) (Shape-F.Rec shapes))
 
-out-rec : (fields : List Value) → out-Value (Rec fields) ≡ Value-F.Rec fields
+pub out-rec : (fields : List Value) → out-Value (Rec fields) ≡ Value-F.Rec fields
 out-rec fields = ap out-Value (sym (rolls-rec-value fields)) ∙ out-roll-Value (Value-F.Rec fields)
 
 pub fitted-record : (shapes : List Shape) (fields : List Value) → fitted_in (rec_shape shapes) (Rec fields) ≡ with_ok (each_fits (map fitted_in shapes) fields) (λ held. Ok (Rec held))

@@ -24,7 +24,7 @@ fn in_row(row: u32, width: u64, column: u32) -> usize
 }
 
 /// Where the item that a step selects stands among the items of an array.
-pub(crate) fn item_place(dims: Dims, step: Sel) -> Option<usize>
+pub fn item_place(dims: Dims, step: Sel) -> Option<usize>
     ensures { result ≡ item_place dims step }
 {
     match dims {
@@ -44,7 +44,7 @@ pub(crate) fn item_place(dims: Dims, step: Sel) -> Option<usize>
 }
 
 /// Where the byte of a string that a step selects stands. They are counted from 1.
-pub(crate) fn byte_place(bytes: &[u8], step: Sel) -> Option<usize>
+pub fn byte_place(bytes: &[u8], step: Sel) -> Option<usize>
     ensures { result ≡ byte_place bytes.now step }
 {
     match step {
@@ -56,7 +56,8 @@ pub(crate) fn byte_place(bytes: &[u8], step: Sel) -> Option<usize>
     }
 }
 
-pub(crate) fn field_place(step: Sel) -> Option<usize>
+/// Where the field that a step selects stands among the fields of a record, counted from 0.
+pub fn field_place(step: Sel) -> Option<usize>
     ensures { result ≡ field_place step }
 {
     match step {

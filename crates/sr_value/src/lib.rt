@@ -37,9 +37,11 @@ pub use division::{modulo, quotient, remainder};
 pub use evaluation::{MOST_BYTES, arith, unary};
 pub use fault::{Fault, ValueFail};
 pub use fits::fitted;
+pub use index::{byte_place, field_place, item_place};
 pub use load::{loaded, part_of};
 pub use memory::NoMemory;
 pub use operator::Operator;
+pub use part::step_at;
 pub use place::{Place, Span};
 pub use predefined::{
     Dimension, absolute, char_of, greatest, highest, int_of, least, length_of, lower_bound, lowest,
@@ -51,7 +53,8 @@ pub use shared::Shared;
 pub use store::stored;
 pub use text::Text;
 pub use unset::{
-    MOST_CELLS, default_of, has_bounds_in_range, has_few_cells, has_strings_in_range, shape_fault,
+    MOST_CELLS, default_of, has_bounds_in_range, has_few_cells, has_strings_in_range, indices,
+    shape_fault,
 };
 pub use value::Value;
 pub use value_text::{EnumNames, text_of};

@@ -48,7 +48,7 @@ fn byte_at(bytes: &[u8], step: Sel) -> Option<u8>
 }
 
 /// The step of a path at a place in it, where there is one.
-pub(crate) fn step_at(path: &[Sel], at: usize) -> Option<Sel>
+pub fn step_at(path: &[Sel], at: usize) -> Option<Sel>
     ensures next { MatchOption result (drop at path.now ≡ []) (λ step. drop at path.now ≡ step ∷ drop (at + 1) path.now) }
     ensures within { OnSome result (at < length path.now) }
 {

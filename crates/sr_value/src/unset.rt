@@ -146,7 +146,7 @@ fn product(a: u64, b: u64) -> u64
 }
 
 /// How many indices there are from `lo` to `hi`.
-pub(crate) fn indices(lo: i32, hi: i32) -> u64
+pub fn indices(lo: i32, hi: i32) -> u64
     ensures value { result ≡ extent lo hi }
     ensures bound { result ≤ 4294967296 }
 {

@@ -17,7 +17,7 @@ use Rattle.sr_words.specs.Arguments.{HasFlag, HasFlagIn, IsFlag, is_true, parser
 use Rattle.sr_words.specs.Commands.{taken_of, value_in}
 use Rattle.sr_words.specs.Options.{options_of, setting_name}
 use Rattle.sr_words.specs.declared.options.Setting.{Setting}
-use Rattle.sr_words.specs.declared.options.Setting.TheVariants.{Workers, Steps, Ticks}
+use Rattle.sr_words.specs.declared.options.Setting.TheVariants.{Workers, Steps, Ticks, Upto}
 use Rattle.sr_words.specs.declared.verb.Verb.{Verb}
 use Rattle.sr_words.proofs.Rules.{is_simple_and_free_for, is_simple_for}
 use Rattle.sr_words.proofs.Parsed.{parse_refuses, parse_says}
@@ -27,6 +27,7 @@ value_first : (s : Setting) (f : Found) → value_in s (taken_in (rows_of f)) �
 value_first Workers f = sym (first_value-rows f (codes "workers"))
 value_first Steps f = sym (first_value-rows f (codes "steps"))
 value_first Ticks f = sym (first_value-rows f (codes "ticks"))
+value_first Upto f = sym (first_value-rows f (codes "upto"))
 
 -- `get_str`
 pub value_read : (s : Setting) (f : Found) (name : Text) (o : Option (Bor Text)) → option_map (λ v. v.now) o ≡ first_value f name → name ≡ setting_name s

@@ -18,7 +18,7 @@ use Rattle.sr_words.specs.Parts.{Part, parts}
 use Rattle.sr_words.specs.declared.options.CommandOption.{CommandOption}
 use Rattle.sr_words.specs.declared.options.CommandOption.TheVariants.{Number, Journal}
 use Rattle.sr_words.specs.declared.options.Setting.{Setting}
-use Rattle.sr_words.specs.declared.options.Setting.TheVariants.{Workers, Steps, Ticks}
+use Rattle.sr_words.specs.declared.options.Setting.TheVariants.{Workers, Steps, Ticks, Upto}
 use Rattle.sr_words.specs.declared.verb.Verb.{Verb}
 use Rattle.sr_words.proofs.Rows.{Agree, Shows, agree, at_first, first_row, given_row, has_row-find, journal_row, other_row, row_at, row_if, some_texts}
 use Rattle.sr_words.proofs.Rules.{built_for, is_built_for, journal_rule, none_required, option_rule, rules, setting_rule, shape_for, word_rule}
@@ -176,10 +176,11 @@ says options rows t shows =
     let workers = first_shown Workers (defaulted options rows) t.workers (same_row options (codes "workers") rows refl ∙ shows.settings Workers) in
     let steps = first_shown Steps (defaulted options rows) t.steps (same_row options (codes "steps") rows refl ∙ shows.settings Steps) in
     let ticks = first_shown Ticks (defaulted options rows) t.ticks (same_row options (codes "ticks") rows refl ∙ shows.settings Ticks) in
+    let upto = first_shown Upto (defaulted options rows) t.upto (same_row options (codes "upto") rows refl ∙ shows.settings Upto) in
     let words : all_of (codes "word") (defaulted options rows) ≡ some_texts t.words =
     ap (option_map (λ r. r.values)) (same_row options (codes "word") rows refl) ∙ shows.words in
     let given = journal_says options rows t (journal_shown rows t shows t.journal refl) in
-    (rw (workers, steps, ticks, given.0, words, all_texts t.words) refl, given.1)
+    (rw (workers, steps, ticks, upto, given.0, words, all_texts t.words) refl, given.1)
 
 taken_rows : (options : List CommandOption) (faults : Kinds) (rows : List Row) (o : Option (List Row)) (q : Option Taken) → Agree o q
     → unless faults (Some rows) ≡ option_map (defaulted options) o → faults ≡ [] → (t : Taken) × (q ≡ Some t) × Says rows t

@@ -11,7 +11,7 @@ use Rattle.clap.specs.declared.builder.value_parser.Reading.TheVariants.{AsWritt
 use Rattle.clap.specs.declared.parser.matches.ValueSource.{ValueSource}
 use Rattle.clap.specs.declared.parser.matches.ValueSource.TheVariants.{CommandLine}
 use Rattle.sr_words.specs.declared.options.Setting.{Setting}
-use Rattle.sr_words.specs.declared.options.Setting.TheVariants.{Workers, Steps, Ticks}
+use Rattle.sr_words.specs.declared.options.Setting.TheVariants.{Workers, Steps, Ticks, Upto}
 use Rattle.sr_words.specs.Options.{setting_name}
 use Rattle.sr_words.specs.Parts.{Part, plain, journal, given}
 use Rattle.sr_words.specs.Commands.{Taken, nothing_taken, take_all, take_one, value_in, with_value}
@@ -209,6 +209,7 @@ none_at_first : (s : Setting) → row_at (setting_name s) [] ≡ option_map (giv
 none_at_first Workers = refl
 none_at_first Steps = refl
 none_at_first Ticks = refl
+none_at_first Upto = refl
 
 pub at_first : Shows [] nothing_taken
 at_first = record { settings = none_at_first; journal = refl; words = refl }

@@ -49,6 +49,7 @@ taken_in rows = record {
   workers = first_of (codes "workers") rows;
   steps = first_of (codes "steps") rows;
   ticks = first_of (codes "ticks") rows;
+  upto = first_of (codes "upto") rows;
   journal = is_true (one_of (codes "journal") rows);
   words = unwrap_or (all_of (codes "word") rows) [];
 }

@@ -10,31 +10,34 @@ use Rattle.sr_words.specs.Verbs.{verb_of}
 use Rattle.sr_words.specs.declared.command.Command.{Command}
 use Rattle.sr_words.specs.declared.command.Command.TheVariants as command
 use Rattle.sr_words.specs.declared.options.Setting.{Setting}
-use Rattle.sr_words.specs.declared.options.Setting.TheVariants.{Workers, Steps, Ticks}
+use Rattle.sr_words.specs.declared.options.Setting.TheVariants.{Workers, Steps, Ticks, Upto}
 use Rattle.sr_words.specs.declared.verb.Verb.{Verb}
-use Rattle.sr_words.specs.declared.verb.Verb.TheVariants.{Run, Check, Classes, Gen}
+use Rattle.sr_words.specs.declared.verb.Verb.TheVariants.{Run, Check, Classes, Gen, Replay}
 
 -- what the words say: the value of each option that is given, whether `--journal` is, and the words that are no options
 pub record Taken : Type 0 where
   pub workers : Option (List ℕ)
   pub steps : Option (List ℕ)
   pub ticks : Option (List ℕ)
+  pub upto : Option (List ℕ)
   pub journal : Bool
   pub words : List (List ℕ)
 
 abbrev pub nothing_taken : Taken
-nothing_taken = record { workers = None; steps = None; ticks = None; journal = false; words = [] }
+nothing_taken = record { workers = None; steps = None; ticks = None; upto = None; journal = false; words = [] }
 
 -- the value of an option
 abbrev pub value_in : Setting → Taken → Option (List ℕ)
 value_in Workers t = t.workers
 value_in Steps t = t.steps
 value_in Ticks t = t.ticks
+value_in Upto t = t.upto
 
 abbrev pub with_value : Setting → List ℕ → Taken → Taken
 with_value Workers value t = record t { workers = Some value }
 with_value Steps value t = record t { steps = Some value }
 with_value Ticks value t = record t { ticks = Some value }
+with_value Upto value t = record t { upto = Some value }
 
 -- one more part; an option stands at most once
 abbrev pub take_one : Taken → Part → Option Taken
@@ -50,22 +53,31 @@ take_all t (part ∷ parts) = option_and_then (λ next. take_all next parts) (ta
 abbrev pub taken_of : Verb → List (List ℕ) → Option Taken
 taken_of verb words = option_and_then (take_all nothing_taken) (parts (options_of verb) None words)
 
--- the greatest number of an option; the least is 1
+-- the least number of an option
+abbrev pub least_of : Setting → ℕ
+least_of Workers = 1
+least_of Steps = 1
+least_of Ticks = 1
+least_of Upto = 0
+
+-- the greatest number of an option
 abbrev pub most_of : Setting → ℕ
 most_of Workers = 16
 most_of Steps = 16000000
 most_of Ticks = 1000000000
+most_of Upto = 16000000
 
 -- the number of an option that isn't given
 abbrev pub default_of : Setting → ℕ
 default_of Workers = 1
 default_of Steps = 1000000
 default_of Ticks = 10000000
+default_of Upto = 16000000
 
--- the number of an option: its value is a number from 1 to the greatest
+-- the number of an option: its value is a number from the least to the greatest
 abbrev pub setting_number : Setting → Option (List ℕ) → Option ℕ
 setting_number setting None = Some (default_of setting)
-setting_number setting (Some value) = number_within 1 (most_of setting) value
+setting_number setting (Some value) = number_within (least_of setting) (most_of setting) value
 
 -- 1 to 64 files
 abbrev pub files_of : List (List ℕ) → Option (List (List ℕ))
@@ -93,12 +105,21 @@ gen_command t =
     (seed_of t.words))
     (setting_number Workers t.workers)
 
+-- a journal, and 1 to 64 files
+abbrev pub replay_of : ℕ → List (List ℕ) → Option Command
+replay_of upto [] = None
+replay_of upto (word ∷ words) = option_map (λ files. command.Replay word files upto) (files_of words)
+
+abbrev pub replay_command : Taken → Option Command
+replay_command t = option_and_then (λ upto. replay_of upto t.words) (setting_number Upto t.upto)
+
 -- the command of a name, where the words say this
 abbrev pub verb_command : Verb → Taken → Option Command
 verb_command Run t = run_command t
 verb_command Check t = option_map (λ files. command.Check files) (files_of t.words)
 verb_command Classes t = option_map (λ files. command.Classes files) (files_of t.words)
 verb_command Gen t = gen_command t
+verb_command Replay t = replay_command t
 
 -- the command of all words: the first is the name
 abbrev pub command_of : List (List ℕ) → Option Command

@@ -4,9 +4,9 @@ use Rattle.std.specs.Str.{bytes_eq}
 use Rattle.sr_words.specs.declared.options.CommandOption.{CommandOption}
 use Rattle.sr_words.specs.declared.options.CommandOption.TheVariants.{Number, Journal}
 use Rattle.sr_words.specs.declared.options.Setting.{Setting}
-use Rattle.sr_words.specs.declared.options.Setting.TheVariants.{Workers, Steps, Ticks}
+use Rattle.sr_words.specs.declared.options.Setting.TheVariants.{Workers, Steps, Ticks, Upto}
 use Rattle.sr_words.specs.declared.verb.Verb.{Verb}
-use Rattle.sr_words.specs.declared.verb.Verb.TheVariants.{Run, Check, Classes, Gen}
+use Rattle.sr_words.specs.declared.verb.Verb.TheVariants.{Run, Check, Classes, Gen, Replay}
 
 -- the options of each command
 abbrev pub options_of : Verb → List CommandOption
@@ -14,12 +14,14 @@ options_of Run = Number Workers ∷ Number Steps ∷ Number Ticks ∷ Journal �
 options_of Check = []
 options_of Classes = []
 options_of Gen = Number Workers ∷ []
+options_of Replay = Number Upto ∷ []
 
 -- what stands after the dashes of an option that takes a number
 abbrev pub setting_name : Setting → List ℕ
 setting_name Workers = codes "workers"
 setting_name Steps = codes "steps"
 setting_name Ticks = codes "ticks"
+setting_name Upto = codes "upto"
 
 -- what stands after the dashes of an option
 abbrev pub option_name : CommandOption → List ℕ

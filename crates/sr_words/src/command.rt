@@ -31,6 +31,13 @@ pub enum Command {
         seed: u32,
         workers: u32,
     },
+    /// Replays the journal of a run of the program of these files.
+    Replay {
+        journal: Text,
+        files: Row<Text>,
+        /// How many of its items are replayed, at most.
+        upto: u32,
+    },
 }
 
 /// Why the words give no command.

@@ -9,6 +9,7 @@ pub enum Setting {
     Workers,
     Steps,
     Ticks,
+    Upto,
 }
 
 /// An option of a command.
@@ -34,6 +35,7 @@ pub fn options_of(verb: Verb) -> &'static [CommandOption]
         Verb::Check => &[],
         Verb::Classes => &[],
         Verb::Gen => &[CommandOption::Number(Setting::Workers)],
+        Verb::Replay => &[CommandOption::Number(Setting::Upto)],
     }
 }
 
@@ -45,6 +47,7 @@ pub fn setting_name<'a>(setting: Setting) -> &'a str
         Setting::Workers => "workers",
         Setting::Steps => "steps",
         Setting::Ticks => "ticks",
+        Setting::Upto => "upto",
     }
 }
 

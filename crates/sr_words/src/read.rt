@@ -79,6 +79,7 @@ fn verb_command(alloc: Global, verb: Verb, matches: &ArgMatches<'_>) -> Result<C
             files: files_of(alloc, matches)?,
         }),
         Verb::Gen => gen_command(matches),
+        Verb::Replay => replay_command(alloc, matches),
     }
 }
 
@@ -119,6 +120,58 @@ fn gen_command(matches: &ArgMatches<'_>) -> Result<Command, WordsFail>
     Ok(Command::Gen { seed, workers })
 }
 
+fn replay_command(alloc: Global, matches: &ArgMatches<'_>) -> Result<Command, WordsFail>
+    ensures command { IfOk result (λ command. commands.replay_command (arguments.taken_from matches.now) ≡ Some command) }
+    ensures usage { result ≡ Err fails.Usage → commands.replay_command (arguments.taken_from matches.now) ≡ None }
+{
+    let Some(upto) = number_of(Setting::Upto, matches) else {
+        return Err(WordsFail::Usage);
+    };
+    replay_of(alloc, upto, matches)
+}
+
+/// The replay of the words that are no options.
+fn replay_of(alloc: Global, upto: u32, matches: &ArgMatches<'_>) -> Result<Command, WordsFail>
+    ensures command { IfOk result (λ command. commands.replay_of upto (arguments.taken_from matches.now).words ≡ Some command) }
+    ensures usage { result ≡ Err fails.Usage → commands.replay_of upto (arguments.taken_from matches.now).words ≡ None }
+{
+    match matches.get_raw("word") {
+        None => Err(WordsFail::Usage),
+        Some(words) => replay_in(alloc, upto, words),
+    }
+}
+
+/// The replay of the journal that is the first word.
+fn replay_in(alloc: Global, upto: u32, words: &[&str]) -> Result<Command, WordsFail>
+    ensures command { IfOk result (λ command. commands.replay_of upto (map (λ word. word.now) words.now) ≡ Some command) }
+    ensures usage { result ≡ Err fails.Usage → commands.replay_of upto (map (λ word. word.now) words.now) ≡ None }
+{
+    match words {
+        [] => Err(WordsFail::Usage),
+        [journal, words @ ..] => {
+            let files = files_in(alloc, words)?;
+            let journal = Text::from_slice(alloc, journal.as_bytes())?;
+            Ok(Command::Replay {
+                journal,
+                files,
+                upto,
+            })
+        }
+    }
+}
+
+/// The least number of an option.
+fn least_of(setting: Setting) -> u32
+    ensures { result ≡ commands.least_of setting }
+{
+    match setting {
+        Setting::Workers => 1,
+        Setting::Steps => 1,
+        Setting::Ticks => 1,
+        Setting::Upto => 0,
+    }
+}
+
 /// The greatest number of an option.
 fn most_of(setting: Setting) -> u32
     ensures { result ≡ commands.most_of setting }
@@ -127,6 +180,7 @@ fn most_of(setting: Setting) -> u32
         Setting::Workers => 16,
         Setting::Steps => 16_000_000,
         Setting::Ticks => 1_000_000_000,
+        Setting::Upto => 16_000_000,
     }
 }
 
@@ -138,6 +192,7 @@ fn default_of(setting: Setting) -> u32
         Setting::Workers => 1,
         Setting::Steps => 1_000_000,
         Setting::Ticks => 10_000_000,
+        Setting::Upto => 16_000_000,
     }
 }
 
@@ -147,7 +202,7 @@ fn number_of(setting: Setting, matches: &ArgMatches<'_>) -> Option<u32>
 {
     match matches.get_str(setting_name(setting)) {
         None => Some(default_of(setting)),
-        Some(value) => number_within(1, most_of(setting), value.as_bytes()),
+        Some(value) => number_within(least_of(setting), most_of(setting), value.as_bytes()),
     }
 }
 

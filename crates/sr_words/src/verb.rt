@@ -8,6 +8,7 @@ pub enum Verb {
     Check,
     Classes,
     Gen,
+    Replay,
 }
 
 /// The command that is written as this word.
@@ -22,6 +23,8 @@ pub fn verb_of(word: &[u8]) -> Option<Verb>
         Some(Verb::Classes)
     } else if word == b"gen".as_slice() {
         Some(Verb::Gen)
+    } else if word == b"replay".as_slice() {
+        Some(Verb::Replay)
     } else {
         None
     }

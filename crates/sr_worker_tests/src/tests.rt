@@ -1,7 +1,9 @@
 ghost use Rattle.std.specs.Prelude.{◌<◌, ◌≤◌, All, IfOk};
 ghost use Rattle.sr_worker.specs.Hands.{AreApart, processes_of};
 
-use crate::{CountingGate, FakeDesk, FakeSeat, Script};
+use crate::counting_gate::CountingGate;
+use crate::fake_desk::{FakeDesk, FakeSeat};
+use crate::script::Script;
 use sr_actor::Member;
 use sr_ask::{Answer, Ask, Entry, Request, Role};
 use sr_core::{Classes, Core};

@@ -3,4 +3,4 @@ use Rattle.sr_meaning.proofs.Forever.{forever}
 use Rattle.sr_interpreter_expr.proofs.settle.failed.Goals as goal
 
 pub returns : goal.returns
-returns g c = forever _ (here_of c.args.scene.now).limit (stage_of c.args.interpreter.now)
+returns g c = forever _ (here_of g.C.HasCore.core_of c.args.scene.now).limit (stage_of c.args.interpreter.now)

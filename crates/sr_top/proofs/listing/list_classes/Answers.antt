@@ -1,6 +1,6 @@
 -- The lines of the classes are put; or there is no program, and the call ends for that reason.
-use Rattle.std.proofs.Common.{ap, refl, subst, sym}
-use Rattle.std.specs.Option.{option_map}
+use Rattle.std.proofs.Common.{ap, inl, refl, subst, sym}
+use Rattle.std.specs.Prelude.{option_and_then}
 use Rattle.sr_top.proofs.Endings.{listed, stopped}
 use Rattle.sr_top.specs.Causes.{HasCause}
 use Rattle.sr_top.specs.Tasks.{Named, origin_of}
@@ -10,6 +10,7 @@ pub returns-in-Ok-clause-cause : goal.returns-in-Ok-clause-cause
 returns-in-Ok-clause-cause g c = λ words left read_faults asked.
     subst (HasCause _) (sym c.without_items.ensures.ending)
     (listed _ _ _
+    (inl
     (record {
       names = c.args.names.now;
       asked = asked;
@@ -21,10 +22,10 @@ returns-in-Ok-clause-cause g c = λ words left read_faults asked.
       no_items = c.without_items.ensures.items;
       left = refl;
       no_read_fault = refl;
-    })
+    }))
     c.put_classes.ensures)
 
 pub returns-in-Err-clause-cause : goal.returns-in-Err-clause-cause
 returns-in-Err-clause-cause g c = λ words left read_faults asked.
     subst (HasCause _) (sym c.without_items-in-Err.ensures.ending)
-    (stopped _ (Named c.args.names.now) _ (ap (option_map origin_of) asked) (record { no_items = c.without_items-in-Err.ensures.items; untouched = refl }) c.in-Err.ensures.ends)
+    (stopped _ (Named c.args.names.now) _ (ap (option_and_then origin_of) asked) (record { no_items = c.without_items-in-Err.ensures.items; untouched = refl }) c.in-Err.ensures.ends)

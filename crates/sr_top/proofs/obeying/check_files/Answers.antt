@@ -1,6 +1,6 @@
 -- The files are a program, and the call is done; or there is none, and the call ends for that reason.
 use Rattle.std.proofs.Common.{ap, inl, refl, subst, sym}
-use Rattle.std.specs.Option.{option_map}
+use Rattle.std.specs.Prelude.{option_and_then}
 use Rattle.sr_top.proofs.Endings.{stopped}
 use Rattle.sr_top.specs.Causes.{HasCause}
 use Rattle.sr_top.specs.Tasks.{Named, origin_of}
@@ -23,4 +23,4 @@ returns-in-Ok-clause-cause g c = λ words devices asked.
 pub returns-in-Err-clause-cause : goal.returns-in-Err-clause-cause
 returns-in-Err-clause-cause g c = λ words devices asked.
     subst (HasCause _) (sym c.without_items-in-Err.ensures.ending)
-    (stopped _ (Named c.args.names.now) _ (ap (option_map origin_of) asked) (record { no_items = c.without_items-in-Err.ensures.items; untouched = refl }) c.in-Err.ensures.ends)
+    (stopped _ (Named c.args.names.now) _ (ap (option_and_then origin_of) asked) (record { no_items = c.without_items-in-Err.ensures.items; untouched = refl }) c.in-Err.ensures.ends)

@@ -8,13 +8,14 @@ use Rattle.sr_top.proofs.Asked.{handed_on, named_as, task_is}
 use Rattle.sr_top.proofs.Commands.{can_be_asked}
 use Rattle.sr_top.specs.Causes.{Call, HasCause, call_of, devices}
 use Rattle.sr_top.specs.Journal.{CanBeAsked, EndsBeforeRun, HasHeaderIf, without}
-use Rattle.sr_top.specs.Tasks.{Checks, ListsClasses, Named, Runs, keeps_journal}
+use Rattle.sr_top.specs.Tasks.{Checks, ListsClasses, Named, Replays, Runs, keeps_journal}
+use Rattle.sr_top.specs.Reading.{reads_by}
 use Rattle.sr_top.proofs.obeying.obey.Goals as goal
 
 pub returns-in-Run-clause-cause : goal.returns-in-Run-clause-cause
 returns-in-Run-clause-cause g c = λ words told.
     let call : List Item → Call =
-    call_of words (g.F.Files.content c.args.files.now) (g.F.Files.faults c.args.files.now) (g.F.Files.faults c.run_files-outcome.new.files)
+    call_of words (g.F.Files.content c.args.files.now) (reads_by (g.F.Files.readings c.args.files.now) (g.F.Files.faults c.args.files.now)) (reads_by (g.F.Files.readings c.run_files-outcome.new.files) (g.F.Files.faults c.run_files-outcome.new.files))
     (devices (g.I.Source.left c.args.input.now) (g.I.Source.faults c.args.input.now) (g.O.Sink.held c.args.output.now) (g.O.Sink.faults c.args.output.now))
     (devices (g.I.Source.left c.run_files-outcome.new.input) (g.I.Source.faults c.run_files-outcome.new.input) (g.O.Sink.held c.run_files-outcome.new.output) (g.O.Sink.faults c.run_files-outcome.new.output)) in
     handed_on (λ items ending header. HasCause (call items) ending) _ _ _ _ _ _ c.named.ensures.items c.named.ensures.ending c.named.ensures.header
@@ -23,7 +24,7 @@ returns-in-Run-clause-cause g c = λ words told.
 pub returns-in-Run-clause-header : goal.returns-in-Run-clause-header
 returns-in-Run-clause-header g c = λ words told.
     let call : List Item → Call =
-    call_of words (g.F.Files.content c.args.files.now) (g.F.Files.faults c.args.files.now) (g.F.Files.faults c.run_files-outcome.new.files)
+    call_of words (g.F.Files.content c.args.files.now) (reads_by (g.F.Files.readings c.args.files.now) (g.F.Files.faults c.args.files.now)) (reads_by (g.F.Files.readings c.run_files-outcome.new.files) (g.F.Files.faults c.run_files-outcome.new.files))
     (devices (g.I.Source.left c.args.input.now) (g.I.Source.faults c.args.input.now) (g.O.Sink.held c.args.output.now) (g.O.Sink.faults c.args.output.now))
     (devices (g.I.Source.left c.run_files-outcome.new.input) (g.I.Source.faults c.run_files-outcome.new.input) (g.O.Sink.held c.run_files-outcome.new.output) (g.O.Sink.faults c.run_files-outcome.new.output)) in
     handed_on (λ items ending header. HasHeaderIf (call items) ending header) _ _ _ _ _ _ c.named.ensures.items c.named.ensures.ending c.named.ensures.header
@@ -35,12 +36,12 @@ returns-in-Run-clause-in_range g c = λ words told.
     (c.run_files-outcome.ensures.in_range (subst (λ names. CanBeAsked names c.in-Run.steps c.in-Run.ticks) (sym c.as_slice.ensures) (can_be_asked _ _ _ _ _ words (told ∙ ap Some c.in-Run.is))))
 
 pub returns-in-Run-clause-names : goal.returns-in-Run-clause-names
-returns-in-Run-clause-names g c = λ words told. named_as words c.named.result.names _ _ (task_is words _ _ _ told c.in-Run.is refl) c.named.ensures.names
+returns-in-Run-clause-names g c = λ words told. named_as words c.named.result.names c.named.result.replayed _ _ (task_is words _ _ _ told c.in-Run.is refl) c.named.ensures.names c.named.ensures.replayed
 
 pub returns-in-Check-clause-cause : goal.returns-in-Check-clause-cause
 returns-in-Check-clause-cause g c = λ words told.
     let call : List Item → Call =
-    call_of words (g.F.Files.content c.args.files.now) (g.F.Files.faults c.args.files.now) (g.F.Files.faults c.check_files-outcome.new.files)
+    call_of words (g.F.Files.content c.args.files.now) (reads_by (g.F.Files.readings c.args.files.now) (g.F.Files.faults c.args.files.now)) (reads_by (g.F.Files.readings c.check_files-outcome.new.files) (g.F.Files.faults c.check_files-outcome.new.files))
     (devices (g.I.Source.left c.args.input.now) (g.I.Source.faults c.args.input.now) (g.O.Sink.held c.args.output.now) (g.O.Sink.faults c.args.output.now))
     (devices (g.I.Source.left c.args.input.now) (g.I.Source.faults c.args.input.now) (g.O.Sink.held c.args.output.now) (g.O.Sink.faults c.args.output.now)) in
     handed_on (λ items ending header. HasCause (call items) ending) _ _ _ _ _ _ c.named-in-Check.ensures.items c.named-in-Check.ensures.ending c.named-in-Check.ensures.header
@@ -54,12 +55,12 @@ pub returns-in-Check-clause-in_range : goal.returns-in-Check-clause-in_range
 returns-in-Check-clause-in_range g c = λ words told. subst (λ o. IfSome o (λ h. IsInRange h c.named-in-Check.result.items)) (sym (c.named-in-Check.ensures.header ∙ c.check_files-outcome.ensures.header)) tt
 
 pub returns-in-Check-clause-names : goal.returns-in-Check-clause-names
-returns-in-Check-clause-names g c = λ words told. named_as words c.named-in-Check.result.names _ _ (task_is words _ _ _ told c.in-Check.is refl) c.named-in-Check.ensures.names
+returns-in-Check-clause-names g c = λ words told. named_as words c.named-in-Check.result.names c.named-in-Check.result.replayed _ _ (task_is words _ _ _ told c.in-Check.is refl) c.named-in-Check.ensures.names c.named-in-Check.ensures.replayed
 
 pub returns-in-Classes-clause-cause : goal.returns-in-Classes-clause-cause
 returns-in-Classes-clause-cause g c = λ words told.
     let call : List Item → Call =
-    call_of words (g.F.Files.content c.args.files.now) (g.F.Files.faults c.args.files.now) (g.F.Files.faults c.list_classes-outcome.new.files)
+    call_of words (g.F.Files.content c.args.files.now) (reads_by (g.F.Files.readings c.args.files.now) (g.F.Files.faults c.args.files.now)) (reads_by (g.F.Files.readings c.list_classes-outcome.new.files) (g.F.Files.faults c.list_classes-outcome.new.files))
     (devices (g.I.Source.left c.args.input.now) (g.I.Source.faults c.args.input.now) (g.O.Sink.held c.args.output.now) (g.O.Sink.faults c.args.output.now))
     (devices (g.I.Source.left c.args.input.now) (g.I.Source.faults c.args.input.now) (g.O.Sink.held c.list_classes-outcome.new.output) (g.O.Sink.faults c.list_classes-outcome.new.output)) in
     handed_on (λ items ending header. HasCause (call items) ending) _ _ _ _ _ _ c.named-in-Classes.ensures.items c.named-in-Classes.ensures.ending c.named-in-Classes.ensures.header
@@ -73,12 +74,12 @@ pub returns-in-Classes-clause-in_range : goal.returns-in-Classes-clause-in_range
 returns-in-Classes-clause-in_range g c = λ words told. subst (λ o. IfSome o (λ h. IsInRange h c.named-in-Classes.result.items)) (sym (c.named-in-Classes.ensures.header ∙ c.list_classes-outcome.ensures.header)) tt
 
 pub returns-in-Classes-clause-names : goal.returns-in-Classes-clause-names
-returns-in-Classes-clause-names g c = λ words told. named_as words c.named-in-Classes.result.names _ _ (task_is words _ _ _ told c.in-Classes.is refl) c.named-in-Classes.ensures.names
+returns-in-Classes-clause-names g c = λ words told. named_as words c.named-in-Classes.result.names c.named-in-Classes.result.replayed _ _ (task_is words _ _ _ told c.in-Classes.is refl) c.named-in-Classes.ensures.names c.named-in-Classes.ensures.replayed
 
 pub returns-in-Ok-clause-cause : goal.returns-in-Ok-clause-cause
 returns-in-Ok-clause-cause g c = λ words told.
     let call : List Item → Call =
-    call_of words (g.F.Files.content c.args.files.now) (g.F.Files.faults c.args.files.now) (g.F.Files.faults c.args.files.now)
+    call_of words (g.F.Files.content c.args.files.now) (reads_by (g.F.Files.readings c.args.files.now) (g.F.Files.faults c.args.files.now)) (reads_by (g.F.Files.readings c.args.files.now) (g.F.Files.faults c.args.files.now))
     (devices (g.I.Source.left c.args.input.now) (g.I.Source.faults c.args.input.now) (g.O.Sink.held c.args.output.now) (g.O.Sink.faults c.args.output.now))
     (devices (g.I.Source.left c.run_sample-outcome.new.input) (g.I.Source.faults c.run_sample-outcome.new.input) (g.O.Sink.held c.run_sample-outcome.new.output) (g.O.Sink.faults c.run_sample-outcome.new.output)) in
     handed_on (λ items ending header. HasCause (call items) ending) _ _ _ _ _ _ c.named-in-Ok.ensures.items c.named-in-Ok.ensures.ending c.named-in-Ok.ensures.header
@@ -92,7 +93,28 @@ pub returns-in-Ok-clause-in_range : goal.returns-in-Ok-clause-in_range
 returns-in-Ok-clause-in_range g c = λ words told. subst (λ o. IfSome o (λ h. IsInRange h c.named-in-Ok.result.items)) (sym (c.named-in-Ok.ensures.header ∙ c.run_sample-outcome.ensures.header)) tt
 
 pub returns-in-Ok-clause-names : goal.returns-in-Ok-clause-names
-returns-in-Ok-clause-names g c = λ words told. named_as words c.named-in-Ok.result.names _ _ (task_is words _ _ _ told c.in-Gen.is refl) (c.named-in-Ok.ensures.names ∙ c.in-Ok.ensures)
+returns-in-Ok-clause-names g c = λ words told. named_as words c.named-in-Ok.result.names c.named-in-Ok.result.replayed _ _ (task_is words _ _ _ told c.in-Gen.is refl) (c.named-in-Ok.ensures.names ∙ c.in-Ok.ensures) c.named-in-Ok.ensures.replayed
+
+pub returns-in-Replay-clause-cause : goal.returns-in-Replay-clause-cause
+returns-in-Replay-clause-cause g c = λ words told.
+    let call : List Item → Call =
+    call_of words (g.F.Files.content c.args.files.now)
+    (reads_by (g.F.Files.readings c.args.files.now) (g.F.Files.faults c.args.files.now)) (reads_by (g.F.Files.readings c.replay_journal-outcome.new.files) (g.F.Files.faults c.replay_journal-outcome.new.files))
+    (devices (g.I.Source.left c.args.input.now) (g.I.Source.faults c.args.input.now) (g.O.Sink.held c.args.output.now) (g.O.Sink.faults c.args.output.now))
+    (devices (g.I.Source.left c.replay_journal-outcome.new.input) (g.I.Source.faults c.replay_journal-outcome.new.input) (g.O.Sink.held c.replay_journal-outcome.new.output) (g.O.Sink.faults c.replay_journal-outcome.new.output)) in
+    handed_on (λ items ending header. HasCause (call items) ending) _ _ _ _ _ _ c.named-in-Replay.ensures.items c.named-in-Replay.ensures.ending c.named-in-Replay.ensures.header
+    (c.replay_journal-outcome.ensures.cause words
+    (task_is words _ _ _ told c.in-Replay.is refl ∙ ap (λ names. Some (Replays c.in-Replay.journal names c.in-Replay.upto)) (sym c.as_slice-in-Replay.ensures)))
+
+pub returns-in-Replay-clause-header : goal.returns-in-Replay-clause-header
+returns-in-Replay-clause-header g c = λ words told.
+    subst (HasHeaderIf _ _) (sym (c.named-in-Replay.ensures.header ∙ c.replay_journal-outcome.ensures.header)) (without (inl (ap (λ t. unwrap_or (option_map keeps_journal t) false) (task_is words _ _ _ told c.in-Replay.is refl))))
+
+pub returns-in-Replay-clause-in_range : goal.returns-in-Replay-clause-in_range
+returns-in-Replay-clause-in_range g c = λ words told. subst (λ o. IfSome o (λ h. IsInRange h c.named-in-Replay.result.items)) (sym (c.named-in-Replay.ensures.header ∙ c.replay_journal-outcome.ensures.header)) tt
+
+pub returns-in-Replay-clause-names : goal.returns-in-Replay-clause-names
+returns-in-Replay-clause-names g c = λ words told. named_as words c.named-in-Replay.result.names c.named-in-Replay.result.replayed _ _ (task_is words _ _ _ told c.in-Replay.is refl) c.named-in-Replay.ensures.names c.named-in-Replay.ensures.replayed
 
 pub returns-in-Err-clause-header : goal.returns-in-Err-clause-header
 returns-in-Err-clause-header g c = λ words told.

@@ -1,7 +1,6 @@
 -- The program is run, and the call ends as its run; or there is none, and the call ends for that reason.
 use Rattle.std.proofs.Common.{ap, inr, refl, subst, sym}
-use Rattle.std.specs.Option.{option_map}
-use Rattle.std.specs.Prelude.{IfSome}
+use Rattle.std.specs.Prelude.{IfSome, option_and_then}
 use Rattle.sr_journal.specs.Journal.{IsInRange}
 use Rattle.sr_top.proofs.Endings.{caused, stopped}
 use Rattle.sr_top.proofs.Journals.{came_before, headed, in_range, ran_to}
@@ -41,7 +40,7 @@ returns-in-Ok-clause-in_range g c = λ can.
 pub returns-in-Err-clause-cause : goal.returns-in-Err-clause-cause
 returns-in-Err-clause-cause g c = λ words asked.
     subst (HasCause _) (sym c.without_items.ensures.ending)
-    (stopped _ (Named c.args.names.now) _ (ap (option_map origin_of) asked) (record { no_items = c.without_items.ensures.items; untouched = refl }) c.in-Err.ensures.ends)
+    (stopped _ (Named c.args.names.now) _ (ap (option_and_then origin_of) asked) (record { no_items = c.without_items.ensures.items; untouched = refl }) c.in-Err.ensures.ends)
 
 pub returns-in-Err-clause-header : goal.returns-in-Err-clause-header
 returns-in-Err-clause-header g c = λ words asked.

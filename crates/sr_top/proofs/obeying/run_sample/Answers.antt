@@ -1,6 +1,6 @@
 -- The sample is run, and the call ends as its run; or it isn't accepted, and the call ends for that reason.
 use Rattle.std.proofs.Common.{ap, false, refl, subst, sym}
-use Rattle.std.specs.Option.{option_map}
+use Rattle.std.specs.Prelude.{option_and_then}
 use Rattle.sr_top.proofs.Endings.{caused, stopped}
 use Rattle.sr_top.proofs.Readings.{ended_as, sampled_of}
 use Rattle.sr_top.specs.Causes.{HasCause}
@@ -9,7 +9,7 @@ use Rattle.sr_top.specs.Tasks.{Sampled, origin_of}
 use Rattle.sr_top.proofs.obeying.run_sample.Goals as goal
 
 pub returns-in-Ok-clause-cause : goal.returns-in-Ok-clause-cause
-returns-in-Ok-clause-cause g c = λ words files faults asked.
+returns-in-Ok-clause-cause g c = λ words files reads asked.
     let ends = c.run_program.ensures.ends in
     subst (HasCause _) (sym ends.is)
     (caused _ _ _ _ ends.end
@@ -17,7 +17,7 @@ returns-in-Ok-clause-cause g c = λ words files faults asked.
     ends.within ends.cause)
 
 pub returns-in-Err-clause-cause : goal.returns-in-Err-clause-cause
-returns-in-Err-clause-cause g c = λ words files faults asked.
+returns-in-Err-clause-cause g c = λ words files reads asked.
     subst (HasCause _) (sym c.without_items.ensures.ending)
-    (stopped _ (Sampled c.args.seed) _ (ap (option_map origin_of) asked) (record { no_items = c.without_items.ensures.items; untouched = refl })
-    (ended_as files (Sampled c.args.seed) (sample_files c.args.seed) faults faults _ refl refl c.in-Err.ensures.ends))
+    (stopped _ (Sampled c.args.seed) _ (ap (option_and_then origin_of) asked) (record { no_items = c.without_items.ensures.items; untouched = refl })
+    (ended_as files (Sampled c.args.seed) (sample_files c.args.seed) reads reads _ refl refl c.in-Err.ensures.ends))

@@ -1,6 +1,6 @@
--- So far each file was read, and none failed.
+-- So far each file was read, none failed, and no other was read.
 use Rattle.std.proofs.Common.{◌≡◌, take}
-use Rattle.sr_top.specs.Reading.{AreRead}
+use Rattle.sr_top.specs.Reading.{AreRead, reads_after}
 use Rattle.sr_top.proofs.reading.read_files.Given as goal
 
 abbrev pub invariant-loop-name : goal.invariant-loop-name
@@ -9,3 +9,4 @@ invariant-loop-name g l =
     × (l.number ≡ l.name-index)
     × (g.F.Files.content l.files ≡ g.F.Files.content l.initial.files)
     × (g.F.Files.faults l.files ≡ g.F.Files.faults l.initial.files)
+    × ((g.F.Files.readings l.files).reads ≡ reads_after (g.F.Files.readings l.initial.files).reads l.name-index)

@@ -16,7 +16,7 @@ returns-clause-diag g c =
     let before = c.args.diag.now in
     let after = c.put_diag-diag.new.diag in
     subst (λ text. GotAsFar c.put_diag-diag.result text (g.D.Sink.held before) (g.D.Sink.held after) (g.D.Sink.faults before) (g.D.Sink.faults after))
-    (ap (λ names. diag_text names c.obey_words-obeyed.result.ending) c.as_slice.ensures ∙ c.obey_words-obeyed.ensures.names) c.put_diag-diag.ensures
+    (ap (λ names. diag_text c.obey_words-obeyed.result.replayed names c.obey_words-obeyed.result.ending) c.as_slice.ensures ∙ c.obey_words-obeyed.ensures.names) c.put_diag-diag.ensures
 
 pub returns-clause-journal : goal.returns-clause-journal
 returns-clause-journal g c =

@@ -1,5 +1,0 @@
-//! Tests of the text of journals.
-#![tactic(auto)]
-
-#[cfg(test)]
-mod journals;

@@ -1,5 +1,0 @@
-//! Tests of the sample program of a seed.
-#![tactic(auto)]
-
-#[cfg(test)]
-mod texts;

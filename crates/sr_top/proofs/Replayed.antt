@@ -1,0 +1,225 @@
+-- From the stages of a replay to why the call ends.
+use Rattle.std.proofs.Common.{◌≡◌, ◌∙◌, ◌+◌, ◌<◌, ◌≤◌, ◌⊎◌, ℕ, zero, suc, List, [], length, min, Some, add-one, ap, arith, inl, inr, refl, subst, sym}
+use Rattle.std.proofs.Math.Nat.{min-eq_left, min-eq_right}
+use Rattle.std.proofs.lemmas.Bool.{cases_lt}
+use Rattle.std.specs.Prelude.{Result, Ok, Err, IfOk, IfErr}
+use Rattle.sr_core.specs.declared.component.Core.{Core}
+use Rattle.sr_core.specs.declared.owner.Classes.{Classes}
+use Rattle.sr_ports.specs.Faults.{Rose}
+use Rattle.sr_ports.specs.Files.{next_read}
+use Rattle.sr_replay.specs.Replays.{Replays}
+use Rattle.sr_replay.specs.Texts.{snapshot_text}
+use Rattle.sr_replay.specs.declared.snapshot.Snapshot.{Snapshot}
+use Rattle.sr_replay.specs.declared.whole.Replayed.TheVariants as replayed
+use Rattle.sr_run.specs.declared.end.LimitKind.TheVariants as limit
+use Rattle.sr_top.proofs.Endings.{devices_same}
+use Rattle.sr_top.specs.Causes.{Call, HasCause, PutsNothing, RunsNothing}
+use Rattle.sr_top.specs.Reading.{FailsAt, Reads, reads_after}
+use Rattle.sr_top.specs.Replaying.{AreBytesOf, AsksReplay, HasInput, HasJournal, HasProgram, HasSnapshot, IsWhole, ReadsJournal}
+use Rattle.sr_top.specs.Stages.{AreLines, AreProgram, EndsAfterJournal, EndsAfterProgram, EndsInput, EndsItems, EndsJournal, EndsProgram, EndsText, HasLinesOf, Inputs, IsJournalOf, IsText, IsTextOf, Told, inputs}
+use Rattle.sr_top.specs.Tasks as tasks
+use Rattle.sr_top.specs.declared.recorded.Journal.{Journal}
+use Rattle.sr_top.specs.declared.report.Ending.{Ending}
+use Rattle.sr_top.specs.declared.report.Ending.TheVariants.{Done, Quiet, Stopped, Failed, Limit, Refused, NoFile, ReadFault, WriteFault, NoMemory, Usage, BadJournal, OtherFiles, Illegal}
+
+-- ---- counts of reads
+
+reads_after-next : (reads more : ℕ) → reads_after (next_read reads) more ≡ reads_after reads (suc more)
+reads_after-next reads zero = refl
+reads_after-next reads (suc more) = ap next_read (reads_after-next reads more)
+
+-- a file that failed after the journal is one place later among all that were read
+later : (file word : ℕ) (before mid now : Reads) → word ≡ file + 1 → mid.reads ≡ next_read before.reads → mid.faults ≡ before.faults → FailsAt file mid now → FailsAt word before now
+later file word before mid now place one same fails = record {
+  last = fails.last ∙ ap (λ reads. reads_after reads (suc file)) one ∙ reads_after-next before.reads (suc file) ∙ sym (ap (λ n. reads_after before.reads (suc n)) (place ∙ add-one file));
+  failed = fails.failed;
+  rose = subst (λ faults. Rose faults now.faults) same fails.rose;
+}
+
+-- ---- what is there
+
+module _ (call : Call) (name : List ℕ) (names : List (List ℕ)) (upto : ℕ) (asked : tasks.task call.words ≡ Some (tasks.Replays name names upto)) where
+  abbrev asks : AsksReplay call
+  asks = record { journal = name; names = names; upto = upto; asked = asked }
+
+  abbrev reads_bytes : (bytes : List ℕ) → AreBytesOf call.files name bytes → ReadsJournal call
+  reads_bytes bytes read = record { asks = asks; bytes = bytes; read = read }
+
+  abbrev journal_of : (journal : Journal) → IsJournalOf call.files name journal → HasJournal call
+  journal_of journal is = record { reads = reads_bytes is.bytes is.read; header = journal.header; items = journal.items; is = is.is }
+
+  abbrev program_of : (journal : Journal) → IsJournalOf call.files name journal → (core : Core) (classes : Classes) → AreProgram call.files names journal.header core classes
+      → call.reads_now.faults ≡ call.reads.faults → HasProgram call
+  program_of journal is core classes program no_fault = record {
+    same = record { has = record { journal = journal_of journal is; files = program.files; read = program.read }; same = program.is.same };
+    core = core;
+    classes = classes;
+    accepted = program.is.accepted;
+    no_fault = no_fault;
+  }
+
+  -- ---- why the call ends
+
+  journal_ended : RunsNothing call → (ending : Ending) → EndsJournal call.files name call.reads call.reads_now ending → HasCause call ending
+  journal_ended nothing Done ends = absurd ends
+  journal_ended nothing Quiet ends = absurd ends
+  journal_ended nothing (Stopped status) ends = absurd ends
+  journal_ended nothing (Failed fault place) ends = absurd ends
+  journal_ended nothing (Limit kind) ends = absurd ends
+  journal_ended nothing (Refused refusal) ends = absurd ends
+  journal_ended nothing (NoFile file) ends = inr (record { unread = inl (ends.0, asks); failed = ends.1; nothing = nothing })
+  journal_ended nothing ReadFault ends = absurd ends
+  journal_ended nothing WriteFault ends = absurd ends
+  journal_ended nothing NoMemory ends = inl (record { no_fault = ends; nothing = nothing })
+  journal_ended nothing Usage ends = absurd ends
+  journal_ended nothing (BadJournal fail) ends = record { reads = reads_bytes ends.0.bytes ends.0.read; cause = ends.0.cause; no_fault = ends.1; nothing = nothing }
+  journal_ended nothing (OtherFiles file) ends = absurd ends
+  journal_ended nothing (Illegal at) ends = absurd ends
+
+  program_ended : (journal : Journal) → IsJournalOf call.files name journal → (mid : Reads) → mid.reads ≡ next_read call.reads.reads → mid.faults ≡ call.reads.faults → RunsNothing call
+      → (ending : Ending) → EndsProgram call.files names journal.header mid call.reads_now ending → HasCause call ending
+  program_ended journal is mid one same nothing Done ends = absurd ends
+  program_ended journal is mid one same nothing Quiet ends = absurd ends
+  program_ended journal is mid one same nothing (Stopped status) ends = absurd ends
+  program_ended journal is mid one same nothing (Failed fault place) ends = absurd ends
+  program_ended journal is mid one same nothing (Limit kind) ends = absurd ends
+  program_ended journal is mid one same nothing (Refused refusal) ends = inr (record { same = record { has = record { journal = journal_of journal is; files = ends.0.files; read = ends.0.read }; same = ends.0.same }; refused = ends.0.refused; no_fault = ends.1 ∙ same; nothing = nothing })
+  program_ended journal is mid one same nothing (NoFile file) ends = inr (record { unread = inr (record { has = journal_of journal is; file = ends.file; place = ends.place; unread = ends.unread }); failed = later ends.file file call.reads mid call.reads_now ends.place one same ends.failed; nothing = nothing })
+  program_ended journal is mid one same nothing ReadFault ends = absurd ends
+  program_ended journal is mid one same nothing WriteFault ends = absurd ends
+  program_ended journal is mid one same nothing NoMemory ends = inl (record { no_fault = ends ∙ same; nothing = nothing })
+  program_ended journal is mid one same nothing Usage ends = absurd ends
+  program_ended journal is mid one same nothing (BadJournal fail) ends = absurd ends
+  program_ended journal is mid one same nothing (OtherFiles file) ends = record { has = record { journal = journal_of journal is; files = ends.0.files; read = ends.0.read }; other = ends.0.other; no_fault = ends.1 ∙ same; nothing = nothing }
+  program_ended journal is mid one same nothing (Illegal at) ends = absurd ends
+
+  input_ended : HasProgram call → PutsNothing call → (ending : Ending) → EndsInput call.before.left call.now.left call.before.read_faults call.now.read_faults ending → HasCause call ending
+  input_ended program nothing Done ends = absurd ends
+  input_ended program nothing Quiet ends = absurd ends
+  input_ended program nothing (Stopped status) ends = absurd ends
+  input_ended program nothing (Failed fault place) ends = absurd ends
+  input_ended program nothing (Limit limit.Steps) ends = absurd ends
+  input_ended program nothing (Limit (limit.Ticks process)) ends = absurd ends
+  input_ended program nothing (Limit limit.Input) ends = inr (refl, record { program = program; long = ends.0; no_read_fault = ends.1; nothing = nothing })
+  input_ended program nothing (Refused refusal) ends = absurd ends
+  input_ended program nothing (NoFile file) ends = absurd ends
+  input_ended program nothing ReadFault ends = inr (record { program = program; failed = ends; nothing = nothing })
+  input_ended program nothing WriteFault ends = absurd ends
+  input_ended program nothing NoMemory ends = inr (inr (inr (record { asks = asks; no_fault = program.no_fault; no_read_fault = ends; nothing = nothing })))
+  input_ended program nothing Usage ends = absurd ends
+  input_ended program nothing (BadJournal fail) ends = absurd ends
+  input_ended program nothing (OtherFiles file) ends = absurd ends
+  input_ended program nothing (Illegal at) ends = absurd ends
+
+  module _ (journal : Journal) (is : IsJournalOf call.files name journal) (core : Core) (classes : Classes) (program : AreProgram call.files names journal.header core classes)
+      (no_fault : call.reads_now.faults ≡ call.reads.faults) (taken : List ℕ) (whole : IsWhole call.before.left call.now.left taken)
+      (no_read_fault : call.now.read_faults ≡ call.before.read_faults) where
+    abbrev input_of : call.items ≡ [] → HasInput call
+    input_of no_items =
+        record { program = program_of journal is core classes program no_fault; taken = taken; whole = whole; no_read_fault = no_read_fault; no_items = no_items }
+
+    items_ended : PutsNothing call → (ending : Ending) → EndsItems core journal taken upto ending → HasCause call ending
+    items_ended nothing Done ends = absurd ends
+    items_ended nothing Quiet ends = absurd ends
+    items_ended nothing (Stopped status) ends = absurd ends
+    items_ended nothing (Failed fault place) ends = absurd ends
+    items_ended nothing (Limit kind) ends = absurd ends
+    items_ended nothing (Refused refusal) ends = absurd ends
+    items_ended nothing (NoFile file) ends = absurd ends
+    items_ended nothing ReadFault ends = absurd ends
+    items_ended nothing WriteFault ends = absurd ends
+    items_ended nothing NoMemory ends = inr (inr (inr (record { asks = asks; no_fault = no_fault; no_read_fault = no_read_fault; nothing = nothing })))
+    items_ended nothing Usage ends = absurd ends
+    items_ended nothing (BadJournal fail) ends = absurd ends
+    items_ended nothing (OtherFiles file) ends = absurd ends
+    items_ended nothing (Illegal at) ends = record { input = input_of nothing.no_items; replays = ends; nothing = nothing }
+
+    snapshot_of : call.items ≡ [] → (lines : List ℕ) → AreLines core journal taken upto lines → HasSnapshot call lines
+    snapshot_of no_items lines are = record { input = input_of no_items; snapshot = are.snapshot; replays = are.replays; are = are.are }
+
+  -- ---- all stages
+
+  abbrev input_before : Inputs
+  input_before = inputs call.before.left call.before.read_faults
+
+  abbrev input_now : Inputs
+  input_now = inputs call.now.left call.now.read_faults
+
+  nothing_of : PutsNothing call → input_now ≡ input_before → RunsNothing call
+  nothing_of nothing same = record {
+    no_items = nothing.no_items;
+    untouched = devices_same call.before call.now (ap (λ i. i.left) same) (ap (λ i. i.faults) same) nothing.held nothing.no_write_fault;
+  }
+
+  after_program : (journal : Journal) → IsJournalOf call.files name journal → (core : Core) (classes : Classes) → AreProgram call.files names journal.header core classes
+      → call.reads_now.faults ≡ call.reads.faults → PutsNothing call → (ending : Ending) → EndsAfterProgram core journal upto input_before input_now ending → HasCause call ending
+  after_program journal is core classes program no_fault nothing ending (inl ends) = input_ended (program_of journal is core classes program no_fault) nothing ending ends
+  after_program journal is core classes program no_fault nothing ending (inr ends) =
+      items_ended journal is core classes program no_fault ends.taken ends.whole ends.no_fault nothing ending ends.ends
+
+  after_journal : (journal : Journal) → IsJournalOf call.files name journal → (mid : Reads) → mid.reads ≡ next_read call.reads.reads → mid.faults ≡ call.reads.faults → PutsNothing call
+      → (ending : Ending) → EndsAfterJournal call.files journal names upto mid call.reads_now input_before input_now ending → HasCause call ending
+  after_journal journal is mid one same nothing ending (inl ends) = program_ended journal is mid one same (nothing_of nothing ends.1) ending ends.0
+  after_journal journal is mid one same nothing ending (inr ends) =
+      after_program journal is ends.core ends.classes ends.program (ends.no_fault ∙ same) nothing ending ends.ends
+
+  -- a replay without lines
+  pub replay_ended : PutsNothing call → (ending : Ending) → EndsText call.files name names upto call.reads call.reads_now input_before input_now ending → HasCause call ending
+  replay_ended nothing ending (inl ends) = journal_ended (nothing_of nothing ends.1) ending ends.0
+  replay_ended nothing ending (inr ends) = after_journal ends.journal ends.is ends.mid ends.one ends.same nothing ending ends.ends
+
+  -- a replay with lines
+  pub replay_shown : call.items ≡ [] → (lines : List ℕ) → IsText call.files name names upto call.reads call.reads_now input_before input_now lines → HasSnapshot call lines
+  replay_shown no_items lines text =
+      let of = text.text in
+      snapshot_of text.journal text.is of.core of.classes of.program (of.no_fault ∙ text.same) of.lines_of.taken of.lines_of.whole of.lines_of.no_fault no_items lines of.lines_of.are
+
+-- ---- one stage after the other
+
+module _ (told : Told) (names : List (List ℕ)) (upto : ℕ) (reads : Reads) (before now : Inputs) where
+  pub text_as : (name : List ℕ) (journal : Journal) (mid reads_now : Reads) (result : Result (List ℕ) Ending) → IsJournalOf told name journal → mid.faults ≡ reads.faults
+      → IfOk result (IsTextOf told journal names upto mid reads_now before now) → IfOk result (IsText told name names upto reads reads_now before now)
+  text_as name journal mid reads_now (Ok lines) is same text = record { journal = journal; is = is; mid = mid; same = same; text = text }
+  text_as name journal mid reads_now (Err ending) is same text = tt
+
+  pub no_text_as : (name : List ℕ) (journal : Journal) (mid reads_now : Reads) (result : Result (List ℕ) Ending) → IsJournalOf told name journal → mid.reads ≡ next_read reads.reads
+      → mid.faults ≡ reads.faults → IfErr result (EndsAfterJournal told journal names upto mid reads_now before now) → IfErr result (EndsText told name names upto reads reads_now before now)
+  no_text_as name journal mid reads_now (Ok lines) is one same ends = tt
+  no_text_as name journal mid reads_now (Err ending) is one same ends = inr (record { journal = journal; is = is; mid = mid; one = one; same = same; ends = ends })
+
+  module _ (journal : Journal) (reads_now : Reads) (core : Core) (classes : Classes) (program : AreProgram told names journal.header core classes) (same : reads_now.faults ≡ reads.faults) where
+    pub text_of_as : (result : Result (List ℕ) Ending) → IfOk result (HasLinesOf core journal upto before now) → IfOk result (IsTextOf told journal names upto reads reads_now before now)
+    text_of_as (Ok lines) of = record { core = core; classes = classes; program = program; no_fault = same; lines_of = of }
+    text_of_as (Err ending) of = tt
+
+    pub no_text_of_as : (result : Result (List ℕ) Ending) → IfErr result (EndsAfterProgram core journal upto before now)
+        → IfErr result (EndsAfterJournal told journal names upto reads reads_now before now)
+    no_text_of_as (Ok lines) ends = tt
+    no_text_of_as (Err ending) ends = inr (record { core = core; classes = classes; program = program; no_fault = same; ends = ends })
+
+module _ (core : Core) (journal : Journal) (upto : ℕ) (before now : Inputs) (taken : List ℕ) (whole : IsWhole before.left now.left taken) (same : now.faults ≡ before.faults) where
+  pub lines_as : (result : Result (List ℕ) Ending) → IfOk result (AreLines core journal taken upto) → IfOk result (HasLinesOf core journal upto before now)
+  lines_as (Ok lines) are = record { taken = taken; whole = whole; are = are; no_fault = same }
+  lines_as (Err ending) are = tt
+
+  pub no_lines_as : (result : Result (List ℕ) Ending) → IfErr result (EndsItems core journal taken upto) → IfErr result (EndsAfterProgram core journal upto before now)
+  no_lines_as (Ok lines) ends = tt
+  no_lines_as (Err ending) ends = inr (record { taken = taken; whole = whole; ends = ends; no_fault = same })
+
+pub min_is : (n a b : ℕ) → (a ≤ b → n ≡ a) → (b < a → n ≡ b) → n ≡ min a b
+min_is n a b less more = by (cases_lt b a)
+  where
+    by : (b < a) ⊎ (a ≤ b) → n ≡ min a b
+    by (inl after) = let most : b ≤ a = omega arith in more after ∙ sym (min-eq_right most)
+    by (inr before) = less before ∙ sym (min-eq_left before)
+
+module _ (core : Core) (journal : Journal) (input : List ℕ) (upto : ℕ) where
+  pub shown_as : (snapshot : Snapshot) (result : Result (List ℕ) Ending)
+      → Replays core journal.header.steps journal.header.ticks input journal.items (min upto (length journal.items)) (replayed.Reached snapshot)
+      → IfOk result (λ lines. lines ≡ snapshot_text core snapshot) → IfOk result (AreLines core journal input upto)
+  shown_as snapshot (Ok lines) replays are = record { snapshot = snapshot; replays = replays; are = are }
+  shown_as snapshot (Err ending) replays are = tt
+
+  pub no_shown_as : (result : Result (List ℕ) Ending) → IfErr result (λ ending. ending ≡ NoMemory) → IfErr result (EndsItems core journal input upto)
+  no_shown_as (Ok lines) ends = tt
+  no_shown_as (Err ending) ends = subst (EndsItems core journal input upto) (sym ends) tt

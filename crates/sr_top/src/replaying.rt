@@ -1,0 +1,151 @@
+ghost use Rattle.std.specs.Prelude.{◌≡◌, ◌<◌, ◌≤◌, ℕ, List, IfErr, IfOk, None, Some};
+ghost use Rattle.sr_replay.specs.Texts.{snapshot_text as text_of_snapshot};
+ghost use Rattle.sr_top.specs.Causes.{HasCause, call_of, devices};
+ghost use Rattle.sr_top.specs.Programs.{core_in};
+ghost use Rattle.sr_top.specs.Reading.{reads_by};
+ghost use Rattle.sr_top.specs.Stages.{AreLines, EndsAfterJournal, EndsAfterProgram, EndsItems, EndsText, HasLinesOf, IsText, IsTextOf, inputs};
+ghost use Rattle.sr_top.specs.Tasks as tasks;
+ghost use Rattle.sr_top.specs.declared.report.Ending.TheVariants as endings;
+
+use crate::input::whole_input;
+use crate::outcome::{Outcome, without_items};
+use crate::program::{Process, Program};
+use crate::putting::put_lines;
+use crate::recorded::{Journal, journal_in};
+use crate::report::Ending;
+use crate::told_files::program_of;
+use sr_ports::{Files, Sink, Source};
+use sr_replay::{Replayed, Snapshot, replay, snapshot_text};
+use sr_value::Text;
+use std::alloc::Global;
+
+/// Replays a journal over the program in the files of these names, and puts what is to be seen after its items, at most
+/// so many.
+pub fn replay_journal<F: Files, I: Source, O: Sink>(
+    alloc: Global,
+    journal: &Text,
+    names: &[Text],
+    upto: u32,
+    files: &mut F,
+    input: &mut I,
+    output: &mut O,
+) -> Outcome
+    ensures cause { (words : List (List ℕ)) → tasks.task words ≡ Some (tasks.Replays journal.now names.now upto) → HasCause
+        (call_of words (F.content files.old) (reads_by (F.readings files.old) (F.faults files.old)) (reads_by (F.readings files.new) (F.faults files.new))
+        (devices (I.left input.old) (I.faults input.old) (O.held output.old) (O.faults output.old))
+        (devices (I.left input.new) (I.faults input.new) (O.held output.new) (O.faults output.new))
+        result.items)
+        result.ending }
+    ensures header { result.header ≡ None }
+    ensures files { F.content files.new ≡ F.content files.old }
+{
+    match replayed_text(alloc, journal, names, upto, files, input) {
+        Ok(text) => without_items(alloc, put_lines(text.as_bytes(), output)),
+        Err(ending) => without_items(alloc, ending),
+    }
+}
+
+/// The lines of what is to be seen after the items of a journal.
+fn replayed_text<F: Files, I: Source>(
+    alloc: Global,
+    journal: &Text,
+    names: &[Text],
+    upto: u32,
+    files: &mut F,
+    input: &mut I,
+) -> Result<Text, Ending>
+    ensures text { IfOk result (IsText (F.content files.old) journal.now names.now upto (reads_by (F.readings files.old) (F.faults files.old)) (reads_by (F.readings files.new) (F.faults files.new)) (inputs (I.left input.old) (I.faults input.old)) (inputs (I.left input.new) (I.faults input.new))) }
+    ensures ends { IfErr result (EndsText (F.content files.old) journal.now names.now upto (reads_by (F.readings files.old) (F.faults files.old)) (reads_by (F.readings files.new) (F.faults files.new)) (inputs (I.left input.old) (I.faults input.old)) (inputs (I.left input.new) (I.faults input.new))) }
+    ensures kept { F.content files.new ≡ F.content files.old }
+{
+    match journal_in(alloc, journal, files) {
+        Ok(journal) => text_of_journal(alloc, &journal, names, upto, files, input),
+        Err(ending) => Err(ending),
+    }
+}
+
+/// The same for a journal that was read.
+fn text_of_journal<F: Files, I: Source>(
+    alloc: Global,
+    journal: &Journal,
+    names: &[Text],
+    upto: u32,
+    files: &mut F,
+    input: &mut I,
+) -> Result<Text, Ending>
+    ensures text { IfOk result (IsTextOf (F.content files.old) journal.now names.now upto (reads_by (F.readings files.old) (F.faults files.old)) (reads_by (F.readings files.new) (F.faults files.new)) (inputs (I.left input.old) (I.faults input.old)) (inputs (I.left input.new) (I.faults input.new))) }
+    ensures ends { IfErr result (EndsAfterJournal (F.content files.old) journal.now names.now upto (reads_by (F.readings files.old) (F.faults files.old)) (reads_by (F.readings files.new) (F.faults files.new)) (inputs (I.left input.old) (I.faults input.old)) (inputs (I.left input.new) (I.faults input.new))) }
+    ensures kept { F.content files.new ≡ F.content files.old }
+{
+    match program_of(alloc, &journal.header, names, files) {
+        Ok(program) => text_of_program(alloc, journal, &program, upto, input),
+        Err(ending) => Err(ending),
+    }
+}
+
+/// The same for a program.
+fn text_of_program<I: Source>(
+    alloc: Global,
+    journal: &Journal,
+    program: &Program,
+    upto: u32,
+    input: &mut I,
+) -> Result<Text, Ending>
+    ensures lines { IfOk result (HasLinesOf (core_in program.now) journal.now upto (inputs (I.left input.old) (I.faults input.old)) (inputs (I.left input.new) (I.faults input.new))) }
+    ensures ends { IfErr result (EndsAfterProgram (core_in program.now) journal.now upto (inputs (I.left input.old) (I.faults input.old)) (inputs (I.left input.new) (I.faults input.new))) }
+{
+    match whole_input(alloc, input) {
+        Ok(taken) => text_of_items(alloc, journal, program, &taken, upto),
+        Err(ending) => Err(ending),
+    }
+}
+
+/// The same for an input: replays the items, and writes the lines of what is to be seen.
+fn text_of_items(
+    alloc: Global,
+    journal: &Journal,
+    program: &Program,
+    input: &Text,
+    upto: u32,
+) -> Result<Text, Ending>
+    ensures lines { IfOk result (AreLines (core_in program.now) journal.now input.now upto) }
+    ensures ends { IfErr result (EndsItems (core_in program.now) journal.now input.now upto) }
+{
+    let items = &journal.items;
+    let header = &journal.header;
+    let upto = fewer(upto as usize, items.len()) as u32;
+    match replay::<Process>(
+        alloc,
+        program,
+        header.steps,
+        header.ticks,
+        input,
+        items,
+        upto,
+    ) {
+        Ok(Replayed::Reached(snapshot)) => lines_of(alloc, program, &snapshot),
+        Ok(Replayed::Illegal { at }) => Err(Ending::Illegal(at)),
+        Err(_) => Err(Ending::NoMemory),
+    }
+}
+
+/// The less of two numbers.
+fn fewer(one: usize, other: usize) -> usize
+    ensures one { one ≤ other → result ≡ one }
+    ensures other { other < one → result ≡ other }
+    ensures most { result ≤ one }
+    ensures least { result ≤ other }
+{
+    if one <= other { one } else { other }
+}
+
+/// The lines of a snapshot.
+fn lines_of(alloc: Global, program: &Program, snapshot: &Snapshot) -> Result<Text, Ending>
+    ensures lines { IfOk result (λ text. text ≡ text_of_snapshot (core_in program.now) snapshot.now) }
+    ensures ends { IfErr result (λ ending. ending ≡ endings.NoMemory) }
+{
+    match snapshot_text(alloc, &program.program().core, snapshot) {
+        Ok(text) => Ok(text),
+        Err(_) => Err(Ending::NoMemory),
+    }
+}
