@@ -95,6 +95,16 @@ returns-in-Ok-clause-in_range g c = λ words told. subst (λ o. IfSome o (λ h. 
 pub returns-in-Ok-clause-names : goal.returns-in-Ok-clause-names
 returns-in-Ok-clause-names g c = λ words told. named_as words c.named-in-Ok.result.names c.named-in-Ok.result.replayed _ _ (task_is words _ _ _ told c.in-Gen.is refl) (c.named-in-Ok.ensures.names ∙ c.in-Ok.ensures) c.named-in-Ok.ensures.replayed
 
+pub returns-in-Ok-one_name-clause-cause : goal.returns-in-Ok-one_name-clause-cause
+returns-in-Ok-one_name-clause-cause g c = λ words told.
+    let call : List Item → Call =
+    call_of words (g.F.Files.content c.args.files.now)
+    (reads_by (g.F.Files.readings c.args.files.now) (g.F.Files.faults c.args.files.now)) (reads_by (g.F.Files.readings c.lay_out_file-outcome.new.files) (g.F.Files.faults c.lay_out_file-outcome.new.files))
+    (devices (g.I.Source.left c.args.input.now) (g.I.Source.faults c.args.input.now) (g.O.Sink.held c.args.output.now) (g.O.Sink.faults c.args.output.now))
+    (devices (g.I.Source.left c.args.input.now) (g.I.Source.faults c.args.input.now) (g.O.Sink.held c.lay_out_file-outcome.new.output) (g.O.Sink.faults c.lay_out_file-outcome.new.output)) in
+    handed_on (λ items ending header. HasCause (call items) ending) _ _ _ _ _ _ c.NAMED.ensures.items c.NAMED.ensures.ending c.NAMED.ensures.header
+    (c.lay_out_file-outcome.ensures.cause words _ _ (task_is words _ _ _ told c.in-Fmt.is refl))
+
 pub returns-in-Replay-clause-cause : goal.returns-in-Replay-clause-cause
 returns-in-Replay-clause-cause g c = λ words told.
     let call : List Item → Call =
