@@ -43,7 +43,7 @@ fn layouts(rt: HostRuntime) -> Result<(), Fail> {
             b"resource main()\n  write(nothing)\nend\n",
         ),
         ends(&["fmt", "cut.sr"], 103, b"sr: cut.sr:1: S3 Syntax\n"),
-        ends(&["fmt", "byte.sr"], 103, b"sr: byte.sr:2: S1 Byte\n"),
+        ends(&["fmt", "byte.sr"], 103, b"sr: byte.sr:2: S1 BadByte\n"),
         ends(&["fmt", "c.sr"], 104, b"sr: cannot read c.sr\n"),
         Case {
             put_fails: &[1],
