@@ -133,13 +133,6 @@ pub fn obey<F: Files, I: Source, O: Sink>(
             let outcome = list_classes(alloc, names.as_slice(), files, output);
             Obeyed::named(None, names, outcome)
         }
-        Command::Fmt { file } => match one_name(alloc, file.as_bytes()) {
-            Ok(names) => {
-                let outcome = lay_out_file(alloc, &file, files, output);
-                Obeyed::named(None, names, outcome)
-            }
-            Err(_) => Obeyed::early(alloc, Ending::NoMemory),
-        },
         Command::Gen { seed, workers: _ } => match sample_names(alloc) {
             Ok(names) => {
                 let outcome = run_sample(alloc, seed, input, output);
@@ -163,6 +156,13 @@ pub fn obey<F: Files, I: Source, O: Sink>(
             );
             Obeyed::named(Some(journal), names, outcome)
         }
+        Command::Fmt { file } => match one_name(alloc, file.as_bytes()) {
+            Ok(names) => {
+                let outcome = lay_out_file(alloc, &file, files, output);
+                Obeyed::named(None, names, outcome)
+            }
+            Err(_) => Obeyed::early(alloc, Ending::NoMemory),
+        },
     }
 }
 
