@@ -116,8 +116,8 @@ returns-in-Replay-clause-in_range g c = λ words told. subst (λ o. IfSome o (λ
 pub returns-in-Replay-clause-names : goal.returns-in-Replay-clause-names
 returns-in-Replay-clause-names g c = λ words told. named_as words c.named-in-Replay.result.names c.named-in-Replay.result.replayed _ _ (task_is words _ _ _ told c.in-Replay.is refl) c.named-in-Replay.ensures.names c.named-in-Replay.ensures.replayed
 
-pub returns-in-Err-clause-header : goal.returns-in-Err-clause-header
-returns-in-Err-clause-header g c = λ words told.
+pub returns-in-Gen-clause-header : goal.returns-in-Gen-clause-header
+returns-in-Gen-clause-header g c = λ words told.
     subst (HasHeaderIf _ _) (sym c.early.ensures.header)
     (without (inr (record { no_items = c.early.ensures.items; untouched = refl }, subst EndsBeforeRun (sym c.early.ensures.ending) tt)))
 
@@ -145,7 +145,7 @@ returns-in-Ok-one_name-clause-names g c = λ words told.
     named_as words c.named-in-Ok-one_name.result.names c.named-in-Ok-one_name.result.replayed _ _ (task_is words _ _ _ told c.in-Fmt.is refl)
     (c.named-in-Ok-one_name.ensures.names ∙ c.in-Ok-one_name.ensures ∙ ap (λ name. name ∷ []) c.as_bytes.ensures) c.named-in-Ok-one_name.ensures.replayed
 
-pub returns-in-Err-one_name-clause-header : goal.returns-in-Err-one_name-clause-header
-returns-in-Err-one_name-clause-header g c = λ words told.
+pub returns-clause-header : goal.returns-clause-header
+returns-clause-header g c = λ words told.
     subst (HasHeaderIf _ _) (sym c.early-in-Err-one_name.ensures.header)
     (without (inr (record { no_items = c.early-in-Err-one_name.ensures.items; untouched = refl }, subst EndsBeforeRun (sym c.early-in-Err-one_name.ensures.ending) tt)))
