@@ -1,5 +1,5 @@
 -- The file was read by its name, and has a text, or none.
-use Rattle.std.proofs.Common.{◌∙◌, refl, subst, sym}
+use Rattle.std.proofs.Common.{◌∙◌, refl, rules, subst, sym}
 use Rattle.std.specs.Str.{IsUtf8}
 use Rattle.sr_top.proofs.JournalFiles.{first_failed}
 use Rattle.sr_top.proofs.Layouts.{file_text_as, no_file_text_as}
@@ -24,4 +24,4 @@ returns-in-Ok-read-clause-ends g c =
 
 pub returns-in-Err-Failed-clause-ends : goal.returns-in-Err-Failed-clause-ends
 returns-in-Err-Failed-clause-ends g c =
-    (refl, first_failed _ _ _ _ _ c.in-Err-Failed.field-0 c.in-Err-Failed.field-0-is c.in-Err-Failed.ensures.reads c.in-Err-Failed.ensures.failed c.in-Err-Failed.ensures.cause)
+    (refl, first_failed (reads_by (g.F.Files.readings c.args.files.now) (g.F.Files.faults c.args.files.now)) (reads_by (g.F.Files.readings c.read.new.self) (g.F.Files.faults c.read.new.self)) (search rules) (search rules) (search rules))
