@@ -1,5 +1,5 @@
 -- From the stages of the laying out of a file to why the call ends.
-use Rattle.std.proofs.Common.{◌≡◌, ◌∙◌, ℕ, List, [], Some, inl, inr, refl, subst, sym}
+use Rattle.std.proofs.Common.{◌≡◌, ℕ, List, [], Some, inl, inr}
 use Rattle.std.specs.Prelude.{Option, Result, Ok, Err, IfErr, IfOk}
 use Rattle.sr_layout.specs.LaidOut.{IsLaidOut}
 use Rattle.sr_top.specs.Causes.{Call, HasCause, RunsNothing}
