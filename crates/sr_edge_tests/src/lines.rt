@@ -27,6 +27,7 @@ fn head_of(alloc: Global, command: &Command) -> Result<String, NoMemory> {
         } => Ok(format!(in alloc; "run {workers} {steps} {ticks} {journal}")?),
         Command::Check { .. } => Ok(format!(in alloc; "check")?),
         Command::Classes { .. } => Ok(format!(in alloc; "classes")?),
+        Command::Fmt { .. } => Ok(format!(in alloc; "fmt")?),
         Command::Gen { seed, workers } => Ok(format!(in alloc; "gen {seed} {workers}")?),
         Command::Replay { upto, .. } => Ok(format!(in alloc; "replay {upto}")?),
     }
@@ -59,6 +60,7 @@ fn shown(alloc: Global, command: &Command) -> Result<Text, NoMemory> {
         Command::Run { files, .. } | Command::Check { files } | Command::Classes { files } => {
             add_files(&mut shown, files.as_slice())?
         }
+        Command::Fmt { file } => add_file(&mut shown, file)?,
         Command::Gen { .. } => {}
         Command::Replay { journal, files, .. } => {
             add_journal(&mut shown, journal, files.as_slice())?
@@ -78,7 +80,7 @@ fn gives(alloc: Global, line: &str, wanted: &str) -> Result<bool, NoMemory> {
 }
 
 /// Lines, and the commands that they give.
-const RIGHT: [(&str, &str); 40] = [
+const RIGHT: [(&str, &str); 42] = [
     ("run a.sr", "run 1 1000000 10000000 false a.sr"),
     ("run a.sr b.sr", "run 1 1000000 10000000 false a.sr b.sr"),
     ("run a.sr a.sr", "run 1 1000000 10000000 false a.sr a.sr"),
@@ -129,6 +131,8 @@ const RIGHT: [(&str, &str); 40] = [
     ("check a.sr", "check a.sr"),
     ("check - -- -x", "check - -x"),
     ("classes a.sr b.sr", "classes a.sr b.sr"),
+    ("fmt a.sr", "fmt a.sr"),
+    ("fmt -- -a.sr", "fmt -a.sr"),
     ("gen 0", "gen 0 1"),
     ("gen 4294967295", "gen 4294967295 1"),
     ("gen 07 --workers 4", "gen 7 4"),
@@ -149,7 +153,7 @@ const RIGHT: [(&str, &str); 40] = [
 ];
 
 /// Lines that give no command.
-const WRONG: [&str; 69] = [
+const WRONG: [&str; 72] = [
     "",
     "run",
     "run --",
@@ -198,6 +202,9 @@ const WRONG: [&str; 69] = [
     "run a.sr --steps==5",
     "check a.sr --steps 5",
     "classes a.sr --journal",
+    "fmt",
+    "fmt a.sr b.sr",
+    "fmt a.sr --steps 5",
     "gen 4294967296",
     "gen 1 2",
     "gen 5 --steps 5",

@@ -13,6 +13,7 @@ use Rattle.sr_run.specs.declared.end.RunEnd.{RunEnd}
 use Rattle.sr_run.specs.declared.end.RunEnd.TheVariants as run_end
 use Rattle.sr_top.specs.Causes.{Call, Compiles, EndsEarly, EndsEarlyInLines, EndsInLines, EndsNoFile, EndsRun, HasCause, HasLines, IsCutInLines, PutsLines, RunsNothing, ending_of, run_of}
 use Rattle.sr_top.specs.Headline.{Headline, IsComplete, MakesRun, NoneRose, RunsInPart, RunsWhole}
+use Rattle.sr_top.specs.LayingOut.{EndsNoSource}
 use Rattle.sr_top.specs.Reading.{EndsCompiling, FailsAt, IsUnreadIn}
 use Rattle.sr_top.specs.Replaying.{EndsEarlyInReplay, EndsReplayInput, EndsReplayRead, EndsUnread}
 use Rattle.sr_top.specs.Tasks.{Named, Origin, Sampled, origin_in}
@@ -85,9 +86,10 @@ unread_input : (call : Call) → EndsRun call run_end.ReadFault ⊎ EndsReplayRe
 unread_input call (inl ends) = inl (going_on call run_end.ReadFault ends ends.cause.taken _ ends.cause.state ends.cause.goes_on)
 unread_input call (inr ends) = inr ends
 
-unread_file : (call : Call) (file : ℕ) → EndsNoFile call file ⊎ EndsUnread call file → RunsNothing call
+unread_file : (call : Call) (file : ℕ) → EndsNoFile call file ⊎ EndsUnread call file ⊎ EndsNoSource call file → RunsNothing call
 unread_file call file (inl ends) = ends.nothing
-unread_file call file (inr ends) = ends.nothing
+unread_file call file (inr (inl ends)) = ends.nothing
+unread_file call file (inr (inr ends)) = ends.nothing
 
 written : (call : Call) → EndsRun call run_end.WriteFault ⊎ EndsInLines call → RunsInPart call ⊎ IsCutInLines call
 written call (inl ends) = inl (in_write call run_end.WriteFault ends ends.cause.cut)
@@ -122,9 +124,10 @@ output_failed : (call : Call) → EndsRun call run_end.WriteFault ⊎ EndsInLine
 output_failed call (inl ends) none = none.output ends.cause.failed
 output_failed call (inr lines) none = none.output lines.failed
 
-file_failed : (call : Call) (file : ℕ) → EndsNoFile call file ⊎ EndsUnread call file → NoneRose call → ⊥
+file_failed : (call : Call) (file : ℕ) → EndsNoFile call file ⊎ EndsUnread call file ⊎ EndsNoSource call file → NoneRose call → ⊥
 file_failed call file (inl ends) none = none.files ends.failed.rose
-file_failed call file (inr ends) none = none.files ends.failed.rose
+file_failed call file (inr (inl ends)) none = none.files ends.failed.rose
+file_failed call file (inr (inr ends)) none = none.files ends.failed.rose
 
 input_failed : (call : Call) → EndsRun call run_end.ReadFault ⊎ EndsReplayRead call → NoneRose call → ⊥
 input_failed call (inl ends) none = none.input ends.cause.failed
@@ -186,7 +189,11 @@ none_put call lines (inl has) held write = inl (record {
   no_fault = has.no_fault;
   nothing = record { no_items = has.no_items; untouched = devices_same call.before call.now has.left has.no_read_fault held write };
 })
-none_put call lines (inr has) held write = inr (inr (inr (record {
+none_put call lines (inr (inr has)) held write = inl (record {
+  no_fault = has.source.no_fault;
+  nothing = record { no_items = has.no_items; untouched = devices_same call.before call.now has.left has.no_read_fault held write };
+})
+none_put call lines (inr (inl has)) held write = inr (inr (inr (record {
   asks = has.input.program.same.has.journal.reads.asks;
   no_fault = has.input.program.no_fault;
   no_read_fault = has.input.no_read_fault;

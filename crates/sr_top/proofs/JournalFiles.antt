@@ -1,5 +1,5 @@
 -- The journal that is replayed, and the files of its program.
-use Rattle.std.proofs.Common.{◌≡◌, ◌∙◌, ◌+◌, ◌<◌, ◌≤◌, ℕ, List, length, min, arith, subst, sym}
+use Rattle.std.proofs.Common.{◌≡◌, ◌+◌, ◌<◌, ◌≤◌, ℕ, List, length, min, arith, subst}
 use Rattle.std.proofs.Math.Nat.{min-eq_left}
 use Rattle.std.specs.Prelude.{◌^◌, ◌-◌, take, Some, Result, Ok, Err, IfOk, IfErr, IfSome}
 use Rattle.std.specs.Option.{option_map}

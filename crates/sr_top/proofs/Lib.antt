@@ -4,6 +4,7 @@ pub mod Endings
 pub mod Inputs
 pub mod JournalFiles
 pub mod Journals
+pub mod Layouts
 pub mod Readings
 pub mod Replayed
 pub mod Sizes

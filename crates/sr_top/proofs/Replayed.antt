@@ -67,7 +67,7 @@ module _ (call : Call) (name : List ℕ) (names : List (List ℕ)) (upto : ℕ) 
   journal_ended nothing (Failed fault place) ends = absurd ends
   journal_ended nothing (Limit kind) ends = absurd ends
   journal_ended nothing (Refused refusal) ends = absurd ends
-  journal_ended nothing (NoFile file) ends = inr (record { unread = inl (ends.0, asks); failed = ends.1; nothing = nothing })
+  journal_ended nothing (NoFile file) ends = inr (inl (record { unread = inl (ends.0, asks); failed = ends.1; nothing = nothing }))
   journal_ended nothing ReadFault ends = absurd ends
   journal_ended nothing WriteFault ends = absurd ends
   journal_ended nothing NoMemory ends = inl (record { no_fault = ends; nothing = nothing })
@@ -83,8 +83,8 @@ module _ (call : Call) (name : List ℕ) (names : List (List ℕ)) (upto : ℕ) 
   program_ended journal is mid one same nothing (Stopped status) ends = absurd ends
   program_ended journal is mid one same nothing (Failed fault place) ends = absurd ends
   program_ended journal is mid one same nothing (Limit kind) ends = absurd ends
-  program_ended journal is mid one same nothing (Refused refusal) ends = inr (record { same = record { has = record { journal = journal_of journal is; files = ends.0.files; read = ends.0.read }; same = ends.0.same }; refused = ends.0.refused; no_fault = ends.1 ∙ same; nothing = nothing })
-  program_ended journal is mid one same nothing (NoFile file) ends = inr (record { unread = inr (record { has = journal_of journal is; file = ends.file; place = ends.place; unread = ends.unread }); failed = later ends.file file call.reads mid call.reads_now ends.place one same ends.failed; nothing = nothing })
+  program_ended journal is mid one same nothing (Refused refusal) ends = inr (inl (record { same = record { has = record { journal = journal_of journal is; files = ends.0.files; read = ends.0.read }; same = ends.0.same }; refused = ends.0.refused; no_fault = ends.1 ∙ same; nothing = nothing }))
+  program_ended journal is mid one same nothing (NoFile file) ends = inr (inl (record { unread = inr (record { has = journal_of journal is; file = ends.file; place = ends.place; unread = ends.unread }); failed = later ends.file file call.reads mid call.reads_now ends.place one same ends.failed; nothing = nothing }))
   program_ended journal is mid one same nothing ReadFault ends = absurd ends
   program_ended journal is mid one same nothing WriteFault ends = absurd ends
   program_ended journal is mid one same nothing NoMemory ends = inl (record { no_fault = ends ∙ same; nothing = nothing })

@@ -15,6 +15,7 @@ use Rattle.sr_run.specs.declared.end.LimitKind.TheVariants as limit
 use Rattle.sr_run.specs.declared.end.RunEnd.{RunEnd}
 use Rattle.sr_run.specs.declared.end.RunEnd.TheVariants as run_end
 use Rattle.sr_text.specs.declared.refusal.Refusal.{Refusal}
+use Rattle.sr_top.specs.LayingOut.{EndsNoSource, EndsSourceRefused, HasLayout}
 use Rattle.sr_top.specs.Reading.{AreCompiled, AreRefused, FailsAt, IsUnread}
 use Rattle.sr_top.specs.Replaying.{EndsBadJournal, EndsEarlyInReplay, EndsIllegal, EndsOtherFiles, EndsReplayInput, EndsReplayRead, EndsReplayRefused, EndsUnread, HasSnapshot}
 use Rattle.sr_top.specs.Tasks.{Checks, ListsClasses, Named, Origin, Runs, origin_in, task}
@@ -79,9 +80,9 @@ pub record HasClassLines (call : Call) (lines : List ℕ) : Type 0 where
   pub left : call.now.left ≡ call.before.left
   pub no_read_fault : call.now.read_faults ≡ call.before.read_faults
 
--- the lines that the words ask for: those of classes, or those of what is to be seen after a replay
+-- the lines that the words ask for: those of classes, those of what is to be seen after a replay, or a file in the one style
 abbrev pub HasLines : Call → List ℕ → Type 0
-HasLines call lines = HasClassLines call lines ⊎ HasSnapshot call lines
+HasLines call lines = HasClassLines call lines ⊎ HasSnapshot call lines ⊎ HasLayout call lines
 
 -- the lines were put
 pub record EndsListed (call : Call) : Type 0 where
@@ -147,8 +148,8 @@ HasCause call Quiet = EndsRun call (run_end.Ended end.Quiet)
 HasCause call (Stopped status) = EndsRun call (run_end.Ended (end.Stopped status))
 HasCause call (Failed fault place) = EndsRun call (run_end.Ended (end.Failed fault place))
 HasCause call (Limit kind) = EndsRun call (run_end.Limit kind) ⊎ ((kind ≡ limit.Input) × EndsReplayInput call)
-HasCause call (Refused refusal) = EndsRefused call refusal ⊎ EndsReplayRefused call refusal
-HasCause call (NoFile file) = EndsNoFile call file ⊎ EndsUnread call file
+HasCause call (Refused refusal) = EndsRefused call refusal ⊎ EndsReplayRefused call refusal ⊎ EndsSourceRefused call refusal
+HasCause call (NoFile file) = EndsNoFile call file ⊎ EndsUnread call file ⊎ EndsNoSource call file
 HasCause call ReadFault = EndsRun call run_end.ReadFault ⊎ EndsReplayRead call
 HasCause call WriteFault = EndsRun call run_end.WriteFault ⊎ EndsInLines call
 HasCause call NoMemory = EndsEarly call ⊎ EndsRun call run_end.NoMemory ⊎ EndsEarlyInLines call ⊎ EndsEarlyInReplay call

@@ -7,6 +7,7 @@ use Rattle.sr_ports.specs.Streams.{PutInPart}
 use Rattle.sr_run.specs.Arranged.{InTurn}
 use Rattle.sr_run.specs.Runs as runs
 use Rattle.sr_top.specs.Causes.{Call, Compiles, EndsChecked, EndsListed, EndsRefused, IsCutInLines, RunsNothing, run_of}
+use Rattle.sr_top.specs.LayingOut.{EndsSourceRefused}
 use Rattle.sr_top.specs.Replaying.{EndsBadJournal, EndsEarlyInReplay, EndsIllegal, EndsOtherFiles, EndsReplayInput, EndsReplayRead, EndsReplayRefused}
 use Rattle.sr_top.specs.Tasks.{task}
 use Rattle.sr_top.specs.declared.report.Ending.{Ending}
@@ -46,8 +47,8 @@ pub record RunsInPart (call : Call) : Type 0 where
 
 -- The items are a run of the program, the bytes put are its output, and the ending is the run's own, or a limit. Where a
 -- device failed or memory ran out the run hasn't ended. Files are refused as the verdict on them says. Where they are
--- refused or can't be read, or the words are unknown or ask for a check, for classes or for a replay, nothing runs; the lines
--- that are asked for are put, or some first bytes of them, where the output failed or memory ran out. A replay that can't
+-- refused or can't be read, or the words are unknown or ask for anything but a run, nothing runs; the lines that are asked
+-- for are put, or some first bytes of them, where the output failed or memory ran out. A replay that can't
 -- come to its lines ends for the first cause that there is.
 abbrev pub Headline : Call → Ending → Type 0
 Headline call Done = EndsChecked call ⊎ EndsListed call
@@ -55,7 +56,7 @@ Headline call Quiet = RunsWhole call (Some end.Quiet)
 Headline call (Stopped status) = RunsWhole call (Some (end.Stopped status))
 Headline call (Failed fault place) = RunsWhole call (Some (end.Failed fault place))
 Headline call (Limit kind) = RunsWhole call None ⊎ EndsReplayInput call
-Headline call (Refused refusal) = EndsRefused call refusal ⊎ EndsReplayRefused call refusal
+Headline call (Refused refusal) = EndsRefused call refusal ⊎ EndsReplayRefused call refusal ⊎ EndsSourceRefused call refusal
 Headline call (NoFile file) = RunsNothing call
 Headline call ReadFault = RunsWhole call None ⊎ EndsReplayRead call
 Headline call WriteFault = RunsInPart call ⊎ IsCutInLines call

@@ -2,6 +2,7 @@ pub mod Calls
 pub mod Causes
 pub mod Headline
 pub mod Journal
+pub mod LayingOut
 pub mod Programs
 pub mod Reading
 pub mod Replaying

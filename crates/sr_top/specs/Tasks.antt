@@ -3,7 +3,7 @@ use Rattle.std.specs.Prelude.{ℕ, Bool, false, List, [], ◌∷◌, codes, Opti
 use Rattle.std.specs.Option.{option_map}
 use Rattle.sr_words.specs.Commands.{command_of, default_of}
 use Rattle.sr_words.specs.declared.command.Command.{Command}
-use Rattle.sr_words.specs.declared.command.Command.TheVariants.{Run, Check, Classes, Gen, Replay}
+use Rattle.sr_words.specs.declared.command.Command.TheVariants.{Run, Check, Classes, Fmt, Gen, Replay}
 use Rattle.sr_words.specs.declared.options.Setting.TheVariants.{Steps, Ticks}
 
 -- where a program comes from
@@ -23,6 +23,8 @@ pub data Task : Type 0 where
   ListsClasses : List (List ℕ) → Task
   -- replay the first items, at most so many, of the journal of this name, over the program in these files
   Replays : List ℕ → List (List ℕ) → ℕ → Task
+  -- write this file in the one style
+  LaysOut : List ℕ → Task
 
 -- the task of a command; a sample is run with the limits that hold where the words give none
 abbrev pub task_of : Command → Task
@@ -31,6 +33,7 @@ task_of (Check files) = Checks files
 task_of (Classes files) = ListsClasses files
 task_of (Gen seed workers) = Runs (Sampled seed) (default_of Steps) (default_of Ticks) false
 task_of (Replay journal files upto) = Replays journal files upto
+task_of (Fmt file) = LaysOut file
 
 -- the task that the words give
 abbrev pub task : List (List ℕ) → Option Task
@@ -38,12 +41,14 @@ task words = option_map task_of (command_of words)
 
 -- ---- the files
 
--- where the program comes from that is run, checked or listed; a replay has an order of its own in which it reads
+-- Where the program comes from that is run, checked or listed. A replay has an order of its own in which it reads, and a
+-- file that is laid out needn't be a program.
 abbrev pub origin_of : Task → Option Origin
 origin_of (Runs origin steps ticks journal) = Some origin
 origin_of (Checks files) = Some (Named files)
 origin_of (ListsClasses files) = Some (Named files)
 origin_of (Replays journal files upto) = None
+origin_of (LaysOut file) = None
 
 -- where that program comes from, by the words
 abbrev pub origin_in : List (List ℕ) → Option Origin
@@ -57,12 +62,13 @@ abbrev pub names_of : Origin → List (List ℕ)
 names_of (Named names) = names
 names_of (Sampled seed) = sample_name ∷ []
 
--- the names of the files of a program
+-- the names of the files, but for the journal
 abbrev pub names_in : Task → List (List ℕ)
 names_in (Runs origin steps ticks journal) = names_of origin
 names_in (Checks files) = files
 names_in (ListsClasses files) = files
 names_in (Replays journal files upto) = files
+names_in (LaysOut file) = file ∷ []
 
 abbrev pub file_names : List (List ℕ) → List (List ℕ)
 file_names words = unwrap_or (option_map names_in (task words)) []
@@ -82,6 +88,7 @@ keeps_journal (Runs origin steps ticks journal) = journal
 keeps_journal (Checks files) = false
 keeps_journal (ListsClasses files) = false
 keeps_journal (Replays journal files upto) = false
+keeps_journal (LaysOut file) = false
 
 -- whether the words ask for a journal
 abbrev pub journal_asked : List (List ℕ) → Bool

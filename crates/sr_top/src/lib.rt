@@ -6,6 +6,7 @@ mod diag;
 mod host;
 mod input;
 mod journal;
+mod laying_out;
 mod listing;
 mod obeying;
 mod outcome;

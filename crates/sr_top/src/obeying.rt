@@ -10,6 +10,7 @@ ghost use Rattle.sr_words.specs.Commands.{command_of, default_of};
 ghost use Rattle.sr_words.specs.declared.options.Setting.TheVariants as settings;
 
 use crate::compiling::{SAMPLE_NAME, compile_files, compile_sample};
+use crate::laying_out::lay_out_file;
 use crate::listing::list_classes;
 use crate::outcome::{Outcome, run_program, without_items};
 use crate::preparing::{Prepared, prepare};
@@ -155,6 +156,13 @@ pub fn obey<F: Files, I: Source, O: Sink>(
             );
             Obeyed::named(Some(journal), names, outcome)
         }
+        Command::Fmt { file } => match one_name(alloc, file.as_bytes()) {
+            Ok(names) => {
+                let outcome = lay_out_file(alloc, &file, files, output);
+                Obeyed::named(None, names, outcome)
+            }
+            Err(_) => Obeyed::early(alloc, Ending::NoMemory),
+        },
     }
 }
 
@@ -162,7 +170,14 @@ pub fn obey<F: Files, I: Source, O: Sink>(
 fn sample_names(alloc: Global) -> Result<Row<Text>, NoMemory>
     ensures { IfOk result (λ names. names ≡ tasks.sample_name ∷ []) }
 {
-    let name = Text::from_slice(alloc, SAMPLE_NAME.as_bytes())?;
+    one_name(alloc, SAMPLE_NAME.as_bytes())
+}
+
+/// A name in a list.
+fn one_name(alloc: Global, name: &[u8]) -> Result<Row<Text>, NoMemory>
+    ensures { IfOk result (λ names. names ≡ name.now ∷ []) }
+{
+    let name = Text::from_slice(alloc, name)?;
     let mut names = Row::new(alloc);
     names.push(name)?;
     Ok(names)

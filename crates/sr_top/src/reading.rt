@@ -8,7 +8,7 @@ use sr_value::{Row, Text};
 use std::alloc::Global;
 
 /// The bytes of a file that are read: one more than the most that it may have.
-const READ_MOST: usize = 1_048_577;
+pub const READ_MOST: usize = 1_048_577;
 
 /// Reads the files of these names in order, each with its name.
 pub fn read_files<F: Files>(

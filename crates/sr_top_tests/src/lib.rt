@@ -10,6 +10,8 @@ mod endless;
 #[cfg(test)]
 mod journals;
 #[cfg(test)]
+mod layouts;
+#[cfg(test)]
 mod order;
 #[cfg(test)]
 mod replays;

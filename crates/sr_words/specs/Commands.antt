@@ -12,7 +12,7 @@ use Rattle.sr_words.specs.declared.command.Command.TheVariants as command
 use Rattle.sr_words.specs.declared.options.Setting.{Setting}
 use Rattle.sr_words.specs.declared.options.Setting.TheVariants.{Workers, Steps, Ticks, Upto}
 use Rattle.sr_words.specs.declared.verb.Verb.{Verb}
-use Rattle.sr_words.specs.declared.verb.Verb.TheVariants.{Run, Check, Classes, Gen, Replay}
+use Rattle.sr_words.specs.declared.verb.Verb.TheVariants.{Run, Check, Classes, Fmt, Gen, Replay}
 
 -- what the words say: the value of each option that is given, whether `--journal` is, and the words that are no options
 pub record Taken : Type 0 where
@@ -83,6 +83,12 @@ setting_number setting (Some value) = number_within (least_of setting) (most_of 
 abbrev pub files_of : List (List ℕ) → Option (List (List ℕ))
 files_of words = if nat_le 1 (length words) && nat_le (length words) 64 then Some words else None
 
+-- one file
+abbrev pub file_of : List (List ℕ) → Option (List ℕ)
+file_of [] = None
+file_of (word ∷ []) = Some word
+file_of (word ∷ other ∷ words) = None
+
 -- one seed
 abbrev pub seed_of : List (List ℕ) → Option ℕ
 seed_of [] = None
@@ -118,6 +124,7 @@ abbrev pub verb_command : Verb → Taken → Option Command
 verb_command Run t = run_command t
 verb_command Check t = option_map (λ files. command.Check files) (files_of t.words)
 verb_command Classes t = option_map (λ files. command.Classes files) (files_of t.words)
+verb_command Fmt t = option_map (λ file. command.Fmt file) (file_of t.words)
 verb_command Gen t = gen_command t
 verb_command Replay t = replay_command t
 

@@ -6,13 +6,14 @@ use Rattle.sr_words.specs.declared.options.CommandOption.TheVariants.{Number, Jo
 use Rattle.sr_words.specs.declared.options.Setting.{Setting}
 use Rattle.sr_words.specs.declared.options.Setting.TheVariants.{Workers, Steps, Ticks, Upto}
 use Rattle.sr_words.specs.declared.verb.Verb.{Verb}
-use Rattle.sr_words.specs.declared.verb.Verb.TheVariants.{Run, Check, Classes, Gen, Replay}
+use Rattle.sr_words.specs.declared.verb.Verb.TheVariants.{Run, Check, Classes, Fmt, Gen, Replay}
 
 -- the options of each command
 abbrev pub options_of : Verb → List CommandOption
 options_of Run = Number Workers ∷ Number Steps ∷ Number Ticks ∷ Journal ∷ []
 options_of Check = []
 options_of Classes = []
+options_of Fmt = []
 options_of Gen = Number Workers ∷ []
 options_of Replay = Number Upto ∷ []
 

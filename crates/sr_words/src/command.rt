@@ -26,6 +26,10 @@ pub enum Command {
     Classes {
         files: Row<Text>,
     },
+    /// Writes a file in the one style.
+    Fmt {
+        file: Text,
+    },
     /// Makes the sample program of a seed, and runs it.
     Gen {
         seed: u32,

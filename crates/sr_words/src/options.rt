@@ -34,6 +34,7 @@ pub fn options_of(verb: Verb) -> &'static [CommandOption]
         ],
         Verb::Check => &[],
         Verb::Classes => &[],
+        Verb::Fmt => &[],
         Verb::Gen => &[CommandOption::Number(Setting::Workers)],
         Verb::Replay => &[CommandOption::Number(Setting::Upto)],
     }

@@ -78,6 +78,9 @@ fn verb_command(alloc: Global, verb: Verb, matches: &ArgMatches<'_>) -> Result<C
         Verb::Classes => Ok(Command::Classes {
             files: files_of(alloc, matches)?,
         }),
+        Verb::Fmt => Ok(Command::Fmt {
+            file: file_of(alloc, matches)?,
+        }),
         Verb::Gen => gen_command(matches),
         Verb::Replay => replay_command(alloc, matches),
     }
@@ -244,6 +247,28 @@ fn files_of(alloc: Global, matches: &ArgMatches<'_>) -> Result<Row<Text>, WordsF
     match matches.get_raw("word") {
         None => Err(WordsFail::Usage),
         Some(words) => files_in(alloc, words),
+    }
+}
+
+/// The file, where there is one word.
+fn file_in(alloc: Global, words: &[&str]) -> Result<Text, WordsFail>
+    ensures file { IfOk result (λ file. commands.file_of (map (λ word. word.now) words.now) ≡ Some file) }
+    ensures usage { result ≡ Err fails.Usage → commands.file_of (map (λ word. word.now) words.now) ≡ None }
+{
+    match words {
+        [word] => Ok(Text::from_slice(alloc, word.as_bytes())?),
+        _ => Err(WordsFail::Usage),
+    }
+}
+
+/// The file of a command, where there is one word that is no option.
+fn file_of(alloc: Global, matches: &ArgMatches<'_>) -> Result<Text, WordsFail>
+    ensures file { IfOk result (λ file. commands.file_of (arguments.taken_from matches.now).words ≡ Some file) }
+    ensures usage { result ≡ Err fails.Usage → commands.file_of (arguments.taken_from matches.now).words ≡ None }
+{
+    match matches.get_raw("word") {
+        None => Err(WordsFail::Usage),
+        Some(words) => file_in(alloc, words),
     }
 }
 

@@ -7,6 +7,7 @@ pub enum Verb {
     Run,
     Check,
     Classes,
+    Fmt,
     Gen,
     Replay,
 }
@@ -21,6 +22,8 @@ pub fn verb_of(word: &[u8]) -> Option<Verb>
         Some(Verb::Check)
     } else if word == b"classes".as_slice() {
         Some(Verb::Classes)
+    } else if word == b"fmt".as_slice() {
+        Some(Verb::Fmt)
     } else if word == b"gen".as_slice() {
         Some(Verb::Gen)
     } else if word == b"replay".as_slice() {

@@ -1,5 +1,5 @@
 -- What each command does is handed on with the names of its files.
-use Rattle.std.proofs.Common.{◌∙◌, List, [], Some, ap, false, inl, inr, refl, subst, sym}
+use Rattle.std.proofs.Common.{◌∙◌, List, [], ◌∷◌, Some, ap, false, inl, inr, refl, subst, sym}
 use Rattle.std.specs.Prelude.{IfSome, unwrap_or}
 use Rattle.std.specs.Option.{option_map}
 use Rattle.sr_ask.specs.declared.item.Item.{Item}
@@ -116,7 +116,36 @@ returns-in-Replay-clause-in_range g c = λ words told. subst (λ o. IfSome o (λ
 pub returns-in-Replay-clause-names : goal.returns-in-Replay-clause-names
 returns-in-Replay-clause-names g c = λ words told. named_as words c.named-in-Replay.result.names c.named-in-Replay.result.replayed _ _ (task_is words _ _ _ told c.in-Replay.is refl) c.named-in-Replay.ensures.names c.named-in-Replay.ensures.replayed
 
-pub returns-in-Err-clause-header : goal.returns-in-Err-clause-header
-returns-in-Err-clause-header g c = λ words told.
+pub returns-in-Gen-clause-header : goal.returns-in-Gen-clause-header
+returns-in-Gen-clause-header g c = λ words told.
     subst (HasHeaderIf _ _) (sym c.early.ensures.header)
     (without (inr (record { no_items = c.early.ensures.items; untouched = refl }, subst EndsBeforeRun (sym c.early.ensures.ending) tt)))
+
+pub returns-in-Ok-one_name-clause-cause : goal.returns-in-Ok-one_name-clause-cause
+returns-in-Ok-one_name-clause-cause g c = λ words told.
+    let call : List Item → Call =
+    call_of words (g.F.Files.content c.args.files.now)
+    (reads_by (g.F.Files.readings c.args.files.now) (g.F.Files.faults c.args.files.now)) (reads_by (g.F.Files.readings c.lay_out_file-outcome.new.files) (g.F.Files.faults c.lay_out_file-outcome.new.files))
+    (devices (g.I.Source.left c.args.input.now) (g.I.Source.faults c.args.input.now) (g.O.Sink.held c.args.output.now) (g.O.Sink.faults c.args.output.now))
+    (devices (g.I.Source.left c.args.input.now) (g.I.Source.faults c.args.input.now) (g.O.Sink.held c.lay_out_file-outcome.new.output) (g.O.Sink.faults c.lay_out_file-outcome.new.output)) in
+    handed_on (λ items ending header. HasCause (call items) ending) _ _ _ _ _ _ c.named-in-Ok-one_name.ensures.items c.named-in-Ok-one_name.ensures.ending c.named-in-Ok-one_name.ensures.header
+    (c.lay_out_file-outcome.ensures.cause words _ _ (task_is words _ _ _ told c.in-Fmt.is refl))
+
+pub returns-in-Ok-one_name-clause-header : goal.returns-in-Ok-one_name-clause-header
+returns-in-Ok-one_name-clause-header g c = λ words told.
+    subst (HasHeaderIf _ _) (sym (c.named-in-Ok-one_name.ensures.header ∙ c.lay_out_file-outcome.ensures.header))
+    (without (inl (ap (λ t. unwrap_or (option_map keeps_journal t) false) (task_is words _ _ _ told c.in-Fmt.is refl))))
+
+pub returns-in-Ok-one_name-clause-in_range : goal.returns-in-Ok-one_name-clause-in_range
+returns-in-Ok-one_name-clause-in_range g c = λ words told.
+    subst (λ o. IfSome o (λ h. IsInRange h c.named-in-Ok-one_name.result.items)) (sym (c.named-in-Ok-one_name.ensures.header ∙ c.lay_out_file-outcome.ensures.header)) tt
+
+pub returns-in-Ok-one_name-clause-names : goal.returns-in-Ok-one_name-clause-names
+returns-in-Ok-one_name-clause-names g c = λ words told.
+    named_as words c.named-in-Ok-one_name.result.names c.named-in-Ok-one_name.result.replayed _ _ (task_is words _ _ _ told c.in-Fmt.is refl)
+    (c.named-in-Ok-one_name.ensures.names ∙ c.in-Ok-one_name.ensures ∙ ap (λ name. name ∷ []) c.as_bytes.ensures) c.named-in-Ok-one_name.ensures.replayed
+
+pub returns-clause-header : goal.returns-clause-header
+returns-clause-header g c = λ words told.
+    subst (HasHeaderIf _ _) (sym c.early-in-Err-one_name.ensures.header)
+    (without (inr (record { no_items = c.early-in-Err-one_name.ensures.items; untouched = refl }, subst EndsBeforeRun (sym c.early-in-Err-one_name.ensures.ending) tt)))

@@ -1,5 +1,5 @@
 -- The lines are put; or there are none, and the call ends for that reason.
-use Rattle.std.proofs.Common.{inr, refl, subst, sym}
+use Rattle.std.proofs.Common.{inl, inr, refl, subst, sym}
 use Rattle.sr_top.proofs.Endings.{listed}
 use Rattle.sr_top.proofs.Replayed.{replay_ended, replay_shown}
 use Rattle.sr_top.specs.Causes.{Call, HasCause, PutsLines, call_of, devices}
@@ -19,7 +19,7 @@ returns-in-Ok-clause-cause g c = λ words asked.
     (devices (g.I.Source.left c.replayed_text.new.input) (g.I.Source.faults c.replayed_text.new.input) held_now faults_now) c.without_items.result.items in
     subst (HasCause call) (sym c.without_items.ensures.ending)
     (listed call c.in-Ok.text c.put_lines.result
-    (inr (replay_shown call c.args.journal.now c.args.names.now c.args.upto asked c.without_items.ensures.items c.in-Ok.text c.in-Ok.ensures.text))
+    (inr (inl (replay_shown call c.args.journal.now c.args.names.now c.args.upto asked c.without_items.ensures.items c.in-Ok.text c.in-Ok.ensures.text)))
     (subst (λ lines. PutsLines lines held held_now faults faults_now c.put_lines.result) c.as_bytes.ensures c.put_lines.ensures))
 
 pub returns-in-Err-clause-cause : goal.returns-in-Err-clause-cause
