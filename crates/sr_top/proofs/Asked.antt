@@ -4,6 +4,7 @@ use Rattle.std.specs.Prelude.{Option, option_and_then, unwrap_or}
 use Rattle.std.specs.Option.{option_map}
 use Rattle.sr_ask.specs.declared.item.Item.{Item}
 use Rattle.sr_journal.specs.declared.header.Header.{Header}
+use Rattle.sr_run.specs.declared.stretch.Stretch.{Stretch}
 use Rattle.sr_top.specs.Report.{diag_text}
 use Rattle.sr_top.specs.Tasks.{Task, file_names, names_in, replayed_by, replayed_journal, task, task_of}
 use Rattle.sr_top.specs.declared.report.Ending.{Ending}
@@ -22,7 +23,8 @@ named_as words names replayed asked ending told files journal =
     ∙ ap (λ j. diag_text j (file_names words) ending) (journal ∙ sym (ap (λ t. option_and_then replayed_by t) told))
 
 -- what holds of an outcome holds of what a command came to
-pub handed_on : (P : List Item → Ending → Option Header → Type 0) (items made : List Item) (ending given : Ending) (header kept : Option Header)
-    → items ≡ made → ending ≡ given → header ≡ kept → P made given kept → P items ending header
-handed_on P items made ending given header kept same is has known =
-    subst (λ us. P us ending header) (sym same) (subst (λ e. P made e header) (sym is) (subst (P made given) (sym has) known))
+pub handed_on : (P : List Item → List Stretch → Ending → Option Header → Type 0) (items made : List Item) (rounds stretches : List Stretch) (ending given : Ending) (header kept : Option Header)
+    → items ≡ made → rounds ≡ stretches → ending ≡ given → header ≡ kept → P made stretches given kept → P items rounds ending header
+handed_on P items made rounds stretches ending given header kept same same_rounds is has known =
+    subst (λ us. P us rounds ending header) (sym same)
+    (subst (λ rs. P made rs ending header) (sym same_rounds) (subst (λ e. P made stretches e header) (sym is) (subst (P made stretches given) (sym has) known)))

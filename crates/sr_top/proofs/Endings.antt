@@ -2,16 +2,16 @@
 use Rattle.std.proofs.Common.{◌≡◌, ◌∙◌, ℕ, ◌≤◌, ◌⊎◌, ◌++◌, Bool, false, true, List, length, None, Some, ap, refl, inl, inr}
 use Rattle.std.specs.Prelude.{Option}
 use Rattle.sr_core.specs.declared.component.Core.{Core}
+use Rattle.sr_core.specs.declared.owner.Classes.{Classes}
 use Rattle.sr_ports.proofs.Growth.{PutInPart-after}
 use Rattle.sr_ports.specs.Streams.{PutInPart}
-use Rattle.sr_run.specs.Arranged.{InTurn}
 use Rattle.sr_run.specs.Causes as run
 use Rattle.sr_run.specs.Runs as runs
 use Rattle.sr_run.specs.declared.end.LimitKind.{LimitKind}
 use Rattle.sr_run.specs.declared.end.LimitKind.TheVariants as limit
 use Rattle.sr_run.specs.declared.end.RunEnd.{RunEnd}
 use Rattle.sr_run.specs.declared.end.RunEnd.TheVariants as run_end
-use Rattle.sr_top.specs.Causes.{Call, Compiles, EndsEarly, EndsEarlyInLines, EndsInLines, EndsNoFile, EndsRun, HasCause, HasLines, IsCutInLines, PutsLines, RunsNothing, ending_of, run_of}
+use Rattle.sr_top.specs.Causes.{Call, Compiles, EndsEarly, EndsEarlyInLines, EndsInLines, EndsNoFile, EndsRun, HasCause, HasLines, IsAlone, IsCutInLines, PutsLines, RunsNothing, arrangement_of, ending_of, run_of}
 use Rattle.sr_top.specs.Headline.{Headline, IsComplete, MakesRun, NoneRose, RunsInPart, RunsWhole}
 use Rattle.sr_top.specs.LayingOut.{EndsNoSource}
 use Rattle.sr_top.specs.Reading.{EndsCompiling, FailsAt, IsUnreadIn}
@@ -24,23 +24,40 @@ use Rattle.sr_world.specs.declared.ends.End.{End}
 use Rattle.sr_world.specs.declared.ends.End.TheVariants as end
 
 -- a run that was made says why the call ended
-pub caused : (call : Call) (steps ticks : ℕ) (core : Core) (end : RunEnd) → Compiles call steps ticks core → length call.items ≤ steps
-    → run.HasCause (run_of call steps ticks core) end → HasCause call (ending_of end)
-caused call steps ticks core (run_end.Ended end.Quiet) compiled within cause = record { steps = steps; ticks = ticks; core = core; compiled = compiled; within = within; cause = cause }
-caused call steps ticks core (run_end.Ended (end.Stopped status)) compiled within cause = record { steps = steps; ticks = ticks; core = core; compiled = compiled; within = within; cause = cause }
-caused call steps ticks core (run_end.Ended (end.Failed fault place)) compiled within cause = record { steps = steps; ticks = ticks; core = core; compiled = compiled; within = within; cause = cause }
-caused call steps ticks core (run_end.Limit kind) compiled within cause = inl (record { steps = steps; ticks = ticks; core = core; compiled = compiled; within = within; cause = cause })
-caused call steps ticks core run_end.ReadFault compiled within cause = inl (record { steps = steps; ticks = ticks; core = core; compiled = compiled; within = within; cause = cause })
-caused call steps ticks core run_end.WriteFault compiled within cause = inl (record { steps = steps; ticks = ticks; core = core; compiled = compiled; within = within; cause = cause })
-caused call steps ticks core run_end.NoMemory compiled within cause = inr (inl (record { steps = steps; ticks = ticks; core = core; compiled = compiled; within = within; cause = cause }))
+module _ (call : Call) (workers steps ticks : ℕ) (core : Core) (classes : Classes) (compiled : Compiles call workers steps ticks core classes) (within : length call.items ≤ steps)
+    (alone : IsAlone workers call.rounds) where
+  ends_run : (end : RunEnd) → run.HasCauseIn (arrangement_of workers classes call.rounds) (run_of call steps ticks core) end → EndsRun call end
+  ends_run end cause =
+      record { workers = workers; steps = steps; ticks = ticks; core = core; classes = classes; compiled = compiled; within = within; alone = alone; cause = cause }
+
+  pub caused : (end : RunEnd) → run.HasCauseIn (arrangement_of workers classes call.rounds) (run_of call steps ticks core) end → HasCause call (ending_of end)
+  caused (run_end.Ended end.Quiet) cause = ends_run (run_end.Ended end.Quiet) cause
+  caused (run_end.Ended (end.Stopped status)) cause = ends_run (run_end.Ended (end.Stopped status)) cause
+  caused (run_end.Ended (end.Failed fault place)) cause = ends_run (run_end.Ended (end.Failed fault place)) cause
+  caused (run_end.Limit kind) cause = inl (ends_run (run_end.Limit kind) cause)
+  caused run_end.ReadFault cause = inl (ends_run run_end.ReadFault cause)
+  caused run_end.WriteFault cause = inl (ends_run run_end.WriteFault cause)
+  caused run_end.NoMemory cause = inr (inl (ends_run run_end.NoMemory cause))
 
 -- ---- the headline
 
 -- a run with these limits is a run of the call
 made : (call : Call) (end : RunEnd) (ends : EndsRun call end) (cut : Bool) (taken : List ℕ) (ended : Bool) (ending : Option End) (output : List ℕ)
-    → runs.Runs InTurn (run_of call ends.steps ends.ticks ends.core) cut taken ended ending output → MakesRun call cut ending output
+    → runs.Runs (arrangement_of ends.workers ends.classes call.rounds) (run_of call ends.steps ends.ticks ends.core) cut taken ended ending output → MakesRun call cut ending output
 made call end ends cut taken ended ending output runs =
-    record { steps = ends.steps; ticks = ends.ticks; core = ends.core; compiled = ends.compiled; taken = taken; ended = ended; runs = runs; within = ends.within }
+    record {
+      workers = ends.workers;
+      steps = ends.steps;
+      ticks = ends.ticks;
+      core = ends.core;
+      classes = ends.classes;
+      compiled = ends.compiled;
+      taken = taken;
+      ended = ended;
+      runs = runs;
+      within = ends.within;
+      alone = ends.alone;
+    }
 
 -- the run that has this ending
 by_itself : (call : Call) (ending : End) → EndsRun call (run_end.Ended ending) → RunsWhole call (Some ending)
@@ -49,7 +66,7 @@ by_itself call ending ends =
 
 -- a run that goes on
 going_on : (call : Call) (end : RunEnd) (ends : EndsRun call end) (taken : List ℕ) (ended : Bool) (state : State)
-    → runs.GoesOn InTurn (run_of call ends.steps ends.ticks ends.core) false taken ended state → RunsWhole call None
+    → runs.GoesOn (arrangement_of ends.workers ends.classes call.rounds) (run_of call ends.steps ends.ticks ends.core) false taken ended state → RunsWhole call None
 going_on call end ends taken ended state goes_on =
     record { output = state.world.output; makes = made call end ends false taken ended None _ goes_on.runs; put = goes_on.put }
 
@@ -59,7 +76,7 @@ limited call (limit.Ticks process) ends = going_on call _ ends ends.cause.taken 
 limited call limit.Input ends = going_on call _ ends ends.cause.taken _ ends.cause.state ends.cause.goes_on
 
 -- a run whose last item is a write of which not all bytes were put
-in_write : (call : Call) (end : RunEnd) (ends : EndsRun call end) → run.IsCutInWrite InTurn (run_of call ends.steps ends.ticks ends.core) → RunsInPart call
+in_write : (call : Call) (end : RunEnd) (ends : EndsRun call end) → run.IsCutInWrite (arrangement_of ends.workers ends.classes call.rounds) (run_of call ends.steps ends.ticks ends.core) → RunsInPart call
 in_write call end ends cut =
     record {
       output = cut.state.world.output ++ cut.bytes;
@@ -68,8 +85,8 @@ in_write call end ends cut =
     }
 
 -- a run in which memory ran out
-cut_short : (call : Call) (end : RunEnd) (ends : EndsRun call end) → run.IsCutBetween InTurn (run_of call ends.steps ends.ticks ends.core)
-    ⊎ run.IsCutInWrite InTurn (run_of call ends.steps ends.ticks ends.core) → RunsInPart call
+cut_short : (call : Call) (end : RunEnd) (ends : EndsRun call end) → run.IsCutBetween (arrangement_of ends.workers ends.classes call.rounds) (run_of call ends.steps ends.ticks ends.core)
+    ⊎ run.IsCutInWrite (arrangement_of ends.workers ends.classes call.rounds) (run_of call ends.steps ends.ticks ends.core) → RunsInPart call
 cut_short call end ends (inl between) =
     record {
       output = between.state.world.output;

@@ -76,11 +76,12 @@ came_before told origin before now (BadJournal fail) ends = absurd ends
 came_before told origin before now (OtherFiles file) ends = absurd ends
 came_before told origin before now (Illegal at) ends = absurd ends
 
-module _ (call : Call) (ending : Ending) (names : List (List ℕ)) (steps ticks : ℕ) (core : Core) (classes : Classes) where
-  pub headed : (journal : Bool) (header : Option Header) → task call.words ≡ Some (Runs (Named names) steps ticks journal)
+module _ (call : Call) (ending : Ending) (names : List (List ℕ)) (workers steps ticks : ℕ) (core : Core) (classes : Classes) where
+  pub headed : (journal : Bool) (header : Option Header) → task call.words ≡ Some (Runs (Named names) workers steps ticks journal)
       → IsPrepared call.files names steps ticks journal core classes header → EndsWithRun ending → HasHeaderIf call ending header
   headed true header asked prepared ran = subst (HasHeaderIf call ending) (sym prepared.is) (with_header (record {
     names = names;
+    workers = workers;
     asked = asked;
     files = prepared.files;
     read = prepared.read;

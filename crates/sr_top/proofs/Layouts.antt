@@ -2,7 +2,7 @@
 use Rattle.std.proofs.Common.{◌≡◌, ℕ, List, [], Some, inl, inr}
 use Rattle.std.specs.Prelude.{Option, Result, Ok, Err, IfErr, IfOk}
 use Rattle.sr_layout.specs.LaidOut.{IsLaidOut}
-use Rattle.sr_top.specs.Causes.{Call, HasCause, RunsNothing}
+use Rattle.sr_top.specs.Causes.{Call, HasCause, HasNoItems, RunsNothing}
 use Rattle.sr_top.specs.LayingOut.{AsksLayout, EndsFile, EndsSource, HasLayout, IsTextOfFile, ReadsSource}
 use Rattle.sr_top.specs.Reading.{IsRead, Reads}
 use Rattle.sr_top.specs.Tasks.{LaysOut, task}
@@ -59,7 +59,7 @@ module _ (call : Call) (name : List ℕ) (asked : task call.words ≡ Some (Lays
   layout_ended nothing (Illegal at) ends = absurd ends
 
   -- a file that is
-  pub layout_shown : call.items ≡ [] → call.now.left ≡ call.before.left → call.now.read_faults ≡ call.before.read_faults → call.reads_now.faults ≡ call.reads.faults
+  pub layout_shown : HasNoItems call → call.now.left ≡ call.before.left → call.now.read_faults ≡ call.before.read_faults → call.reads_now.faults ≡ call.reads.faults
       → (lines : List ℕ) → IsTextOfFile call.files name lines → HasLayout call lines
   layout_shown no_items left no_read_fault no_fault lines text =
       record { source = source_of text.bytes text.read no_fault; is = text.is; no_items = no_items; left = left; no_read_fault = no_read_fault }

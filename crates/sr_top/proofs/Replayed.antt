@@ -13,7 +13,7 @@ use Rattle.sr_replay.specs.declared.snapshot.Snapshot.{Snapshot}
 use Rattle.sr_replay.specs.declared.whole.Replayed.TheVariants as replayed
 use Rattle.sr_run.specs.declared.end.LimitKind.TheVariants as limit
 use Rattle.sr_top.proofs.Endings.{devices_same}
-use Rattle.sr_top.specs.Causes.{Call, HasCause, PutsNothing, RunsNothing}
+use Rattle.sr_top.specs.Causes.{Call, HasCause, HasNoItems, PutsNothing, RunsNothing}
 use Rattle.sr_top.specs.Reading.{FailsAt, Reads, reads_after}
 use Rattle.sr_top.specs.Replaying.{AreBytesOf, AsksReplay, HasInput, HasJournal, HasProgram, HasSnapshot, IsWhole, ReadsJournal}
 use Rattle.sr_top.specs.Stages.{AreLines, AreProgram, EndsAfterJournal, EndsAfterProgram, EndsInput, EndsItems, EndsJournal, EndsProgram, EndsText, HasLinesOf, Inputs, IsJournalOf, IsText, IsTextOf, Told, inputs}
@@ -114,7 +114,7 @@ module _ (call : Call) (name : List ℕ) (names : List (List ℕ)) (upto : ℕ) 
   module _ (journal : Journal) (is : IsJournalOf call.files name journal) (core : Core) (classes : Classes) (program : AreProgram call.files names journal.header core classes)
       (no_fault : call.reads_now.faults ≡ call.reads.faults) (taken : List ℕ) (whole : IsWhole call.before.left call.now.left taken)
       (no_read_fault : call.now.read_faults ≡ call.before.read_faults) where
-    abbrev input_of : call.items ≡ [] → HasInput call
+    abbrev input_of : HasNoItems call → HasInput call
     input_of no_items =
         record { program = program_of journal is core classes program no_fault; taken = taken; whole = whole; no_read_fault = no_read_fault; no_items = no_items }
 
@@ -134,7 +134,7 @@ module _ (call : Call) (name : List ℕ) (names : List (List ℕ)) (upto : ℕ) 
     items_ended nothing (OtherFiles file) ends = absurd ends
     items_ended nothing (Illegal at) ends = record { input = input_of nothing.no_items; replays = ends; nothing = nothing }
 
-    snapshot_of : call.items ≡ [] → (lines : List ℕ) → AreLines core journal taken upto lines → HasSnapshot call lines
+    snapshot_of : HasNoItems call → (lines : List ℕ) → AreLines core journal taken upto lines → HasSnapshot call lines
     snapshot_of no_items lines are = record { input = input_of no_items; snapshot = are.snapshot; replays = are.replays; are = are.are }
 
   -- ---- all stages
@@ -169,7 +169,7 @@ module _ (call : Call) (name : List ℕ) (names : List (List ℕ)) (upto : ℕ) 
   replay_ended nothing ending (inr ends) = after_journal ends.journal ends.is ends.mid ends.one ends.same nothing ending ends.ends
 
   -- a replay with lines
-  pub replay_shown : call.items ≡ [] → (lines : List ℕ) → IsText call.files name names upto call.reads call.reads_now input_before input_now lines → HasSnapshot call lines
+  pub replay_shown : HasNoItems call → (lines : List ℕ) → IsText call.files name names upto call.reads call.reads_now input_before input_now lines → HasSnapshot call lines
   replay_shown no_items lines text =
       let of = text.text in
       snapshot_of text.journal text.is of.core of.classes of.program (of.no_fault ∙ text.same) of.lines_of.taken of.lines_of.whole of.lines_of.no_fault no_items lines of.lines_of.are

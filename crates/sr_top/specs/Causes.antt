@@ -1,19 +1,22 @@
 -- Why a call of the program ends as it does.
-pub use Rattle.sr_top.specs.Calls.{Call, PutsNothing, RunsNothing, call_of, devices}
-use Rattle.std.specs.Prelude.{◌≡◌, ℕ, ◌≤◌, ◌⊎◌, Bool, List, [], length, Option, Some, None}
+pub use Rattle.sr_top.specs.Calls.{Call, HasNoItems, PutsNothing, RunsNothing, call_of, devices}
+use Rattle.std.specs.Prelude.{◌≡◌, ℕ, ◌≤◌, ◌⊎◌, Bool, List, [], length, Option, Some, None, if◌then◌else◌, nat_lt}
 use Rattle.std.specs.List.{AllByRecursion}
 use Rattle.std.specs.Io.KnownBytes.{append_known}
 use Rattle.sr_core.specs.declared.component.Core.{Core}
+use Rattle.sr_classes.specs.Classes.{class_of}
 use Rattle.sr_core.specs.declared.owner.Classes.{Classes}
 use Rattle.sr_class_text.specs.Lines.{class_text}
 use Rattle.sr_ports.specs.Faults.{Rose}
 use Rattle.sr_ports.specs.Streams.{PutInPart}
+use Rattle.sr_run.specs.Arranged.{Arrangement, InRounds, InTurn}
 use Rattle.sr_run.specs.Causes as run
 use Rattle.sr_run.specs.Numbers.{IsNumbered}
 use Rattle.sr_run.specs.Runs as runs
 use Rattle.sr_run.specs.declared.end.LimitKind.TheVariants as limit
 use Rattle.sr_run.specs.declared.end.RunEnd.{RunEnd}
 use Rattle.sr_run.specs.declared.end.RunEnd.TheVariants as run_end
+use Rattle.sr_run.specs.declared.stretch.Stretch.{Stretch}
 use Rattle.sr_text.specs.declared.refusal.Refusal.{Refusal}
 use Rattle.sr_top.specs.LayingOut.{EndsNoSource, EndsSourceRefused, HasLayout}
 use Rattle.sr_top.specs.Reading.{AreCompiled, AreRefused, FailsAt, IsUnread}
@@ -76,7 +79,7 @@ pub record HasClassLines (call : Call) (lines : List ℕ) : Type 0 where
   pub compiled : AreCompiled call.files (Named names) core classes
   pub are : lines ≡ class_text core classes.of
   pub no_fault : call.reads_now.faults ≡ call.reads.faults
-  pub no_items : call.items ≡ []
+  pub no_items : HasNoItems call
   pub left : call.now.left ≡ call.before.left
   pub no_read_fault : call.now.read_faults ≡ call.before.read_faults
 
@@ -117,12 +120,11 @@ PutsLines lines held held_now faults faults_now _ = ⊥
 
 -- ---- a run
 
--- the words ask for a run with these limits, the program is accepted, and this is its core
-pub record Compiles (call : Call) (steps ticks : ℕ) (core : Core) : Type 0 where
+-- the words ask for a run by so many workers with these limits, the program is accepted, and these are its core and classes
+pub record Compiles (call : Call) (workers steps ticks : ℕ) (core : Core) (classes : Classes) : Type 0 where
   pub origin : Origin
   pub journal : Bool
-  pub asked : task call.words ≡ Some (Runs origin steps ticks journal)
-  pub classes : Classes
+  pub asked : task call.words ≡ Some (Runs origin workers steps ticks journal)
   pub compiled : AreCompiled call.files origin core classes
   pub no_fault : call.reads_now.faults ≡ call.reads.faults
 
@@ -130,14 +132,25 @@ pub record Compiles (call : Call) (steps ticks : ℕ) (core : Core) : Type 0 whe
 abbrev pub run_of : Call → ℕ → ℕ → Core → runs.Call
 run_of call steps ticks core = record { core = core; steps = steps; ticks = ticks; before = call.before; now = call.now; items = call.items }
 
+-- one worker makes each item in its turn; several make stretches after the items of the engine
+abbrev pub arrangement_of : ℕ → Classes → List Stretch → Arrangement
+arrangement_of workers classes rounds = if nat_lt 1 workers then InRounds (class_of classes.of) workers rounds else InTurn
+
+-- one worker makes no stretch
+abbrev pub IsAlone : ℕ → List Stretch → Type 0
+IsAlone workers rounds = workers ≤ 1 → rounds ≡ []
+
 -- the program was run, and the run ended so
 pub record EndsRun (call : Call) (ending : RunEnd) : Type 0 where
+  pub workers : ℕ
   pub steps : ℕ
   pub ticks : ℕ
   pub core : Core
-  pub compiled : Compiles call steps ticks core
+  pub classes : Classes
+  pub compiled : Compiles call workers steps ticks core classes
   pub within : length call.items ≤ steps
-  pub cause : run.HasCause (run_of call steps ticks core) ending
+  pub alone : IsAlone workers call.rounds
+  pub cause : run.HasCauseIn (arrangement_of workers classes call.rounds) (run_of call steps ticks core) ending
 
 -- ---- all endings
 
@@ -171,9 +184,10 @@ ending_of run_end.WriteFault = WriteFault
 ending_of run_end.NoMemory = NoMemory
 
 -- a run ended, and the call with it; each item has numbers of a run
-pub record EndsAs (call : runs.Call) (ending : Ending) : Type 0 where
+pub record EndsAs (workers : ℕ) (classes : Classes) (rounds : List Stretch) (call : runs.Call) (ending : Ending) : Type 0 where
   pub end : RunEnd
   pub is : ending ≡ ending_of end
   pub within : length call.items ≤ call.steps
   pub numbered : AllByRecursion IsNumbered call.items
-  pub cause : run.HasCause call end
+  pub alone : IsAlone workers rounds
+  pub cause : run.HasCauseIn (arrangement_of workers classes rounds) call end

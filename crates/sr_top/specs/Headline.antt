@@ -2,11 +2,11 @@
 use Rattle.std.specs.Prelude.{◌≡◌, ◌≤◌, ◌⊎◌, ℕ, Bool, false, true, List, length, Option, Some, None, ◌≢◌}
 use Rattle.std.specs.Io.KnownBytes.{append_known}
 use Rattle.sr_core.specs.declared.component.Core.{Core}
+use Rattle.sr_core.specs.declared.owner.Classes.{Classes}
 use Rattle.sr_ports.specs.Faults.{Rose}
 use Rattle.sr_ports.specs.Streams.{PutInPart}
-use Rattle.sr_run.specs.Arranged.{InTurn}
 use Rattle.sr_run.specs.Runs as runs
-use Rattle.sr_top.specs.Causes.{Call, Compiles, EndsChecked, EndsListed, EndsRefused, IsCutInLines, RunsNothing, run_of}
+use Rattle.sr_top.specs.Causes.{Call, Compiles, EndsChecked, EndsListed, EndsRefused, IsAlone, IsCutInLines, RunsNothing, arrangement_of, run_of}
 use Rattle.sr_top.specs.LayingOut.{EndsSourceRefused}
 use Rattle.sr_top.specs.Replaying.{EndsBadJournal, EndsEarlyInReplay, EndsIllegal, EndsOtherFiles, EndsReplayInput, EndsReplayRead, EndsReplayRefused}
 use Rattle.sr_top.specs.Tasks.{task}
@@ -17,17 +17,21 @@ use Rattle.sr_world.specs.declared.ends.End.TheVariants as end
 
 -- ---- the headline
 
--- The items are a run of the machine on the core of the accepted files, with the whole input, within the limits, in
--- rotation. It has this ending, where it has one, and this output. It may have been cut off after its last item.
+-- The items are a run of the machine on the core of the accepted files, with the whole input, within the limits: in
+-- rotation where one worker made it, and with these stretches where several did. It has this ending, where it has one, and
+-- this output. It may have been cut off after its last item.
 pub record MakesRun (call : Call) (cut : Bool) (ending : Option End) (output : List ℕ) : Type 0 where
+  pub workers : ℕ
   pub steps : ℕ
   pub ticks : ℕ
   pub core : Core
-  pub compiled : Compiles call steps ticks core
+  pub classes : Classes
+  pub compiled : Compiles call workers steps ticks core classes
   pub taken : List ℕ
   pub ended : Bool
-  pub runs : runs.Runs InTurn (run_of call steps ticks core) cut taken ended ending output
+  pub runs : runs.Runs (arrangement_of workers classes call.rounds) (run_of call steps ticks core) cut taken ended ending output
   pub within : length call.items ≤ steps
+  pub alone : IsAlone workers call.rounds
 
 -- the bytes put are all of this output
 abbrev pub PutsAll : Call → List ℕ → Type 0

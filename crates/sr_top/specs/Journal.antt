@@ -60,7 +60,8 @@ EndsWithRun _ = Unit {0}
 -- a journal was asked for, the files were read and accepted, their program ran, and this stands before the items
 pub record HasHeader (call : Call) (ending : Ending) (header : Header) : Type 0 where
   pub names : List (List ℕ)
-  pub asked : task call.words ≡ Some (Runs (Named names) header.steps header.ticks true)
+  pub workers : ℕ
+  pub asked : task call.words ≡ Some (Runs (Named names) workers header.steps header.ticks true)
   pub files : List (List ℕ × List ℕ)
   pub read : AreRead call.files names files
   pub core : Core

@@ -2,7 +2,7 @@
 use Rattle.std.specs.Prelude.{◌≡◌, ℕ, List, [], Option, Some}
 use Rattle.sr_layout.specs.LaidOut.{IsLaidOut, IsRefused}
 use Rattle.sr_text.specs.declared.refusal.Refusal.{Refusal}
-use Rattle.sr_top.specs.Calls.{Call, RunsNothing}
+use Rattle.sr_top.specs.Calls.{Call, HasNoItems, RunsNothing}
 use Rattle.sr_top.specs.Reading.{FailsAt, IsRead, Reads}
 use Rattle.sr_top.specs.Tasks.{LaysOut, task}
 use Rattle.sr_top.specs.declared.report.Ending.{Ending}
@@ -24,7 +24,7 @@ pub record ReadsSource (call : Call) : Type 0 where
 pub record HasLayout (call : Call) (lines : List ℕ) : Type 0 where
   pub source : ReadsSource call
   pub is : IsLaidOut source.bytes lines
-  pub no_items : call.items ≡ []
+  pub no_items : HasNoItems call
   pub left : call.now.left ≡ call.before.left
   pub no_read_fault : call.now.read_faults ≡ call.before.read_faults
 

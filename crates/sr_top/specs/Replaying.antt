@@ -21,7 +21,7 @@ use Rattle.sr_replay.specs.declared.snapshot.Snapshot.{Snapshot}
 use Rattle.sr_replay.specs.declared.whole.Replayed.{Replayed}
 use Rattle.sr_replay.specs.declared.whole.Replayed.TheVariants as replayed
 use Rattle.sr_text.specs.declared.refusal.Refusal.{Refusal}
-use Rattle.sr_top.specs.Calls.{Call, PutsNothing, RunsNothing}
+use Rattle.sr_top.specs.Calls.{Call, HasNoItems, PutsNothing, RunsNothing}
 use Rattle.sr_top.specs.Reading.{AreRead, FailsAt, IsUnread, sizes_of}
 use Rattle.sr_top.specs.Tasks.{Replays as asks, task}
 
@@ -83,7 +83,7 @@ pub record HasInput (call : Call) : Type 0 where
   pub taken : List ℕ
   pub whole : IsWhole call.before.left call.now.left taken
   pub no_read_fault : call.now.read_faults ≡ call.before.read_faults
-  pub no_items : call.items ≡ []
+  pub no_items : HasNoItems call
 
 -- what a replay of the journal comes to
 abbrev pub ReplaysSo : (call : Call) → HasInput call → Replayed → Type 0

@@ -14,9 +14,9 @@ pub data Origin : Type 0 where
   Sampled : ℕ → Origin
 
 pub data Task : Type 0 where
-  -- run the program, with at most so many items, and so many ticks of a process between two answers; and keep a journal
-  -- of the run, or none
-  Runs : Origin → ℕ → ℕ → Bool → Task
+  -- run the program by so many workers, with at most so many items, and so many ticks of a process between two answers;
+  -- and keep a journal of the run, or none
+  Runs : Origin → ℕ → ℕ → ℕ → Bool → Task
   -- say whether these files are a program
   Checks : List (List ℕ) → Task
   -- write the classes of the operations of the program in these files
@@ -28,10 +28,10 @@ pub data Task : Type 0 where
 
 -- the task of a command; a sample is run with the limits that hold where the words give none
 abbrev pub task_of : Command → Task
-task_of (Run files workers steps ticks journal) = Runs (Named files) steps ticks journal
+task_of (Run files workers steps ticks journal) = Runs (Named files) workers steps ticks journal
 task_of (Check files) = Checks files
 task_of (Classes files) = ListsClasses files
-task_of (Gen seed workers) = Runs (Sampled seed) (default_of Steps) (default_of Ticks) false
+task_of (Gen seed workers) = Runs (Sampled seed) workers (default_of Steps) (default_of Ticks) false
 task_of (Replay journal files upto) = Replays journal files upto
 task_of (Fmt file) = LaysOut file
 
@@ -44,7 +44,7 @@ task words = option_map task_of (command_of words)
 -- Where the program comes from that is run, checked or listed. A replay has an order of its own in which it reads, and a
 -- file that is laid out needn't be a program.
 abbrev pub origin_of : Task → Option Origin
-origin_of (Runs origin steps ticks journal) = Some origin
+origin_of (Runs origin workers steps ticks journal) = Some origin
 origin_of (Checks files) = Some (Named files)
 origin_of (ListsClasses files) = Some (Named files)
 origin_of (Replays journal files upto) = None
@@ -64,7 +64,7 @@ names_of (Sampled seed) = sample_name ∷ []
 
 -- the names of the files, but for the journal
 abbrev pub names_in : Task → List (List ℕ)
-names_in (Runs origin steps ticks journal) = names_of origin
+names_in (Runs origin workers steps ticks journal) = names_of origin
 names_in (Checks files) = files
 names_in (ListsClasses files) = files
 names_in (Replays journal files upto) = files
@@ -84,7 +84,7 @@ replayed_journal words = option_and_then replayed_by (task words)
 -- ---- the journal
 
 abbrev pub keeps_journal : Task → Bool
-keeps_journal (Runs origin steps ticks journal) = journal
+keeps_journal (Runs origin workers steps ticks journal) = journal
 keeps_journal (Checks files) = false
 keeps_journal (ListsClasses files) = false
 keeps_journal (Replays journal files upto) = false

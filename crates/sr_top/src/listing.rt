@@ -26,7 +26,7 @@ pub fn list_classes<F: Files, O: Sink>(
         (call_of words (F.content files.old) (reads_by (F.readings files.old) (F.faults files.old)) (reads_by (F.readings files.new) (F.faults files.new))
         (devices left read_faults (O.held output.old) (O.faults output.old))
         (devices left read_faults (O.held output.new) (O.faults output.new))
-        result.items)
+        result.items result.rounds)
         result.ending }
     ensures header { result.header ≡ None }
     ensures files { F.content files.new ≡ F.content files.old }

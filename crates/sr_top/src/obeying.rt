@@ -20,6 +20,7 @@ use crate::report::Ending;
 use sr_ask::Item;
 use sr_journal::Header;
 use sr_ports::{Files, Sink, Source};
+use sr_run::Stretch;
 use sr_value::{NoMemory, Row, Text};
 use sr_words::Command;
 use std::alloc::Global;
@@ -30,13 +31,15 @@ const SAMPLE_STEPS: u32 = 1_000_000;
 const SAMPLE_TICKS: u32 = 10_000_000;
 
 /// What a command came to: the name of the journal that it replayed, where it was to, and those of its files; how it
-/// ended; and the items that it made, and what stands before them in its journal, where one is kept.
+/// ended; and the items that it made, with the stretches of its workers, and what stands before them in its journal, where
+/// one is kept.
 #[derive(Debug, Drop)]
 pub struct Obeyed {
     pub replayed: Option<Text>,
     pub names: Row<Text>,
     pub ending: Ending,
     pub items: Row<Item>,
+    pub rounds: Row<Stretch>,
     pub header: Option<Header>,
 }
 
@@ -47,6 +50,7 @@ impl Obeyed {
         ensures names { result.names ≡ [] }
         ensures ending { result.ending ≡ ending }
         ensures items { result.items ≡ [] }
+        ensures rounds { result.rounds ≡ [] }
         ensures header { result.header ≡ None }
     {
         Obeyed {
@@ -54,6 +58,7 @@ impl Obeyed {
             names: Row::new(alloc),
             ending,
             items: Row::new(alloc),
+            rounds: Row::new(alloc),
             header: None,
         }
     }
@@ -63,11 +68,13 @@ impl Obeyed {
         ensures names { result.names ≡ names }
         ensures ending { result.ending ≡ outcome.ending }
         ensures items { result.items ≡ outcome.items }
+        ensures rounds { result.rounds ≡ outcome.rounds }
         ensures header { result.header ≡ outcome.header }
     {
         let Outcome {
             ending,
             items,
+            rounds,
             header,
         } = outcome;
         Obeyed {
@@ -75,6 +82,7 @@ impl Obeyed {
             names,
             ending,
             items,
+            rounds,
             header,
         }
     }
@@ -92,13 +100,13 @@ pub fn obey<F: Files, I: Source, O: Sink>(
         (call_of words (F.content files.old) (reads_by (F.readings files.old) (F.faults files.old)) (reads_by (F.readings files.new) (F.faults files.new))
         (devices (I.left input.old) (I.faults input.old) (O.held output.old) (O.faults output.old))
         (devices (I.left input.new) (I.faults input.new) (O.held output.new) (O.faults output.new))
-        result.items)
+        result.items result.rounds)
         result.ending }
     ensures header { (words : List (List ℕ)) → command_of words ≡ Some command → HasHeaderIf
         (call_of words (F.content files.old) (reads_by (F.readings files.old) (F.faults files.old)) (reads_by (F.readings files.new) (F.faults files.new))
         (devices (I.left input.old) (I.faults input.old) (O.held output.old) (O.faults output.old))
         (devices (I.left input.new) (I.faults input.new) (O.held output.new) (O.faults output.new))
-        result.items)
+        result.items result.rounds)
         result.ending result.header }
     ensures in_range { (words : List (List ℕ)) → command_of words ≡ Some command → IfSome result.header (λ header. IsInRange header result.items) }
     ensures names { (words : List (List ℕ)) → command_of words ≡ Some command
@@ -108,7 +116,7 @@ pub fn obey<F: Files, I: Source, O: Sink>(
     match command {
         Command::Run {
             files: names,
-            workers: _,
+            workers,
             steps,
             ticks,
             journal,
@@ -116,6 +124,7 @@ pub fn obey<F: Files, I: Source, O: Sink>(
             let outcome = run_files(
                 alloc,
                 names.as_slice(),
+                workers,
                 steps,
                 ticks,
                 journal,
@@ -133,9 +142,9 @@ pub fn obey<F: Files, I: Source, O: Sink>(
             let outcome = list_classes(alloc, names.as_slice(), files, output);
             Obeyed::named(None, names, outcome)
         }
-        Command::Gen { seed, workers: _ } => match sample_names(alloc) {
+        Command::Gen { seed, workers } => match sample_names(alloc) {
             Ok(names) => {
-                let outcome = run_sample(alloc, seed, input, output);
+                let outcome = run_sample(alloc, seed, workers, input, output);
                 Obeyed::named(None, names, outcome)
             }
             Err(_) => Obeyed::early(alloc, Ending::NoMemory),
@@ -187,6 +196,7 @@ fn one_name(alloc: Global, name: &[u8]) -> Result<Row<Text>, NoMemory>
 fn run_files<F: Files, I: Source, O: Sink>(
     alloc: Global,
     names: &[Text],
+    workers: u32,
     steps: u32,
     ticks: u32,
     journal: bool,
@@ -194,24 +204,27 @@ fn run_files<F: Files, I: Source, O: Sink>(
     input: &mut I,
     output: &mut O,
 ) -> Outcome
-    ensures cause { (words : List (List ℕ)) → tasks.task words ≡ Some (tasks.Runs (tasks.Named names.now) steps ticks journal) → HasCause
+    ensures cause { (words : List (List ℕ)) → tasks.task words ≡ Some (tasks.Runs (tasks.Named names.now) workers steps ticks journal) → HasCause
         (call_of words (F.content files.old) (reads_by (F.readings files.old) (F.faults files.old)) (reads_by (F.readings files.new) (F.faults files.new))
         (devices (I.left input.old) (I.faults input.old) (O.held output.old) (O.faults output.old))
         (devices (I.left input.new) (I.faults input.new) (O.held output.new) (O.faults output.new))
-        result.items)
+        result.items result.rounds)
         result.ending }
-    ensures header { (words : List (List ℕ)) → tasks.task words ≡ Some (tasks.Runs (tasks.Named names.now) steps ticks journal) → HasHeaderIf
+    ensures header { (words : List (List ℕ)) → tasks.task words ≡ Some (tasks.Runs (tasks.Named names.now) workers steps ticks journal) → HasHeaderIf
         (call_of words (F.content files.old) (reads_by (F.readings files.old) (F.faults files.old)) (reads_by (F.readings files.new) (F.faults files.new))
         (devices (I.left input.old) (I.faults input.old) (O.held output.old) (O.faults output.old))
         (devices (I.left input.new) (I.faults input.new) (O.held output.new) (O.faults output.new))
-        result.items)
+        result.items result.rounds)
         result.ending result.header }
     ensures in_range { CanBeAsked names.now steps ticks → IfSome result.header (λ header. IsInRange header result.items) }
     ensures files { F.content files.new ≡ F.content files.old }
 {
     match prepare(alloc, names, steps, ticks, journal, files) {
         Ok(Prepared { program, header }) => {
-            run_program::<Process, I, O>(alloc, &program, header, steps, ticks, input, output)
+            let classes = &program.program().classes;
+            run_program::<Process, I, O>(
+                alloc, &program, classes, header, workers, steps, ticks, input, output,
+            )
         }
         Err(ending) => without_items(alloc, ending),
     }
@@ -221,15 +234,16 @@ fn run_files<F: Files, I: Source, O: Sink>(
 fn run_sample<I: Source, O: Sink>(
     alloc: Global,
     seed: u32,
+    workers: u32,
     input: &mut I,
     output: &mut O,
 ) -> Outcome
     ensures cause { (words : List (List ℕ)) (files : Option (List (List ℕ × List ℕ))) (reads : Reads)
-        → tasks.task words ≡ Some (tasks.Runs (tasks.Sampled seed) (default_of settings.Steps) (default_of settings.Ticks) false) → HasCause
+        → tasks.task words ≡ Some (tasks.Runs (tasks.Sampled seed) workers (default_of settings.Steps) (default_of settings.Ticks) false) → HasCause
         (call_of words files reads reads
         (devices (I.left input.old) (I.faults input.old) (O.held output.old) (O.faults output.old))
         (devices (I.left input.new) (I.faults input.new) (O.held output.new) (O.faults output.new))
-        result.items)
+        result.items result.rounds)
         result.ending }
     ensures header { result.header ≡ None }
 {
@@ -237,7 +251,9 @@ fn run_sample<I: Source, O: Sink>(
         Ok(program) => run_program::<Process, I, O>(
             alloc,
             &program,
+            &program.program().classes,
             None,
+            workers,
             SAMPLE_STEPS,
             SAMPLE_TICKS,
             input,
@@ -250,7 +266,7 @@ fn run_sample<I: Source, O: Sink>(
 /// Says whether the files of these names are a program.
 fn check_files<F: Files>(alloc: Global, names: &[Text], files: &mut F) -> Outcome
     ensures cause { (words : List (List ℕ)) (devices : Devices) → tasks.task words ≡ Some (tasks.Checks names.now) → HasCause
-        (call_of words (F.content files.old) (reads_by (F.readings files.old) (F.faults files.old)) (reads_by (F.readings files.new) (F.faults files.new)) devices devices result.items)
+        (call_of words (F.content files.old) (reads_by (F.readings files.old) (F.faults files.old)) (reads_by (F.readings files.new) (F.faults files.new)) devices devices result.items result.rounds)
         result.ending }
     ensures header { result.header ≡ None }
     ensures files { F.content files.new ≡ F.content files.old }

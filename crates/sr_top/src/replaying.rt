@@ -34,7 +34,7 @@ pub fn replay_journal<F: Files, I: Source, O: Sink>(
         (call_of words (F.content files.old) (reads_by (F.readings files.old) (F.faults files.old)) (reads_by (F.readings files.new) (F.faults files.new))
         (devices (I.left input.old) (I.faults input.old) (O.held output.old) (O.faults output.old))
         (devices (I.left input.new) (I.faults input.new) (O.held output.new) (O.faults output.new))
-        result.items)
+        result.items result.rounds)
         result.ending }
     ensures header { result.header ≡ None }
     ensures files { F.content files.new ≡ F.content files.old }

@@ -34,19 +34,19 @@ pub fn sr_top<F: Files, I: Source, O: Sink, D: Sink, J: Sink, G: Gate + Sync>(
         (call_of (map string_bytes words.now) (F.content files.old) (reads_by (F.readings files.old) (F.faults files.old)) (reads_by (F.readings files.new) (F.faults files.new))
         (devices (I.left input.old) (I.faults input.old) (O.held output.old) (O.faults output.old))
         (devices (I.left input.new) (I.faults input.new) (O.held output.new) (O.faults output.new))
-        result.items)
+        result.items result.rounds)
         result.ending }
     ensures headline { Headline
         (call_of (map string_bytes words.now) (F.content files.old) (reads_by (F.readings files.old) (F.faults files.old)) (reads_by (F.readings files.new) (F.faults files.new))
         (devices (I.left input.old) (I.faults input.old) (O.held output.old) (O.faults output.old))
         (devices (I.left input.new) (I.faults input.new) (O.held output.new) (O.faults output.new))
-        result.items)
+        result.items result.rounds)
         result.ending }
     ensures complete { IsComplete
         (call_of (map string_bytes words.now) (F.content files.old) (reads_by (F.readings files.old) (F.faults files.old)) (reads_by (F.readings files.new) (F.faults files.new))
         (devices (I.left input.old) (I.faults input.old) (O.held output.old) (O.faults output.old))
         (devices (I.left input.new) (I.faults input.new) (O.held output.new) (O.faults output.new))
-        result.items)
+        result.items result.rounds)
         result.ending }
     ensures files { F.content files.new ≡ F.content files.old }
     ensures diag { report_of.GotAsFar result.diag (report_of.diag_text (replayed_journal (map string_bytes words.now)) (file_names (map string_bytes words.now)) result.ending)
@@ -56,15 +56,14 @@ pub fn sr_top<F: Files, I: Source, O: Sink, D: Sink, J: Sink, G: Gate + Sync>(
         (call_of (map string_bytes words.now) (F.content files.old) (reads_by (F.readings files.old) (F.faults files.old)) (reads_by (F.readings files.new) (F.faults files.new))
         (devices (I.left input.old) (I.faults input.old) (O.held output.old) (O.faults output.old))
         (devices (I.left input.new) (I.faults input.new) (O.held output.new) (O.faults output.new))
-        result.items)
+        result.items result.rounds)
         result.ending result.journal (J.held journal.old) (J.held journal.new) (J.faults journal.old) (J.faults journal.new)
         ⊎ (HasNoJournal
         (call_of (map string_bytes words.now) (F.content files.old) (reads_by (F.readings files.old) (F.faults files.old)) (reads_by (F.readings files.new) (F.faults files.new))
         (devices (I.left input.old) (I.faults input.old) (O.held output.old) (O.faults output.old))
         (devices (I.left input.new) (I.faults input.new) (O.held output.new) (O.faults output.new))
-        result.items)
+        result.items result.rounds)
         result.ending result.journal × (journal.new ≡ journal.old)) }
-    ensures no_rounds { result.rounds ≡ [] }
 {
     let obeyed = obey_words(alloc, words, files, input, output);
     let Obeyed {
@@ -72,6 +71,7 @@ pub fn sr_top<F: Files, I: Source, O: Sink, D: Sink, J: Sink, G: Gate + Sync>(
         names,
         ending,
         items,
+        rounds,
         header,
     } = obeyed;
     let diag = put_diag(alloc, &replayed, names.as_slice(), ending, diag);
@@ -82,7 +82,7 @@ pub fn sr_top<F: Files, I: Source, O: Sink, D: Sink, J: Sink, G: Gate + Sync>(
         journal,
         status: status_of(ending, journal),
         items,
-        rounds: Row::new(alloc),
+        rounds,
     }
 }
 
@@ -98,13 +98,13 @@ fn obey_words<F: Files, I: Source, O: Sink>(
         (call_of (map string_bytes words.now) (F.content files.old) (reads_by (F.readings files.old) (F.faults files.old)) (reads_by (F.readings files.new) (F.faults files.new))
         (devices (I.left input.old) (I.faults input.old) (O.held output.old) (O.faults output.old))
         (devices (I.left input.new) (I.faults input.new) (O.held output.new) (O.faults output.new))
-        result.items)
+        result.items result.rounds)
         result.ending }
     ensures header { HasHeaderIf
         (call_of (map string_bytes words.now) (F.content files.old) (reads_by (F.readings files.old) (F.faults files.old)) (reads_by (F.readings files.new) (F.faults files.new))
         (devices (I.left input.old) (I.faults input.old) (O.held output.old) (O.faults output.old))
         (devices (I.left input.new) (I.faults input.new) (O.held output.new) (O.faults output.new))
-        result.items)
+        result.items result.rounds)
         result.ending result.header }
     ensures in_range { IfSome result.header (λ header. IsInRange header result.items) }
     ensures names { report_of.diag_text result.replayed result.names result.ending ≡ report_of.diag_text (replayed_journal (map string_bytes words.now)) (file_names (map string_bytes words.now)) result.ending }

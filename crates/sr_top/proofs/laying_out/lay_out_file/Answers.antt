@@ -15,10 +15,10 @@ returns-in-Ok-clause-cause g c = λ words left read_faults asked.
     let call : Call =
     call_of words (g.F.Files.content c.args.files.now)
     (reads_by (g.F.Files.readings c.args.files.now) (g.F.Files.faults c.args.files.now)) (reads_by (g.F.Files.readings c.text_of_file.new.files) (g.F.Files.faults c.text_of_file.new.files))
-    (devices left read_faults held faults) (devices left read_faults held_now faults_now) c.without_items.result.items in
+    (devices left read_faults held faults) (devices left read_faults held_now faults_now) c.without_items.result.items c.without_items.result.rounds in
     subst (HasCause call) (sym c.without_items.ensures.ending)
     (listed call c.in-Ok.text c.put_lines.result
-    (inr (inr (layout_shown call c.args.name.now asked c.without_items.ensures.items refl refl c.in-Ok.ensures.no_fault c.in-Ok.text c.in-Ok.ensures.text)))
+    (inr (inr (layout_shown call c.args.name.now asked (c.without_items.ensures.items, c.without_items.ensures.rounds) refl refl c.in-Ok.ensures.no_fault c.in-Ok.text c.in-Ok.ensures.text)))
     (subst (λ lines. PutsLines lines held held_now faults faults_now c.put_lines.result) c.as_bytes.ensures c.put_lines.ensures))
 
 pub returns-in-Err-clause-cause : goal.returns-in-Err-clause-cause
@@ -28,6 +28,6 @@ returns-in-Err-clause-cause g c = λ words left read_faults asked.
     let call : Call =
     call_of words (g.F.Files.content c.args.files.now)
     (reads_by (g.F.Files.readings c.args.files.now) (g.F.Files.faults c.args.files.now)) (reads_by (g.F.Files.readings c.text_of_file.new.files) (g.F.Files.faults c.text_of_file.new.files))
-    (devices left read_faults held faults) (devices left read_faults held faults) c.without_items-in-Err.result.items in
+    (devices left read_faults held faults) (devices left read_faults held faults) c.without_items-in-Err.result.items c.without_items-in-Err.result.rounds in
     subst (HasCause call) (sym c.without_items-in-Err.ensures.ending)
-    (layout_ended call c.args.name.now asked (record { no_items = c.without_items-in-Err.ensures.items; untouched = refl }) c.in-Err.ending c.in-Err.ensures.ends)
+    (layout_ended call c.args.name.now asked (record { no_items = (c.without_items-in-Err.ensures.items, c.without_items-in-Err.ensures.rounds); untouched = refl }) c.in-Err.ending c.in-Err.ensures.ends)

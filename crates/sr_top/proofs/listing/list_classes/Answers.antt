@@ -19,7 +19,7 @@ returns-in-Ok-clause-cause g c = λ words left read_faults asked.
       compiled = c.in-Ok.ensures.compiled;
       are = refl;
       no_fault = c.in-Ok.ensures.no_fault;
-      no_items = c.without_items.ensures.items;
+      no_items = (c.without_items.ensures.items, c.without_items.ensures.rounds);
       left = refl;
       no_read_fault = refl;
     }))
@@ -28,4 +28,4 @@ returns-in-Ok-clause-cause g c = λ words left read_faults asked.
 pub returns-in-Err-clause-cause : goal.returns-in-Err-clause-cause
 returns-in-Err-clause-cause g c = λ words left read_faults asked.
     subst (HasCause _) (sym c.without_items-in-Err.ensures.ending)
-    (stopped _ (Named c.args.names.now) _ (ap (option_and_then origin_of) asked) (record { no_items = c.without_items-in-Err.ensures.items; untouched = refl }) c.in-Err.ensures.ends)
+    (stopped _ (Named c.args.names.now) _ (ap (option_and_then origin_of) asked) (record { no_items = (c.without_items-in-Err.ensures.items, c.without_items-in-Err.ensures.rounds); untouched = refl }) c.in-Err.ensures.ends)

@@ -17,10 +17,10 @@ returns-in-Ok-clause-cause g c = λ words devices asked.
       classes = _;
       compiled = c.in-Ok.ensures.compiled;
       no_fault = c.in-Ok.ensures.no_fault;
-      nothing = record { no_items = c.without_items.ensures.items; untouched = refl };
+      nothing = record { no_items = (c.without_items.ensures.items, c.without_items.ensures.rounds); untouched = refl };
     }))
 
 pub returns-in-Err-clause-cause : goal.returns-in-Err-clause-cause
 returns-in-Err-clause-cause g c = λ words devices asked.
     subst (HasCause _) (sym c.without_items-in-Err.ensures.ending)
-    (stopped _ (Named c.args.names.now) _ (ap (option_and_then origin_of) asked) (record { no_items = c.without_items-in-Err.ensures.items; untouched = refl }) c.in-Err.ensures.ends)
+    (stopped _ (Named c.args.names.now) _ (ap (option_and_then origin_of) asked) (record { no_items = (c.without_items-in-Err.ensures.items, c.without_items-in-Err.ensures.rounds); untouched = refl }) c.in-Err.ensures.ends)

@@ -4,6 +4,7 @@ use Rattle.std.specs.Prelude.{IfSome, unwrap_or}
 use Rattle.std.specs.Option.{option_map}
 use Rattle.sr_ask.specs.declared.item.Item.{Item}
 use Rattle.sr_journal.specs.Journal.{IsInRange}
+use Rattle.sr_run.specs.declared.stretch.Stretch.{Stretch}
 use Rattle.sr_top.proofs.Asked.{handed_on, named_as, task_is}
 use Rattle.sr_top.proofs.Commands.{can_be_asked}
 use Rattle.sr_top.specs.Causes.{Call, HasCause, call_of, devices}
@@ -14,25 +15,25 @@ use Rattle.sr_top.proofs.obeying.obey.Goals as goal
 
 pub returns-in-Run-clause-cause : goal.returns-in-Run-clause-cause
 returns-in-Run-clause-cause g c = λ words told.
-    let call : List Item → Call =
+    let call : List Item → List Stretch → Call =
     call_of words (g.F.Files.content c.args.files.now) (reads_by (g.F.Files.readings c.args.files.now) (g.F.Files.faults c.args.files.now)) (reads_by (g.F.Files.readings c.run_files-outcome.new.files) (g.F.Files.faults c.run_files-outcome.new.files))
     (devices (g.I.Source.left c.args.input.now) (g.I.Source.faults c.args.input.now) (g.O.Sink.held c.args.output.now) (g.O.Sink.faults c.args.output.now))
     (devices (g.I.Source.left c.run_files-outcome.new.input) (g.I.Source.faults c.run_files-outcome.new.input) (g.O.Sink.held c.run_files-outcome.new.output) (g.O.Sink.faults c.run_files-outcome.new.output)) in
-    handed_on (λ items ending header. HasCause (call items) ending) _ _ _ _ _ _ c.named.ensures.items c.named.ensures.ending c.named.ensures.header
-    (c.run_files-outcome.ensures.cause words (task_is words _ _ _ told c.in-Run.is refl ∙ ap (λ names. Some (Runs (Named names) c.in-Run.steps c.in-Run.ticks c.in-Run.journal)) (sym c.as_slice.ensures)))
+    handed_on (λ items rounds ending header. HasCause (call items rounds) ending) _ _ _ _ _ _ _ _ c.named.ensures.items c.named.ensures.rounds c.named.ensures.ending c.named.ensures.header
+    (c.run_files-outcome.ensures.cause words (task_is words _ _ _ told c.in-Run.is refl ∙ ap (λ names. Some (Runs (Named names) c.in-Run.workers c.in-Run.steps c.in-Run.ticks c.in-Run.journal)) (sym c.as_slice.ensures)))
 
 pub returns-in-Run-clause-header : goal.returns-in-Run-clause-header
 returns-in-Run-clause-header g c = λ words told.
-    let call : List Item → Call =
+    let call : List Item → List Stretch → Call =
     call_of words (g.F.Files.content c.args.files.now) (reads_by (g.F.Files.readings c.args.files.now) (g.F.Files.faults c.args.files.now)) (reads_by (g.F.Files.readings c.run_files-outcome.new.files) (g.F.Files.faults c.run_files-outcome.new.files))
     (devices (g.I.Source.left c.args.input.now) (g.I.Source.faults c.args.input.now) (g.O.Sink.held c.args.output.now) (g.O.Sink.faults c.args.output.now))
     (devices (g.I.Source.left c.run_files-outcome.new.input) (g.I.Source.faults c.run_files-outcome.new.input) (g.O.Sink.held c.run_files-outcome.new.output) (g.O.Sink.faults c.run_files-outcome.new.output)) in
-    handed_on (λ items ending header. HasHeaderIf (call items) ending header) _ _ _ _ _ _ c.named.ensures.items c.named.ensures.ending c.named.ensures.header
-    (c.run_files-outcome.ensures.header words (task_is words _ _ _ told c.in-Run.is refl ∙ ap (λ names. Some (Runs (Named names) c.in-Run.steps c.in-Run.ticks c.in-Run.journal)) (sym c.as_slice.ensures)))
+    handed_on (λ items rounds ending header. HasHeaderIf (call items rounds) ending header) _ _ _ _ _ _ _ _ c.named.ensures.items c.named.ensures.rounds c.named.ensures.ending c.named.ensures.header
+    (c.run_files-outcome.ensures.header words (task_is words _ _ _ told c.in-Run.is refl ∙ ap (λ names. Some (Runs (Named names) c.in-Run.workers c.in-Run.steps c.in-Run.ticks c.in-Run.journal)) (sym c.as_slice.ensures)))
 
 pub returns-in-Run-clause-in_range : goal.returns-in-Run-clause-in_range
 returns-in-Run-clause-in_range g c = λ words told.
-    handed_on (λ items ending header. IfSome header (λ h. IsInRange h items)) _ _ _ _ _ _ c.named.ensures.items c.named.ensures.ending c.named.ensures.header
+    handed_on (λ items rounds ending header. IfSome header (λ h. IsInRange h items)) _ _ _ _ _ _ _ _ c.named.ensures.items c.named.ensures.rounds c.named.ensures.ending c.named.ensures.header
     (c.run_files-outcome.ensures.in_range (subst (λ names. CanBeAsked names c.in-Run.steps c.in-Run.ticks) (sym c.as_slice.ensures) (can_be_asked _ _ _ _ _ words (told ∙ ap Some c.in-Run.is))))
 
 pub returns-in-Run-clause-names : goal.returns-in-Run-clause-names
@@ -40,12 +41,12 @@ returns-in-Run-clause-names g c = λ words told. named_as words c.named.result.n
 
 pub returns-in-Check-clause-cause : goal.returns-in-Check-clause-cause
 returns-in-Check-clause-cause g c = λ words told.
-    let call : List Item → Call =
+    let call : List Item → List Stretch → Call =
     call_of words (g.F.Files.content c.args.files.now) (reads_by (g.F.Files.readings c.args.files.now) (g.F.Files.faults c.args.files.now)) (reads_by (g.F.Files.readings c.check_files-outcome.new.files) (g.F.Files.faults c.check_files-outcome.new.files))
     (devices (g.I.Source.left c.args.input.now) (g.I.Source.faults c.args.input.now) (g.O.Sink.held c.args.output.now) (g.O.Sink.faults c.args.output.now))
     (devices (g.I.Source.left c.args.input.now) (g.I.Source.faults c.args.input.now) (g.O.Sink.held c.args.output.now) (g.O.Sink.faults c.args.output.now)) in
-    handed_on (λ items ending header. HasCause (call items) ending) _ _ _ _ _ _ c.named-in-Check.ensures.items c.named-in-Check.ensures.ending c.named-in-Check.ensures.header
-    (c.check_files-outcome.ensures.cause words (call []).before (task_is words _ _ _ told c.in-Check.is refl ∙ ap (λ names. Some (Checks names)) (sym c.as_slice-in-Check.ensures)))
+    handed_on (λ items rounds ending header. HasCause (call items rounds) ending) _ _ _ _ _ _ _ _ c.named-in-Check.ensures.items c.named-in-Check.ensures.rounds c.named-in-Check.ensures.ending c.named-in-Check.ensures.header
+    (c.check_files-outcome.ensures.cause words (call [] []).before (task_is words _ _ _ told c.in-Check.is refl ∙ ap (λ names. Some (Checks names)) (sym c.as_slice-in-Check.ensures)))
 
 pub returns-in-Check-clause-header : goal.returns-in-Check-clause-header
 returns-in-Check-clause-header g c = λ words told.
@@ -59,11 +60,11 @@ returns-in-Check-clause-names g c = λ words told. named_as words c.named-in-Che
 
 pub returns-in-Classes-clause-cause : goal.returns-in-Classes-clause-cause
 returns-in-Classes-clause-cause g c = λ words told.
-    let call : List Item → Call =
+    let call : List Item → List Stretch → Call =
     call_of words (g.F.Files.content c.args.files.now) (reads_by (g.F.Files.readings c.args.files.now) (g.F.Files.faults c.args.files.now)) (reads_by (g.F.Files.readings c.list_classes-outcome.new.files) (g.F.Files.faults c.list_classes-outcome.new.files))
     (devices (g.I.Source.left c.args.input.now) (g.I.Source.faults c.args.input.now) (g.O.Sink.held c.args.output.now) (g.O.Sink.faults c.args.output.now))
     (devices (g.I.Source.left c.args.input.now) (g.I.Source.faults c.args.input.now) (g.O.Sink.held c.list_classes-outcome.new.output) (g.O.Sink.faults c.list_classes-outcome.new.output)) in
-    handed_on (λ items ending header. HasCause (call items) ending) _ _ _ _ _ _ c.named-in-Classes.ensures.items c.named-in-Classes.ensures.ending c.named-in-Classes.ensures.header
+    handed_on (λ items rounds ending header. HasCause (call items rounds) ending) _ _ _ _ _ _ _ _ c.named-in-Classes.ensures.items c.named-in-Classes.ensures.rounds c.named-in-Classes.ensures.ending c.named-in-Classes.ensures.header
     (c.list_classes-outcome.ensures.cause words _ _ (task_is words _ _ _ told c.in-Classes.is refl ∙ ap (λ names. Some (ListsClasses names)) (sym c.as_slice-in-Classes.ensures)))
 
 pub returns-in-Classes-clause-header : goal.returns-in-Classes-clause-header
@@ -78,11 +79,11 @@ returns-in-Classes-clause-names g c = λ words told. named_as words c.named-in-C
 
 pub returns-in-Ok-clause-cause : goal.returns-in-Ok-clause-cause
 returns-in-Ok-clause-cause g c = λ words told.
-    let call : List Item → Call =
+    let call : List Item → List Stretch → Call =
     call_of words (g.F.Files.content c.args.files.now) (reads_by (g.F.Files.readings c.args.files.now) (g.F.Files.faults c.args.files.now)) (reads_by (g.F.Files.readings c.args.files.now) (g.F.Files.faults c.args.files.now))
     (devices (g.I.Source.left c.args.input.now) (g.I.Source.faults c.args.input.now) (g.O.Sink.held c.args.output.now) (g.O.Sink.faults c.args.output.now))
     (devices (g.I.Source.left c.run_sample-outcome.new.input) (g.I.Source.faults c.run_sample-outcome.new.input) (g.O.Sink.held c.run_sample-outcome.new.output) (g.O.Sink.faults c.run_sample-outcome.new.output)) in
-    handed_on (λ items ending header. HasCause (call items) ending) _ _ _ _ _ _ c.named-in-Ok.ensures.items c.named-in-Ok.ensures.ending c.named-in-Ok.ensures.header
+    handed_on (λ items rounds ending header. HasCause (call items rounds) ending) _ _ _ _ _ _ _ _ c.named-in-Ok.ensures.items c.named-in-Ok.ensures.rounds c.named-in-Ok.ensures.ending c.named-in-Ok.ensures.header
     (c.run_sample-outcome.ensures.cause words _ _ (task_is words _ _ _ told c.in-Gen.is refl))
 
 pub returns-in-Ok-clause-header : goal.returns-in-Ok-clause-header
@@ -97,12 +98,12 @@ returns-in-Ok-clause-names g c = λ words told. named_as words c.named-in-Ok.res
 
 pub returns-in-Replay-clause-cause : goal.returns-in-Replay-clause-cause
 returns-in-Replay-clause-cause g c = λ words told.
-    let call : List Item → Call =
+    let call : List Item → List Stretch → Call =
     call_of words (g.F.Files.content c.args.files.now)
     (reads_by (g.F.Files.readings c.args.files.now) (g.F.Files.faults c.args.files.now)) (reads_by (g.F.Files.readings c.replay_journal-outcome.new.files) (g.F.Files.faults c.replay_journal-outcome.new.files))
     (devices (g.I.Source.left c.args.input.now) (g.I.Source.faults c.args.input.now) (g.O.Sink.held c.args.output.now) (g.O.Sink.faults c.args.output.now))
     (devices (g.I.Source.left c.replay_journal-outcome.new.input) (g.I.Source.faults c.replay_journal-outcome.new.input) (g.O.Sink.held c.replay_journal-outcome.new.output) (g.O.Sink.faults c.replay_journal-outcome.new.output)) in
-    handed_on (λ items ending header. HasCause (call items) ending) _ _ _ _ _ _ c.named-in-Replay.ensures.items c.named-in-Replay.ensures.ending c.named-in-Replay.ensures.header
+    handed_on (λ items rounds ending header. HasCause (call items rounds) ending) _ _ _ _ _ _ _ _ c.named-in-Replay.ensures.items c.named-in-Replay.ensures.rounds c.named-in-Replay.ensures.ending c.named-in-Replay.ensures.header
     (c.replay_journal-outcome.ensures.cause words
     (task_is words _ _ _ told c.in-Replay.is refl ∙ ap (λ names. Some (Replays c.in-Replay.journal names c.in-Replay.upto)) (sym c.as_slice-in-Replay.ensures)))
 
@@ -119,16 +120,16 @@ returns-in-Replay-clause-names g c = λ words told. named_as words c.named-in-Re
 pub returns-in-Gen-clause-header : goal.returns-in-Gen-clause-header
 returns-in-Gen-clause-header g c = λ words told.
     subst (HasHeaderIf _ _) (sym c.early.ensures.header)
-    (without (inr (record { no_items = c.early.ensures.items; untouched = refl }, subst EndsBeforeRun (sym c.early.ensures.ending) tt)))
+    (without (inr (record { no_items = (c.early.ensures.items, c.early.ensures.rounds); untouched = refl }, subst EndsBeforeRun (sym c.early.ensures.ending) tt)))
 
 pub returns-in-Ok-one_name-clause-cause : goal.returns-in-Ok-one_name-clause-cause
 returns-in-Ok-one_name-clause-cause g c = λ words told.
-    let call : List Item → Call =
+    let call : List Item → List Stretch → Call =
     call_of words (g.F.Files.content c.args.files.now)
     (reads_by (g.F.Files.readings c.args.files.now) (g.F.Files.faults c.args.files.now)) (reads_by (g.F.Files.readings c.lay_out_file-outcome.new.files) (g.F.Files.faults c.lay_out_file-outcome.new.files))
     (devices (g.I.Source.left c.args.input.now) (g.I.Source.faults c.args.input.now) (g.O.Sink.held c.args.output.now) (g.O.Sink.faults c.args.output.now))
     (devices (g.I.Source.left c.args.input.now) (g.I.Source.faults c.args.input.now) (g.O.Sink.held c.lay_out_file-outcome.new.output) (g.O.Sink.faults c.lay_out_file-outcome.new.output)) in
-    handed_on (λ items ending header. HasCause (call items) ending) _ _ _ _ _ _ c.named-in-Ok-one_name.ensures.items c.named-in-Ok-one_name.ensures.ending c.named-in-Ok-one_name.ensures.header
+    handed_on (λ items rounds ending header. HasCause (call items rounds) ending) _ _ _ _ _ _ _ _ c.named-in-Ok-one_name.ensures.items c.named-in-Ok-one_name.ensures.rounds c.named-in-Ok-one_name.ensures.ending c.named-in-Ok-one_name.ensures.header
     (c.lay_out_file-outcome.ensures.cause words _ _ (task_is words _ _ _ told c.in-Fmt.is refl))
 
 pub returns-in-Ok-one_name-clause-header : goal.returns-in-Ok-one_name-clause-header
@@ -148,4 +149,4 @@ returns-in-Ok-one_name-clause-names g c = λ words told.
 pub returns-clause-header : goal.returns-clause-header
 returns-clause-header g c = λ words told.
     subst (HasHeaderIf _ _) (sym c.early-in-Err-one_name.ensures.header)
-    (without (inr (record { no_items = c.early-in-Err-one_name.ensures.items; untouched = refl }, subst EndsBeforeRun (sym c.early-in-Err-one_name.ensures.ending) tt)))
+    (without (inr (record { no_items = (c.early-in-Err-one_name.ensures.items, c.early-in-Err-one_name.ensures.rounds); untouched = refl }, subst EndsBeforeRun (sym c.early-in-Err-one_name.ensures.ending) tt)))

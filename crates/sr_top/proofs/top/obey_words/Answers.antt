@@ -19,9 +19,9 @@ returns-in-Ok-clause-names g c = c.obey.ensures.names (map string_bytes c.args.w
 pub returns-in-Err-Usage-clause-header : goal.returns-in-Err-Usage-clause-header
 returns-in-Err-Usage-clause-header g c =
     subst (HasHeaderIf _ _) (sym c.early.ensures.header)
-    (without (inr (record { no_items = c.early.ensures.items; untouched = refl }, subst EndsBeforeRun (sym c.early.ensures.ending) tt)))
+    (without (inr (record { no_items = (c.early.ensures.items, c.early.ensures.rounds); untouched = refl }, subst EndsBeforeRun (sym c.early.ensures.ending) tt)))
 
 pub returns-in-Err-NoMemory-clause-header : goal.returns-in-Err-NoMemory-clause-header
 returns-in-Err-NoMemory-clause-header g c =
     subst (HasHeaderIf _ _) (sym c.early-in-Err-NoMemory.ensures.header)
-    (without (inr (record { no_items = c.early-in-Err-NoMemory.ensures.items; untouched = refl }, subst EndsBeforeRun (sym c.early-in-Err-NoMemory.ensures.ending) tt)))
+    (without (inr (record { no_items = (c.early-in-Err-NoMemory.ensures.items, c.early-in-Err-NoMemory.ensures.rounds); untouched = refl }, subst EndsBeforeRun (sym c.early-in-Err-NoMemory.ensures.ending) tt)))
