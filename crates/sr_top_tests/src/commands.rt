@@ -7,7 +7,7 @@ use std::test::Fail;
 const HELLO: &[u8] = b"resource main()\n  write(\"hello\", 3)\nend\n";
 
 /// Philosophers that eat three times each, by the leave of a servant.
-const PHILOSOPHERS: &[u8] = b"resource Servant
+pub const PHILOSOPHERS: &[u8] = b"resource Servant
   op getforks(id : int)
   op relforks(id : int)
 body Servant(n : int)
@@ -204,30 +204,59 @@ fn words(rt: HostRuntime) -> Result<(), Fail> {
     Ok(())
 }
 
-/// The limits: a process that begins statements without end, and a program that makes steps without end.
-#[test]
-fn limits(rt: HostRuntime) -> Result<(), Fail> {
+/// Whether a process that begins statements without end, and a program that makes steps without end, end at their limits.
+fn ends_at_limits(alloc: Global, workers: &str) -> Result<bool, NoMemory> {
     let ticks: [(&str, &[u8]); 1] = [("a.sr", b"resource main()\n  do true -> skip od\nend\n")];
     let steps: [(&str, &[u8]); 1] = [(
         "a.sr",
         b"resource main()\n  op f()\n  do true -> send f() od\nend\n",
     )];
-    let cases = [
-        Case {
-            status: 102,
-            items: 1,
-            diag: b"sr: limit: ticks\n",
-            ..silent(&["run", "a.sr", "--ticks", "1000"], &ticks)
-        },
-        Case {
-            status: 102,
-            items: 50,
-            diag: b"sr: limit: steps\n",
-            ..silent(&["run", "a.sr", "--steps", "50"], &steps)
-        },
-    ];
-    for (index, case) in cases.iter().enumerate() {
-        assert!(rt; goes_so(rt.alloc(), case)?, "case {index}");
+    let over_ticks = Case {
+        status: 102,
+        items: 1,
+        diag: b"sr: limit: ticks\n",
+        ..silent(
+            &["run", "a.sr", "--workers", workers, "--ticks", "1000"],
+            &ticks,
+        )
+    };
+    let over_steps = Case {
+        status: 102,
+        items: 50,
+        diag: b"sr: limit: steps\n",
+        ..silent(
+            &["run", "a.sr", "--workers", workers, "--steps", "50"],
+            &steps,
+        )
+    };
+    Ok(goes_so(alloc, &over_ticks)? && goes_so(alloc, &over_steps)?)
+}
+
+#[test]
+fn limits(rt: HostRuntime) -> Result<(), Fail> {
+    assert!(rt; ends_at_limits(rt.alloc(), "1")?);
+    assert!(rt; ends_at_limits(rt.alloc(), "4")?);
+    Ok(())
+}
+
+/// A store makes a guard true.
+#[test]
+fn stores(rt: HostRuntime) -> Result<(), Fail> {
+    let text = b"resource main()
+  var x : int := 0
+  op go(n : int)
+  process waiter
+    in go(n) and x = 1 -> write(\"served\", n) ni
+  end
+  process setter
+    x := 1
+  end
+  send go(8)
+end
+";
+    for workers in ["1", "4"] {
+        let words = ["run", "a.sr", "--workers", workers];
+        assert!(rt; writes(rt.alloc(), &words, "a.sr", text, b"served 8\n")?);
     }
     Ok(())
 }
