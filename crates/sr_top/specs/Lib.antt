@@ -3,6 +3,7 @@ pub mod Causes
 pub mod Headline
 pub mod Journal
 pub mod LayingOut
+pub mod Placing
 pub mod Programs
 pub mod Reading
 pub mod Replaying
