@@ -138,12 +138,18 @@ const RIGHT: [(&str, &str); 43] = [
     ("gen 07 --workers 4", "gen 7 4"),
     ("gen --workers=16 3", "gen 3 16"),
     ("gen -- 5", "gen 5 1"),
-    ("replay a.journal a.sr", "replay 16000000 false a.journal a.sr"),
+    (
+        "replay a.journal a.sr",
+        "replay 16000000 false a.journal a.sr",
+    ),
     (
         "replay a.journal a.sr b.sr --upto 0",
         "replay 0 false a.journal a.sr b.sr",
     ),
-    ("replay --upto=7 a.journal a.sr", "replay 7 false a.journal a.sr"),
+    (
+        "replay --upto=7 a.journal a.sr",
+        "replay 7 false a.journal a.sr",
+    ),
     (
         "replay a.journal --upto 16000000 a.sr",
         "replay 16000000 false a.journal a.sr",
@@ -153,7 +159,10 @@ const RIGHT: [(&str, &str); 43] = [
         "replay --where a.journal a.sr --upto 7",
         "replay 7 true a.journal a.sr",
     ),
-    ("replay replay replay", "replay 16000000 false replay replay"),
+    (
+        "replay replay replay",
+        "replay 16000000 false replay replay",
+    ),
 ];
 
 /// Lines that give no command.

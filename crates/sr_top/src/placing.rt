@@ -35,7 +35,12 @@ fn push_place(
         Asks::Asked(ask) => {
             let number = decimal_text(alloc, process.process)?;
             let line = decimal_text(alloc, ask.place.line)?;
-            push_words(text, number.as_bytes(), file_name(names, ask.place.file), line.as_bytes())
+            push_words(
+                text,
+                number.as_bytes(),
+                file_name(names, ask.place.file),
+                line.as_bytes(),
+            )
         }
     }
 }

@@ -151,12 +151,7 @@ fn replay_of(
 }
 
 /// The replay of the journal that is the first word.
-fn replay_in(
-    alloc: Global,
-    upto: u32,
-    places: bool,
-    words: &[&str],
-) -> Result<Command, WordsFail>
+fn replay_in(alloc: Global, upto: u32, places: bool, words: &[&str]) -> Result<Command, WordsFail>
     ensures command { IfOk result (λ command. commands.replay_of upto places (map (λ word. word.now) words.now) ≡ Some command) }
     ensures usage { result ≡ Err fails.Usage → commands.replay_of upto places (map (λ word. word.now) words.now) ≡ None }
 {
