@@ -29,7 +29,7 @@ fn head_of(alloc: Global, command: &Command) -> Result<String, NoMemory> {
         Command::Classes { .. } => Ok(format!(in alloc; "classes")?),
         Command::Fmt { .. } => Ok(format!(in alloc; "fmt")?),
         Command::Gen { seed, workers } => Ok(format!(in alloc; "gen {seed} {workers}")?),
-        Command::Replay { upto, .. } => Ok(format!(in alloc; "replay {upto}")?),
+        Command::Replay { upto, places, .. } => Ok(format!(in alloc; "replay {upto} {places}")?),
     }
 }
 
@@ -80,7 +80,7 @@ fn gives(alloc: Global, line: &str, wanted: &str) -> Result<bool, NoMemory> {
 }
 
 /// Lines, and the commands that they give.
-const RIGHT: [(&str, &str); 42] = [
+const RIGHT: [(&str, &str); 43] = [
     ("run a.sr", "run 1 1000000 10000000 false a.sr"),
     ("run a.sr b.sr", "run 1 1000000 10000000 false a.sr b.sr"),
     ("run a.sr a.sr", "run 1 1000000 10000000 false a.sr a.sr"),
@@ -138,22 +138,35 @@ const RIGHT: [(&str, &str); 42] = [
     ("gen 07 --workers 4", "gen 7 4"),
     ("gen --workers=16 3", "gen 3 16"),
     ("gen -- 5", "gen 5 1"),
-    ("replay a.journal a.sr", "replay 16000000 a.journal a.sr"),
+    (
+        "replay a.journal a.sr",
+        "replay 16000000 false a.journal a.sr",
+    ),
     (
         "replay a.journal a.sr b.sr --upto 0",
-        "replay 0 a.journal a.sr b.sr",
+        "replay 0 false a.journal a.sr b.sr",
     ),
-    ("replay --upto=7 a.journal a.sr", "replay 7 a.journal a.sr"),
+    (
+        "replay --upto=7 a.journal a.sr",
+        "replay 7 false a.journal a.sr",
+    ),
     (
         "replay a.journal --upto 16000000 a.sr",
-        "replay 16000000 a.journal a.sr",
+        "replay 16000000 false a.journal a.sr",
     ),
-    ("replay -- --upto 5", "replay 16000000 --upto 5"),
-    ("replay replay replay", "replay 16000000 replay replay"),
+    ("replay -- --upto 5", "replay 16000000 false --upto 5"),
+    (
+        "replay --where a.journal a.sr --upto 7",
+        "replay 7 true a.journal a.sr",
+    ),
+    (
+        "replay replay replay",
+        "replay 16000000 false replay replay",
+    ),
 ];
 
 /// Lines that give no command.
-const WRONG: [&str; 72] = [
+const WRONG: [&str; 76] = [
     "",
     "run",
     "run --",
@@ -225,6 +238,10 @@ const WRONG: [&str; 72] = [
     "replay a.journal a.sr --upto",
     "replay a.journal a.sr --upto 1 --upto 1",
     "replay a.journal a.sr --steps 5",
+    "replay a.journal a.sr --journal",
+    "replay a.journal a.sr --where --where",
+    "replay a.journal a.sr --where=yes",
+    "run a.sr --where",
     "run a.sr --upto 5",
 ];
 

@@ -92,12 +92,12 @@ module _ (names : List (List ℕ)) (workers steps ticks : ℕ) (journal : Bool) 
       option_and_then_some _ (setting_number Workers t.workers) asked is (λ w has more.
       let found = mapped (λ seed. command.Gen seed w) (seed_of t.words) asked more in absurd (cc))
 
-  no-replay-of : (upto : ℕ) (words : List (List ℕ)) → replay_of upto words ≡ Some asked → ⊥
-  no-replay-of upto [] is = absurd (true≢false (sym (ap is_some is)))
-  no-replay-of upto (word ∷ words) is = let found = mapped (λ files. command.Replay word files upto) (files_of words) asked is in absurd (cc)
+  no-replay-of : (upto : ℕ) (places : Bool) (words : List (List ℕ)) → replay_of upto places words ≡ Some asked → ⊥
+  no-replay-of upto places [] is = absurd (true≢false (sym (ap is_some is)))
+  no-replay-of upto places (word ∷ words) is = let found = mapped (λ files. command.Replay word files upto places) (files_of words) asked is in absurd (cc)
 
   no-replay : (t : Taken) → replay_command t ≡ Some asked → ⊥
-  no-replay t is = option_and_then_some _ (setting_number Upto t.upto) asked is (λ upto has more. no-replay-of upto t.words more)
+  no-replay t is = option_and_then_some _ (setting_number Upto t.upto) asked is (λ upto has more. no-replay-of upto t.places t.words more)
 
   no-fmt : (t : Taken) → option_map (λ file. command.Fmt file) (file_of t.words) ≡ Some asked → ⊥
   no-fmt t is = let found = mapped (λ file. command.Fmt file) (file_of t.words) asked is in absurd (cc)

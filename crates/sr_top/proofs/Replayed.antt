@@ -8,12 +8,12 @@ use Rattle.sr_core.specs.declared.owner.Classes.{Classes}
 use Rattle.sr_ports.specs.Faults.{Rose}
 use Rattle.sr_ports.specs.Files.{next_read}
 use Rattle.sr_replay.specs.Replays.{Replays}
-use Rattle.sr_replay.specs.Texts.{snapshot_text}
 use Rattle.sr_replay.specs.declared.snapshot.Snapshot.{Snapshot}
 use Rattle.sr_replay.specs.declared.whole.Replayed.TheVariants as replayed
 use Rattle.sr_run.specs.declared.end.LimitKind.TheVariants as limit
 use Rattle.sr_top.proofs.Endings.{devices_same}
 use Rattle.sr_top.specs.Causes.{Call, HasCause, HasNoItems, PutsNothing, RunsNothing}
+use Rattle.sr_top.specs.Placing.{shown_text}
 use Rattle.sr_top.specs.Reading.{FailsAt, Reads, reads_after}
 use Rattle.sr_top.specs.Replaying.{AreBytesOf, AsksReplay, HasInput, HasJournal, HasProgram, HasSnapshot, IsWhole, ReadsJournal}
 use Rattle.sr_top.specs.Stages.{AreLines, AreProgram, EndsAfterJournal, EndsAfterProgram, EndsInput, EndsItems, EndsJournal, EndsProgram, EndsText, HasLinesOf, Inputs, IsJournalOf, IsText, IsTextOf, Told, inputs}
@@ -21,6 +21,7 @@ use Rattle.sr_top.specs.Tasks as tasks
 use Rattle.sr_top.specs.declared.recorded.Journal.{Journal}
 use Rattle.sr_top.specs.declared.report.Ending.{Ending}
 use Rattle.sr_top.specs.declared.report.Ending.TheVariants.{Done, Quiet, Stopped, Failed, Limit, Refused, NoFile, ReadFault, WriteFault, NoMemory, Usage, BadJournal, OtherFiles, Illegal}
+use Rattle.sr_top.specs.declared.view.View.{View}
 
 -- ---- counts of reads
 
@@ -38,9 +39,9 @@ later file word before mid now place one same fails = record {
 
 -- ---- what is there
 
-module _ (call : Call) (name : List ℕ) (names : List (List ℕ)) (upto : ℕ) (asked : tasks.task call.words ≡ Some (tasks.Replays name names upto)) where
+module _ (call : Call) (name : List ℕ) (names : List (List ℕ)) (view : View) (asked : tasks.task call.words ≡ Some (tasks.Replays name names view)) where
   abbrev asks : AsksReplay call
-  asks = record { journal = name; names = names; upto = upto; asked = asked }
+  asks = record { journal = name; names = names; view = view; asked = asked }
 
   abbrev reads_bytes : (bytes : List ℕ) → AreBytesOf call.files name bytes → ReadsJournal call
   reads_bytes bytes read = record { asks = asks; bytes = bytes; read = read }
@@ -118,7 +119,7 @@ module _ (call : Call) (name : List ℕ) (names : List (List ℕ)) (upto : ℕ) 
     input_of no_items =
         record { program = program_of journal is core classes program no_fault; taken = taken; whole = whole; no_read_fault = no_read_fault; no_items = no_items }
 
-    items_ended : PutsNothing call → (ending : Ending) → EndsItems core journal taken upto ending → HasCause call ending
+    items_ended : PutsNothing call → (ending : Ending) → EndsItems core journal taken view ending → HasCause call ending
     items_ended nothing Done ends = absurd ends
     items_ended nothing Quiet ends = absurd ends
     items_ended nothing (Stopped status) ends = absurd ends
@@ -134,7 +135,7 @@ module _ (call : Call) (name : List ℕ) (names : List (List ℕ)) (upto : ℕ) 
     items_ended nothing (OtherFiles file) ends = absurd ends
     items_ended nothing (Illegal at) ends = record { input = input_of nothing.no_items; replays = ends; nothing = nothing }
 
-    snapshot_of : HasNoItems call → (lines : List ℕ) → AreLines core journal taken upto lines → HasSnapshot call lines
+    snapshot_of : HasNoItems call → (lines : List ℕ) → AreLines core journal names taken view lines → HasSnapshot call lines
     snapshot_of no_items lines are = record { input = input_of no_items; snapshot = are.snapshot; replays = are.replays; are = are.are }
 
   -- ---- all stages
@@ -152,57 +153,57 @@ module _ (call : Call) (name : List ℕ) (names : List (List ℕ)) (upto : ℕ) 
   }
 
   after_program : (journal : Journal) → IsJournalOf call.files name journal → (core : Core) (classes : Classes) → AreProgram call.files names journal.header core classes
-      → call.reads_now.faults ≡ call.reads.faults → PutsNothing call → (ending : Ending) → EndsAfterProgram core journal upto input_before input_now ending → HasCause call ending
+      → call.reads_now.faults ≡ call.reads.faults → PutsNothing call → (ending : Ending) → EndsAfterProgram core journal view input_before input_now ending → HasCause call ending
   after_program journal is core classes program no_fault nothing ending (inl ends) = input_ended (program_of journal is core classes program no_fault) nothing ending ends
   after_program journal is core classes program no_fault nothing ending (inr ends) =
       items_ended journal is core classes program no_fault ends.taken ends.whole ends.no_fault nothing ending ends.ends
 
   after_journal : (journal : Journal) → IsJournalOf call.files name journal → (mid : Reads) → mid.reads ≡ next_read call.reads.reads → mid.faults ≡ call.reads.faults → PutsNothing call
-      → (ending : Ending) → EndsAfterJournal call.files journal names upto mid call.reads_now input_before input_now ending → HasCause call ending
+      → (ending : Ending) → EndsAfterJournal call.files journal names view mid call.reads_now input_before input_now ending → HasCause call ending
   after_journal journal is mid one same nothing ending (inl ends) = program_ended journal is mid one same (nothing_of nothing ends.1) ending ends.0
   after_journal journal is mid one same nothing ending (inr ends) =
       after_program journal is ends.core ends.classes ends.program (ends.no_fault ∙ same) nothing ending ends.ends
 
   -- a replay without lines
-  pub replay_ended : PutsNothing call → (ending : Ending) → EndsText call.files name names upto call.reads call.reads_now input_before input_now ending → HasCause call ending
+  pub replay_ended : PutsNothing call → (ending : Ending) → EndsText call.files name names view call.reads call.reads_now input_before input_now ending → HasCause call ending
   replay_ended nothing ending (inl ends) = journal_ended (nothing_of nothing ends.1) ending ends.0
   replay_ended nothing ending (inr ends) = after_journal ends.journal ends.is ends.mid ends.one ends.same nothing ending ends.ends
 
   -- a replay with lines
-  pub replay_shown : HasNoItems call → (lines : List ℕ) → IsText call.files name names upto call.reads call.reads_now input_before input_now lines → HasSnapshot call lines
+  pub replay_shown : HasNoItems call → (lines : List ℕ) → IsText call.files name names view call.reads call.reads_now input_before input_now lines → HasSnapshot call lines
   replay_shown no_items lines text =
       let of = text.text in
       snapshot_of text.journal text.is of.core of.classes of.program (of.no_fault ∙ text.same) of.lines_of.taken of.lines_of.whole of.lines_of.no_fault no_items lines of.lines_of.are
 
 -- ---- one stage after the other
 
-module _ (told : Told) (names : List (List ℕ)) (upto : ℕ) (reads : Reads) (before now : Inputs) where
+module _ (told : Told) (names : List (List ℕ)) (view : View) (reads : Reads) (before now : Inputs) where
   pub text_as : (name : List ℕ) (journal : Journal) (mid reads_now : Reads) (result : Result (List ℕ) Ending) → IsJournalOf told name journal → mid.faults ≡ reads.faults
-      → IfOk result (IsTextOf told journal names upto mid reads_now before now) → IfOk result (IsText told name names upto reads reads_now before now)
+      → IfOk result (IsTextOf told journal names view mid reads_now before now) → IfOk result (IsText told name names view reads reads_now before now)
   text_as name journal mid reads_now (Ok lines) is same text = record { journal = journal; is = is; mid = mid; same = same; text = text }
   text_as name journal mid reads_now (Err ending) is same text = tt
 
   pub no_text_as : (name : List ℕ) (journal : Journal) (mid reads_now : Reads) (result : Result (List ℕ) Ending) → IsJournalOf told name journal → mid.reads ≡ next_read reads.reads
-      → mid.faults ≡ reads.faults → IfErr result (EndsAfterJournal told journal names upto mid reads_now before now) → IfErr result (EndsText told name names upto reads reads_now before now)
+      → mid.faults ≡ reads.faults → IfErr result (EndsAfterJournal told journal names view mid reads_now before now) → IfErr result (EndsText told name names view reads reads_now before now)
   no_text_as name journal mid reads_now (Ok lines) is one same ends = tt
   no_text_as name journal mid reads_now (Err ending) is one same ends = inr (record { journal = journal; is = is; mid = mid; one = one; same = same; ends = ends })
 
   module _ (journal : Journal) (reads_now : Reads) (core : Core) (classes : Classes) (program : AreProgram told names journal.header core classes) (same : reads_now.faults ≡ reads.faults) where
-    pub text_of_as : (result : Result (List ℕ) Ending) → IfOk result (HasLinesOf core journal upto before now) → IfOk result (IsTextOf told journal names upto reads reads_now before now)
+    pub text_of_as : (result : Result (List ℕ) Ending) → IfOk result (HasLinesOf core journal names view before now) → IfOk result (IsTextOf told journal names view reads reads_now before now)
     text_of_as (Ok lines) of = record { core = core; classes = classes; program = program; no_fault = same; lines_of = of }
     text_of_as (Err ending) of = tt
 
-    pub no_text_of_as : (result : Result (List ℕ) Ending) → IfErr result (EndsAfterProgram core journal upto before now)
-        → IfErr result (EndsAfterJournal told journal names upto reads reads_now before now)
+    pub no_text_of_as : (result : Result (List ℕ) Ending) → IfErr result (EndsAfterProgram core journal view before now)
+        → IfErr result (EndsAfterJournal told journal names view reads reads_now before now)
     no_text_of_as (Ok lines) ends = tt
     no_text_of_as (Err ending) ends = inr (record { core = core; classes = classes; program = program; no_fault = same; ends = ends })
 
-module _ (core : Core) (journal : Journal) (upto : ℕ) (before now : Inputs) (taken : List ℕ) (whole : IsWhole before.left now.left taken) (same : now.faults ≡ before.faults) where
-  pub lines_as : (result : Result (List ℕ) Ending) → IfOk result (AreLines core journal taken upto) → IfOk result (HasLinesOf core journal upto before now)
+module _ (core : Core) (journal : Journal) (names : List (List ℕ)) (view : View) (before now : Inputs) (taken : List ℕ) (whole : IsWhole before.left now.left taken) (same : now.faults ≡ before.faults) where
+  pub lines_as : (result : Result (List ℕ) Ending) → IfOk result (AreLines core journal names taken view) → IfOk result (HasLinesOf core journal names view before now)
   lines_as (Ok lines) are = record { taken = taken; whole = whole; are = are; no_fault = same }
   lines_as (Err ending) are = tt
 
-  pub no_lines_as : (result : Result (List ℕ) Ending) → IfErr result (EndsItems core journal taken upto) → IfErr result (EndsAfterProgram core journal upto before now)
+  pub no_lines_as : (result : Result (List ℕ) Ending) → IfErr result (EndsItems core journal taken view) → IfErr result (EndsAfterProgram core journal view before now)
   no_lines_as (Ok lines) ends = tt
   no_lines_as (Err ending) ends = inr (record { taken = taken; whole = whole; ends = ends; no_fault = same })
 
@@ -213,13 +214,13 @@ min_is n a b less more = by (cases_lt b a)
     by (inl after) = let most : b ≤ a = omega arith in more after ∙ sym (min-eq_right most)
     by (inr before) = less before ∙ sym (min-eq_left before)
 
-module _ (core : Core) (journal : Journal) (input : List ℕ) (upto : ℕ) where
+module _ (core : Core) (journal : Journal) (names : List (List ℕ)) (input : List ℕ) (view : View) where
   pub shown_as : (snapshot : Snapshot) (result : Result (List ℕ) Ending)
-      → Replays core journal.header.steps journal.header.ticks input journal.items (min upto (length journal.items)) (replayed.Reached snapshot)
-      → IfOk result (λ lines. lines ≡ snapshot_text core snapshot) → IfOk result (AreLines core journal input upto)
+      → Replays core journal.header.steps journal.header.ticks input journal.items (min view.upto (length journal.items)) (replayed.Reached snapshot)
+      → IfOk result (λ lines. lines ≡ shown_text core names view.places snapshot) → IfOk result (AreLines core journal names input view)
   shown_as snapshot (Ok lines) replays are = record { snapshot = snapshot; replays = replays; are = are }
   shown_as snapshot (Err ending) replays are = tt
 
-  pub no_shown_as : (result : Result (List ℕ) Ending) → IfErr result (λ ending. ending ≡ NoMemory) → IfErr result (EndsItems core journal input upto)
+  pub no_shown_as : (result : Result (List ℕ) Ending) → IfErr result (λ ending. ending ≡ NoMemory) → IfErr result (EndsItems core journal input view)
   no_shown_as (Ok lines) ends = tt
-  no_shown_as (Err ending) ends = subst (EndsItems core journal input upto) (sym ends) tt
+  no_shown_as (Err ending) ends = subst (EndsItems core journal input view) (sym ends) tt

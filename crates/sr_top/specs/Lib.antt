@@ -4,6 +4,7 @@ pub mod Headline
 pub mod Journal
 pub mod LayingOut
 pub mod Outcome
+pub mod Placing
 pub mod Programs
 pub mod Reading
 pub mod Replaying

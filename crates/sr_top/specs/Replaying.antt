@@ -16,14 +16,15 @@ use Rattle.sr_journal.specs.declared.header.Header.{Header}
 use Rattle.sr_ports.specs.Faults.{Rose}
 use Rattle.sr_ports.specs.Files.{bytes_of}
 use Rattle.sr_replay.specs.Replays.{Replays}
-use Rattle.sr_replay.specs.Texts.{snapshot_text}
 use Rattle.sr_replay.specs.declared.snapshot.Snapshot.{Snapshot}
 use Rattle.sr_replay.specs.declared.whole.Replayed.{Replayed}
 use Rattle.sr_replay.specs.declared.whole.Replayed.TheVariants as replayed
 use Rattle.sr_text.specs.declared.refusal.Refusal.{Refusal}
 use Rattle.sr_top.specs.Calls.{Call, HasNoItems, PutsNothing, RunsNothing}
+use Rattle.sr_top.specs.Placing.{shown_text}
 use Rattle.sr_top.specs.Reading.{AreRead, FailsAt, IsUnread, sizes_of}
 use Rattle.sr_top.specs.Tasks.{Replays as asks, task}
+use Rattle.sr_top.specs.declared.view.View.{View}
 
 -- ---- what is there, one after the other
 
@@ -31,8 +32,8 @@ use Rattle.sr_top.specs.Tasks.{Replays as asks, task}
 pub record AsksReplay (call : Call) : Type 0 where
   pub journal : List ℕ
   pub names : List (List ℕ)
-  pub upto : ℕ
-  pub asked : task call.words ≡ Some (asks journal names upto)
+  pub view : View
+  pub asked : task call.words ≡ Some (asks journal names view)
 
 -- these are the first 536,870,912 bytes, or all, of the journal of a name, which is text
 pub record AreBytesOf (told : Option (List (List ℕ × List ℕ))) (name bytes : List ℕ) : Type 0 where
@@ -90,14 +91,20 @@ abbrev pub ReplaysSo : (call : Call) → HasInput call → Replayed → Type 0
 ReplaysSo call input so =
     let program = input.program in
     let journal = program.same.has.journal in
-    Replays program.core journal.header.steps journal.header.ticks input.taken journal.items (min journal.reads.asks.upto (length journal.items)) so
+    Replays program.core journal.header.steps journal.header.ticks input.taken journal.items (min journal.reads.asks.view.upto (length journal.items)) so
+
+-- the lines of a snapshot, with places where the words ask for them
+abbrev pub shown_lines : (call : Call) → HasInput call → Snapshot → List ℕ
+shown_lines call input snapshot =
+    let asks = input.program.same.has.journal.reads.asks in
+    shown_text input.program.core asks.names asks.view.places snapshot
 
 -- these are the lines of what is to be seen after the items
 pub record HasSnapshot (call : Call) (lines : List ℕ) : Type 0 where
   pub input : HasInput call
   pub snapshot : Snapshot
   pub replays : ReplaysSo call input (replayed.Reached snapshot)
-  pub are : lines ≡ snapshot_text input.program.core snapshot
+  pub are : lines ≡ shown_lines call input snapshot
 
 -- ---- causes, in the order in which they are looked for
 

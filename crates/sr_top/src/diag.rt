@@ -13,7 +13,7 @@ use std::alloc::Global;
 
 /// The text for words that are no command.
 const USAGE: &str =
-    "usage: sr run FILE... [--workers N] [--steps N] [--ticks N] [--journal]\n       sr check FILE...\n       sr classes FILE...\n       sr gen SEED [--workers N]\n       sr replay JOURNAL FILE... [--upto N]\n       sr fmt FILE\n";
+    "usage: sr run FILE... [--workers N] [--steps N] [--ticks N] [--journal]\n       sr check FILE...\n       sr classes FILE...\n       sr gen SEED [--workers N]\n       sr replay JOURNAL FILE... [--upto N] [--where]\n       sr fmt FILE\n";
 
 /// The number and the name of a fault.
 fn fault_label(fault: Fault) -> &'static str
@@ -56,7 +56,7 @@ fn journal_label(fail: JournalFail) -> &'static str
     }
 }
 
-fn file_name<'a>(names: &'a [Text], file: u32) -> &'a [u8]
+pub fn file_name<'a>(names: &'a [Text], file: u32) -> &'a [u8]
     ensures { result.now ≡ report_of.file_name names.now file }
 {
     match names.get(file as usize) {
@@ -92,7 +92,7 @@ fn placed_line(alloc: Global, names: &[Text], place: Place, label: &str) -> Resu
 }
 
 /// A number in decimal.
-fn decimal_text(alloc: Global, number: u32) -> Result<Text, NoMemory>
+pub fn decimal_text(alloc: Global, number: u32) -> Result<Text, NoMemory>
     ensures { IfOk result (λ text. text ≡ decimal number) }
 {
     let digits = format!(in alloc; "{number}")?;

@@ -10,6 +10,7 @@ mod laying_out;
 mod listing;
 mod obeying;
 mod outcome;
+mod placing;
 mod preparing;
 mod program;
 mod putting;
@@ -19,6 +20,7 @@ mod replaying;
 mod report;
 mod told_files;
 mod top;
+mod view;
 
 pub use host::run_host;
 pub use report::{Ending, Report, Side};

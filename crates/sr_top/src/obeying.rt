@@ -17,6 +17,7 @@ use crate::preparing::{Prepared, prepare};
 use crate::program::Process;
 use crate::replaying::replay_journal;
 use crate::report::Ending;
+use crate::view::View;
 use sr_ask::Item;
 use sr_journal::Header;
 use sr_ports::{Files, Sink, Source};
@@ -153,12 +154,13 @@ pub fn obey<F: Files, I: Source, O: Sink>(
             journal,
             files: names,
             upto,
+            places,
         } => {
             let outcome = replay_journal(
                 alloc,
                 &journal,
                 names.as_slice(),
-                upto,
+                View { upto, places },
                 files,
                 input,
                 output,

@@ -1,6 +1,6 @@
 ghost use Rattle.std.specs.Prelude.{◌≡◌, ◌<◌, ◌≤◌, ℕ, List, IfErr, IfOk, None, Some};
-ghost use Rattle.sr_replay.specs.Texts.{snapshot_text as text_of_snapshot};
 ghost use Rattle.sr_top.specs.Causes.{HasCause, call_of, devices};
+ghost use Rattle.sr_top.specs.Placing.{shown_text};
 ghost use Rattle.sr_top.specs.Programs.{core_in};
 ghost use Rattle.sr_top.specs.Reading.{reads_by};
 ghost use Rattle.sr_top.specs.Stages.{AreLines, EndsAfterJournal, EndsAfterProgram, EndsItems, EndsText, HasLinesOf, IsText, IsTextOf, inputs};
@@ -9,28 +9,29 @@ ghost use Rattle.sr_top.specs.declared.report.Ending.TheVariants as endings;
 
 use crate::input::whole_input;
 use crate::outcome::{Outcome, without_items};
+use crate::placing::push_places;
 use crate::program::{Process, Program};
 use crate::putting::put_lines;
 use crate::recorded::{Journal, journal_in};
 use crate::report::Ending;
 use crate::told_files::program_of;
+use crate::view::View;
 use sr_ports::{Files, Sink, Source};
 use sr_replay::{Replayed, Snapshot, replay, snapshot_text};
-use sr_value::Text;
+use sr_value::{NoMemory, Text};
 use std::alloc::Global;
 
-/// Replays a journal over the program in the files of these names, and puts what is to be seen after its items, at most
-/// so many.
+/// Replays a journal over the program in the files of these names, and puts what is to be seen after its items.
 pub fn replay_journal<F: Files, I: Source, O: Sink>(
     alloc: Global,
     journal: &Text,
     names: &[Text],
-    upto: u32,
+    view: View,
     files: &mut F,
     input: &mut I,
     output: &mut O,
 ) -> Outcome
-    ensures cause { (words : List (List ℕ)) → tasks.task words ≡ Some (tasks.Replays journal.now names.now upto) → HasCause
+    ensures cause { (words : List (List ℕ)) → tasks.task words ≡ Some (tasks.Replays journal.now names.now view) → HasCause
         (call_of words (F.content files.old) (reads_by (F.readings files.old) (F.faults files.old)) (reads_by (F.readings files.new) (F.faults files.new))
         (devices (I.left input.old) (I.faults input.old) (O.held output.old) (O.faults output.old))
         (devices (I.left input.new) (I.faults input.new) (O.held output.new) (O.faults output.new))
@@ -39,7 +40,7 @@ pub fn replay_journal<F: Files, I: Source, O: Sink>(
     ensures header { result.header ≡ None }
     ensures files { F.content files.new ≡ F.content files.old }
 {
-    match replayed_text(alloc, journal, names, upto, files, input) {
+    match replayed_text(alloc, journal, names, view, files, input) {
         Ok(text) => without_items(alloc, put_lines(text.as_bytes(), output)),
         Err(ending) => without_items(alloc, ending),
     }
@@ -50,16 +51,16 @@ fn replayed_text<F: Files, I: Source>(
     alloc: Global,
     journal: &Text,
     names: &[Text],
-    upto: u32,
+    view: View,
     files: &mut F,
     input: &mut I,
 ) -> Result<Text, Ending>
-    ensures text { IfOk result (IsText (F.content files.old) journal.now names.now upto (reads_by (F.readings files.old) (F.faults files.old)) (reads_by (F.readings files.new) (F.faults files.new)) (inputs (I.left input.old) (I.faults input.old)) (inputs (I.left input.new) (I.faults input.new))) }
-    ensures ends { IfErr result (EndsText (F.content files.old) journal.now names.now upto (reads_by (F.readings files.old) (F.faults files.old)) (reads_by (F.readings files.new) (F.faults files.new)) (inputs (I.left input.old) (I.faults input.old)) (inputs (I.left input.new) (I.faults input.new))) }
+    ensures text { IfOk result (IsText (F.content files.old) journal.now names.now view (reads_by (F.readings files.old) (F.faults files.old)) (reads_by (F.readings files.new) (F.faults files.new)) (inputs (I.left input.old) (I.faults input.old)) (inputs (I.left input.new) (I.faults input.new))) }
+    ensures ends { IfErr result (EndsText (F.content files.old) journal.now names.now view (reads_by (F.readings files.old) (F.faults files.old)) (reads_by (F.readings files.new) (F.faults files.new)) (inputs (I.left input.old) (I.faults input.old)) (inputs (I.left input.new) (I.faults input.new))) }
     ensures kept { F.content files.new ≡ F.content files.old }
 {
     match journal_in(alloc, journal, files) {
-        Ok(journal) => text_of_journal(alloc, &journal, names, upto, files, input),
+        Ok(journal) => text_of_journal(alloc, &journal, names, view, files, input),
         Err(ending) => Err(ending),
     }
 }
@@ -69,16 +70,16 @@ fn text_of_journal<F: Files, I: Source>(
     alloc: Global,
     journal: &Journal,
     names: &[Text],
-    upto: u32,
+    view: View,
     files: &mut F,
     input: &mut I,
 ) -> Result<Text, Ending>
-    ensures text { IfOk result (IsTextOf (F.content files.old) journal.now names.now upto (reads_by (F.readings files.old) (F.faults files.old)) (reads_by (F.readings files.new) (F.faults files.new)) (inputs (I.left input.old) (I.faults input.old)) (inputs (I.left input.new) (I.faults input.new))) }
-    ensures ends { IfErr result (EndsAfterJournal (F.content files.old) journal.now names.now upto (reads_by (F.readings files.old) (F.faults files.old)) (reads_by (F.readings files.new) (F.faults files.new)) (inputs (I.left input.old) (I.faults input.old)) (inputs (I.left input.new) (I.faults input.new))) }
+    ensures text { IfOk result (IsTextOf (F.content files.old) journal.now names.now view (reads_by (F.readings files.old) (F.faults files.old)) (reads_by (F.readings files.new) (F.faults files.new)) (inputs (I.left input.old) (I.faults input.old)) (inputs (I.left input.new) (I.faults input.new))) }
+    ensures ends { IfErr result (EndsAfterJournal (F.content files.old) journal.now names.now view (reads_by (F.readings files.old) (F.faults files.old)) (reads_by (F.readings files.new) (F.faults files.new)) (inputs (I.left input.old) (I.faults input.old)) (inputs (I.left input.new) (I.faults input.new))) }
     ensures kept { F.content files.new ≡ F.content files.old }
 {
     match program_of(alloc, &journal.header, names, files) {
-        Ok(program) => text_of_program(alloc, journal, &program, upto, input),
+        Ok(program) => text_of_program(alloc, journal, &program, names, view, input),
         Err(ending) => Err(ending),
     }
 }
@@ -88,14 +89,15 @@ fn text_of_program<I: Source>(
     alloc: Global,
     journal: &Journal,
     program: &Program,
-    upto: u32,
+    names: &[Text],
+    view: View,
     input: &mut I,
 ) -> Result<Text, Ending>
-    ensures lines { IfOk result (HasLinesOf (core_in program.now) journal.now upto (inputs (I.left input.old) (I.faults input.old)) (inputs (I.left input.new) (I.faults input.new))) }
-    ensures ends { IfErr result (EndsAfterProgram (core_in program.now) journal.now upto (inputs (I.left input.old) (I.faults input.old)) (inputs (I.left input.new) (I.faults input.new))) }
+    ensures lines { IfOk result (HasLinesOf (core_in program.now) journal.now names.now view (inputs (I.left input.old) (I.faults input.old)) (inputs (I.left input.new) (I.faults input.new))) }
+    ensures ends { IfErr result (EndsAfterProgram (core_in program.now) journal.now view (inputs (I.left input.old) (I.faults input.old)) (inputs (I.left input.new) (I.faults input.new))) }
 {
     match whole_input(alloc, input) {
-        Ok(taken) => text_of_items(alloc, journal, program, &taken, upto),
+        Ok(taken) => text_of_items(alloc, journal, program, names, &taken, view),
         Err(ending) => Err(ending),
     }
 }
@@ -105,15 +107,16 @@ fn text_of_items(
     alloc: Global,
     journal: &Journal,
     program: &Program,
+    names: &[Text],
     input: &Text,
-    upto: u32,
+    view: View,
 ) -> Result<Text, Ending>
-    ensures lines { IfOk result (AreLines (core_in program.now) journal.now input.now upto) }
-    ensures ends { IfErr result (EndsItems (core_in program.now) journal.now input.now upto) }
+    ensures lines { IfOk result (AreLines (core_in program.now) journal.now names.now input.now view) }
+    ensures ends { IfErr result (EndsItems (core_in program.now) journal.now input.now view) }
 {
     let items = &journal.items;
     let header = &journal.header;
-    let upto = fewer(upto as usize, items.len()) as u32;
+    let upto = fewer(view.upto as usize, items.len()) as u32;
     match replay::<Process>(
         alloc,
         program,
@@ -123,7 +126,7 @@ fn text_of_items(
         items,
         upto,
     ) {
-        Ok(Replayed::Reached(snapshot)) => lines_of(alloc, program, &snapshot),
+        Ok(Replayed::Reached(snapshot)) => lines_of(alloc, program, names, view.places, &snapshot),
         Ok(Replayed::Illegal { at }) => Err(Ending::Illegal(at)),
         Err(_) => Err(Ending::NoMemory),
     }
@@ -140,12 +143,35 @@ fn fewer(one: usize, other: usize) -> usize
 }
 
 /// The lines of a snapshot.
-fn lines_of(alloc: Global, program: &Program, snapshot: &Snapshot) -> Result<Text, Ending>
-    ensures lines { IfOk result (λ text. text ≡ text_of_snapshot (core_in program.now) snapshot.now) }
+fn lines_of(
+    alloc: Global,
+    program: &Program,
+    names: &[Text],
+    places: bool,
+    snapshot: &Snapshot,
+) -> Result<Text, Ending>
+    ensures lines { IfOk result (λ text. text ≡ shown_text (core_in program.now) names.now places snapshot.now) }
     ensures ends { IfErr result (λ ending. ending ≡ endings.NoMemory) }
 {
-    match snapshot_text(alloc, &program.program().core, snapshot) {
+    match placed_text(alloc, program, names, places, snapshot) {
         Ok(text) => Ok(text),
         Err(_) => Err(Ending::NoMemory),
     }
+}
+
+/// The lines of a snapshot, and after them those of places, where they are asked for.
+fn placed_text(
+    alloc: Global,
+    program: &Program,
+    names: &[Text],
+    places: bool,
+    snapshot: &Snapshot,
+) -> Result<Text, NoMemory>
+    ensures { IfOk result (λ text. text ≡ shown_text (core_in program.now) names.now places snapshot.now) }
+{
+    let mut text = snapshot_text(alloc, &program.program().core, snapshot)?;
+    if places {
+        push_places(alloc, &mut text, names, snapshot.processes.as_slice())?;
+    }
+    Ok(text)
 }

@@ -101,7 +101,7 @@ fn early<'a>(words: &'a [&'a str], ending: Ending, status: u8, diag: &'a [u8]) -
 }
 
 const USAGE: &[u8] =
-    b"usage: sr run FILE... [--workers N] [--steps N] [--ticks N] [--journal]\n       sr check FILE...\n       sr classes FILE...\n       sr gen SEED [--workers N]\n       sr replay JOURNAL FILE... [--upto N]\n       sr fmt FILE\n";
+    b"usage: sr run FILE... [--workers N] [--steps N] [--ticks N] [--journal]\n       sr check FILE...\n       sr classes FILE...\n       sr gen SEED [--workers N]\n       sr replay JOURNAL FILE... [--upto N] [--where]\n       sr fmt FILE\n";
 
 #[test]
 fn calls_with_ports_in_memory(rt: HostRuntime) -> Result<(), Fail> {

@@ -48,7 +48,7 @@ const CLASSES: &[u8] =
     b"Servant: getforks relforks\nServant: server\nPhilosopher: life\nmain: finished\n";
 
 const USAGE: &[u8] =
-    b"usage: sr run FILE... [--workers N] [--steps N] [--ticks N] [--journal]\n       sr check FILE...\n       sr classes FILE...\n       sr gen SEED [--workers N]\n       sr replay JOURNAL FILE... [--upto N]\n       sr fmt FILE\n";
+    b"usage: sr run FILE... [--workers N] [--steps N] [--ticks N] [--journal]\n       sr check FILE...\n       sr classes FILE...\n       sr gen SEED [--workers N]\n       sr replay JOURNAL FILE... [--upto N] [--where]\n       sr fmt FILE\n";
 
 const FILES: [(&str, &[u8]); 3] = [
     ("hello.sr", HELLO),

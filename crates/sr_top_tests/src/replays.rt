@@ -40,6 +40,9 @@ const FILES: [(&str, &[u8]); 9] = [
 const AFTER_TWO: &[u8] =
     b"items 2\nending none\nmoment 0\noutput 8\ninstance 2 main Starting\nprocess 1 boot instance 0 asks Take\nprocess 2 initial instance 2 asks Finish\n";
 
+const AFTER_ONE_WITH_PLACES: &[u8] =
+    b"items 1\nending none\nmoment 0\noutput 0\ninstance 2 main Starting\nprocess 1 boot instance 0 asks Take\nprocess 2 initial instance 2 asks Write\nprocess 1 at hello.sr:1\nprocess 2 at hello.sr:2\n";
+
 const AFTER_ALL: &[u8] = b"items 6\nending quiet\nmoment 0\noutput 8\ninstance 2 main Ready\n";
 
 fn shows<'a>(words: &'a [&'a str], output: &'a [u8]) -> Case<'a> {
@@ -62,7 +65,12 @@ fn ends<'a>(words: &'a [&'a str], status: u8, diag: &'a [u8]) -> Case<'a> {
 fn replays(rt: HostRuntime) -> Result<(), Fail> {
     let cases = [
         shows(&["replay", "j", "hello.sr", "--upto", "2"], AFTER_TWO),
+        shows(
+            &["replay", "j", "hello.sr", "--where", "--upto", "1"],
+            AFTER_ONE_WITH_PLACES,
+        ),
         shows(&["replay", "j", "hello.sr"], AFTER_ALL),
+        shows(&["replay", "--where", "j", "hello.sr"], AFTER_ALL),
         shows(&["replay", "--upto=6", "j", "hello.sr"], AFTER_ALL),
         shows(&["replay", "many", "hello.sr", "--upto", "6"], AFTER_ALL),
         ends(&["replay", "k", "hello.sr"], 104, b"sr: cannot read k\n"),

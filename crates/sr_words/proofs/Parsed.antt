@@ -11,17 +11,20 @@ use Rattle.clap.specs.Simple.{App, entered, matches_of, names_of}
 use Rattle.clap.specs.Walk.{Row, Rule, Text, all_of, first_of, has_row, idle, one_of, settled, walk, nothing_held, rows_after, with_default}
 use Rattle.clap.specs.declared.builder.value_parser.Reading.TheVariants.{AsWritten}
 use Rattle.clap.specs.declared.parser.matches.ValueSource.TheVariants.{DefaultValue}
-use Rattle.sr_words.specs.Arguments.{HasFlagIn, is_true, parser_for, taken_in}
-use Rattle.sr_words.specs.Commands.{Taken, nothing_taken, take_all, taken_of}
-use Rattle.sr_words.specs.Options.{options_of, setting_name}
+use Rattle.sr_words.specs.Arguments.{HasFlagsIn, IsFlag, is_true, parser_for, taken_in}
+use Rattle.sr_words.specs.Commands.{Taken, flag_in, nothing_taken, take_all, taken_of}
+use Rattle.sr_words.specs.Options.{flag_name, options_of, setting_name}
 use Rattle.sr_words.specs.Parts.{Part, parts}
 use Rattle.sr_words.specs.declared.options.CommandOption.{CommandOption}
-use Rattle.sr_words.specs.declared.options.CommandOption.TheVariants.{Number, Journal}
+use Rattle.sr_words.specs.declared.options.CommandOption.TheVariants.{Number, Switch}
+use Rattle.sr_words.specs.declared.options.Flag.{Flag}
+use Rattle.sr_words.specs.declared.options.Flag.TheVariants.{Journal, Where}
 use Rattle.sr_words.specs.declared.options.Setting.{Setting}
 use Rattle.sr_words.specs.declared.options.Setting.TheVariants.{Workers, Steps, Ticks, Upto}
 use Rattle.sr_words.specs.declared.verb.Verb.{Verb}
-use Rattle.sr_words.proofs.Rows.{Agree, Shows, agree, at_first, first_row, given_row, has_row-find, journal_row, other_row, row_at, row_if, some_texts}
-use Rattle.sr_words.proofs.Rules.{built_for, is_built_for, journal_rule, none_required, option_rule, rules, setting_rule, shape_for, word_rule}
+use Rattle.sr_words.proofs.Rows.{Agree, Shows, agree, at_first, first_row, flag_row, given_row, has_row-find, other_row, row_at, row_if, some_texts}
+use Rattle.sr_words.proofs.Rules.{built_for, flag_rule, is_built_for, none_required, option_rule, rules, setting_rule, shape_for, word_rule}
+use Rattle.sr_words.proofs.Settings.{own_flag, own_name, same_or_other}
 use Rattle.sr_words.proofs.Walks.{add_parts, outcome, unless, walk_at}
 use Rattle.sr_words.proofs.Whole.{AllText, walk_of_words}
 
@@ -47,9 +50,9 @@ word_default rows = either (has_row (codes "word") rows) _
 
 option_default : (option : CommandOption) (rows : List Row) → default_fault rows (option_rule option) ≡ []
 option_default (Number s) rows = either (has_row (setting_name s) rows) _
-option_default Journal rows = go (has_row (codes "journal") rows) refl
+option_default (Switch flag) rows = go (has_row (flag_name flag) rows) refl
   where
-    go : (b : Bool) → has_row (codes "journal") rows ≡ b → default_fault rows journal_rule ≡ []
+    go : (b : Bool) → has_row (flag_name flag) rows ≡ b → default_fault rows (flag_rule flag) ≡ []
     go true e = rw e refl
     go false e = rw e refl
 
@@ -113,74 +116,88 @@ setting_keeps s rows = keeps (has_row (setting_name s) rows) rows
 word_keeps : (rows : List Row) → with_default rows word_rule ≡ rows
 word_keeps rows = keeps (has_row (codes "word") rows) rows
 
-other_default : (id : Text) (rows : List Row) → bytes_eq (codes "journal") id ≡ false → row_at id (with_default rows journal_rule) ≡ row_at id rows
-other_default id rows f = go (has_row (codes "journal") rows) refl
+other_default : (flag : Flag) (id : Text) (rows : List Row) → bytes_eq (flag_name flag) id ≡ false → row_at id (with_default rows (flag_rule flag)) ≡ row_at id rows
+other_default flag id rows f = go (has_row (flag_name flag) rows) refl
   where
-    go : (b : Bool) → has_row (codes "journal") rows ≡ b → row_at id (with_default rows journal_rule) ≡ row_at id rows
+    go : (b : Bool) → has_row (flag_name flag) rows ≡ b → row_at id (with_default rows (flag_rule flag)) ≡ row_at id rows
     go true e = rw e refl
-    go false e = rw e (other_row id (codes "journal") AsWritten DefaultValue (codes "false" ∷ []) rows f)
+    go false e = rw e (other_row id (flag_name flag) AsWritten DefaultValue (codes "false" ∷ []) rows f)
 
--- the defaults leave every row but that of `--journal` alone
-same_row : (options : List CommandOption) (id : Text) (rows : List Row) → bytes_eq (codes "journal") id ≡ false
+-- the defaults leave every row but those of options without a value alone
+same_row : (options : List CommandOption) (id : Text) (rows : List Row) → ((flag : Flag) → bytes_eq (flag_name flag) id ≡ false)
     → row_at id (defaulted options rows) ≡ row_at id rows
 same_row [] id rows f = ap (row_at id) (word_keeps rows)
 same_row (Number s ∷ options) id rows f = same_row options id (with_default rows (setting_rule s)) f ∙ ap (row_at id) (setting_keeps s rows)
-same_row (Journal ∷ options) id rows f = same_row options id (with_default rows journal_rule) f ∙ other_default id rows f
+same_row (Switch flag ∷ options) id rows f = same_row options id (with_default rows (flag_rule flag)) f ∙ other_default flag id rows (f flag)
 
 first_shown : (s : Setting) (rows : List Row) (value : Option Text) → row_at (setting_name s) rows ≡ option_map (given_row s) value
     → first_of (setting_name s) rows ≡ value
 first_shown s rows None e = rw e refl
 first_shown s rows (Some value) e = rw e refl
 
--- the flag is true, false or left out, and true exactly where it is given
-abbrev SaysJournal : List Row → Taken → Type 0
-SaysJournal rows t = (is_true (one_of (codes "journal") rows) ≡ t.journal) × HasFlagIn rows
+-- a flag is true, false or left out, and true exactly where it is given
+abbrev SaysFlag : Flag → List Row → Taken → Type 0
+SaysFlag flag rows t = (is_true (one_of (flag_name flag) rows) ≡ flag_in flag t) × IsFlag (one_of (flag_name flag) rows)
+
+abbrev SaysFlags : List Row → Taken → Type 0
+SaysFlags rows t = (flag : Flag) → SaysFlag flag rows t
 
 -- before the defaults
-journal_shown : (rows : List Row) (t : Taken) → Shows rows t → (b : Bool) → t.journal ≡ b → SaysJournal rows t
-journal_shown rows t shows true e =
-    let some : row_at (codes "journal") rows ≡ Some journal_row = shows.journal ∙ ap row_if e in
-    (rw (some, e) refl, rw some (inl refl))
-journal_shown rows t shows false e =
-    let none : row_at (codes "journal") rows ≡ None = shows.journal ∙ ap row_if e in
-    (rw (none, e) refl, rw none tt)
+flag_shown : (rows : List Row) (t : Taken) → Shows rows t → (flag : Flag) (b : Bool) → flag_in flag t ≡ b → SaysFlag flag rows t
+flag_shown rows t shows flag true e =
+    let some : row_at (flag_name flag) rows ≡ Some (flag_row flag) = shows.flags flag ∙ ap (row_if flag) e in
+    let said : is_true (one_of (flag_name flag) rows) ≡ true = rw some refl in
+    (said ∙ sym e, rw some (inl refl))
+flag_shown rows t shows flag false e =
+    let none : row_at (flag_name flag) rows ≡ None = shows.flags flag ∙ ap (row_if flag) e in
+    let said : is_true (one_of (flag_name flag) rows) ≡ false = rw none refl in
+    (said ∙ sym e, rw none tt)
 
 -- the default of a flag is false
-journal_kept : (rows : List Row) (t : Taken) → SaysJournal rows t → (o : Option Row) → row_at (codes "journal") rows ≡ o
-    → SaysJournal (with_default rows journal_rule) t
-journal_kept rows t says (Some row) e =
-    let had : has_row (codes "journal") rows ≡ true = has_row-find (codes "journal") rows ∙ ap (λ x. is_some x) e in
+flag_kept : (flag : Flag) (rows : List Row) (t : Taken) → SaysFlag flag rows t → (o : Option Row) → row_at (flag_name flag) rows ≡ o
+    → SaysFlag flag (with_default rows (flag_rule flag)) t
+flag_kept flag rows t says (Some row) e =
+    let had : has_row (flag_name flag) rows ≡ true = has_row-find (flag_name flag) rows ∙ ap (λ x. is_some x) e in
     rw had says
-journal_kept rows t says None e =
-    let had : has_row (codes "journal") rows ≡ false = has_row-find (codes "journal") rows ∙ ap (λ x. is_some x) e in
-    let added = first_row (codes "journal") AsWritten DefaultValue (codes "false" ∷ []) rows refl e in
-    let none : false ≡ t.journal = rw e at says.0 in
+flag_kept flag rows t says None e =
+    let had : has_row (flag_name flag) rows ≡ false = has_row-find (flag_name flag) rows ∙ ap (λ x. is_some x) e in
+    let added = first_row (flag_name flag) AsWritten DefaultValue (codes "false" ∷ []) rows (own_flag flag).same e in
+    let none : false ≡ flag_in flag t = rw e at says.0 in
     (rw (had, added) none, rw (had, added) (inr refl))
 
-journal_says : (options : List CommandOption) (rows : List Row) (t : Taken) → SaysJournal rows t → SaysJournal (defaulted options rows) t
-journal_says [] rows t says = subst (λ r. SaysJournal r t) (sym (word_keeps rows)) says
-journal_says (Number s ∷ options) rows t says =
-    journal_says options (with_default rows (setting_rule s)) t (subst (λ r. SaysJournal r t) (sym (setting_keeps s rows)) says)
-journal_says (Journal ∷ options) rows t says =
-    journal_says options (with_default rows journal_rule) t (journal_kept rows t says (row_at (codes "journal") rows) refl)
+-- that of another flag leaves this one alone
+each_kept : (flag : Flag) (rows : List Row) (t : Taken) → SaysFlags rows t → SaysFlags (with_default rows (flag_rule flag)) t
+each_kept flag rows t says other =
+    elim (same_or_other flag other) [
+      | inl same ↦ subst (λ g. SaysFlag g (with_default rows (flag_rule flag)) t) same (flag_kept flag rows t (says flag) (row_at (flag_name flag) rows) refl)
+      | inr apart ↦ rw (other_default flag (flag_name other) rows apart.0) (says other)
+    ]
+
+flags_say : (options : List CommandOption) (rows : List Row) (t : Taken) → SaysFlags rows t → SaysFlags (defaulted options rows) t
+flags_say [] rows t says = subst (λ r. SaysFlags r t) (sym (word_keeps rows)) says
+flags_say (Number s ∷ options) rows t says =
+    flags_say options (with_default rows (setting_rule s)) t (subst (λ r. SaysFlags r t) (sym (setting_keeps s rows)) says)
+flags_say (Switch flag ∷ options) rows t says = flags_say options (with_default rows (flag_rule flag)) t (each_kept flag rows t says)
 
 all_texts : (words : List Text) → unwrap_or (some_texts words) [] ≡ words
 all_texts [] = refl
 all_texts (word ∷ words) = refl
 
 abbrev Says : List Row → Taken → Type 0
-Says rows t = (taken_in rows ≡ t) × HasFlagIn rows
+Says rows t = (taken_in rows ≡ t) × HasFlagsIn rows
 
 says : (options : List CommandOption) (rows : List Row) (t : Taken) → Shows rows t → Says (defaulted options rows) t
 says options rows t shows =
-    let workers = first_shown Workers (defaulted options rows) t.workers (same_row options (codes "workers") rows refl ∙ shows.settings Workers) in
-    let steps = first_shown Steps (defaulted options rows) t.steps (same_row options (codes "steps") rows refl ∙ shows.settings Steps) in
-    let ticks = first_shown Ticks (defaulted options rows) t.ticks (same_row options (codes "ticks") rows refl ∙ shows.settings Ticks) in
-    let upto = first_shown Upto (defaulted options rows) t.upto (same_row options (codes "upto") rows refl ∙ shows.settings Upto) in
+    let workers = first_shown Workers (defaulted options rows) t.workers (same_row options (codes "workers") rows (own_name Workers).not_of_flag ∙ shows.settings Workers) in
+    let steps = first_shown Steps (defaulted options rows) t.steps (same_row options (codes "steps") rows (own_name Steps).not_of_flag ∙ shows.settings Steps) in
+    let ticks = first_shown Ticks (defaulted options rows) t.ticks (same_row options (codes "ticks") rows (own_name Ticks).not_of_flag ∙ shows.settings Ticks) in
+    let upto = first_shown Upto (defaulted options rows) t.upto (same_row options (codes "upto") rows (own_name Upto).not_of_flag ∙ shows.settings Upto) in
     let words : all_of (codes "word") (defaulted options rows) ≡ some_texts t.words =
-    ap (option_map (λ r. r.values)) (same_row options (codes "word") rows refl) ∙ shows.words in
-    let given = journal_says options rows t (journal_shown rows t shows t.journal refl) in
-    (rw (workers, steps, ticks, upto, given.0, words, all_texts t.words) refl, given.1)
+    ap (option_map (λ r. r.values)) (same_row options (codes "word") rows (λ flag. (own_flag flag).no_word)) ∙ shows.words in
+    let flags : SaysFlags (defaulted options rows) t = flags_say options rows t (λ flag. flag_shown rows t shows flag (flag_in flag t) refl) in
+    let journal : is_true (one_of (codes "journal") (defaulted options rows)) ≡ t.journal = (flags Journal).0 in
+    let places : is_true (one_of (codes "where") (defaulted options rows)) ≡ t.places = (flags Where).0 in
+    (rw (workers, steps, ticks, upto, journal, places, words, all_texts t.words) refl, λ flag. (flags flag).1)
 
 taken_rows : (options : List CommandOption) (faults : Kinds) (rows : List Row) (o : Option (List Row)) (q : Option Taken) → Agree o q
     → unless faults (Some rows) ≡ option_map (defaulted options) o → faults ≡ [] → (t : Taken) × (q ≡ Some t) × Says rows t
@@ -204,7 +221,7 @@ agree_parts (Some ps) = agree ps [] nothing_taken at_first
 
 -- a parse that succeeds says what is taken of the words
 pub parse_says : (verb : Verb) (words : List Text) → AllText words → fault_of (parser_for (options_of verb)) words ≡ []
-    → (taken_of verb words ≡ Some (taken_in (matches_of (parser_for (options_of verb)) words))) × HasFlagIn (matches_of (parser_for (options_of verb)) words)
+    → (taken_of verb words ≡ Some (taken_in (matches_of (parser_for (options_of verb)) words))) × HasFlagsIn (matches_of (parser_for (options_of verb)) words)
 parse_says verb words text none =
     let options = options_of verb in
     let t = taken_rows options (fault_of (parser_for options) words) (matches_of (parser_for options) words) (add_parts (parts options None words) [])

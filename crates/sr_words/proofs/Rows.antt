@@ -10,12 +10,14 @@ use Rattle.clap.specs.declared.builder.value_parser.Reading.{Reading}
 use Rattle.clap.specs.declared.builder.value_parser.Reading.TheVariants.{AsWritten}
 use Rattle.clap.specs.declared.parser.matches.ValueSource.{ValueSource}
 use Rattle.clap.specs.declared.parser.matches.ValueSource.TheVariants.{CommandLine}
+use Rattle.sr_words.specs.declared.options.Flag.{Flag}
+use Rattle.sr_words.specs.declared.options.Flag.TheVariants.{Journal, Where}
 use Rattle.sr_words.specs.declared.options.Setting.{Setting}
 use Rattle.sr_words.specs.declared.options.Setting.TheVariants.{Workers, Steps, Ticks, Upto}
-use Rattle.sr_words.specs.Options.{setting_name}
-use Rattle.sr_words.specs.Parts.{Part, plain, journal, given}
-use Rattle.sr_words.specs.Commands.{Taken, nothing_taken, take_all, take_one, value_in, with_value}
-use Rattle.sr_words.proofs.Settings.{others_kept, own_name, own_value, same_or_apart, value_after_journal, value_after_word}
+use Rattle.sr_words.specs.Options.{flag_name, setting_name}
+use Rattle.sr_words.specs.Parts.{Part, plain, switch, given}
+use Rattle.sr_words.specs.Commands.{Taken, flag_in, nothing_taken, take_all, take_one, value_in, with_flag, with_value}
+use Rattle.sr_words.proofs.Settings.{flag_after_word, others_kept, own_flag, own_flag_given, own_name, own_value, same_or_apart, same_or_other, value_after_flag, value_after_word, words_after_flag}
 use Rattle.sr_words.proofs.Walks.{add_all, add_one}
 
 abbrev pub row_at : Text → List Row → Option Row
@@ -81,11 +83,11 @@ has_row-find id (r ∷ rows) = go (has_row-find id rows) (bytes_eq r.id id) refl
 abbrev pub given_row : Setting → List ℕ → Row
 given_row s value = new_row (setting_name s) AsWritten CommandLine (value ∷ [])
 
-abbrev pub journal_row : Row
-journal_row = new_row (codes "journal") AsWritten CommandLine (codes "true" ∷ [])
+abbrev pub flag_row : Flag → Row
+flag_row flag = new_row (flag_name flag) AsWritten CommandLine (codes "true" ∷ [])
 
-abbrev pub row_if : Bool → Option Row
-row_if is_given = if is_given then Some journal_row else None
+abbrev pub row_if : Flag → Bool → Option Row
+row_if flag is_given = if is_given then Some (flag_row flag) else None
 
 -- the values of an argument that takes several, where it has any
 abbrev pub some_texts : List Text → Option (List Text)
@@ -94,7 +96,7 @@ some_texts (text ∷ texts) = Some (text ∷ texts)
 
 pub record Shows (rows : List Row) (t : Taken) : Type 0 where
   pub settings : (s : Setting) → row_at (setting_name s) rows ≡ option_map (given_row s) (value_in s t)
-  pub journal : row_at (codes "journal") rows ≡ row_if t.journal
+  pub flags : (flag : Flag) → row_at (flag_name flag) rows ≡ row_if flag (flag_in flag t)
   pub words : all_of (codes "word") rows ≡ some_texts t.words
 
 abbrev pub Agree : Option (List Row) → Option Taken → Type 0
@@ -112,7 +114,8 @@ add_plain : (rows : List Row) (t : Taken) (word : Text) → Shows rows t → Agr
 add_plain rows t word shows = record {
   settings = λ s. other_row (setting_name s) (codes "word") AsWritten CommandLine (word ∷ []) rows (own_name s).not_of_word
       ∙ (shows.settings s ∙ ap (option_map (given_row s)) (sym (value_after_word s t (t.words ++ word ∷ []))));
-  journal = other_row (codes "journal") (codes "word") AsWritten CommandLine (word ∷ []) rows refl ∙ shows.journal;
+  flags = λ flag. other_row (flag_name flag) (codes "word") AsWritten CommandLine (word ∷ []) rows (own_flag flag).not_of_word
+      ∙ (shows.flags flag ∙ ap (row_if flag) (sym (flag_after_word flag t (t.words ++ word ∷ []))));
   words = more_row (codes "word") AsWritten CommandLine (word ∷ []) rows refl
       ∙ (ap (λ o. Some (unwrap_or o [] ++ word ∷ [])) shows.words ∙ some_more t.words word);
 }
@@ -129,15 +132,15 @@ add_given rows s value = go (has_row (setting_name s) rows) refl
     go true e = rw e refl
     go false e = rw e refl
 
-add_journal : (rows : List Row)
-    → add_one rows journal
-    ≡ (if has_row (codes "journal") rows then None
-    else Some (with_values (codes "journal") AsWritten CommandLine (codes "true" ∷ []) (without (codes "journal") rows)))
-add_journal rows = go (has_row (codes "journal") rows) refl
+add_flag : (rows : List Row) (flag : Flag)
+    → add_one rows (switch flag)
+    ≡ (if has_row (flag_name flag) rows then None
+    else Some (with_values (flag_name flag) AsWritten CommandLine (codes "true" ∷ []) (without (flag_name flag) rows)))
+add_flag rows flag = go (has_row (flag_name flag) rows) refl
   where
-    go : (b : Bool) → has_row (codes "journal") rows ≡ b → add_one rows journal
-        ≡ (if has_row (codes "journal") rows then None
-        else Some (with_values (codes "journal") AsWritten CommandLine (codes "true" ∷ []) (without (codes "journal") rows)))
+    go : (b : Bool) → has_row (flag_name flag) rows ≡ b → add_one rows (switch flag)
+        ≡ (if has_row (flag_name flag) rows then None
+        else Some (with_values (flag_name flag) AsWritten CommandLine (codes "true" ∷ []) (without (flag_name flag) rows)))
     go true e = rw e refl
     go false e = rw e refl
 
@@ -168,30 +171,44 @@ agree_given rows t s value shows None e =
     let kept = others_kept s value t in
     rw (add_given rows s value, had, without_none (setting_name s) rows none, e) (record {
       settings = setting_shown rows t s value shows none;
-      journal = other_row (codes "journal") (setting_name s) AsWritten CommandLine (value ∷ []) rows (own_name s).no_journal
-          ∙ (shows.journal ∙ ap row_if (sym kept.0));
+      flags = λ flag. other_row (flag_name flag) (setting_name s) AsWritten CommandLine (value ∷ []) rows ((own_name s).no_flag flag)
+          ∙ (shows.flags flag ∙ ap (row_if flag) (sym (kept.0 flag)));
       words = ap (option_map (λ r. r.values)) (other_row (codes "word") (setting_name s) AsWritten CommandLine (value ∷ []) rows (own_name s).no_word)
           ∙ (shows.words ∙ ap some_texts (sym kept.1));
     })
 
-agree_journal : (rows : List Row) (t : Taken) → Shows rows t → (b : Bool) → t.journal ≡ b → Agree (add_one rows journal) (take_one t journal)
-agree_journal rows t shows true e =
-    let some : row_at (codes "journal") rows ≡ Some journal_row = shows.journal ∙ ap row_if e in
-    let had : has_row (codes "journal") rows ≡ true = has_row-find (codes "journal") rows ∙ ap (λ x. is_some x) some in
-    rw (add_journal rows, had, e) tt
-agree_journal rows t shows false e =
-    let none : row_at (codes "journal") rows ≡ None = shows.journal ∙ ap row_if e in
-    let had : has_row (codes "journal") rows ≡ false = has_row-find (codes "journal") rows ∙ ap (λ x. is_some x) none in
-    rw (add_journal rows, had, without_none (codes "journal") rows none, e) (record {
-      settings = λ s. other_row (setting_name s) (codes "journal") AsWritten CommandLine (codes "true" ∷ []) rows (own_name s).not_of_journal
-          ∙ (shows.settings s ∙ ap (option_map (given_row s)) (sym (value_after_journal s t)));
-      journal = first_row (codes "journal") AsWritten CommandLine (codes "true" ∷ []) rows refl none;
-      words = ap (option_map (λ r. r.values)) (other_row (codes "word") (codes "journal") AsWritten CommandLine (codes "true" ∷ []) rows refl) ∙ shows.words;
+flag_shown : (rows : List Row) (t : Taken) (flag : Flag) → Shows rows t → row_at (flag_name flag) rows ≡ None → (other : Flag)
+    → row_at (flag_name other) (with_values (flag_name flag) AsWritten CommandLine (codes "true" ∷ []) rows) ≡ row_if other (flag_in other (with_flag flag t))
+flag_shown rows t flag shows none other =
+    elim (same_or_other flag other) [
+      | inl same ↦
+          subst (λ g. row_at (flag_name g) (with_values (flag_name flag) AsWritten CommandLine (codes "true" ∷ []) rows) ≡ row_if g (flag_in g (with_flag flag t))) same
+          (first_row (flag_name flag) AsWritten CommandLine (codes "true" ∷ []) rows (own_flag flag).same none
+          ∙ ap (row_if flag) (sym (own_flag_given flag t)))
+      | inr apart ↦
+          other_row (flag_name other) (flag_name flag) AsWritten CommandLine (codes "true" ∷ []) rows apart.0
+          ∙ (shows.flags other ∙ ap (row_if other) (sym (apart.1 t)))
+    ]
+
+agree_flag : (rows : List Row) (t : Taken) (flag : Flag) → Shows rows t → (b : Bool) → flag_in flag t ≡ b → Agree (add_one rows (switch flag)) (take_one t (switch flag))
+agree_flag rows t flag shows true e =
+    let some : row_at (flag_name flag) rows ≡ Some (flag_row flag) = shows.flags flag ∙ ap (row_if flag) e in
+    let had : has_row (flag_name flag) rows ≡ true = has_row-find (flag_name flag) rows ∙ ap (λ x. is_some x) some in
+    rw (add_flag rows flag, had, e) tt
+agree_flag rows t flag shows false e =
+    let none : row_at (flag_name flag) rows ≡ None = shows.flags flag ∙ ap (row_if flag) e in
+    let had : has_row (flag_name flag) rows ≡ false = has_row-find (flag_name flag) rows ∙ ap (λ x. is_some x) none in
+    rw (add_flag rows flag, had, without_none (flag_name flag) rows none, e) (record {
+      settings = λ s. other_row (setting_name s) (flag_name flag) AsWritten CommandLine (codes "true" ∷ []) rows ((own_name s).not_of_flag flag)
+          ∙ (shows.settings s ∙ ap (option_map (given_row s)) (sym (value_after_flag s flag t)));
+      flags = flag_shown rows t flag shows none;
+      words = ap (option_map (λ r. r.values)) (other_row (codes "word") (flag_name flag) AsWritten CommandLine (codes "true" ∷ []) rows (own_flag flag).no_word)
+          ∙ (shows.words ∙ ap some_texts (sym (words_after_flag flag t)));
     })
 
 agree_one : (rows : List Row) (t : Taken) (p : Part) → Shows rows t → Agree (add_one rows p) (take_one t p)
 agree_one rows t (plain word) shows = add_plain rows t word shows
-agree_one rows t journal shows = agree_journal rows t shows t.journal refl
+agree_one rows t (switch flag) shows = agree_flag rows t flag shows (flag_in flag t) refl
 agree_one rows t (given s value) shows = agree_given rows t s value shows (value_in s t) refl
 
 agree_next : (ps : List Part) → ((rows : List Row) (t : Taken) → Shows rows t → Agree (add_all rows ps) (take_all t ps))
@@ -211,5 +228,9 @@ none_at_first Steps = refl
 none_at_first Ticks = refl
 none_at_first Upto = refl
 
+no_flag_at_first : (flag : Flag) → row_at (flag_name flag) [] ≡ row_if flag (flag_in flag nothing_taken)
+no_flag_at_first Journal = refl
+no_flag_at_first Where = refl
+
 pub at_first : Shows [] nothing_taken
-at_first = record { settings = none_at_first; journal = refl; words = refl }
+at_first = record { settings = none_at_first; flags = no_flag_at_first; words = refl }

@@ -13,9 +13,10 @@ use Rattle.clap.specs.Takes.{is_given}
 use Rattle.sr_words.specs.Arguments.{option_argument, parser_for, word_argument}
 use Rattle.sr_words.specs.Options.{option_name, option_named, setting_name}
 use Rattle.sr_words.specs.declared.options.CommandOption.{CommandOption}
-use Rattle.sr_words.specs.declared.options.CommandOption.TheVariants.{Number, Journal}
+use Rattle.sr_words.specs.declared.options.CommandOption.TheVariants.{Number, Switch}
+use Rattle.sr_words.specs.declared.options.Flag.{Flag}
 use Rattle.sr_words.specs.declared.options.Setting.{Setting}
-use Rattle.sr_words.proofs.Settings.{own_name}
+use Rattle.sr_words.proofs.Settings.{own_flag, own_name}
 
 -- as the parser fills them in
 abbrev pub option_rule : CommandOption → Rule
@@ -24,8 +25,8 @@ option_rule option = filled (option_argument option)
 abbrev pub setting_rule : Setting → Rule
 setting_rule s = option_rule (Number s)
 
-abbrev pub journal_rule : Rule
-journal_rule = option_rule Journal
+abbrev pub flag_rule : Flag → Rule
+flag_rule flag = option_rule (Switch flag)
 
 abbrev pub word_rule : Rule
 word_rule = with_index 1 (filled word_argument)
@@ -130,7 +131,7 @@ short_for (option ∷ options) x = short_for options x
 
 no_word : (option : CommandOption) → bytes_eq (option_name option) (codes "word") ≡ false
 no_word (Number s) = (own_name s).no_word
-no_word Journal = refl
+no_word (Switch flag) = (own_flag flag).no_word
 
 pub word_id_for : (options : List CommandOption) → arg_by_id (rules options) (codes "word") ≡ Some word_rule
 word_id_for [] = refl

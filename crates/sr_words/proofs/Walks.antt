@@ -9,12 +9,13 @@ use Rattle.clap.specs.Walk.{Held, Row, Rule, Text, Waiting, Walk, idle, option, 
 use Rattle.clap.specs.Faults.{flags_fault, positional_fault, settle_fault, turn_fault, use_fault, walk_fault}
 use Rattle.clap.specs.declared.error.kind.ErrorKind.TheVariants as kind
 use Rattle.sr_words.specs.declared.options.CommandOption.{CommandOption}
-use Rattle.sr_words.specs.declared.options.CommandOption.TheVariants.{Number, Journal}
+use Rattle.sr_words.specs.declared.options.CommandOption.TheVariants.{Number, Switch}
+use Rattle.sr_words.specs.declared.options.Flag.{Flag}
 use Rattle.sr_words.specs.declared.options.Setting.{Setting}
 use Rattle.sr_words.specs.Options.{option_named, setting_name}
-use Rattle.sr_words.specs.Parts.{Part, plain, journal, given, with_part}
+use Rattle.sr_words.specs.Parts.{Part, plain, switch, given, with_part}
 use Rattle.sr_words.proofs.Settings.{own_name}
-use Rattle.sr_words.proofs.Rules.{rules, shape_for, setting_rule, journal_rule, word_rule, option_rule, long_for, short_for, word_id_for, word_index_for}
+use Rattle.sr_words.proofs.Rules.{rules, shape_for, setting_rule, flag_rule, word_rule, option_rule, long_for, short_for, word_id_for, word_index_for}
 
 -- ---- what a walk comes to
 
@@ -43,12 +44,12 @@ outcome options w words = unless (walk_fault (shape_for options) [] w words) (en
 
 abbrev pub part_rule : Part → Rule
 part_rule (plain word) = word_rule
-part_rule journal = journal_rule
+part_rule (switch flag) = flag_rule flag
 part_rule (given s value) = setting_rule s
 
 abbrev pub part_values : Part → List Text
 part_values (plain word) = word ∷ []
-part_values journal = []
+part_values (switch flag) = []
 part_values (given s value) = value ∷ []
 
 abbrev pub add_one : List Row → Part → Option (List Row)
@@ -231,27 +232,27 @@ number_walk options rows pending wt word name s e l f =
     let found : arg_by_long (rules options) name ≡ Some (setting_rule s) = long_for options name ∙ ap (option_map option_rule) f in
     rw (no_sub wt word, e, l, found) refl
 
-pub journal_value_fault : (options : List CommandOption) (rows : List Row) (pending : Option (Text × List Text)) (wt : Waiting) (word : Text) (name value : Text)
-    → bytes_eq word (codes "--") ≡ false → long_of word ≡ Some (name, Some value) → option_named options name ≡ Some Journal
+pub flag_value_fault : (options : List CommandOption) (rows : List Row) (pending : Option (Text × List Text)) (wt : Waiting) (word : Text) (name value : Text) (flag : Flag)
+    → bytes_eq word (codes "--") ≡ false → long_of word ≡ Some (name, Some value) → option_named options name ≡ Some (Switch flag)
     → turn_fault (shape_for options) [] (walk_at rows pending wt false) word ≡ kind.TooManyValues ∷ []
-journal_value_fault options rows pending wt word name value e l f =
-    let found : arg_by_long (rules options) name ≡ Some journal_rule = long_for options name ∙ ap (option_map option_rule) f in
+flag_value_fault options rows pending wt word name value flag e l f =
+    let found : arg_by_long (rules options) name ≡ Some (flag_rule flag) = long_for options name ∙ ap (option_map option_rule) f in
     rw (no_sub wt word, e, l, found) refl
 
-pub journal_fault : (options : List CommandOption) (rows : List Row) (pending : Option (Text × List Text)) (wt : Waiting) (word : Text) (name : Text)
-    → bytes_eq word (codes "--") ≡ false → long_of word ≡ Some (name, None) → option_named options name ≡ Some Journal
+pub flag_fault : (options : List CommandOption) (rows : List Row) (pending : Option (Text × List Text)) (wt : Waiting) (word : Text) (name : Text) (flag : Flag)
+    → bytes_eq word (codes "--") ≡ false → long_of word ≡ Some (name, None) → option_named options name ≡ Some (Switch flag)
     → turn_fault (shape_for options) [] (walk_at rows pending wt false) word
-    ≡ or_else (or_else (settle_fault (rules options) false (held rows pending)) (use_fault false journal_rule [] (settled_rows (rules options) pending rows))) []
-journal_fault options rows pending wt word name e l f =
-    let found : arg_by_long (rules options) name ≡ Some journal_rule = long_for options name ∙ ap (option_map option_rule) f in
+    ≡ or_else (or_else (settle_fault (rules options) false (held rows pending)) (use_fault false (flag_rule flag) [] (settled_rows (rules options) pending rows))) []
+flag_fault options rows pending wt word name flag e l f =
+    let found : arg_by_long (rules options) name ≡ Some (flag_rule flag) = long_for options name ∙ ap (option_map option_rule) f in
     rw (no_sub wt word, e, l, found) refl
 
-pub journal_walk : (options : List CommandOption) (rows : List Row) (pending : Option (Text × List Text)) (wt : Waiting) (word : Text) (name : Text)
-    → bytes_eq word (codes "--") ≡ false → long_of word ≡ Some (name, None) → option_named options name ≡ Some Journal
-    → walked (rules options) [] (walk_at rows pending wt false) word ≡ walk_at (used journal_rule [] (settled_rows (rules options) pending rows)) None idle false
+pub flag_walk : (options : List CommandOption) (rows : List Row) (pending : Option (Text × List Text)) (wt : Waiting) (word : Text) (name : Text) (flag : Flag)
+    → bytes_eq word (codes "--") ≡ false → long_of word ≡ Some (name, None) → option_named options name ≡ Some (Switch flag)
+    → walked (rules options) [] (walk_at rows pending wt false) word ≡ walk_at (used (flag_rule flag) [] (settled_rows (rules options) pending rows)) None idle false
 unfolding walked
-journal_walk options rows pending wt word name e l f =
-    let found : arg_by_long (rules options) name ≡ Some journal_rule = long_for options name ∙ ap (option_map option_rule) f in
+flag_walk options rows pending wt word name flag e l f =
+    let found : arg_by_long (rules options) name ≡ Some (flag_rule flag) = long_for options name ∙ ap (option_map option_rule) f in
     rw (no_sub wt word, e, l, found) refl
 
 -- a short option

@@ -12,12 +12,13 @@ use Rattle.clap.specs.Walk.{Row, Text, Waiting, idle, option, positional, arg_by
 use Rattle.clap.specs.Faults.{settle_fault, use_fault, walk_fault}
 use Rattle.clap.specs.declared.error.kind.ErrorKind.TheVariants as kind
 use Rattle.sr_words.specs.declared.options.CommandOption.{CommandOption}
-use Rattle.sr_words.specs.declared.options.CommandOption.TheVariants.{Number, Journal}
+use Rattle.sr_words.specs.declared.options.CommandOption.TheVariants.{Number, Switch}
+use Rattle.sr_words.specs.declared.options.Flag.{Flag}
 use Rattle.sr_words.specs.declared.options.Setting.{Setting}
 use Rattle.sr_words.specs.Options.{option_named, setting_name}
-use Rattle.sr_words.specs.Parts.{Part, WordKind, plain, journal, given, is_plain, part, parts, separator, unknown, waiting, with_part, word_kind}
-use Rattle.sr_words.proofs.Rules.{id_for, rules, setting_rule, journal_rule}
-use Rattle.sr_words.proofs.Walks.{IsFree, add_parts, after_turn, failed_turn, dashes_fault, dashes_walk, ended, ended_setting, ended_word, held, journal_fault, journal_value_fault, journal_walk, lacking, nothing, number_fault, number_value_fault, number_value_walk, number_walk, or_else-nil, outcome, plain_fault, plain_walk, settle_first, short_fault, trailing, unknown_fault, unless, use_next, value_fault, value_walk, walk_at, with_one, and_then_Some}
+use Rattle.sr_words.specs.Parts.{Part, WordKind, plain, switch, given, is_plain, part, parts, separator, unknown, waiting, with_part, word_kind}
+use Rattle.sr_words.proofs.Rules.{id_for, rules, setting_rule, flag_rule}
+use Rattle.sr_words.proofs.Walks.{IsFree, add_parts, after_turn, failed_turn, dashes_fault, dashes_walk, ended, ended_setting, ended_word, held, flag_fault, flag_value_fault, flag_walk, lacking, nothing, number_fault, number_value_fault, number_value_walk, number_walk, or_else-nil, outcome, plain_fault, plain_walk, settle_first, short_fault, trailing, unknown_fault, unless, use_next, value_fault, value_walk, walk_at, with_one, and_then_Some}
 
 -- ---- what a word is
 
@@ -116,15 +117,15 @@ parts_number : (options : List CommandOption) (word : Text) (words : List Text) 
     → long_of word ≡ Some (name, None) → option_named options name ≡ Some (Number s) → parts options None (word ∷ words) ≡ parts options (Some s) words
 parts_number options word words name s e l f = parts_kind options word words (waiting s) (rw (e, long_plain word (name, None) l, l, f) refl)
 
-parts_journal_value : (options : List CommandOption) (word : Text) (words : List Text) (name value : Text) → bytes_eq word (codes "--") ≡ false
-    → long_of word ≡ Some (name, Some value) → option_named options name ≡ Some Journal → parts options None (word ∷ words) ≡ None
-parts_journal_value options word words name value e l f =
+parts_flag_value : (options : List CommandOption) (word : Text) (words : List Text) (name value : Text) (flag : Flag) → bytes_eq word (codes "--") ≡ false
+    → long_of word ≡ Some (name, Some value) → option_named options name ≡ Some (Switch flag) → parts options None (word ∷ words) ≡ None
+parts_flag_value options word words name value flag e l f =
     parts_kind options word words unknown (rw (e, long_plain word (name, Some value) l, l, f) refl)
 
-parts_journal : (options : List CommandOption) (word : Text) (words : List Text) (name : Text) → bytes_eq word (codes "--") ≡ false
-    → long_of word ≡ Some (name, None) → option_named options name ≡ Some Journal
-    → parts options None (word ∷ words) ≡ with_part journal (parts options None words)
-parts_journal options word words name e l f = parts_kind options word words (part journal) (rw (e, long_plain word (name, None) l, l, f) refl)
+parts_flag : (options : List CommandOption) (word : Text) (words : List Text) (name : Text) (flag : Flag) → bytes_eq word (codes "--") ≡ false
+    → long_of word ≡ Some (name, None) → option_named options name ≡ Some (Switch flag)
+    → parts options None (word ∷ words) ≡ with_part (switch flag) (parts options None words)
+parts_flag options word words name flag e l f = parts_kind options word words (part (switch flag)) (rw (e, long_plain word (name, None) l, l, f) refl)
 
 parts_short : (options : List CommandOption) (word : Text) (words : List Text) → bytes_eq word (codes "--") ≡ false → long_of word ≡ None
     → is_plain word ≡ false → parts options None (word ∷ words) ≡ None
@@ -190,19 +191,19 @@ flag_step options word words more later d name None l (Some (Number s)) f rows p
     (number_fault options rows pending wt word name s d l f ∙ or_else-nil sf) (number_walk options rows pending wt word name s d l f)
     ∙ (settle_first sf so_far (add_parts (parts options (Some s) words)) _ (later so_far s (id_for options name s f))
     ∙ by_parts options (ended options (held rows pending)) _ _ (parts_number options word words name s d l f))
-flag_step options word words more later d name (Some value) l (Some Journal) f rows pending wt =
-    failed_turn options (walk_at rows pending wt false) word words _ _ (journal_value_fault options rows pending wt word name value d l f)
-    ∙ no_parts options (ended options (held rows pending)) _ (parts_journal_value options word words name value d l f)
-flag_step options word words more later d name None l (Some Journal) f rows pending wt =
+flag_step options word words more later d name (Some value) l (Some (Switch own)) f rows pending wt =
+    failed_turn options (walk_at rows pending wt false) word words _ _ (flag_value_fault options rows pending wt word name value own d l f)
+    ∙ no_parts options (ended options (held rows pending)) _ (parts_flag_value options word words name value own d l f)
+flag_step options word words more later d name None l (Some (Switch own)) f rows pending wt =
     let so_far = settled_rows (rules options) pending rows in
     let sf = settle_fault (rules options) false (held rows pending) in
-    let uf = use_fault false journal_rule [] so_far in
-    let after = used journal_rule [] so_far in
+    let uf = use_fault false (flag_rule own) [] so_far in
+    let after = used (flag_rule own) [] so_far in
     after_turn options (walk_at rows pending wt false) (walk_at after None idle false) word words _
-    (journal_fault options rows pending wt word name d l f) (journal_walk options rows pending wt word name d l f)
+    (flag_fault options rows pending wt word name own d l f) (flag_walk options rows pending wt word name own d l f)
     ∙ (ap (unless (or_else (or_else sf uf) [])) (more after None idle free_idle)
-    ∙ (use_next sf uf so_far after journal (parts options None words) refl
-    ∙ by_parts options (ended options (held rows pending)) _ _ (parts_journal options word words name d l f)))
+    ∙ (use_next sf uf so_far after (switch own) (parts options None words) refl
+    ∙ by_parts options (ended options (held rows pending)) _ _ (parts_flag options word words name own d l f)))
 
 -- a word that is no long option
 other_step : (options : List CommandOption) (word : Text) (words : List Text) → AtWords options words → bytes_eq word (codes "--") ≡ false → long_of word ≡ None
@@ -254,12 +255,12 @@ no_value options word words s rows found d name (Some value) l (Some (Number t))
 no_value options word words s rows found d name None l (Some (Number t)) f =
     failed_turn options (walk_at rows (Some (setting_name s, [])) (option (setting_name s)) false) word words kind.InvalidValue []
     (number_fault options rows (Some (setting_name s, [])) (option (setting_name s)) word name t d l f ∙ rw found refl)
-no_value options word words s rows found d name (Some value) l (Some Journal) f =
+no_value options word words s rows found d name (Some value) l (Some (Switch own)) f =
     failed_turn options (walk_at rows (Some (setting_name s, [])) (option (setting_name s)) false) word words _ _
-    (journal_value_fault options rows (Some (setting_name s, [])) (option (setting_name s)) word name value d l f)
-no_value options word words s rows found d name None l (Some Journal) f =
+    (flag_value_fault options rows (Some (setting_name s, [])) (option (setting_name s)) word name value own d l f)
+no_value options word words s rows found d name None l (Some (Switch own)) f =
     failed_turn options (walk_at rows (Some (setting_name s, [])) (option (setting_name s)) false) word words kind.InvalidValue []
-    (journal_fault options rows (Some (setting_name s, [])) (option (setting_name s)) word name d l f ∙ rw found refl)
+    (flag_fault options rows (Some (setting_name s, [])) (option (setting_name s)) word name own d l f ∙ rw found refl)
 
 value_step : (options : List CommandOption) (word : Text) (words : List Text) → IsUtf8 word → AtWords options words → AtValue options (word ∷ words)
 value_step options word words text more rows s found = at (bytes_eq word (codes "--")) refl

@@ -8,16 +8,17 @@ use Rattle.clap.specs.declared.builder.action.ArgAction.{ArgAction}
 use Rattle.clap.specs.declared.builder.action.ArgAction.TheVariants.{Set, Append, SetTrue}
 use Rattle.clap.specs.declared.parser.matches.ArgMatches.{ArgMatches}
 use Rattle.sr_words.specs.Commands.{Taken}
-use Rattle.sr_words.specs.Options.{option_name}
+use Rattle.sr_words.specs.Options.{flag_name, option_name}
 use Rattle.sr_words.specs.declared.options.CommandOption.{CommandOption}
-use Rattle.sr_words.specs.declared.options.CommandOption.TheVariants.{Number, Journal}
+use Rattle.sr_words.specs.declared.options.CommandOption.TheVariants.{Number, Switch}
+use Rattle.sr_words.specs.declared.options.Flag.{Flag}
 
 -- ---- what the parser is given
 
 -- one value at most once, or no value at most once
 abbrev pub action_of : CommandOption → ArgAction
 action_of (Number setting) = Set
-action_of Journal = SetTrue
+action_of (Switch flag) = SetTrue
 
 abbrev pub option_argument : CommandOption → Rule
 option_argument option = record (new_rule (option_name option)) { long = Some (option_name option); action = Some (action_of option) }
@@ -51,6 +52,7 @@ taken_in rows = record {
   ticks = first_of (codes "ticks") rows;
   upto = first_of (codes "upto") rows;
   journal = is_true (one_of (codes "journal") rows);
+  places = is_true (one_of (codes "where") rows);
   words = unwrap_or (all_of (codes "word") rows) [];
 }
 
@@ -62,8 +64,8 @@ abbrev pub IsFlag : Option Text → Type 0
 IsFlag None = ⊤
 IsFlag (Some text) = (text ≡ codes "true") ⊎ (text ≡ codes "false")
 
-abbrev pub HasFlagIn : List Row → Type 0
-HasFlagIn rows = IsFlag (one_of (codes "journal") rows)
+abbrev pub HasFlagsIn : List Row → Type 0
+HasFlagsIn rows = (flag : Flag) → IsFlag (one_of (flag_name flag) rows)
 
-abbrev pub HasFlag : ArgMatches → Type 0
-HasFlag matches = HasFlagIn (rows_of (found_of matches))
+abbrev pub HasFlags : ArgMatches → Type 0
+HasFlags matches = HasFlagsIn (rows_of (found_of matches))

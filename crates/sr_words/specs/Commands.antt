@@ -1,30 +1,34 @@
 -- The command that the words after the program's name give. The first is the name of the command, exactly as written.
 -- In the rest an option may stand anywhere before a word `--`, is written `--x v` or `--x=v`, and stands at most once;
--- `--journal` takes no value and is written alone. Each other word is a file or a seed.
+-- `--journal` and `--where` take no value and are written alone. Each other word is a file, a journal or a seed.
 use Rattle.std.specs.Prelude.{ℕ, ◌&&◌, Bool, true, false, nat_le, List, [], ◌∷◌, ◌++◌, length, Option, Some, None, is_some, if◌then◌else◌, option_and_then}
 use Rattle.std.specs.Option.{option_map}
 use Rattle.sr_words.specs.Numbers.{number_within}
 use Rattle.sr_words.specs.Options.{options_of}
-use Rattle.sr_words.specs.Parts.{Part, plain, journal, given, parts}
+use Rattle.sr_words.specs.Parts.{Part, plain, switch, given, parts}
 use Rattle.sr_words.specs.Verbs.{verb_of}
 use Rattle.sr_words.specs.declared.command.Command.{Command}
 use Rattle.sr_words.specs.declared.command.Command.TheVariants as command
+use Rattle.sr_words.specs.declared.options.Flag.{Flag}
+use Rattle.sr_words.specs.declared.options.Flag.TheVariants.{Journal, Where}
 use Rattle.sr_words.specs.declared.options.Setting.{Setting}
 use Rattle.sr_words.specs.declared.options.Setting.TheVariants.{Workers, Steps, Ticks, Upto}
 use Rattle.sr_words.specs.declared.verb.Verb.{Verb}
 use Rattle.sr_words.specs.declared.verb.Verb.TheVariants.{Run, Check, Classes, Fmt, Gen, Replay}
 
--- what the words say: the value of each option that is given, whether `--journal` is, and the words that are no options
+-- what the words say: the value of each option that is given, whether `--journal` and `--where` are, and the words that are
+-- no options
 pub record Taken : Type 0 where
   pub workers : Option (List ℕ)
   pub steps : Option (List ℕ)
   pub ticks : Option (List ℕ)
   pub upto : Option (List ℕ)
   pub journal : Bool
+  pub places : Bool
   pub words : List (List ℕ)
 
 abbrev pub nothing_taken : Taken
-nothing_taken = record { workers = None; steps = None; ticks = None; upto = None; journal = false; words = [] }
+nothing_taken = record { workers = None; steps = None; ticks = None; upto = None; journal = false; places = false; words = [] }
 
 -- the value of an option
 abbrev pub value_in : Setting → Taken → Option (List ℕ)
@@ -39,10 +43,19 @@ with_value Steps value t = record t { steps = Some value }
 with_value Ticks value t = record t { ticks = Some value }
 with_value Upto value t = record t { upto = Some value }
 
+-- whether an option without a value is given
+abbrev pub flag_in : Flag → Taken → Bool
+flag_in Journal t = t.journal
+flag_in Where t = t.places
+
+abbrev pub with_flag : Flag → Taken → Taken
+with_flag Journal t = record t { journal = true }
+with_flag Where t = record t { places = true }
+
 -- one more part; an option stands at most once
 abbrev pub take_one : Taken → Part → Option Taken
 take_one t (plain word) = Some (record t { words = t.words ++ word ∷ [] })
-take_one t journal = if t.journal then None else Some (record t { journal = true })
+take_one t (switch flag) = if flag_in flag t then None else Some (with_flag flag t)
 take_one t (given setting value) = if is_some (value_in setting t) then None else Some (with_value setting value t)
 
 abbrev pub take_all : Taken → List Part → Option Taken
@@ -112,12 +125,12 @@ gen_command t =
     (setting_number Workers t.workers)
 
 -- a journal, and 1 to 64 files
-abbrev pub replay_of : ℕ → List (List ℕ) → Option Command
-replay_of upto [] = None
-replay_of upto (word ∷ words) = option_map (λ files. command.Replay word files upto) (files_of words)
+abbrev pub replay_of : ℕ → Bool → List (List ℕ) → Option Command
+replay_of upto places [] = None
+replay_of upto places (word ∷ words) = option_map (λ files. command.Replay word files upto places) (files_of words)
 
 abbrev pub replay_command : Taken → Option Command
-replay_command t = option_and_then (λ upto. replay_of upto t.words) (setting_number Upto t.upto)
+replay_command t = option_and_then (λ upto. replay_of upto t.places t.words) (setting_number Upto t.upto)
 
 -- the command of a name, where the words say this
 abbrev pub verb_command : Verb → Taken → Option Command

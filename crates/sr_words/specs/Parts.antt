@@ -1,16 +1,17 @@
--- The parts of the words after the command: words that are no options, the option `--journal`, and options with their values.
+-- The parts of the words after the command: words that are no options, options without a value, and options with theirs.
 use Rattle.std.specs.Prelude.{ℕ, ◌==◌, not, Bool, true, List, [], ◌∷◌, map, codes, Option, Some, None, if◌then◌else◌, option_and_then}
 use Rattle.std.specs.Option.{option_map}
 use Rattle.std.specs.List.{before_first, after_first, list_any}
 use Rattle.std.specs.Str.{bytes_eq}
 use Rattle.sr_words.specs.Options.{option_named}
 use Rattle.sr_words.specs.declared.options.CommandOption.{CommandOption}
-use Rattle.sr_words.specs.declared.options.CommandOption.TheVariants.{Number, Journal}
+use Rattle.sr_words.specs.declared.options.CommandOption.TheVariants.{Number, Switch}
+use Rattle.sr_words.specs.declared.options.Flag.{Flag}
 use Rattle.sr_words.specs.declared.options.Setting.{Setting}
 
 pub data Part : Type 0 where
   plain : List ℕ → Part
-  journal : Part
+  switch : Flag → Part
   given : Setting → List ℕ → Part
 
 -- ---- one word
@@ -58,8 +59,8 @@ abbrev pub option_kind : Option CommandOption → Option (List ℕ) → WordKind
 option_kind None value = unknown
 option_kind (Some (Number setting)) None = waiting setting
 option_kind (Some (Number setting)) (Some value) = part (given setting value)
-option_kind (Some Journal) None = part journal
-option_kind (Some Journal) (Some value) = unknown
+option_kind (Some (Switch flag)) None = part (switch flag)
+option_kind (Some (Switch flag)) (Some value) = unknown
 
 -- a word that begins with a dash, of which `found` is the name and the value
 abbrev pub dashed_kind : List CommandOption → Option (List ℕ × Option (List ℕ)) → WordKind

@@ -9,13 +9,13 @@ use crate::verb::Verb;
 use clap::{Arg, ArgAction};
 use std::alloc::{AllocError, Global};
 
-/// How the parser takes an option: one with a number has one value, `--journal` has none, and each stands at most once.
+/// How the parser takes an option: one with a number has one value, a flag has none, and each stands at most once.
 fn action_of(option: CommandOption) -> ArgAction
     ensures { result ≡ arguments.action_of option }
 {
     match option {
         CommandOption::Number(_) => ArgAction::Set,
-        CommandOption::Journal => ArgAction::SetTrue,
+        CommandOption::Switch(_) => ArgAction::SetTrue,
     }
 }
 

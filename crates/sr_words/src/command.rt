@@ -41,6 +41,8 @@ pub enum Command {
         files: Row<Text>,
         /// How many of its items are replayed, at most.
         upto: u32,
+        /// Whether the place of each request is told.
+        places: bool,
     },
 }
 

@@ -12,13 +12,20 @@ pub enum Setting {
     Upto,
 }
 
+/// An option that takes no value.
+#[derive(Clone, Copy)]
+pub enum Flag {
+    Journal,
+    Where,
+}
+
 /// An option of a command.
 #[derive(Clone, Copy)]
 pub enum CommandOption {
     /// One that takes a number.
     Number(Setting),
-    /// `--journal`, which takes no value.
-    Journal,
+    /// One that takes no value.
+    Switch(Flag),
 }
 
 /// The options of a command.
@@ -30,13 +37,16 @@ pub fn options_of(verb: Verb) -> &'static [CommandOption]
             CommandOption::Number(Setting::Workers),
             CommandOption::Number(Setting::Steps),
             CommandOption::Number(Setting::Ticks),
-            CommandOption::Journal,
+            CommandOption::Switch(Flag::Journal),
         ],
         Verb::Check => &[],
         Verb::Classes => &[],
         Verb::Fmt => &[],
         Verb::Gen => &[CommandOption::Number(Setting::Workers)],
-        Verb::Replay => &[CommandOption::Number(Setting::Upto)],
+        Verb::Replay => &[
+            CommandOption::Number(Setting::Upto),
+            CommandOption::Switch(Flag::Where),
+        ],
     }
 }
 
@@ -52,12 +62,22 @@ pub fn setting_name<'a>(setting: Setting) -> &'a str
     }
 }
 
+/// What stands after the dashes of an option that takes no value.
+pub fn flag_name<'a>(flag: Flag) -> &'a str
+    ensures { result.now ≡ options.flag_name flag }
+{
+    match flag {
+        Flag::Journal => "journal",
+        Flag::Where => "where",
+    }
+}
+
 /// What stands after the dashes of an option.
 pub fn option_name<'a>(option: CommandOption) -> &'a str
     ensures { result.now ≡ options.option_name option }
 {
     match option {
         CommandOption::Number(setting) => setting_name(setting),
-        CommandOption::Journal => "journal",
+        CommandOption::Switch(flag) => flag_name(flag),
     }
 }

@@ -8,7 +8,7 @@ ghost use Rattle.sr_words.specs.declared.command.WordsFail.TheVariants as fails;
 use crate::arguments::parser_for;
 use crate::command::{Command, WordsFail};
 use crate::number::number_within;
-use crate::options::{Setting, setting_name};
+use crate::options::{Flag, Setting, flag_name, setting_name};
 use crate::verb::{Verb, verb_of};
 use clap::ArgMatches;
 use clap::error::ErrorKind;
@@ -42,7 +42,7 @@ fn matches_of<'a>(
     words: &'a [String],
 ) -> Result<ArgMatches<'a>, WordsFail>
     ensures matches { IfOk result (λ matches. commands.taken_of verb (map string_bytes words.now) ≡ Some (arguments.taken_from matches)) }
-    ensures flag { IfOk result (λ matches. arguments.HasFlag matches) }
+    ensures flags { IfOk result (λ matches. arguments.HasFlags matches) }
     ensures usage { result ≡ Err fails.Usage → commands.taken_of verb (map string_bytes words.now) ≡ None }
 {
     match parser_for(alloc, verb) {
@@ -66,7 +66,7 @@ fn fail_of(error: &clap::Error) -> WordsFail
 
 /// The command of this name with these matches.
 fn verb_command(alloc: Global, verb: Verb, matches: &ArgMatches<'_>) -> Result<Command, WordsFail>
-    requires { arguments.HasFlag matches.now }
+    requires { arguments.HasFlags matches.now }
     ensures command { IfOk result (λ command. commands.verb_command verb (arguments.taken_from matches.now) ≡ Some command) }
     ensures usage { result ≡ Err fails.Usage → commands.verb_command verb (arguments.taken_from matches.now) ≡ None }
 {
@@ -87,7 +87,7 @@ fn verb_command(alloc: Global, verb: Verb, matches: &ArgMatches<'_>) -> Result<C
 }
 
 fn run_command(alloc: Global, matches: &ArgMatches<'_>) -> Result<Command, WordsFail>
-    requires { arguments.HasFlag matches.now }
+    requires { arguments.HasFlags matches.now }
     ensures command { IfOk result (λ command. commands.run_command (arguments.taken_from matches.now) ≡ Some command) }
     ensures usage { result ≡ Err fails.Usage → commands.run_command (arguments.taken_from matches.now) ≡ None }
 {
@@ -106,7 +106,7 @@ fn run_command(alloc: Global, matches: &ArgMatches<'_>) -> Result<Command, Words
         workers,
         steps,
         ticks,
-        journal: has_journal(matches),
+        journal: has_flag(Flag::Journal, matches),
     })
 }
 
@@ -124,30 +124,36 @@ fn gen_command(matches: &ArgMatches<'_>) -> Result<Command, WordsFail>
 }
 
 fn replay_command(alloc: Global, matches: &ArgMatches<'_>) -> Result<Command, WordsFail>
+    requires { arguments.HasFlags matches.now }
     ensures command { IfOk result (λ command. commands.replay_command (arguments.taken_from matches.now) ≡ Some command) }
     ensures usage { result ≡ Err fails.Usage → commands.replay_command (arguments.taken_from matches.now) ≡ None }
 {
     let Some(upto) = number_of(Setting::Upto, matches) else {
         return Err(WordsFail::Usage);
     };
-    replay_of(alloc, upto, matches)
+    replay_of(alloc, upto, has_flag(Flag::Where, matches), matches)
 }
 
 /// The replay of the words that are no options.
-fn replay_of(alloc: Global, upto: u32, matches: &ArgMatches<'_>) -> Result<Command, WordsFail>
-    ensures command { IfOk result (λ command. commands.replay_of upto (arguments.taken_from matches.now).words ≡ Some command) }
-    ensures usage { result ≡ Err fails.Usage → commands.replay_of upto (arguments.taken_from matches.now).words ≡ None }
+fn replay_of(
+    alloc: Global,
+    upto: u32,
+    places: bool,
+    matches: &ArgMatches<'_>,
+) -> Result<Command, WordsFail>
+    ensures command { IfOk result (λ command. commands.replay_of upto places (arguments.taken_from matches.now).words ≡ Some command) }
+    ensures usage { result ≡ Err fails.Usage → commands.replay_of upto places (arguments.taken_from matches.now).words ≡ None }
 {
     match matches.get_raw("word") {
         None => Err(WordsFail::Usage),
-        Some(words) => replay_in(alloc, upto, words),
+        Some(words) => replay_in(alloc, upto, places, words),
     }
 }
 
 /// The replay of the journal that is the first word.
-fn replay_in(alloc: Global, upto: u32, words: &[&str]) -> Result<Command, WordsFail>
-    ensures command { IfOk result (λ command. commands.replay_of upto (map (λ word. word.now) words.now) ≡ Some command) }
-    ensures usage { result ≡ Err fails.Usage → commands.replay_of upto (map (λ word. word.now) words.now) ≡ None }
+fn replay_in(alloc: Global, upto: u32, places: bool, words: &[&str]) -> Result<Command, WordsFail>
+    ensures command { IfOk result (λ command. commands.replay_of upto places (map (λ word. word.now) words.now) ≡ Some command) }
+    ensures usage { result ≡ Err fails.Usage → commands.replay_of upto places (map (λ word. word.now) words.now) ≡ None }
 {
     match words {
         [] => Err(WordsFail::Usage),
@@ -158,6 +164,7 @@ fn replay_in(alloc: Global, upto: u32, words: &[&str]) -> Result<Command, WordsF
                 journal,
                 files,
                 upto,
+                places,
             })
         }
     }
@@ -209,12 +216,12 @@ fn number_of(setting: Setting, matches: &ArgMatches<'_>) -> Option<u32>
     }
 }
 
-/// Whether `--journal` is given.
-fn has_journal(matches: &ArgMatches<'_>) -> bool
-    requires { arguments.HasFlag matches.now }
-    ensures { result ≡ (arguments.taken_from matches.now).journal }
+/// Whether an option without a value is given.
+fn has_flag(flag: Flag, matches: &ArgMatches<'_>) -> bool
+    requires { arguments.HasFlags matches.now }
+    ensures { result ≡ commands.flag_in flag (arguments.taken_from matches.now) }
 {
-    matches.get_flag("journal")
+    matches.get_flag(flag_name(flag))
 }
 
 /// The texts of words.

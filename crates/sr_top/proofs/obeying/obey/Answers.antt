@@ -105,7 +105,7 @@ returns-in-Replay-clause-cause g c = λ words told.
     (devices (g.I.Source.left c.replay_journal-outcome.new.input) (g.I.Source.faults c.replay_journal-outcome.new.input) (g.O.Sink.held c.replay_journal-outcome.new.output) (g.O.Sink.faults c.replay_journal-outcome.new.output)) in
     handed_on (λ items rounds ending header. HasCause (call items rounds) ending) _ _ _ _ _ _ _ _ c.named-in-Replay.ensures.items c.named-in-Replay.ensures.rounds c.named-in-Replay.ensures.ending c.named-in-Replay.ensures.header
     (c.replay_journal-outcome.ensures.cause words
-    (task_is words _ _ _ told c.in-Replay.is refl ∙ ap (λ names. Some (Replays c.in-Replay.journal names c.in-Replay.upto)) (sym c.as_slice-in-Replay.ensures)))
+    (task_is words _ _ _ told c.in-Replay.is refl ∙ ap (λ names. Some (Replays c.in-Replay.journal names (record { upto = c.in-Replay.upto; places = c.in-Replay.places }))) (sym c.as_slice-in-Replay.ensures)))
 
 pub returns-in-Replay-clause-header : goal.returns-in-Replay-clause-header
 returns-in-Replay-clause-header g c = λ words told.

@@ -10,20 +10,20 @@ returns-in-Ok-Reached-clause-lines c =
     let core = core_in c.args.program.now in
     let journal = c.args.journal.now in
     let header = journal.header in
-    let few = min_is c.fewer-upto.result c.args.upto c.len.result c.fewer-upto.ensures.one c.fewer-upto.ensures.other ∙ ap (min c.args.upto) c.len.ensures in
-    shown_as core journal c.args.input.now c.args.upto c.in-Ok-Reached.snapshot c.lines_of.result
-    (subst (Replays core header.steps header.ticks c.args.input.now journal.items (min c.args.upto (length journal.items))) c.in-Ok-Reached.field-0-is
+    let few = min_is c.fewer-upto.result c.args.view.upto c.len.result c.fewer-upto.ensures.one c.fewer-upto.ensures.other ∙ ap (min c.args.view.upto) c.len.ensures in
+    shown_as core journal c.args.names.now c.args.input.now c.args.view c.in-Ok-Reached.snapshot c.lines_of.result
+    (subst (Replays core header.steps header.ticks c.args.input.now journal.items (min c.args.view.upto (length journal.items))) c.in-Ok-Reached.field-0-is
     (subst (λ n. Replays core header.steps header.ticks c.args.input.now journal.items n c.in-Ok-Reached.field-0) few c.in-Ok-Reached.ensures))
     c.lines_of.ensures.lines
 
 pub returns-in-Ok-Reached-clause-ends : goal.returns-in-Ok-Reached-clause-ends
-returns-in-Ok-Reached-clause-ends c = no_shown_as (core_in c.args.program.now) c.args.journal.now c.args.input.now c.args.upto c.lines_of.result c.lines_of.ensures.ends
+returns-in-Ok-Reached-clause-ends c = no_shown_as (core_in c.args.program.now) c.args.journal.now c.args.names.now c.args.input.now c.args.view c.lines_of.result c.lines_of.ensures.ends
 
 pub returns-in-Ok-Illegal-clause-ends : goal.returns-in-Ok-Illegal-clause-ends
 returns-in-Ok-Illegal-clause-ends c =
     let core = core_in c.args.program.now in
     let journal = c.args.journal.now in
     let header = journal.header in
-    let few = min_is c.fewer-upto.result c.args.upto c.len.result c.fewer-upto.ensures.one c.fewer-upto.ensures.other ∙ ap (min c.args.upto) c.len.ensures in
-    subst (Replays core header.steps header.ticks c.args.input.now journal.items (min c.args.upto (length journal.items))) c.in-Ok-Illegal.field-0-is
+    let few = min_is c.fewer-upto.result c.args.view.upto c.len.result c.fewer-upto.ensures.one c.fewer-upto.ensures.other ∙ ap (min c.args.view.upto) c.len.ensures in
+    subst (Replays core header.steps header.ticks c.args.input.now journal.items (min c.args.view.upto (length journal.items))) c.in-Ok-Illegal.field-0-is
     (subst (λ n. Replays core header.steps header.ticks c.args.input.now journal.items n c.in-Ok-Illegal.field-0) few c.in-Ok-Illegal.ensures)

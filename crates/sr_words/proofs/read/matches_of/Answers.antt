@@ -11,8 +11,8 @@ returns-in-Ok-try_get_matches_from-clause-matches c =
     (parse_taken c.args.verb (app_of c.in-Ok.parser) (map string_bytes c.args.words.now) parse.matches c.in-Ok.ensures (all_text c.args.words.now)
     parse.ensures.matches parse.ensures.kinds).0
 
-pub returns-in-Ok-try_get_matches_from-clause-flag : goal.returns-in-Ok-try_get_matches_from-clause-flag
-returns-in-Ok-try_get_matches_from-clause-flag c =
+pub returns-in-Ok-try_get_matches_from-clause-flags : goal.returns-in-Ok-try_get_matches_from-clause-flags
+returns-in-Ok-try_get_matches_from-clause-flags c =
     let parse = c.in-Ok-try_get_matches_from in
     (parse_taken c.args.verb (app_of c.in-Ok.parser) (map string_bytes c.args.words.now) parse.matches c.in-Ok.ensures (all_text c.args.words.now)
     parse.ensures.matches parse.ensures.kinds).1
