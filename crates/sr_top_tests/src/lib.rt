@@ -6,9 +6,13 @@ mod calls;
 #[cfg(test)]
 mod commands;
 #[cfg(test)]
+mod devices;
+#[cfg(test)]
 mod endless;
 #[cfg(test)]
 mod journals;
+#[cfg(test)]
+mod limits;
 #[cfg(test)]
 mod order;
 #[cfg(test)]
