@@ -115,8 +115,9 @@ fn run_rounds_on<A: Actor, T: Rounds<A>, I: Source, O: Sink>(
     };
     while items.len() < steps as usize {
         let made = items.len();
-        if let Some(end) = advance(&mut plain, program, &mut intake, input, output, items) {
-            return end;
+        match advance(&mut plain, program, &mut intake, input, output, items) {
+            None => {}
+            Some(end) => return end,
         }
         if made < items.len() {
             match add_stretch(
