@@ -3,6 +3,7 @@ pub mod Causes
 pub mod Headline
 pub mod Journal
 pub mod LayingOut
+pub mod Outcome
 pub mod Programs
 pub mod Reading
 pub mod Replaying
