@@ -4,9 +4,7 @@ ghost use Rattle.sr_value.specs.Parts.{stored_at, with_part};
 ghost use Rattle.sr_in_place.specs.Puts.{IsCharStored, Wrote, byte_count, char_stored, item_stored, layer_spot};
 
 use crate::fitting::fit;
-use sr_value::{
-    Fault, Row, Sel, Shape, Text, Value, byte_place, field_place, item_place, step_at,
-};
+use sr_value::{Fault, Row, Sel, Shape, Text, Value, byte_place, field_place, item_place, step_at};
 
 /// Puts a value at the end of a path in a place of this shape. E3 where the path leads nowhere, before the
 /// value is looked at; else the faults of [`fit`]. After a fault the place is as before. It takes no memory.

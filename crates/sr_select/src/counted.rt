@@ -4,7 +4,7 @@ ghost use Rattle.sr_value.specs.Parts.{all_fit, each_fits};
 ghost use Rattle.sr_select.specs.Guards.{counted_in, recounted};
 
 use sr_core::high_bound;
-use sr_value::{Dims, Duplicate, Fault, Row, Shape, Value, ValueFail};
+use sr_value::{Dims, Duplicate, Fault, Row, Shape, Value, ValueFail, indices};
 use std::alloc::Global;
 
 /// The bounds of an array as it was sent, counted from the lower bounds of its place; E6 where a bound is no int.

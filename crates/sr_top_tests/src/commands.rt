@@ -7,7 +7,7 @@ use std::test::Fail;
 const HELLO: &[u8] = b"resource main()\n  write(\"hello\", 3)\nend\n";
 
 /// Philosophers that eat three times each, by the leave of a servant.
-const PHILOSOPHERS: &[u8] = b"resource Servant
+pub const PHILOSOPHERS: &[u8] = b"resource Servant
   op getforks(id : int)
   op relforks(id : int)
 body Servant(n : int)

@@ -6,11 +6,12 @@ mod calls;
 #[cfg(test)]
 mod commands;
 #[cfg(test)]
+mod devices;
+#[cfg(test)]
 mod endless;
 #[cfg(test)]
 mod journals;
 #[cfg(test)]
-mod layouts;
 #[cfg(test)]
 mod order;
 #[cfg(test)]

@@ -104,6 +104,32 @@ pub fn called_with(
     ))
 }
 
+/// Makes a call of one file over this input and this output.
+pub fn called_over(
+    alloc: Global,
+    words: &[&str],
+    file: (&str, &[u8]),
+    input: &mut MemSource,
+    output: &mut MemSink,
+) -> Result<Report, NoMemory> {
+    let words = words_of(alloc, words)?;
+    let mut files = Row::new(alloc);
+    push_file(alloc, &mut files, file.0.as_bytes(), file.1)?;
+    let mut files = MemFiles::new(files, Row::new(alloc));
+    let mut diag = MemSink::new(alloc, 1, Row::new(alloc));
+    let mut journal = MemSink::new(alloc, 1, Row::new(alloc));
+    Ok(sr_top(
+        alloc,
+        &words,
+        &mut files,
+        input,
+        output,
+        &mut diag,
+        &mut journal,
+        &FreeGate,
+    ))
+}
+
 /// Makes the call of a case.
 pub fn called(
     alloc: Global,
