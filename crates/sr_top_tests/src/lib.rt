@@ -12,6 +12,9 @@ mod endless;
 #[cfg(test)]
 mod journals;
 #[cfg(test)]
+mod layouts;
+#[cfg(test)]
+mod limits;
 #[cfg(test)]
 mod order;
 #[cfg(test)]
