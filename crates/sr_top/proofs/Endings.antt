@@ -1,5 +1,5 @@
 -- What follows from the cause of an ending.
-use Rattle.std.proofs.Common.{◌≡◌, ◌∙◌, ℕ, ◌≤◌, ◌⊎◌, ◌++◌, Bool, false, true, List, length, None, Some, ap, refl, inl, inr}
+use Rattle.std.proofs.Common.{◌≡◌, ◌∙◌, ℕ, ◌≤◌, ◌⊎◌, ◌++◌, Bool, false, true, List, length, None, Some, ap, refl, subst, inl, inr}
 use Rattle.std.specs.Prelude.{Option}
 use Rattle.sr_core.specs.declared.component.Core.{Core}
 use Rattle.sr_core.specs.declared.owner.Classes.{Classes}
@@ -11,7 +11,8 @@ use Rattle.sr_run.specs.declared.end.LimitKind.{LimitKind}
 use Rattle.sr_run.specs.declared.end.LimitKind.TheVariants as limit
 use Rattle.sr_run.specs.declared.end.RunEnd.{RunEnd}
 use Rattle.sr_run.specs.declared.end.RunEnd.TheVariants as run_end
-use Rattle.sr_top.specs.Causes.{Call, Compiles, EndsEarly, EndsEarlyInLines, EndsInLines, EndsNoFile, EndsRun, HasCause, HasLines, IsAlone, IsCutInLines, PutsLines, RunsNothing, arrangement_of, ending_of, run_of}
+use Rattle.sr_run.specs.declared.stretch.Stretch.{Stretch}
+use Rattle.sr_top.specs.Causes.{Call, Compiles, EndsAs, EndsEarly, EndsEarlyInLines, EndsInLines, EndsNoFile, EndsRun, HasCause, HasLines, IsAlone, IsCutInLines, PutsLines, RunsNothing, arrangement_of, ending_of, run_of}
 use Rattle.sr_top.specs.Headline.{Headline, IsComplete, MakesRun, NoneRose, RunsInPart, RunsWhole}
 use Rattle.sr_top.specs.LayingOut.{EndsNoSource}
 use Rattle.sr_top.specs.Reading.{EndsCompiling, FailsAt, IsUnreadIn}
@@ -240,3 +241,7 @@ listed call lines Usage has puts = absurd puts
 listed call lines (BadJournal fail) has puts = absurd puts
 listed call lines (OtherFiles file) has puts = absurd puts
 listed call lines (Illegal at) has puts = absurd puts
+
+-- a run of a program with these classes is one with the same
+pub same_classes : (workers : ℕ) (a b : Classes) (rounds : List Stretch) (call : runs.Call) (ending : Ending) → a ≡ b → EndsAs workers a rounds call ending → EndsAs workers b rounds call ending
+same_classes workers a b rounds call ending same ends = subst (λ classes. EndsAs workers classes rounds call ending) same ends

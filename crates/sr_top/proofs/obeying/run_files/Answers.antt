@@ -3,10 +3,10 @@ use Rattle.std.proofs.Common.{◌≡◌, ap, inr, refl, subst, sym}
 use Rattle.std.specs.Prelude.{IfSome, option_and_then}
 use Rattle.sr_code.specs.declared.code.Program.{Program}
 use Rattle.sr_journal.specs.Journal.{IsInRange}
-use Rattle.sr_top.proofs.Endings.{caused, stopped}
+use Rattle.sr_top.proofs.Endings.{caused, same_classes, stopped}
 use Rattle.sr_top.proofs.Journals.{came_before, headed, in_range, ran_to}
 use Rattle.sr_top.proofs.Readings.{compiled_of}
-use Rattle.sr_top.specs.Causes.{EndsAs, HasCause}
+use Rattle.sr_top.specs.Causes.{HasCause}
 use Rattle.sr_top.specs.Journal.{EndsBeforeRun, EndsWithRun, HasHeaderIf, without}
 use Rattle.sr_top.specs.Programs.{classes_in}
 use Rattle.sr_top.specs.Tasks.{Named, origin_of}
@@ -14,8 +14,8 @@ use Rattle.sr_top.proofs.obeying.run_files.Goals as goal
 
 pub returns-in-Ok-clause-cause : goal.returns-in-Ok-clause-cause
 returns-in-Ok-clause-cause g c = λ words asked.
-    let same : c.program.result.now.classes ≡ classes_in c.in-Ok.program = ap (λ (p : Program). p.classes) c.program.ensures in
-    let ends = subst (λ classes. EndsAs c.args.workers classes c.run_program.result.rounds _ c.run_program.result.ending) same c.run_program.ensures.ends in
+    let same : c.program.result.now.classes ≡ classes_in c.in-Ok.field-0.program = ap (λ (p : Program). p.classes) c.program.ensures in
+    let ends = same_classes _ _ _ _ _ _ same c.run_program.ensures.ends in
     subst (HasCause _) (sym ends.is)
     (caused _ c.args.workers c.args.steps c.args.ticks _ _
     (record {

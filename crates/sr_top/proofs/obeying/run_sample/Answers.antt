@@ -2,9 +2,9 @@
 use Rattle.std.proofs.Common.{◌≡◌, ap, false, refl, subst, sym}
 use Rattle.std.specs.Prelude.{option_and_then}
 use Rattle.sr_code.specs.declared.code.Program.{Program}
-use Rattle.sr_top.proofs.Endings.{caused, stopped}
+use Rattle.sr_top.proofs.Endings.{caused, same_classes, stopped}
 use Rattle.sr_top.proofs.Readings.{ended_as, sampled_of}
-use Rattle.sr_top.specs.Causes.{EndsAs, HasCause}
+use Rattle.sr_top.specs.Causes.{HasCause}
 use Rattle.sr_top.specs.Reading.{sample_files}
 use Rattle.sr_top.specs.Programs.{classes_in}
 use Rattle.sr_top.specs.Tasks.{Sampled, origin_of}
@@ -13,7 +13,7 @@ use Rattle.sr_top.proofs.obeying.run_sample.Goals as goal
 pub returns-in-Ok-clause-cause : goal.returns-in-Ok-clause-cause
 returns-in-Ok-clause-cause g c = λ words files reads asked.
     let same : c.program.result.now.classes ≡ classes_in c.in-Ok.program = ap (λ (p : Program). p.classes) c.program.ensures in
-    let ends = subst (λ classes. EndsAs c.args.workers classes c.run_program.result.rounds _ c.run_program.result.ending) same c.run_program.ensures.ends in
+    let ends = same_classes _ _ _ _ _ _ same c.run_program.ensures.ends in
     subst (HasCause _) (sym ends.is)
     (caused _ _ _ _ _ _
     (record { origin = Sampled c.args.seed; journal = false; asked = asked; compiled = sampled_of _ _ _ _ c.in-Ok.ensures.core; no_fault = refl })
