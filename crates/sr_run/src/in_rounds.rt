@@ -115,8 +115,12 @@ fn run_rounds_on<A: Actor, T: Rounds<A>, I: Source, O: Sink>(
     };
     while items.len() < steps as usize {
         let made = items.len();
-        if let Some(end) = advance(&mut plain, program, &mut intake, input, output, items) {
-            return end;
+        match advance(&mut plain, program, &mut intake, input, output, items) {
+            None => {}
+            Some(end) => {
+                let_go(plain);
+                return end;
+            }
         }
         if made < items.len() {
             match add_stretch(
@@ -127,8 +131,12 @@ fn run_rounds_on<A: Actor, T: Rounds<A>, I: Source, O: Sink>(
             }
         }
     }
+    let_go(plain);
     RunEnd::Limit(LimitKind::Steps)
 }
+
+/// Drops a value in one call.
+fn let_go<T: Drop>(_value: T) {}
 
 /// Adds the stretch after the last item, where there is room for one.
 fn add_stretch<A: Actor, T: Rounds<A>>(

@@ -1,13 +1,17 @@
 -- The stretch is there before its items are made, and is told how many they are.
-use Rattle.std.proofs.Common.{◌≡◌, ◌+◌, ◌-◌, ◌<◌, ◌≤◌, ℕ, List, [], ◌∷◌, ◌++◌, length, ap, arith, refl, sym, ◌∙◌, subst, take, length-append}
+use Rattle.std.proofs.Common.{◌≡◌, ◌-◌, ℕ, List, [], ◌∷◌, ◌++◌, length, ap, ◌∙◌, slice_set}
 use Rattle.std.proofs.Math.Seq.{set-append_seam}
-use Rattle.sr_ask.specs.declared.item.Item.{Item}
-use Rattle.sr_plain.specs.Passing.{AddsItems}
 use Rattle.sr_run.specs.declared.stretch.Stretch.{Stretch}
 use Rattle.sr_run.proofs.in_rounds.make_stretch.Goals as goal
 
--- how long the items are now
-size : (room : ℕ) (old new : List Item) → AddsItems room old new → (length old ≤ length new) × (length new ≤ length old + room)
-size room old new adds =
-    let both : length new ≡ length old + length adds.items = ap (λ is. length is) adds.added ∙ length-append old adds.items in
-    (omega (arith, both), (let within = adds.within in omega (arith, both, within)))
+replaced : (old pushed now : List Stretch) (first last : Stretch) (place : ℕ) → pushed ≡ old ++ first ∷ [] → place ≡ length old → now ≡ slice_set pushed place last → now ≡ old ++ last ∷ []
+replaced old pushed now first last place is at then =
+    then ∙ ap (λ xs. slice_set xs place last) is ∙ ap (λ n. slice_set (old ++ first ∷ []) n last) at ∙ set-append_seam old first [] last
+
+pub returns-in-Ok-clause-stretches : goal.returns-in-Ok-clause-stretches
+returns-in-Ok-clause-stretches g c =
+    let told : ℕ → ℕ → Stretch = λ from count. record { from = from; count = count - from } in
+    replaced c.args.stretches.now c.push.new.self c.replace.new.self (record { from = c.len-from.result; count = 0 }) (told c.len-from.result c.len.result) c.len-place.result
+    c.in_ok-push.ensures.ok c.len-place.ensures c.replace.ensures.others
+    ∙ ap (λ from. c.args.stretches.now ++ told from c.len.result ∷ []) c.len-from.ensures
+    ∙ ap (λ count. c.args.stretches.now ++ told (length c.args.items.now) count ∷ []) c.len.ensures

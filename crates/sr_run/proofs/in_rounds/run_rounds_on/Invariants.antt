@@ -9,8 +9,8 @@ use Rattle.sr_run.specs.Runs.{Call}
 use Rattle.sr_run.specs.UnderWay.{IsUnderWay, Whole, as_of, open_input}
 use Rattle.sr_run.proofs.in_rounds.run_rounds_on.Given as goal
 
-abbrev pub invariant-loop-plain : goal.invariant-loop-plain
-invariant-loop-plain g l = record {
+abbrev pub invariant-loop-intake : goal.invariant-loop-intake
+invariant-loop-intake g l = record {
   within : length l.items ≤ l.steps;
   fit : AllByRecursion FitsItem l.items;
   most : l.intake.taken ≤ 67108864;
@@ -23,5 +23,5 @@ invariant-loop-plain g l = record {
       l.intake l.plain;
 }
 
-abbrev pub decreases-loop-plain : goal.decreases-loop-plain
-decreases-loop-plain g l = (l.steps - length l.items) + open_input l.intake
+abbrev pub decreases-loop-intake : goal.decreases-loop-intake
+decreases-loop-intake g l = (l.steps - length l.items) + open_input l.intake
