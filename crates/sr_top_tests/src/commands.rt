@@ -211,23 +211,19 @@ fn ends_at_limits(alloc: Global, workers: &str) -> Result<bool, NoMemory> {
         "a.sr",
         b"resource main()\n  op f()\n  do true -> send f() od\nend\n",
     )];
+    let few_ticks = ["run", "a.sr", "--workers", workers, "--ticks", "1000"];
     let over_ticks = Case {
         status: 102,
         items: 1,
         diag: b"sr: limit: ticks\n",
-        ..silent(
-            &["run", "a.sr", "--workers", workers, "--ticks", "1000"],
-            &ticks,
-        )
+        ..silent(&few_ticks, &ticks)
     };
+    let few_steps = ["run", "a.sr", "--workers", workers, "--steps", "50"];
     let over_steps = Case {
         status: 102,
         items: 50,
         diag: b"sr: limit: steps\n",
-        ..silent(
-            &["run", "a.sr", "--workers", workers, "--steps", "50"],
-            &steps,
-        )
+        ..silent(&few_steps, &steps)
     };
     Ok(goes_so(alloc, &over_ticks)? && goes_so(alloc, &over_steps)?)
 }

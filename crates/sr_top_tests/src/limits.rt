@@ -149,14 +149,12 @@ fn many_items(rt: HostRuntime) -> Result<(), Fail> {
         b"resource main()\n  op f()\n  proc f()\n    send f(); send f()\n  end\n  send f()\nend\n",
     )];
     for workers in ["1", "4"] {
+        let words = ["run", "a.sr", "--steps", "20000", "--workers", workers];
         let case = Case {
             status: 102,
             items: 20_000,
             diag: b"sr: limit: steps\n",
-            ..silent(
-                &["run", "a.sr", "--steps", "20000", "--workers", workers],
-                &doubling,
-            )
+            ..silent(&words, &doubling)
         };
         assert!(rt; goes_so(rt.alloc(), &case)?, "{workers} workers");
     }
