@@ -25,7 +25,7 @@ fn file_of(alloc: Global, text: &str) -> Result<Row<(Text, Text)>, NoMemory>
 }
 
 /// Whether a program of one file makes these items and writes this also where its world is divided and joined after every
-/// item. A longer run isn't tried.
+/// item, and its first steps change no other parts of it than those that they touch. A longer run isn't tried.
 pub fn goes_the_same(
     alloc: Global,
     text: &str,

@@ -1,6 +1,9 @@
 use crate::again::divide_and_join;
+use crate::watch::Watch;
 use sr_actor::{Actor, Member, begin_once};
 use sr_ask::{Asks, Item};
+use sr_classes::partition;
+use sr_core::{Classes, Core, Me};
 use sr_value::NoMemory;
 use sr_world::{Acted, World};
 use std::alloc::Global;
@@ -16,12 +19,14 @@ const LATEST: u32 = 2_147_483_647;
 #[derive(Drop)]
 struct Follower<A> {
     alloc: Global,
+    classes: Classes,
     world: World,
     crew: HashMap<u32, Member<A>>,
+    watch: Watch,
 }
 
 /// Whether a program can make these items in this order, and writes this, where its world is divided and joined after each
-/// of them.
+/// of them. Its first steps have to change no other parts than those that they touch.
 pub fn is_same_run<A: Actor>(
     alloc: Global,
     program: &A::Program,
@@ -29,18 +34,21 @@ pub fn is_same_run<A: Actor>(
     items: &[Item],
     output: &[u8],
 ) -> Result<bool, NoMemory> {
-    let mut follower = Follower::<A>::begin(alloc)?;
+    let mut follower = Follower::<A>::begin(alloc, A::core(program))?;
     follower.is_same(program, input, items, output)
 }
 
 impl<A: Actor> Follower<A> {
     /// The beginning of a run.
-    fn begin(alloc: Global) -> Result<Self, NoMemory> {
+    fn begin(alloc: Global, core: &Core) -> Result<Self, NoMemory> {
+        let classes = partition(alloc, core)?;
         let world = World::begin(alloc)?;
         Ok(Follower {
             alloc,
+            classes,
             world,
             crew: HashMap::new(alloc),
+            watch: Watch::new(alloc),
         })
     }
 
@@ -64,7 +72,7 @@ impl<A: Actor> Follower<A> {
             if !self.follow(program, *item)? {
                 return Ok(false);
             }
-            divide_and_join(self.alloc, &mut self.world)?;
+            divide_and_join(self.alloc, &self.classes, &mut self.world)?;
         }
         Ok(true)
     }
@@ -94,7 +102,7 @@ impl<A: Actor> Follower<A> {
         }
     }
 
-    /// Has the machine carry out what a process asks.
+    /// Has the machine carry out what a process asks, and says whether it could and changed nothing elsewhere.
     fn is_made(&mut self, program: &A::Program, actor: u32, name: u32) -> Result<bool, NoMemory> {
         let Some(member) = self.crew.get_mut(&actor) else {
             return Ok(false);
@@ -103,17 +111,22 @@ impl<A: Actor> Follower<A> {
         let Asks::Asked(ask) = member.actor.asked() else {
             return Ok(false);
         };
+        let me = Me {
+            process: actor,
+            instance: member.instance,
+        };
+        let core = A::core(program);
+        self.watch
+            .begin(core, &self.classes, me, ask, name, &mut self.world)?;
         if !self.world.is_new(name) {
             return Ok(false);
         }
-        match self.world.act(A::core(program), actor, ask, name)? {
-            Acted::Done(answer) => {
-                member.answer(answer);
-                Ok(true)
-            }
-            Acted::Ends(_) => Ok(true),
-            Acted::Cannot | Acted::Undecided => Ok(false),
+        match self.world.act(core, actor, ask, name)? {
+            Acted::Done(answer) => member.answer(answer),
+            Acted::Ends(_) => {}
+            Acted::Cannot | Acted::Undecided => return Ok(false),
         }
+        self.watch.is_same(&self.classes, &mut self.world)
     }
 
     /// Lets time pass to a later moment.
