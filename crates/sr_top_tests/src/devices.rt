@@ -117,30 +117,28 @@ fn single_bytes(rt: HostRuntime) -> Result<(), Fail> {
     Ok(())
 }
 
-/// Takes and reads of files that fail.
+/// Whether the run of the reads ends without output where a take of its input fails.
+fn fails_at_take(alloc: Global, take: u64) -> Result<bool, NoMemory> {
+    let fails = numbers(alloc, &[take])?;
+    let mut input = MemSource::new(Text::from_slice(alloc, b"4")?, 2, fails);
+    let mut output = MemSink::new(alloc, 100, Row::new(alloc));
+    let report = called_over(alloc, &["run", "a.sr"], READS[0], &mut input, &mut output)?;
+    Ok(report.ending == Ending::ReadFault && report.status == 105 && output.held().is_empty())
+}
+
+/// The input fails before its byte, and where it would tell its end.
 #[test]
-fn inputs_fail(rt: HostRuntime) -> Result<(), Fail> {
-    let read = Case {
-        input: b"4",
-        ..silent(&["run", "a.sr"], &READS)
-    };
+fn takes_fail(rt: HostRuntime) -> Result<(), Fail> {
+    for take in [1, 2] {
+        assert!(rt; fails_at_take(rt.alloc(), take)?, "take {take}");
+    }
+    Ok(())
+}
+
+/// The reads of two files fail.
+#[test]
+fn files_fail(rt: HostRuntime) -> Result<(), Fail> {
     let cases = [
-        Case {
-            take_fails: &[1],
-            ending: Some(Ending::ReadFault),
-            status: 105,
-            items: 2,
-            diag: b"sr: input failed\n",
-            ..read
-        },
-        Case {
-            take_fails: &[2],
-            ending: Some(Ending::ReadFault),
-            status: 105,
-            items: 2,
-            diag: b"sr: input failed\n",
-            ..read
-        },
         Case {
             read_fails: &[1],
             ending: Some(Ending::NoFile(0)),
