@@ -4,6 +4,7 @@ ghost use Rattle.sr_plain.specs.Engine.{IsEngine};
 ghost use Rattle.sr_plain.specs.Passing.{AddsItems, HasPassed};
 ghost use Rattle.sr_world.specs.Runs.{Event, State};
 
+use crate::dropping::let_go;
 use sr_actor::Actor;
 use sr_ask::Item;
 use sr_core::Classes;
@@ -32,6 +33,7 @@ impl<A: Actor> Rounds<A> for Counted {
     {
         self.passes = self.passes.saturating_add(1);
         if self.passes == self.fails_at {
+            let_go(plain);
             return Err(NoMemory);
         }
         Passes.round(program, classes, plain, room, items)

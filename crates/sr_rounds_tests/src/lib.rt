@@ -4,6 +4,8 @@
 #[cfg(test)]
 mod counted;
 #[cfg(test)]
+mod dropping;
+#[cfg(test)]
 mod program;
 #[cfg(test)]
 mod runs;

@@ -1,4 +1,5 @@
 use crate::counted::Counted;
+use crate::dropping::let_go;
 use crate::program::program_of;
 use sr_compiled::Compiled;
 use sr_divided::is_same_run;
@@ -43,12 +44,12 @@ fn sink_of(alloc: Global, fails: u64) -> Result<MemSink, NoMemory> {
 }
 
 fn came_of(alloc: Global, program: &Compiled, case: &Case<'_>) -> Result<Came, NoMemory> {
+    let mut output = sink_of(alloc, case.fails_put)?;
+    let mut input = MemSource::new(Text::new(alloc), 1, Row::new(alloc));
     let mut rounds = Counted {
         passes: 0,
         fails_at: case.fails_pass,
     };
-    let mut input = MemSource::new(Text::new(alloc), 1, Row::new(alloc));
-    let mut output = sink_of(alloc, case.fails_put)?;
     let run = run_in_rounds::<Process, _, _, _>(
         alloc,
         program,
@@ -66,8 +67,16 @@ fn came_of(alloc: Global, program: &Compiled, case: &Case<'_>) -> Result<Came, N
 /// Whether a run ends and writes as it should, and can be made again from its items.
 pub fn is_right(alloc: Global, case: &Case<'_>) -> Result<bool, NoMemory> {
     let program = program_of(alloc, case.text)?;
-    let came = came_of(alloc, &program, case)?;
-    is_wanted(alloc, &program, case, &came)
+    let right = comes_right(alloc, &program, case);
+    let_go(program);
+    right
+}
+
+fn comes_right(alloc: Global, program: &Compiled, case: &Case<'_>) -> Result<bool, NoMemory> {
+    let came = came_of(alloc, program, case)?;
+    let right = is_wanted(alloc, program, case, &came);
+    let_go(came);
+    right
 }
 
 fn is_wanted(
@@ -91,9 +100,22 @@ fn with_items(rounds: &[Stretch], count: u32) -> usize {
 /// How many items a run makes, and how many of its stretches have so many items.
 pub fn counts(alloc: Global, case: &Case<'_>, count: u32) -> Result<(usize, usize), NoMemory> {
     let program = program_of(alloc, case.text)?;
-    let came = came_of(alloc, &program, case)?;
-    Ok((
+    let counts = counts_of(alloc, &program, case, count);
+    let_go(program);
+    counts
+}
+
+fn counts_of(
+    alloc: Global,
+    program: &Compiled,
+    case: &Case<'_>,
+    count: u32,
+) -> Result<(usize, usize), NoMemory> {
+    let came = came_of(alloc, program, case)?;
+    let counts = (
         came.run.items.len(),
         with_items(came.run.rounds.as_slice(), count),
-    ))
+    );
+    let_go(came);
+    Ok(counts)
 }

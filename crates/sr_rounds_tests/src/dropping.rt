@@ -1,0 +1,2 @@
+/// Drops a value in one call.
+pub fn let_go<T: Drop>(_value: T) {}
