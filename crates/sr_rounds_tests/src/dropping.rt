@@ -1,2 +1,0 @@
-/// Drops a value in one call.
-pub fn let_go<T: Drop>(_value: T) {}
