@@ -204,34 +204,42 @@ fn words(rt: HostRuntime) -> Result<(), Fail> {
     Ok(())
 }
 
-/// Whether a process that begins statements without end, and a program that makes steps without end, end at their limits.
-fn ends_at_limits(alloc: Global, workers: &str) -> Result<bool, NoMemory> {
+/// The limits: a process that begins statements without end, and a program that makes steps without end, with one worker
+/// and with four.
+#[test]
+fn limits(rt: HostRuntime) -> Result<(), Fail> {
     let ticks: [(&str, &[u8]); 1] = [("a.sr", b"resource main()\n  do true -> skip od\nend\n")];
     let steps: [(&str, &[u8]); 1] = [(
         "a.sr",
         b"resource main()\n  op f()\n  do true -> send f() od\nend\n",
     )];
-    let few_ticks = ["run", "a.sr", "--workers", workers, "--ticks", "1000"];
     let over_ticks = Case {
         status: 102,
         items: 1,
         diag: b"sr: limit: ticks\n",
-        ..silent(&few_ticks, &ticks)
+        ..silent(&["run", "a.sr", "--ticks", "1000"], &ticks)
     };
-    let few_steps = ["run", "a.sr", "--workers", workers, "--steps", "50"];
     let over_steps = Case {
         status: 102,
         items: 50,
         diag: b"sr: limit: steps\n",
-        ..silent(&few_steps, &steps)
+        ..silent(&["run", "a.sr", "--steps", "50"], &steps)
     };
-    Ok(goes_so(alloc, &over_ticks)? && goes_so(alloc, &over_steps)?)
-}
-
-#[test]
-fn limits(rt: HostRuntime) -> Result<(), Fail> {
-    assert!(rt; ends_at_limits(rt.alloc(), "1")?);
-    assert!(rt; ends_at_limits(rt.alloc(), "4")?);
+    let cases = [
+        over_ticks,
+        Case {
+            words: &["run", "a.sr", "--workers", "4", "--ticks", "1000"],
+            ..over_ticks
+        },
+        over_steps,
+        Case {
+            words: &["run", "a.sr", "--workers", "4", "--steps", "50"],
+            ..over_steps
+        },
+    ];
+    for (index, case) in cases.iter().enumerate() {
+        assert!(rt; goes_so(rt.alloc(), case)?, "case {index}");
+    }
     Ok(())
 }
 

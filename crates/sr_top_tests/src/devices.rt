@@ -28,17 +28,16 @@ const EMPTY: [(&str, &[u8]); 1] = [("empty.sr", b"")];
 /// Whether the philosophers put so many bytes of their lines into this sink, which fails then.
 fn writes_first(
     alloc: Global,
-    workers: &str,
+    words: &[&str],
     output: &mut MemSink,
     bytes: usize,
 ) -> Result<bool, NoMemory> {
     let mut diag = MemSink::new(alloc, 100, Row::new(alloc));
     let mut journal = MemSink::new(alloc, 100, Row::new(alloc));
-    let words = ["run", "phil.sr", "--workers", workers];
     let files = [("phil.sr", PHILOSOPHERS)];
     let report = called(
         alloc,
-        &silent(&words, &files),
+        &silent(words, &files),
         output,
         &mut diag,
         &mut journal,
@@ -51,26 +50,30 @@ fn writes_first(
 }
 
 /// Whether a sink whose put of a line fails has the lines before it.
-fn fails_at_line(alloc: Global, workers: &str, line: u8) -> Result<bool, NoMemory> {
+fn fails_at_line(alloc: Global, words: &[&str], line: u8) -> Result<bool, NoMemory> {
     let fails = numbers(alloc, &[u64::from(line)])?;
     let mut output = MemSink::new(alloc, 100, fails);
     let before = usize::from(line.saturating_sub(1)) * 20;
-    writes_first(alloc, workers, &mut output, before)
+    writes_first(alloc, words, &mut output, before)
 }
 
 /// Whether a sink that holds so many bytes has them.
 fn fails_when_full(alloc: Global, room: u8) -> Result<bool, NoMemory> {
     let mut output = MemSink::limited(alloc, u32::from(room), 100);
-    writes_first(alloc, "1", &mut output, usize::from(room))
+    writes_first(alloc, &["run", "phil.sr"], &mut output, usize::from(room))
 }
 
 /// The output fails at each of its lines.
 #[test]
 fn each_line_fails(rt: HostRuntime) -> Result<(), Fail> {
+    let four = ["run", "phil.sr", "--workers", "4"];
     for line in 1..7u8 {
-        assert!(rt; fails_at_line(rt.alloc(), "1", line)?, "line {line}");
         assert!(rt;
-            fails_at_line(rt.alloc(), "4", line)?,
+            fails_at_line(rt.alloc(), &["run", "phil.sr"], line)?,
+            "line {line}"
+        );
+        assert!(rt;
+            fails_at_line(rt.alloc(), &four, line)?,
             "line {line}, 4 workers"
         );
     }
