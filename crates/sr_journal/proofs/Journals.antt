@@ -4,6 +4,7 @@ use Rattle.std.specs.Prelude.{codes, map}
 use Rattle.std.specs.List.{concat, AllByRecursion}
 use Rattle.std.proofs.lemmas.Bool.{eqb-true, eqb-false, leb-true, le-leb}
 use Rattle.std.proofs.lemmas.Str.{IsUtf8-nil}
+use Rattle.sr_ask.specs.Items.{actor_of, number_of}
 use Rattle.sr_ask.specs.declared.item.Item.{Item}
 use Rattle.sr_ask.specs.declared.item.Item.TheVariants.{Step, Quiesce, Tick}
 use Rattle.sr_journal.specs.declared.fail.JournalFail.{JournalFail}
@@ -251,21 +252,11 @@ QuiesceHolds (Step actor name) = ⊥
 QuiesceHolds (Quiesce name) = IsItem (Quiesce name)
 QuiesceHolds (Tick to) = ⊥
 
-abbrev actor-of : Item → ℕ
-actor-of (Step actor name) = actor
-actor-of (Quiesce name) = 0
-actor-of (Tick to) = 0
-
-abbrev made-of : Item → ℕ
-made-of (Step actor name) = name
-made-of (Quiesce name) = name
-made-of (Tick to) = 0
-
 abbrev after-made : Item → List ℕ
-after-made item = number_text (made-of item) ++ newline
+after-made item = number_text (number_of item) ++ newline
 
 abbrev after-actor : Item → List ℕ
-after-actor item = number_text (actor-of item) ++ (blank ++ after-made item)
+after-actor item = number_text (actor_of item) ++ (blank ++ after-made item)
 
 abbrev Steps : Format Item
 Steps = record { Holds = StepHolds; text = λ item. blank ++ after-actor item }
@@ -279,12 +270,12 @@ step-from a b h g =
     let m : b ≤ 4294967295 = at-most true b 4294967295 g in
     (at-least (Some 4294967295) a h, omega (arith, l), omega (arith, m))
 
-step-actor : (c : Item) → StepHolds c → CanStand false (Some 4294967295) (actor-of c)
+step-actor : (c : Item) → StepHolds c → CanStand false (Some 4294967295) (actor_of c)
 step-actor (Step a b) h = let l : a < 2 ^ 32 = h.1 in stands-above a 4294967295 h.0 (omega (arith, l))
 step-actor (Quiesce b) h = absurd h
 step-actor (Tick to) h = absurd h
 
-step-name : (c : Item) → StepHolds c → CanStand true (Some 4294967295) (made-of c)
+step-name : (c : Item) → StepHolds c → CanStand true (Some 4294967295) (number_of c)
 step-name (Step a b) h = let l : b < 2 ^ 32 = h.2 in stands b 4294967295 (omega (arith, l))
 step-name (Quiesce b) h = absurd h
 step-name (Tick to) h = absurd h
@@ -292,17 +283,17 @@ step-name (Tick to) h = absurd h
 quiesce-from : (b : ℕ) → CanStand true (Some 4294967295) b → QuiesceHolds (Quiesce b)
 quiesce-from b g = let m : b ≤ 4294967295 = at-most true b 4294967295 g in omega (arith, m)
 
-quiesce-name : (c : Item) → QuiesceHolds c → CanStand true (Some 4294967295) (made-of c)
+quiesce-name : (c : Item) → QuiesceHolds c → CanStand true (Some 4294967295) (number_of c)
 quiesce-name (Step a b) h = absurd h
 quiesce-name (Quiesce b) h = let l : b < 2 ^ 32 = h in stands b 4294967295 (omega (arith, l))
 quiesce-name (Tick to) h = absurd h
 
-same-step : (a b : ℕ) (c : Item) → StepHolds c → actor-of c ≡ a → made-of c ≡ b → c ≡ Step a b
+same-step : (a b : ℕ) (c : Item) → StepHolds c → actor_of c ≡ a → number_of c ≡ b → c ≡ Step a b
 same-step a b (Step x y) h p q = λ i. Step (p i) (q i)
 same-step a b (Quiesce y) h p q = absurd h
 same-step a b (Tick to) h p q = absurd h
 
-same-quiesce : (b : ℕ) (c : Item) → QuiesceHolds c → made-of c ≡ b → c ≡ Quiesce b
+same-quiesce : (b : ℕ) (c : Item) → QuiesceHolds c → number_of c ≡ b → c ≡ Quiesce b
 same-quiesce b (Step x y) h q = absurd h
 same-quiesce b (Quiesce y) h q = ap Quiesce q
 same-quiesce b (Tick to) h q = absurd h
@@ -319,19 +310,19 @@ step-judged s =
     after blank Steps after-actor (λ c h. refl) (Step 1 0) (step-from 1 0 one-actor no-name)
     s (λ rest. number_at false (Some 4294967295) 32 rest >>= λ actor. number_at true (Some 4294967295) 10 actor.1 >>= λ name. Ok (Step actor.0 name.0, name.1))
     (λ rest.
-    then (Number false (Some 4294967295) 32) (Rest Steps after-actor) actor-of after-made
-    step-actor (λ c h. sym (append_assoc (number_text (actor-of c)) (32 ∷ []) (after-made c)))
+    then (Number false (Some 4294967295) 32) (Rest Steps after-actor) actor_of after-made
+    step-actor (λ c h. sym (append_assoc (number_text (actor_of c)) (32 ∷ []) (after-made c)))
     (λ a h. (Step a 0, step-from a 0 h no-name, refl))
     rest (number_at false (Some 4294967295) 32 rest) (number-judged false (Some 4294967295) 32 no-blank 1 one-actor rest)
     (λ actor. number_at true (Some 4294967295) 10 actor.1 >>= λ name. Ok (Step actor.0 name.0, name.1))
     (λ a left h.
-    then (Number true (Some 4294967295) 10) (Left (Rest Steps after-actor) actor-of after-made a) made-of no-more-of
+    then (Number true (Some 4294967295) 10) (Left (Rest Steps after-actor) actor_of after-made a) number_of no-more-of
     (λ c g. step-name c g.0) (λ c g. sym (append-nil (after-made c)))
     (λ b g. (Step a b, (step-from a b h g, refl), refl))
     left (number_at true (Some 4294967295) 10 left) (number-judged true (Some 4294967295) 10 no-newline 0 no-name left)
     (λ name. Ok (Step a name.0, name.1))
     (λ b end g.
-    ended (Left (Left (Rest Steps after-actor) actor-of after-made a) made-of no-more-of b) (Step a b) end
+    ended (Left (Left (Rest Steps after-actor) actor_of after-made a) number_of no-more-of b) (Step a b) end
     ((step-from a b h g, refl), refl) refl (λ c i. same-step a b c i.0.0 i.0.1 i.1))))
 
 quiesce-judged : (s : List ℕ) → Judged Quiesces s (quiesce_at s)
@@ -340,12 +331,12 @@ quiesce-judged s =
     after blank Quiesces after-made (λ c h. refl) (Quiesce 0) (quiesce-from 0 no-name)
     s (λ rest. number_at true (Some 4294967295) 10 rest >>= λ name. Ok (Quiesce name.0, name.1))
     (λ rest.
-    then (Number true (Some 4294967295) 10) (Rest Quiesces after-made) made-of no-more-of
+    then (Number true (Some 4294967295) 10) (Rest Quiesces after-made) number_of no-more-of
     quiesce-name (λ c g. sym (append-nil (after-made c)))
     (λ b g. (Quiesce b, quiesce-from b g, refl))
     rest (number_at true (Some 4294967295) 10 rest) (number-judged true (Some 4294967295) 10 no-newline 0 no-name rest)
     (λ name. Ok (Quiesce name.0, name.1))
-    (λ b end g. ended (Left (Rest Quiesces after-made) made-of no-more-of b) (Quiesce b) end (quiesce-from b g, refl) refl (λ c i. same-quiesce b c i.0 i.1)))
+    (λ b end g. ended (Left (Rest Quiesces after-made) number_of no-more-of b) (Quiesce b) end (quiesce-from b g, refl) refl (λ c i. same-quiesce b c i.0 i.1)))
 
 -- the line of an item
 abbrev pub Items-one : Format Item

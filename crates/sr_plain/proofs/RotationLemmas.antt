@@ -4,6 +4,7 @@ use Rattle.std.proofs.lemmas.Bool.{cases_eq, cases_lt}
 use Rattle.std.proofs.lemmas.List.Elements.{All-contains}
 use Rattle.std.specs.List.{list_any}
 use Rattle.std.specs.Prelude.{find, fold}
+use Rattle.sr_ask.specs.Items.{number_of}
 use Rattle.sr_ask.specs.declared.item.Item.{Item}
 use Rattle.sr_ask.specs.declared.item.Item.TheVariants.{Step, Quiesce, Tick}
 use Rattle.sr_ask.specs.declared.start.Start.{Start}
@@ -18,7 +19,7 @@ use Rattle.sr_world.specs.Laws.{closes, next_with_all, with_all, with_all_in}
 use Rattle.sr_plain.specs.Engine.{last_by}
 use Rattle.sr_plain.specs.Order.{IsNext, IsNumbered}
 use Rattle.sr_plain.specs.Rotation.{GoOnInTurn, InTurnIsRotation, IsInTurn, NextIsLeastUnused, OneMoreInTurn}
-use Rattle.sr_plain.specs.Turns.{IsName, IsTurn, Rotates, last_after, number_in, takes_turn, turn, walk}
+use Rattle.sr_plain.specs.Turns.{IsName, IsTurn, Rotates, last_after, takes_turn, turn, walk}
 use Rattle.sr_plain.proofs.LedLemmas.{any-contains, used-item}
 use Rattle.sr_plain.proofs.OrderLemmas.{contains-any}
 
@@ -100,7 +101,7 @@ least-name world next (suc n) counted here = next-least world.used next (suc n) 
 
 -- after an item the numbers are still counted
 counted-after : (items : List Item) (state later : State) (item : Item) (next : ℕ) → IsSound items state → IsSound (items ++ item ∷ []) later → AreCounted 1 state.world.used next
-    → IsNumbered state.world (number_in item) → (n : ℕ) × AreCounted 1 later.world.used n
+    → IsNumbered state.world (number_of item) → (n : ℕ) × AreCounted 1 later.world.used n
 counted-after items state later item next sound sound' counted here = by item (used-item items state later item sound sound') here
   where
     with-name : (name : ℕ) → later.world.used ≡ state.world.used ++ (given_out name ++ []) → IsNumbered state.world name → (n : ℕ) × AreCounted 1 later.world.used n
@@ -109,7 +110,7 @@ counted-after items state later item next sound sound' counted here = by item (u
         let named : suc n ≡ next = next-counted state.world.used next (suc n) counted h in
         (suc next, subst (λ names. AreCounted 1 names (suc next)) (sym (used ∙ ap (λ k. state.world.used ++ k ∷ []) named)) (counted-more 1 state.world.used next counted))
 
-    by : (i : Item) → later.world.used ≡ state.world.used ++ names_in (i ∷ []) → IsNumbered state.world (number_in i) → (n : ℕ) × AreCounted 1 later.world.used n
+    by : (i : Item) → later.world.used ≡ state.world.used ++ names_in (i ∷ []) → IsNumbered state.world (number_of i) → (n : ℕ) × AreCounted 1 later.world.used n
     by (Step actor name) used h = with-name name used h
     by (Quiesce name) used h = with-name name used h
     by (Tick to) used h = with-name 0 used h
@@ -159,7 +160,7 @@ module _ (core : Core) (limit : ℕ) where
   in-rotation more items last next_name state [] sound counted legal closed ends turns = tt
   in-rotation more items last next_name state (Makes_item item ∷ events) sound counted legal closed ends turns = (
     turn-with-all (bytes_in events ++ more) state closed last item turns.0.0,
-    name-with-all (bytes_in events ++ more) state closed (number_in item) (least-name state.world next_name (number_in item) counted turns.0.1),
+    name-with-all (bytes_in events ++ more) state closed (number_of item) (least-name state.world next_name (number_of item) counted turns.0.1),
     subst (λ now. Rotates core limit now (last_after last item) (items_in events))
         (sym (all-next core limit (bytes_in events ++ more) state closed item (legal-after core limit (next core limit state item) events legal)))
         (by (next core limit state item) refl legal turns.1 (λ us n s sound counted' h closed' go. in-rotation more us (last_after last item) n s events sound counted' h closed' ends go)),

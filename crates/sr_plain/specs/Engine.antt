@@ -1,6 +1,7 @@
 -- What an engine stands for, and what a step of it does.
 use Rattle.std.specs.Prelude.{◌≡◌, ◌++◌, ℕ, List, [], ◌∷◌, Option, Some, None, Result, Ok, Err, IsSome, fold}
 use Rattle.std.specs.HashMap.{HashMap}
+use Rattle.sr_ask.specs.Items.{number_of}
 use Rattle.sr_ask.specs.declared.answer.Answer.{Answer}
 use Rattle.sr_ask.specs.declared.ask.Ask.{Ask}
 use Rattle.sr_ask.specs.declared.ask.Asks.{Asks}
@@ -22,7 +23,7 @@ use Rattle.sr_plain.specs.Carrying.{Names}
 use Rattle.sr_plain.specs.Crew.{AreLiving, Plays, member_of}
 use Rattle.sr_plain.specs.Order.{IsNumbered, IsOrdered}
 use Rattle.sr_plain.specs.Ready.{AreAside, IsNoted}
-use Rattle.sr_plain.specs.Turns.{IsTurn, last_after, number_in}
+use Rattle.sr_plain.specs.Turns.{IsTurn, last_after}
 use Rattle.sr_actor.specs.declared.member.Member.{Member}
 use Rattle.sr_plain.specs.declared.plain.Plain.{Plain}
 use Rattle.sr_plain.specs.declared.plainly.Plainly.{Plainly}
@@ -90,7 +91,7 @@ pub record HasStepped {A : Type 0} (after : A → List Answer → Asks) (can_fee
   pub later : State
   pub goes : next core limit state item ≡ Goes later
   pub turn_of : IsTurn turn item
-  pub named : IsNumbered state.world (number_in item)
+  pub named : IsNumbered state.world (number_of item)
   pub written : later.world.output ≡ state.world.output ++ output
   pub engine : IsEngine after can_feed core limit later (events ++ Makes_item item ∷ []) plain
 
@@ -98,7 +99,7 @@ pub record HasStepped {A : Type 0} (after : A → List Answer → Asks) (can_fee
 pub record IsLast (core : Core) (limit : ℕ) (state : State) (turn : Option Start) (item : Item) (ending : End) : Type 0 where
   pub ends : next core limit state item ≡ run_over ending state
   pub turn_of : IsTurn turn item
-  pub named : IsNumbered state.world (number_in item)
+  pub named : IsNumbered state.world (number_of item)
 
 -- whose turn it is reads, and bytes that may still come decide what
 abbrev pub WaitsForInput : Core → ℕ → State → Option Start → Type 0

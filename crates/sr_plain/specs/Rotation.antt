@@ -1,16 +1,17 @@
 -- Which events make their items in turn.
 use Rattle.std.specs.Prelude.{◌≡◌, ◌++◌, ℕ, true, List, [], ◌∷◌}
+use Rattle.sr_ask.specs.Items.{number_of}
 use Rattle.sr_core.specs.declared.component.Core.{Core}
 use Rattle.sr_world.specs.Laws.{closes}
 use Rattle.sr_world.specs.Names.{IsLeastUnused}
 use Rattle.sr_world.specs.Runs.{Event, Makes_item, Next, Goes, State, after_event, bytes_in, first, is_legal, items_in, led}
 use Rattle.sr_plain.specs.Engine.{last_by, last_in}
 use Rattle.sr_plain.specs.Order.{IsNext, IsNumbered}
-use Rattle.sr_plain.specs.Turns.{IsRotation, IsTurn, number_in, turn}
+use Rattle.sr_plain.specs.Turns.{IsRotation, IsTurn, turn}
 
 -- an item stands where its turn is, with the next number; input may come at any time
 abbrev pub IsInTurn : Core → ℕ → State → ℕ → Event → Type 0
-IsInTurn core limit state last (Makes_item item) = IsTurn (turn core limit state last) item × IsNumbered state.world (number_in item)
+IsInTurn core limit state last (Makes_item item) = IsTurn (turn core limit state last) item × IsNumbered state.world (number_of item)
 IsInTurn core limit state last _ = Unit {0}
 
 abbrev pub GoOnInTurn : Core → ℕ → Next → ℕ → List Event → Type 0

@@ -1,5 +1,6 @@
 -- Whose turn it is.
 use Rattle.std.specs.Prelude.{◌≡◌, ◌++◌, ℕ, zero, suc, Bool, not, List, [], ◌∷◌, drop, take, find, Option, Some, None}
+use Rattle.sr_ask.specs.Items.{number_of}
 use Rattle.sr_ask.specs.declared.item.Item.{Item}
 use Rattle.sr_ask.specs.declared.item.Item.TheVariants.{Step, Quiesce, Tick}
 use Rattle.sr_ask.specs.declared.start.Start.{Start}
@@ -33,12 +34,6 @@ IsTurn (Some start) (Step actor name) = actor ≡ start.process
 IsTurn None (Quiesce name) = Unit {0}
 IsTurn turn item = ⊥
 
--- the number of what an item makes, or 0
-abbrev pub number_in : Item → ℕ
-number_in (Step actor name) = name
-number_in (Quiesce name) = name
-number_in (Tick to) = 0
-
 -- a step that makes something gives it the least unused number
 abbrev pub IsName : World → ℕ → Type 0
 IsName world zero = Unit {0}
@@ -54,7 +49,7 @@ last_after last (Tick to) = last
 abbrev pub Rotates : Core → ℕ → Next → ℕ → List Item → Type 0
 Rotates core limit now last [] = Unit {0}
 Rotates core limit (Goes state) last (item ∷ items) =
-    IsTurn (turn core limit state last) item × IsName state.world (number_in item) × Rotates core limit (next core limit state item) (last_after last item) items
+    IsTurn (turn core limit state last) item × IsName state.world (number_of item) × Rotates core limit (next core limit state item) (last_after last item) items
 Rotates core limit now last (item ∷ items) = ⊥
 
 -- the items of a run with this input are in rotation
