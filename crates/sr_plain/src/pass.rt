@@ -71,7 +71,7 @@ impl<A: Actor> Plain<A> {
     {
         let last = self.last;
         let greatest = self.world.greatest_used();
-        self.wake_up()?;
+        self.note_step(program)?;
         self.pass_over(program, classes, last, greatest, room, made)?;
         self.pass_over(program, classes, 0, last, room, made)
     }

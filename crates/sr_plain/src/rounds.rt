@@ -17,11 +17,11 @@ pub trait Rounds<A: Actor> {
         &mut self,
         program: &A::Program,
         classes: &Classes,
-        plain: Plain<A>,
+        plain: Box<Plain<A>>,
         room: u32,
         items: &mut Row<Item>,
-    ) -> Result<Plain<A>, NoMemory>
-        ensures passed { IfOk result (λ later. (limit : ℕ) (state : State) (events : List Event) → IsEngine (A.asks_after program.now) A.can_feed (A.core_of program.now) limit state events plain → HasPassed (A.asks_after program.now) A.can_feed (A.core_of program.now) (class_of classes.now.of) limit state events room items.old items.new later) }
+    ) -> Result<Box<Plain<A>>, NoMemory>
+        ensures passed { IfOk result (λ later. (limit : ℕ) (state : State) (events : List Event) → IsEngine (A.asks_after program.now) A.can_feed (A.core_of program.now) limit state events plain.value → HasPassed (A.asks_after program.now) A.can_feed (A.core_of program.now) (class_of classes.now.of) limit state events room items.old items.new later.value) }
         ensures added { OnOk result (AddsItems room items.old items.new) }
         ensures err { OnErr result (items.new ≡ items.old) };
 }
@@ -35,11 +35,11 @@ impl<A: Actor> Rounds<A> for Passes {
         &mut self,
         program: &A::Program,
         classes: &Classes,
-        plain: Plain<A>,
+        plain: Box<Plain<A>>,
         room: u32,
         items: &mut Row<Item>,
-    ) -> Result<Plain<A>, NoMemory>
-        ensures passed { IfOk result (λ later. (limit : ℕ) (state : State) (events : List Event) → IsEngine (A.asks_after program.now) A.can_feed (A.core_of program.now) limit state events plain → HasPassed (A.asks_after program.now) A.can_feed (A.core_of program.now) (class_of classes.now.of) limit state events room items.old items.new later) }
+    ) -> Result<Box<Plain<A>>, NoMemory>
+        ensures passed { IfOk result (λ later. (limit : ℕ) (state : State) (events : List Event) → IsEngine (A.asks_after program.now) A.can_feed (A.core_of program.now) limit state events plain.value → HasPassed (A.asks_after program.now) A.can_feed (A.core_of program.now) (class_of classes.now.of) limit state events room items.old items.new later.value) }
         ensures added { OnOk result (AddsItems room items.old items.new) }
         ensures err { OnErr result (items.new ≡ items.old) }
     {

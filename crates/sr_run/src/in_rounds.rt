@@ -9,7 +9,7 @@ ghost use Rattle.sr_run.specs.Numbers.{IsNumbered};
 ghost use Rattle.sr_run.specs.Runs.{Call, Devices};
 ghost use Rattle.sr_run.specs.UnderWay.{IsUnderWay, Open, Whole, as_of};
 ghost use Rattle.sr_run.specs.declared.intake.Intake as intakes;
-ghost use Rattle.sr_world.specs.Runs.{Event, State};
+ghost use Rattle.sr_world.specs.Runs.{Event, State, first};
 
 use crate::advance::advance;
 use crate::end::{LimitKind, Run, RunEnd};
@@ -55,7 +55,7 @@ pub fn run_in_rounds<A: Actor, T: Rounds<A>, I: Source, O: Sink>(
 {
     let mut items = Row::new(alloc);
     let mut stretches = Row::new(alloc);
-    match Plain::<A>::begin(alloc, ticks) {
+    match begin::<A>(alloc, ticks) {
         Ok(plain) => {
             let end = run_rounds_on(
                 plain,
@@ -83,9 +83,17 @@ pub fn run_in_rounds<A: Actor, T: Rounds<A>, I: Source, O: Sink>(
     }
 }
 
+/// The beginning of a run. The engine stands in memory of its own, since it is handed from stretch to stretch.
+fn begin<A: Actor>(alloc: Global, ticks: u32) -> Result<Box<Plain<A>>, NoMemory>
+    ensures { IfOk result (λ plain. (program : A.Program) → IsEngine (A.asks_after program) A.can_feed (A.core_of program) ticks first [] plain.value) }
+{
+    let plain = Plain::<A>::begin(alloc, ticks)?;
+    Ok(Box::new(alloc, plain)?)
+}
+
 /// Carries a run out that has just begun.
 fn run_rounds_on<A: Actor, T: Rounds<A>, I: Source, O: Sink>(
-    plain: Plain<A>,
+    plain: Box<Plain<A>>,
     program: &A::Program,
     classes: &Classes,
     steps: u32,
@@ -103,7 +111,7 @@ fn run_rounds_on<A: Actor, T: Rounds<A>, I: Source, O: Sink>(
     ensures cause { (call : Call) → call.steps ≡ steps
         → IsUnderWay (A.asks_after program.now) A.can_feed (InRounds (class_of classes.now.of) workers stretches.old) Whole
         (as_of call (A.core_of program.now) (record { left = I.left input.old; read_faults = I.faults input.old; held = O.held output.old; write_faults = O.faults output.old }) items.old)
-        (record { taken = 0; ended = false }) plain
+        (record { taken = 0; ended = false }) plain.value
         → HasCauseIn (InRounds (class_of classes.now.of) workers stretches.new)
         (as_of call (A.core_of program.now) (record { left = I.left input.new; read_faults = I.faults input.new; held = O.held output.new; write_faults = O.faults output.new }) items.new)
         result }
@@ -140,7 +148,7 @@ fn let_go<T: Drop>(_value: T) {}
 
 /// Adds the stretch after the last item, where there is room for one.
 fn add_stretch<A: Actor, T: Rounds<A>>(
-    plain: Plain<A>,
+    plain: Box<Plain<A>>,
     program: &A::Program,
     classes: &Classes,
     steps: u32,
@@ -148,15 +156,15 @@ fn add_stretch<A: Actor, T: Rounds<A>>(
     rounds: &mut T,
     items: &mut Row<Item>,
     stretches: &mut Row<Stretch>,
-) -> Result<Plain<A>, NoMemory>
+) -> Result<Box<Plain<A>>, NoMemory>
     requires workers { 1 ≤ workers }
     requires within { length items.old ≤ steps }
     ensures within { OnOk result (length items.new ≤ steps) }
     ensures no_fewer { OnOk result (length items.old ≤ length items.new) }
     ensures fit { OnOk result (AllByRecursion FitsItem items.old → AllByRecursion FitsItem items.new) }
     ensures goes_on { IfOk result (λ later. (call : Call) (now : Devices) (intake : intakes.Intake) → call.steps ≡ steps
-        → IsUnderWay (A.asks_after program.now) A.can_feed (InRounds (class_of classes.now.of) workers stretches.old) Open (as_of call (A.core_of program.now) now items.old) intake plain
-        → IsUnderWay (A.asks_after program.now) A.can_feed (InRounds (class_of classes.now.of) workers stretches.new) Whole (as_of call (A.core_of program.now) now items.new) intake later) }
+        → IsUnderWay (A.asks_after program.now) A.can_feed (InRounds (class_of classes.now.of) workers stretches.old) Open (as_of call (A.core_of program.now) now items.old) intake plain.value
+        → IsUnderWay (A.asks_after program.now) A.can_feed (InRounds (class_of classes.now.of) workers stretches.new) Whole (as_of call (A.core_of program.now) now items.new) intake later.value) }
     ensures same_items { OnErr result (items.new ≡ items.old) }
     ensures same_stretches { OnErr result (stretches.new ≡ stretches.old) }
 {
@@ -178,17 +186,17 @@ fn room_of(left: u32, workers: u32) -> u32
 
 /// Adds a stretch of at most `room` items.
 fn make_stretch<A: Actor, T: Rounds<A>>(
-    plain: Plain<A>,
+    plain: Box<Plain<A>>,
     program: &A::Program,
     classes: &Classes,
     room: u32,
     rounds: &mut T,
     items: &mut Row<Item>,
     stretches: &mut Row<Stretch>,
-) -> Result<Plain<A>, NoMemory>
+) -> Result<Box<Plain<A>>, NoMemory>
     requires { length items.old + room < 2 ^ 32 }
-    ensures passed { IfOk result (λ later. (limit : ℕ) (state : State) (events : List Event) → IsEngine (A.asks_after program.now) A.can_feed (A.core_of program.now) limit state events plain
-        → HasPassed (A.asks_after program.now) A.can_feed (A.core_of program.now) (class_of classes.now.of) limit state events room items.old items.new later) }
+    ensures passed { IfOk result (λ later. (limit : ℕ) (state : State) (events : List Event) → IsEngine (A.asks_after program.now) A.can_feed (A.core_of program.now) limit state events plain.value
+        → HasPassed (A.asks_after program.now) A.can_feed (A.core_of program.now) (class_of classes.now.of) limit state events room items.old items.new later.value) }
     ensures added { OnOk result (AddsItems room items.old items.new) }
     ensures stretches { OnOk result (stretches.new ≡ stretches.old ++ record { from = length items.old; count = length items.new - length items.old } ∷ []) }
     ensures same_items { OnErr result (items.new ≡ items.old) }

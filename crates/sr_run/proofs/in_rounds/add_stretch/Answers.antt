@@ -2,6 +2,8 @@
 use Rattle.std.proofs.Common.{◌≡◌, ◌≢◌, ◌↔◌, ◌+◌, ◌-◌, ◌<◌, ◌≤◌, ℕ, List, [], ◌∷◌, ◌++◌, length, ap, arith, sym, ◌∙◌, subst, length-append}
 use Rattle.std.specs.Prelude.{Result, Ok, Err, IfOk, OnOk}
 use Rattle.std.specs.List.{AllByRecursion}
+use Rattle.std.specs.declared.alloc.Global.{Global}
+use Rattle.std.specs.declared.boxed.Box.{Box}
 use Rattle.sr_ask.specs.declared.answer.Answer.{Answer}
 use Rattle.sr_ask.specs.declared.ask.Asks.{Asks}
 use Rattle.sr_ask.specs.declared.item.Item.{Item}
@@ -42,15 +44,15 @@ still-fit : (room : ℕ) (old new : List Item) → AddsItems room old new → Al
 still-fit room old new adds fit = subst (AllByRecursion FitsItem) (sym adds.added) (all-fit old adds.items fit adds.fit)
 
 module _ {A : Type 0} (after : A → List Answer → Asks) (can_feed : A → Type 0) (core : Core) (class : ℕ → ℕ) (workers steps room : ℕ) (plain : Plain A) (old new : List Item) (stretches stretches_now : List Stretch) where
-  goes-on : 1 ≤ room → length old + workers ≤ steps → (result : Result (Plain A) NoMemory)
-      → IfOk result (λ later. (limit : ℕ) (state : State) (events : List Event) → IsEngine after can_feed core limit state events plain → HasPassed after can_feed core class limit state events room old new later)
+  goes-on : 1 ≤ room → length old + workers ≤ steps → (result : Result (Box (Plain A) Global) NoMemory)
+      → IfOk result (λ later. (limit : ℕ) (state : State) (events : List Event) → IsEngine after can_feed core limit state events plain → HasPassed after can_feed core class limit state events room old new later.value)
       → OnOk result (stretches_now ≡ stretches ++ record { from = length old; count = length new - length old } ∷ [])
       → IfOk result (λ later. (call : Call) (now : Devices) (intake : Intake) → call.steps ≡ steps
       → IsUnderWay after can_feed (InRounds class workers stretches) Open (as_of call core now old) intake plain
-      → IsUnderWay after can_feed (InRounds class workers stretches_now) Whole (as_of call core now new) intake later)
+      → IsUnderWay after can_feed (InRounds class workers stretches_now) Whole (as_of call core now new) intake later.value)
   goes-on some fits (Ok later) passed is = λ call now intake same under_way.
-      subst (λ ss. IsUnderWay after can_feed (InRounds class workers ss) Whole (as_of call core now new) intake later) (sym is)
-      (rounded after can_feed class workers stretches (as_of call core now old) intake plain under_way room some (omega (arith, fits, same)) new later
+      subst (λ ss. IsUnderWay after can_feed (InRounds class workers ss) Whole (as_of call core now new) intake later.value) (sym is)
+      (rounded after can_feed class workers stretches (as_of call core now old) intake plain under_way room some (omega (arith, fits, same)) new later.value
       (passed call.ticks under_way.state under_way.events under_way.engine))
   goes-on some fits (Err error) passed is = tt
 
@@ -60,13 +62,13 @@ fits-in steps made workers room within some none = let enough : steps - made < w
 
 pub returns-then-room-eq0-clause-goes_on : goal.returns-then-room-eq0-clause-goes_on
 returns-then-room-eq0-clause-goes_on g c = λ call now intake steps under_way.
-    full (g.A.Actor.asks_after c.args.program.now) g.A.Actor.can_feed (class_of c.args.classes.now.of) c.args.workers c.args.stretches.now (as_of call (g.A.Actor.core_of c.args.program.now) now c.args.items.now) intake c.args.plain under_way
+    full (g.A.Actor.asks_after c.args.program.now) g.A.Actor.can_feed (class_of c.args.classes.now.of) c.args.workers c.args.stretches.now (as_of call (g.A.Actor.core_of c.args.program.now) now c.args.items.now) intake c.args.plain.value under_way
     (let fewer = c.room_of-room.ensures.none.0 c.if-room-eq0.true in omega (arith, fewer, steps, c.len.ensures))
 
 pub returns-clause-goes_on : goal.returns-clause-goes_on
 returns-clause-goes_on g c =
     let fits = fits-in c.args.steps c.len.result c.args.workers c.room_of-room.result (omega arith) c.if-room-eq0.false c.room_of-room.ensures.none.1 in
-    goes-on (g.A.Actor.asks_after c.args.program.now) g.A.Actor.can_feed (g.A.Actor.core_of c.args.program.now) (class_of c.args.classes.now.of) c.args.workers c.args.steps c.room_of-room.result c.args.plain
+    goes-on (g.A.Actor.asks_after c.args.program.now) g.A.Actor.can_feed (g.A.Actor.core_of c.args.program.now) (class_of c.args.classes.now.of) c.args.workers c.args.steps c.room_of-room.result c.args.plain.value
     c.args.items.now c.make_stretch.new.items c.args.stretches.now c.make_stretch.new.stretches (omega arith) (omega (arith, fits, c.len.ensures)) c.make_stretch.result c.make_stretch.ensures.passed c.make_stretch.ensures.stretches
 
 pub returns-clause-within : goal.returns-clause-within

@@ -16,7 +16,7 @@ returns-in-Ok-clause-cause g c =
     let arrangement : Arrangement = InRounds (class_of c.args.classes.now.of) c.args.workers c.new-stretches.result in
     c.run_rounds_on-end.ensures.cause call refl
     (begun arrangement (fresh (class_of c.args.classes.now.of) c.args.workers c.new-stretches.result c.new-stretches.ensures) (g.A.Actor.core_of c.args.program.now) c.args.steps c.args.ticks devices c.new-items.result c.new-items.ensures
-    (g.A.Actor.asks_after c.args.program.now) g.A.Actor.can_feed c.in-Ok.plain (c.in-Ok.ensures c.args.program.now))
+    (g.A.Actor.asks_after c.args.program.now) g.A.Actor.can_feed c.in-Ok.plain.value (c.in-Ok.ensures c.args.program.now))
 
 pub returns-in-Err-clause-cause : goal.returns-in-Err-clause-cause
 returns-in-Err-clause-cause g c =

@@ -17,10 +17,10 @@ invariant-loop-intake g l = record {
   under_way : (call : Call) → call.steps ≡ l.steps
       → IsUnderWay (g.A.Actor.asks_after l.program) g.A.Actor.can_feed (InRounds (class_of l.classes.of) l.workers l.fn.stretches) Whole
       (as_of call (g.A.Actor.core_of l.program) (record { left = g.I.Source.left l.fn.input; read_faults = g.I.Source.faults l.fn.input; held = g.O.Sink.held l.fn.output; write_faults = g.O.Sink.faults l.fn.output }) l.fn.items)
-      nothing_taken l.fn.plain
+      nothing_taken l.fn.plain.value
       → IsUnderWay (g.A.Actor.asks_after l.program) g.A.Actor.can_feed (InRounds (class_of l.classes.of) l.workers l.stretches) Whole
       (as_of call (g.A.Actor.core_of l.program) (record { left = g.I.Source.left l.input; read_faults = g.I.Source.faults l.input; held = g.O.Sink.held l.output; write_faults = g.O.Sink.faults l.output }) l.items)
-      l.intake l.plain;
+      l.intake l.plain.value;
 }
 
 abbrev pub decreases-loop-intake : goal.decreases-loop-intake

@@ -14,11 +14,11 @@ returns-clause-passed g c = ok_both c.pass_over-2.result c.pass_over-2.ensures.o
     let after = g.A.Actor.asks_after c.args.program.now in
     let core = g.A.Actor.core_of c.args.program.now in
     let class = class_of c.args.classes.now.of in
-    let engine1 = c.in_ok-wake_up.ensures.engine c.args.program.now limit state events engine in
+    let engine1 = c.in_ok-note_step.ensures.engine limit state events engine in
     let greatest = c.greatest_used-greatest.result in
     let is_greatest = subst (λ (w : World). IsGreatest w.used greatest) engine.world c.greatest_used-greatest.ensures in
     let short : length c.args.made.now ≤ c.args.room = omega (arith, ap (λ (is : List Item). length is) c.requires) in
-    round-passed after g.A.Actor.can_feed core class limit state events c.wake_up.new.self engine1 c.args.room greatest c.args.self.now.last is_greatest engine.last
+    round-passed after g.A.Actor.can_feed core class limit state events c.note_step.new.self engine1 c.args.room greatest c.args.self.now.last is_greatest engine.last
     c.args.made.now c.pass_over.new.made c.pass_over-2.new.made c.requires c.pass_over.new.self c.pass_over-2.new.self
     (λ passing. c.in_ok-pass_over.ensures.over limit state events greatest (omega arith) passing)
     (λ below passing. over limit state events greatest below passing)
