@@ -9,6 +9,8 @@ mod choices;
 #[cfg(test)]
 mod coded;
 #[cfg(test)]
+mod counted;
+#[cfg(test)]
 mod machine;
 #[cfg(test)]
 mod program;

@@ -2,7 +2,9 @@ use crate::asking::{Told, what_is_asked};
 use crate::choices::chooses;
 use crate::machine::goes_on;
 use crate::program::{add_main, add_nap, no_program};
-use crate::runs::{naps, writes};
+use crate::runs::{goes_round, naps, writes};
+use sr_run::RunEnd;
+use sr_world::End;
 use std::alloc::Global;
 
 /// Whether the program is made, the machine goes on with it, and a run of it writes.
@@ -15,6 +17,22 @@ fn are_right(alloc: Global) -> [bool; 3] {
 #[test]
 fn machine_and_run(rt: HostRuntime) {
     assert_eq!(rt; are_right(rt.alloc()), [true, true, true]);
+}
+
+/// Whether the first process is told of main in the third stretch, and memory that runs out there leaves what came before.
+fn rounds_are_right(alloc: Global) -> [bool; 3] {
+    let mut core = no_program(alloc);
+    let is_made = add_main(alloc, &mut core.components).is_ok();
+    [
+        is_made,
+        goes_round(alloc, &core, 0, RunEnd::Ended(End::Quiet), 6, 4),
+        goes_round(alloc, &core, 3, RunEnd::NoMemory, 3, 2),
+    ]
+}
+
+#[test]
+fn rounds(rt: HostRuntime) {
+    assert_eq!(rt; rounds_are_right(rt.alloc()), [true, true, true]);
 }
 
 /// Whether the program of a nap is made, and a run of it comes to the nap.
