@@ -1,5 +1,5 @@
 -- Items that are made one after the other.
-use Rattle.std.proofs.Common.{◌≡◌, ◌+◌, ◌-◌, ◌<◌, ◌≤◌, inl, inr, ℕ, Bool, true, false, List, [], ◌∷◌, Some, is_some, length, get_or, take, refl, ap, sym, ◌∙◌, subst, arith, true≢false}
+use Rattle.std.proofs.Common.{◌≡◌, ◌+◌, ◌-◌, ◌<◌, ◌≤◌, inl, inr, ℕ, Bool, true, false, List, [], ◌∷◌, Option, Some, is_some, length, get_or, take, refl, ap, sym, ◌∙◌, subst, arith, true≢false}
 use Rattle.std.proofs.lemmas.List.{take_more}
 use Rattle.std.specs.Prelude.{IfOk, Result}
 use Rattle.sr_ask.specs.declared.answer.Answer.{Answer}
@@ -47,9 +47,9 @@ module _ {A : Type 0} (after : A → List Answer → Asks) (core : Core) (limit 
   ended-follows Illegal replayer item at is = absurd at
 
   -- where the run goes on, what holds of its state
-  pub going-follows : (now : Next) (old new : Replayer A) (item : Item) (r : Result Bool NoMemory) → IsAt after core limit now old → is_some old.ending ≡ false
-      → ((state : State) → IsAt after core limit (Goes state) old → IfOk r (λ legal. Follows after core limit (next core limit state item) legal new))
-      → IfOk r (λ legal. Follows after core limit (and_then now (λ state. next core limit state item)) legal new)
+  pub going-follows : (now : Next) (old new : Replayer A) (item : Item) (r : Result (Option ℕ) NoMemory) → IsAt after core limit now old → is_some old.ending ≡ false
+      → ((state : State) → IsAt after core limit (Goes state) old → IfOk r (λ named. Follows after core limit (next core limit state item) (is_some named) new))
+      → IfOk r (λ named. Follows after core limit (and_then now (λ state. next core limit state item)) (is_some named) new)
   going-follows (Goes state) old new item r at is step = step state at
   going-follows (Over e state) old new item r at is step = absurd (true≢false (sym (ap is_some at.0) ∙ is))
   going-follows Illegal old new item r at is step = absurd at

@@ -1,7 +1,7 @@
 -- What a step of a process does to a replay.
 use Rattle.std.proofs.Common.{◌≡◌, ℕ, Bool, true, false, List, [], ◌++◌, Option, Some, None, refl, ap, sym, ◌∙◌, subst, eqb-true, append-nil}
 use Rattle.std.specs.HashMap.{WritesThrough}
-use Rattle.std.specs.Prelude.{Ok, find, nat_eq}
+use Rattle.std.specs.Prelude.{IfSome, Ok, find, is_some, nat_eq}
 use Rattle.sr_actor.specs.Crew.{Answers, IsFed, IsSame, Looks, member_of}
 use Rattle.sr_actor.specs.declared.member.Member.{Member}
 use Rattle.sr_ask.specs.declared.answer.Answer.{Answer}
@@ -27,6 +27,7 @@ use Rattle.sr_world.proofs.RunLemmas.{new-number}
 use Rattle.sr_replay.specs.Carrying.{Carries, Hears}
 use Rattle.sr_replay.specs.Living.{AreMembers, Leaves, LeavesIf}
 use Rattle.sr_replay.specs.Names.{KnowsNames, Notes, is_named}
+use Rattle.sr_replay.specs.Naming.{named_at, number_acted, number_by, number_from, number_in}
 use Rattle.sr_replay.specs.Replaying.{Follows, StandsAt}
 use Rattle.sr_replay.specs.declared.replayer.Replayer.{Replayer}
 use Rattle.sr_replay.proofs.CrewLemmas.{answers-written, looks-written, written-itself}
@@ -38,6 +39,42 @@ use Rattle.sr_replay.proofs.NameLemmas.{noted-knows}
 -- a process is found under its number
 pub found-number : (live : List Start) (p : ℕ) (s : Start) → find (is_process p) live ≡ Some s → p ≡ s.process
 found-number live p s is = eqb-true p s.process (find-passes (is_process p) live s is)
+
+-- ---- which invocation an answer names
+
+acts-number : (d : Does) (v w : World) (came : Acted) → Acts d v w (Ok came) → number_acted came ≡ number_by d
+acts-number (Did later a) v w (acted.Done given) acts = ap number_in acts.1
+acts-number (Did later a) v w acted.Cannot acts = absurd acts
+acts-number (Did later a) v w (acted.Ends given) acts = absurd acts
+acts-number (Did later a) v w acted.Undecided acts = absurd acts
+acts-number (Makes later a) v w (acted.Done given) acts = ap number_in acts.1
+acts-number (Makes later a) v w acted.Cannot acts = absurd acts
+acts-number (Makes later a) v w (acted.Ends given) acts = absurd acts
+acts-number (Makes later a) v w acted.Undecided acts = absurd acts
+acts-number Cannot v w (acted.Done given) acts = absurd acts
+acts-number Cannot v w acted.Cannot acts = refl
+acts-number Cannot v w (acted.Ends given) acts = refl
+acts-number Cannot v w acted.Undecided acts = refl
+acts-number (Ends end) v w (acted.Done given) acts = absurd acts
+acts-number (Ends end) v w acted.Cannot acts = refl
+acts-number (Ends end) v w (acted.Ends given) acts = refl
+acts-number (Ends end) v w acted.Undecided acts = refl
+acts-number Undecided v w (acted.Done given) acts = absurd acts
+acts-number Undecided v w acted.Cannot acts = refl
+acts-number Undecided v w (acted.Ends given) acts = refl
+acts-number Undecided v w acted.Undecided acts = refl
+
+carried-number : {A : Type 0} (after : A → List Answer → Asks) (can_feed : A → Type 0) (m m' : Member A) (before now : Option End) (b : Bool) (d : Does) (v w : World) (came : Acted)
+    → Carries b d v w came → Hears after can_feed came m m' before now true → number_acted came ≡ number_by d
+carried-number after can_feed m m' before now true d v w came carries hears = acts-number d v w came carries
+carried-number after can_feed m m' before now false d v w came carries hears =
+    absurd (let no : true ≡ false = subst (λ (x : Acted). Hears after can_feed x m m' before now true) carries hears in cc)
+
+-- a number is named where there was a step
+pub named-where : (named : Option ℕ) (legal : Bool) (number meant : ℕ) → is_some named ≡ legal → IfSome named (λ n. n ≡ number) → (legal ≡ true → number ≡ meant)
+    → IfSome named (λ n. n ≡ meant)
+named-where None legal number meant is same more = tt
+named-where (Some n) legal number meant is same more = same ∙ more (sym is)
 
 module _ {A : Type 0} (after : A → List Answer → Asks) (core : Core) (limit : ℕ) where
   -- where there is no such item
@@ -59,6 +96,10 @@ module _ {A : Type 0} (after : A → List Answer → Asks) (core : Core) (limit 
     asked-step : (p name : ℕ) (start : Start) (asks : Ask) → started state.world p ≡ Some start → Asked asks ≡ asks_next core limit state start
         → next core limit state (Step p name) ≡ stepped state p name (does core state.world p asks name)
     asked-step p name start asks found is = ap (step_of core limit state p name) found ∙ ap (λ a. stepped state p name (asks_for core state.world p name a)) (sym is)
+
+    number-step : (p name : ℕ) (start : Start) (asks : Ask) → started state.world p ≡ Some start → Asked asks ≡ asks_next core limit state start
+        → named_at core limit state (Step p name) ≡ number_by (does core state.world p asks name)
+    number-step p name start asks found is = ap (number_from core limit state p name) found ∙ ap (λ a. number_by (asks_for core state.world p name a)) (sym is)
 
     -- ---- a number that the step may not have, and one that it may
 
@@ -188,3 +229,14 @@ module _ {A : Type 0} (after : A → List Answer → Asks) (core : Core) (limit 
           (subst (λ (x : Core). Carries (is_named old.world name (does x old.world p asks name)) (does x old.world p asks name) old.world carried.world came) core-is
           (carries (subst (λ (v : World). KnowsNames old.names v) (sym stands.world) stands.names))))
           (subst (λ o. Hears after can_feed came m' m'' o ending legal) going hears)
+
+      -- what its answer names
+      pub step-names : (k : Core) → k ≡ core → (came : Acted) → (KnowsNames old.names old.world → Carries (is_named old.world name (does k old.world p asks name)) (does k old.world p asks name) old.world carried.world came)
+          → (before now : Option End) → Hears after can_feed came m' m'' before now legal → legal ≡ true → number_acted came ≡ named_at core limit state (Step p name)
+      step-names k core-is came carries before now hears is =
+          carried-number after can_feed m' m'' before now (is_named state.world name (does core state.world p asks name)) (does core state.world p asks name) state.world carried.world came
+          (subst (λ (v : World). Carries (is_named v name (does core v p asks name)) (does core v p asks name) v carried.world came) stands.world
+          (subst (λ (x : Core). Carries (is_named old.world name (does x old.world p asks name)) (does x old.world p asks name) old.world carried.world came) core-is
+          (carries (subst (λ (v : World). KnowsNames old.names v) (sym stands.world) stands.names))))
+          (subst (λ b. Hears after can_feed came m' m'' before now b) is hears)
+          ∙ sym (number-step state p name start asks found (looked-asks (Asked asks) known))

@@ -1,6 +1,7 @@
 pub mod Carrying
 pub mod Living
 pub mod Names
+pub mod Naming
 pub mod Parts
 pub mod Replaying
 pub mod Replays

@@ -5,6 +5,7 @@ mod carrying;
 mod crew;
 mod lines;
 mod names;
+mod naming;
 mod replayer;
 mod shown;
 mod snapshot;

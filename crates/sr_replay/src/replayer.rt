@@ -8,11 +8,12 @@ ghost use Rattle.sr_world.specs.Worlds.{started};
 use crate::carrying::{carry_out, come_to, hear};
 use crate::crew::sweep;
 use crate::names::{first_names, is_unused, note};
+use crate::naming::{copied_ask, number_of, where_legal};
 use crate::shown::show;
 use crate::snapshot::Snapshot;
 use crate::waiting::may_pass;
 use sr_actor::{Actor, Member, begin_once};
-use sr_ask::{Asks, Item};
+use sr_ask::{Ask, Asks, Item};
 use sr_value::{Duplicate, NoMemory, Row, Text};
 use sr_world::{End, World};
 use std::alloc::Global;
@@ -44,6 +45,7 @@ fn world_with(alloc: Global, input: &Text) -> Result<World, NoMemory>
 }
 
 impl<A: Actor> Replayer<A> {
+    ghost use Rattle.sr_replay.specs.Naming.{asked_in, named_at};
     ghost use Rattle.sr_replay.specs.Replaying.{Follows, FollowsAll, IsAt, StandsAt, asked_by};
     ghost use Rattle.sr_world.specs.Runs.{Goes, Next, State, and_then, asks_in, begun, next, no_step};
 
@@ -75,24 +77,77 @@ impl<A: Actor> Replayer<A> {
     pub fn step(&mut self, program: &A::Program, item: Item) -> Result<bool, NoMemory>
         ensures { (limit : ℕ) (now : Next) → IsAt (A.asks_after program.now) (A.core_of program.now) limit now self.old → IfOk result (λ legal. Follows (A.asks_after program.now) (A.core_of program.now) limit (and_then now (λ state. next (A.core_of program.now) limit state item)) legal self.new) }
     {
+        let named = self.step_named(program, item)?;
+        Ok(named.is_some())
+    }
+
+    /// As `step`. Where there is such an item here, answers the number of the invocation that it services, or to which it
+    /// takes a reply; for any other item 0.
+    pub fn step_named(&mut self, program: &A::Program, item: Item) -> Result<Option<u32>, NoMemory>
+        ensures follows { (limit : ℕ) (now : Next) → IsAt (A.asks_after program.now) (A.core_of program.now) limit now self.old → IfOk result (λ named. Follows (A.asks_after program.now) (A.core_of program.now) limit (and_then now (λ state. next (A.core_of program.now) limit state item)) (is_some named) self.new) }
+        ensures named { (limit : ℕ) (state : State) → IsAt (A.asks_after program.now) (A.core_of program.now) limit (Goes state) self.old → IfOk result (λ named. IfSome named (λ number. number ≡ named_at (A.core_of program.now) limit state item)) }
+    {
         if self.ending.is_some() {
-            return Ok(false);
+            return Ok(None);
         }
         sweep(&mut self.crew, &self.world);
         match item {
             Item::Step { actor, name } => self.step_by(program, actor, name),
-            Item::Quiesce { name } => self.quiesce(program, name),
-            Item::Tick { to } => self.tick(program, to),
+            Item::Quiesce { name } => {
+                let legal = self.quiesce(program, name)?;
+                Ok(where_legal(legal, 0))
+            }
+            Item::Tick { to } => {
+                let legal = self.tick(program, to)?;
+                Ok(where_legal(legal, 0))
+            }
+        }
+    }
+
+    /// What a process asks that lives, unless it has begun more statements than it may.
+    pub fn asked(&mut self, program: &A::Program, process: u32) -> Result<Option<Ask>, NoMemory>
+        ensures asks { (limit : ℕ) (state : State) → StandsAt (A.asks_after program.now) (A.core_of program.now) limit state self.old → IfOk result (λ asked. asked ≡ asked_in (A.core_of program.now) limit state process) }
+        ensures stands { OnOk result ((limit : ℕ) (state : State) → StandsAt (A.asks_after program.now) (A.core_of program.now) limit state self.old → StandsAt (A.asks_after program.now) (A.core_of program.now) limit state self.new) }
+        ensures ending { self.new.ending ≡ self.old.ending }
+        ensures world { self.new.world ≡ self.old.world }
+    {
+        let lives = self.begin_process(process)?;
+        if !lives {
+            return Ok(None);
+        }
+        self.asked_member(program, process)
+    }
+
+    /// What a process asks that has begun.
+    fn asked_member(&mut self, program: &A::Program, process: u32) -> Result<Option<Ask>, NoMemory>
+        requires { IsSome (member_of self.old.crew process) }
+        ensures asks { (limit : ℕ) (state : State) → IsSome (started state.world process) → StandsAt (A.asks_after program.now) (A.core_of program.now) limit state self.old → IfOk result (λ asked. asked ≡ asked_in (A.core_of program.now) limit state process) }
+        ensures stands { OnOk result ((limit : ℕ) (state : State) → IsSome (started state.world process) → StandsAt (A.asks_after program.now) (A.core_of program.now) limit state self.old → StandsAt (A.asks_after program.now) (A.core_of program.now) limit state self.new) }
+        ensures ending { self.new.ending ≡ self.old.ending }
+        ensures world { self.new.world ≡ self.old.world }
+    {
+        match self.crew.get_mut(&process) {
+            Some(member) => {
+                member.look(program)?;
+                copied_ask(self.alloc, member.actor.asked())
+            }
+            None => Ok(None),
         }
     }
 
     /// Has a process make the step that it asks for, where it lives.
-    fn step_by(&mut self, program: &A::Program, actor: u32, name: u32) -> Result<bool, NoMemory>
-        ensures { (limit : ℕ) (state : State) → IsAt (A.asks_after program.now) (A.core_of program.now) limit (Goes state) self.old → IfOk result (λ legal. Follows (A.asks_after program.now) (A.core_of program.now) limit (next (A.core_of program.now) limit state (items.Step actor name)) legal self.new) }
+    fn step_by(
+        &mut self,
+        program: &A::Program,
+        actor: u32,
+        name: u32,
+    ) -> Result<Option<u32>, NoMemory>
+        ensures follows { (limit : ℕ) (state : State) → IsAt (A.asks_after program.now) (A.core_of program.now) limit (Goes state) self.old → IfOk result (λ named. Follows (A.asks_after program.now) (A.core_of program.now) limit (next (A.core_of program.now) limit state (items.Step actor name)) (is_some named) self.new) }
+        ensures named { (limit : ℕ) (state : State) → IsAt (A.asks_after program.now) (A.core_of program.now) limit (Goes state) self.old → IfOk result (λ named. IfSome named (λ number. number ≡ named_at (A.core_of program.now) limit state (items.Step actor name))) }
     {
         let lives = self.begin_process(actor)?;
         if !lives {
-            return Ok(false);
+            return Ok(None);
         }
         self.step_member(program, actor, name)
     }
@@ -115,9 +170,15 @@ impl<A: Actor> Replayer<A> {
     }
 
     /// Has a process that has begun make the step that it asks for.
-    fn step_member(&mut self, program: &A::Program, actor: u32, name: u32) -> Result<bool, NoMemory>
+    fn step_member(
+        &mut self,
+        program: &A::Program,
+        actor: u32,
+        name: u32,
+    ) -> Result<Option<u32>, NoMemory>
         requires { IsSome (member_of self.old.crew actor) }
-        ensures { (limit : ℕ) (state : State) → IsSome (started state.world actor) → IsAt (A.asks_after program.now) (A.core_of program.now) limit (Goes state) self.old → IfOk result (λ legal. Follows (A.asks_after program.now) (A.core_of program.now) limit (next (A.core_of program.now) limit state (items.Step actor name)) legal self.new) }
+        ensures follows { (limit : ℕ) (state : State) → IsSome (started state.world actor) → IsAt (A.asks_after program.now) (A.core_of program.now) limit (Goes state) self.old → IfOk result (λ named. Follows (A.asks_after program.now) (A.core_of program.now) limit (next (A.core_of program.now) limit state (items.Step actor name)) (is_some named) self.new) }
+        ensures named { (limit : ℕ) (state : State) → IsSome (started state.world actor) → IsAt (A.asks_after program.now) (A.core_of program.now) limit (Goes state) self.old → IfOk result (λ named. IfSome named (λ number. number ≡ named_at (A.core_of program.now) limit state (items.Step actor name))) }
     {
         match self.crew.get_mut(&actor) {
             Some(member) => {
@@ -133,12 +194,14 @@ impl<A: Actor> Replayer<A> {
                             ask,
                             name,
                         )?;
-                        Ok(hear(member, acted, &mut self.ending))
+                        let number = number_of(&acted);
+                        let legal = hear(member, acted, &mut self.ending);
+                        Ok(where_legal(legal, number))
                     }
-                    Asks::OverTicks => Ok(false),
+                    Asks::OverTicks => Ok(None),
                 }
             }
-            None => Ok(false),
+            None => Ok(None),
         }
     }
 
