@@ -1,0 +1,16 @@
+pub mod ActorLemmas
+pub mod AnswerLemmas
+pub mod FollowLemmas
+pub mod KeptLemmas
+pub mod KindLemmas
+pub mod LeaveLemmas
+pub mod LinkLemmas
+pub mod MoveLemmas
+pub mod OriginLemmas
+pub mod PairLemmas
+pub mod PathLemmas
+pub mod RaceLemmas
+pub mod SearchLemmas
+pub mod StandLemmas
+pub mod WalkLemmas
+pub mod WholeLemmas

@@ -1,0 +1,18 @@
+//! Races of a run: accesses of shared variables that conflict, and neither is before the other.
+#![tactic(auto)]
+
+mod access;
+mod before;
+mod laws;
+mod link;
+mod origins;
+mod race;
+mod search;
+mod walk;
+mod whole;
+
+pub use access::{Access, accesses_by, conflict};
+pub use laws::{before_comes_earlier, earlier_items_are_before_too};
+pub use link::LinkKind;
+pub use race::{Race, Raced};
+pub use whole::{is_too_long, races};
