@@ -30,6 +30,7 @@ fn head_of(alloc: Global, command: &Command) -> Result<String, NoMemory> {
         Command::Fmt { .. } => Ok(format!(in alloc; "fmt")?),
         Command::Gen { seed, workers } => Ok(format!(in alloc; "gen {seed} {workers}")?),
         Command::Replay { upto, places, .. } => Ok(format!(in alloc; "replay {upto} {places}")?),
+        Command::Races { .. } => Ok(format!(in alloc; "races")?),
     }
 }
 
@@ -62,7 +63,7 @@ fn shown(alloc: Global, command: &Command) -> Result<Text, NoMemory> {
         }
         Command::Fmt { file } => add_file(&mut shown, file)?,
         Command::Gen { .. } => {}
-        Command::Replay { journal, files, .. } => {
+        Command::Replay { journal, files, .. } | Command::Races { journal, files } => {
             add_journal(&mut shown, journal, files.as_slice())?
         }
     }
@@ -80,7 +81,7 @@ fn gives(alloc: Global, line: &str, wanted: &str) -> Result<bool, NoMemory> {
 }
 
 /// Lines, and the commands that they give.
-const RIGHT: [(&str, &str); 43] = [
+const RIGHT: [(&str, &str); 45] = [
     ("run a.sr", "run 1 1000000 10000000 false a.sr"),
     ("run a.sr b.sr", "run 1 1000000 10000000 false a.sr b.sr"),
     ("run a.sr a.sr", "run 1 1000000 10000000 false a.sr a.sr"),
@@ -163,10 +164,12 @@ const RIGHT: [(&str, &str); 43] = [
         "replay replay replay",
         "replay 16000000 false replay replay",
     ),
+    ("races a.journal a.sr b.sr", "races a.journal a.sr b.sr"),
+    ("races -- -j a.sr", "races -j a.sr"),
 ];
 
 /// Lines that give no command.
-const WRONG: [&str; 76] = [
+const WRONG: [&str; 80] = [
     "",
     "run",
     "run --",
@@ -241,6 +244,10 @@ const WRONG: [&str; 76] = [
     "replay a.journal a.sr --journal",
     "replay a.journal a.sr --where --where",
     "replay a.journal a.sr --where=yes",
+    "races",
+    "races a.journal",
+    "races a.journal a.sr --upto 5",
+    "races a.journal a.sr --where",
     "run a.sr --where",
     "run a.sr --upto 5",
 ];

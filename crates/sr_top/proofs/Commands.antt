@@ -4,7 +4,7 @@ use Rattle.std.specs.Option.{option_map}
 use Rattle.std.proofs.lemmas.Bool.{leb-true}
 use Rattle.std.proofs.lemmas.Option.{option_and_then_some}
 use Rattle.sr_top.specs.Journal.{CanBeAsked}
-use Rattle.sr_words.specs.Commands.{Taken, command_of, default_of, file_of, files_of, gen_command, least_of, most_of, replay_command, replay_of, run_command, seed_of, setting_number, taken_of, verb_command}
+use Rattle.sr_words.specs.Commands.{Taken, command_of, default_of, file_of, files_of, gen_command, least_of, most_of, races_command, recorded_of, replay_command, run_command, seed_of, setting_number, taken_of, verb_command}
 use Rattle.sr_words.specs.Verbs.{verb_of}
 use Rattle.sr_words.specs.Numbers.{is_number, number_within, value_of}
 use Rattle.sr_words.specs.declared.command.Command.{Command}
@@ -12,7 +12,7 @@ use Rattle.sr_words.specs.declared.command.Command.TheVariants as command
 use Rattle.sr_words.specs.declared.options.Setting.{Setting}
 use Rattle.sr_words.specs.declared.options.Setting.TheVariants.{Workers, Steps, Ticks, Upto}
 use Rattle.sr_words.specs.declared.verb.Verb.{Verb}
-use Rattle.sr_words.specs.declared.verb.Verb.TheVariants.{Run, Check, Classes, Fmt, Gen, Replay}
+use Rattle.sr_words.specs.declared.verb.Verb.TheVariants.{Run, Check, Classes, Fmt, Gen, Replay, Races}
 
 -- ---- values that are there
 
@@ -92,12 +92,13 @@ module _ (names : List (List ℕ)) (workers steps ticks : ℕ) (journal : Bool) 
       option_and_then_some _ (setting_number Workers t.workers) asked is (λ w has more.
       let found = mapped (λ seed. command.Gen seed w) (seed_of t.words) asked more in absurd (cc))
 
-  no-replay-of : (upto : ℕ) (places : Bool) (words : List (List ℕ)) → replay_of upto places words ≡ Some asked → ⊥
-  no-replay-of upto places [] is = absurd (true≢false (sym (ap is_some is)))
-  no-replay-of upto places (word ∷ words) is = let found = mapped (λ files. command.Replay word files upto places) (files_of words) asked is in absurd (cc)
-
   no-replay : (t : Taken) → replay_command t ≡ Some asked → ⊥
-  no-replay t is = option_and_then_some _ (setting_number Upto t.upto) asked is (λ upto has more. no-replay-of upto t.places t.words more)
+  no-replay t is =
+      option_and_then_some _ (setting_number Upto t.upto) asked is (λ upto has more.
+      let found = mapped (λ recorded. command.Replay recorded.0 recorded.1 upto t.places) (recorded_of t.words) asked more in absurd (cc))
+
+  no-races : (t : Taken) → races_command t ≡ Some asked → ⊥
+  no-races t is = let found = mapped (λ recorded. command.Races recorded.0 recorded.1) (recorded_of t.words) asked is in absurd (cc)
 
   no-fmt : (t : Taken) → option_map (λ file. command.Fmt file) (file_of t.words) ≡ Some asked → ⊥
   no-fmt t is = let found = mapped (λ file. command.Fmt file) (file_of t.words) asked is in absurd (cc)
@@ -108,6 +109,7 @@ module _ (names : List (List ℕ)) (workers steps ticks : ℕ) (journal : Bool) 
   by-verb Classes t is = absurd (no-classes t is)
   by-verb Gen t is = absurd (no-gen t is)
   by-verb Replay t is = absurd (no-replay t is)
+  by-verb Races t is = absurd (no-races t is)
   by-verb Fmt t is = absurd (no-fmt t is)
 
   pub can_be_asked : (words : List (List ℕ)) → command_of words ≡ Some asked → CanBeAsked names steps ticks

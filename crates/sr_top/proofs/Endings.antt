@@ -7,8 +7,8 @@ use Rattle.sr_ports.proofs.Growth.{PutInPart-after}
 use Rattle.sr_ports.specs.Streams.{PutInPart}
 use Rattle.sr_run.specs.Causes as run
 use Rattle.sr_run.specs.Runs as runs
-use Rattle.sr_run.specs.declared.end.LimitKind.{LimitKind}
-use Rattle.sr_run.specs.declared.end.LimitKind.TheVariants as limit
+use Rattle.sr_run.specs.declared.end.LimitKind.{LimitKind as RunLimit}
+use Rattle.sr_run.specs.declared.end.LimitKind.TheVariants as run_limit
 use Rattle.sr_run.specs.declared.end.RunEnd.{RunEnd}
 use Rattle.sr_run.specs.declared.end.RunEnd.TheVariants as run_end
 use Rattle.sr_run.specs.declared.stretch.Stretch.{Stretch}
@@ -20,6 +20,7 @@ use Rattle.sr_top.specs.Replaying.{EndsEarlyInReplay, EndsReplayInput, EndsRepla
 use Rattle.sr_top.specs.Tasks.{Named, Origin, Sampled, origin_in}
 use Rattle.sr_top.specs.declared.report.Ending.{Ending}
 use Rattle.sr_top.specs.declared.report.Ending.TheVariants.{Done, Quiet, Stopped, Failed, Limit, Refused, NoFile, ReadFault, WriteFault, NoMemory, Usage, BadJournal, OtherFiles, Illegal}
+use Rattle.sr_top.specs.declared.report.LimitKind.TheVariants as limit
 use Rattle.sr_world.specs.Runs.{State}
 use Rattle.sr_world.specs.declared.ends.End.{End}
 use Rattle.sr_world.specs.declared.ends.End.TheVariants as end
@@ -35,7 +36,9 @@ module _ (call : Call) (workers steps ticks : ℕ) (core : Core) (classes : Clas
   caused (run_end.Ended end.Quiet) cause = ends_run (run_end.Ended end.Quiet) cause
   caused (run_end.Ended (end.Stopped status)) cause = ends_run (run_end.Ended (end.Stopped status)) cause
   caused (run_end.Ended (end.Failed fault place)) cause = ends_run (run_end.Ended (end.Failed fault place)) cause
-  caused (run_end.Limit kind) cause = inl (ends_run (run_end.Limit kind) cause)
+  caused (run_end.Limit run_limit.Steps) cause = ends_run (run_end.Limit run_limit.Steps) cause
+  caused (run_end.Limit (run_limit.Ticks process)) cause = ends_run (run_end.Limit (run_limit.Ticks process)) cause
+  caused (run_end.Limit run_limit.Input) cause = inl (ends_run (run_end.Limit run_limit.Input) cause)
   caused run_end.ReadFault cause = inl (ends_run run_end.ReadFault cause)
   caused run_end.WriteFault cause = inl (ends_run run_end.WriteFault cause)
   caused run_end.NoMemory cause = inr (inl (ends_run run_end.NoMemory cause))
@@ -71,10 +74,10 @@ going_on : (call : Call) (end : RunEnd) (ends : EndsRun call end) (taken : List 
 going_on call end ends taken ended state goes_on =
     record { output = state.world.output; makes = made call end ends false taken ended None _ goes_on.runs; put = goes_on.put }
 
-limited : (call : Call) (kind : LimitKind) → EndsRun call (run_end.Limit kind) → RunsWhole call None
-limited call limit.Steps ends = going_on call _ ends ends.cause.taken ends.cause.ended ends.cause.state ends.cause.goes_on
-limited call (limit.Ticks process) ends = going_on call _ ends ends.cause.taken ends.cause.ended ends.cause.state ends.cause.goes_on
-limited call limit.Input ends = going_on call _ ends ends.cause.taken _ ends.cause.state ends.cause.goes_on
+limited : (call : Call) (kind : RunLimit) → EndsRun call (run_end.Limit kind) → RunsWhole call None
+limited call run_limit.Steps ends = going_on call _ ends ends.cause.taken ends.cause.ended ends.cause.state ends.cause.goes_on
+limited call (run_limit.Ticks process) ends = going_on call _ ends ends.cause.taken ends.cause.ended ends.cause.state ends.cause.goes_on
+limited call run_limit.Input ends = going_on call _ ends ends.cause.taken _ ends.cause.state ends.cause.goes_on
 
 -- a run whose last item is a write of which not all bytes were put
 in_write : (call : Call) (end : RunEnd) (ends : EndsRun call end) → run.IsCutInWrite (arrangement_of ends.workers ends.classes call.rounds) (run_of call ends.steps ends.ticks ends.core) → RunsInPart call
@@ -96,9 +99,9 @@ cut_short call end ends (inl between) =
     }
 cut_short call end ends (inr cut) = in_write call end ends cut
 
-limited_or_long : (call : Call) (kind : LimitKind) → EndsRun call (run_end.Limit kind) ⊎ ((kind ≡ limit.Input) × EndsReplayInput call) → RunsWhole call None ⊎ EndsReplayInput call
-limited_or_long call kind (inl ends) = inl (limited call kind ends)
-limited_or_long call kind (inr long) = inr long.1
+limited_or_long : (call : Call) → EndsRun call (run_end.Limit run_limit.Input) ⊎ EndsReplayInput call → RunsWhole call None ⊎ EndsReplayInput call
+limited_or_long call (inl ends) = inl (limited call run_limit.Input ends)
+limited_or_long call (inr long) = inr long
 
 unread_input : (call : Call) → EndsRun call run_end.ReadFault ⊎ EndsReplayRead call → RunsWhole call None ⊎ EndsReplayRead call
 unread_input call (inl ends) = inl (going_on call run_end.ReadFault ends ends.cause.taken _ ends.cause.state ends.cause.goes_on)
@@ -125,7 +128,11 @@ headline call Done cause = cause
 headline call Quiet cause = by_itself call end.Quiet cause
 headline call (Stopped status) cause = by_itself call (end.Stopped status) cause
 headline call (Failed fault place) cause = by_itself call (end.Failed fault place) cause
-headline call (Limit kind) cause = limited_or_long call kind cause
+headline call (Limit limit.Steps) cause = limited call run_limit.Steps cause
+headline call (Limit (limit.Ticks process)) cause = limited call (run_limit.Ticks process) cause
+headline call (Limit limit.Input) cause = limited_or_long call cause
+headline call (Limit limit.Items) cause = cause
+headline call (Limit limit.Races) cause = cause
 headline call (Refused refusal) cause = cause
 headline call (NoFile file) cause = unread_file call file cause
 headline call ReadFault cause = unread_input call cause
@@ -212,7 +219,7 @@ none_put call lines (inr (inr has)) held write = inl (record {
   nothing = record { no_items = has.no_items; untouched = devices_same call.before call.now has.left has.no_read_fault held write };
 })
 none_put call lines (inr (inl has)) held write = inr (inr (inr (record {
-  asks = has.input.program.same.has.journal.reads.asks;
+  asks = has.input.program.same.has.items.journal.reads.asks;
   no_fault = has.input.program.no_fault;
   no_read_fault = has.input.no_read_fault;
   nothing = record { no_items = has.input.no_items; held = held; no_write_fault = write };

@@ -4,7 +4,7 @@ use Rattle.std.specs.Prelude.{◌↔◌, IfSome}
 use Rattle.std.specs.Io.KnownBytes.{prepend_known}
 use Rattle.sr_ports.specs.Faults.{Rose}
 use Rattle.sr_run.proofs.Known.{at-end, passed-none, prepend_known-append, prepend_known-nil}
-use Rattle.sr_run.specs.declared.end.LimitKind.TheVariants as limit
+use Rattle.sr_top.specs.declared.report.LimitKind.TheVariants as limit
 use Rattle.sr_top.specs.Replaying.{IsTooLong, IsWhole}
 use Rattle.sr_top.specs.Stages.{EndsInput, EndsPiece, TakesPiece}
 use Rattle.sr_top.specs.declared.report.Ending.{Ending}
@@ -65,6 +65,8 @@ stopped_input left left_now faults before now same (Failed fault place) ends = a
 stopped_input left left_now faults before now same (Limit limit.Steps) ends = absurd ends
 stopped_input left left_now faults before now same (Limit (limit.Ticks process)) ends = absurd ends
 stopped_input left left_now faults before now same (Limit limit.Input) ends = absurd ends
+stopped_input left left_now faults before now same (Limit limit.Items) ends = absurd ends
+stopped_input left left_now faults before now same (Limit limit.Races) ends = absurd ends
 stopped_input left left_now faults before now same (Refused refusal) ends = absurd ends
 stopped_input left left_now faults before now same (NoFile file) ends = absurd ends
 stopped_input left left_now faults before now same ReadFault ends = subst (λ n. Rose n now) same ends

@@ -13,16 +13,19 @@ use Rattle.sr_run.specs.Arranged.{Arrangement, InRounds, InTurn}
 use Rattle.sr_run.specs.Causes as run
 use Rattle.sr_run.specs.Numbers.{IsNumbered}
 use Rattle.sr_run.specs.Runs as runs
-use Rattle.sr_run.specs.declared.end.LimitKind.TheVariants as limit
+use Rattle.sr_run.specs.declared.end.LimitKind.{LimitKind as RunLimit}
+use Rattle.sr_run.specs.declared.end.LimitKind.TheVariants as run_limit
 use Rattle.sr_run.specs.declared.end.RunEnd.{RunEnd}
 use Rattle.sr_run.specs.declared.end.RunEnd.TheVariants as run_end
 use Rattle.sr_run.specs.declared.stretch.Stretch.{Stretch}
 use Rattle.sr_text.specs.declared.refusal.Refusal.{Refusal}
 use Rattle.sr_top.specs.LayingOut.{EndsNoSource, EndsSourceRefused, HasLayout}
 use Rattle.sr_top.specs.Reading.{AreCompiled, AreRefused, FailsAt, IsUnread}
-use Rattle.sr_top.specs.Replaying.{EndsBadJournal, EndsEarlyInReplay, EndsIllegal, EndsOtherFiles, EndsReplayInput, EndsReplayRead, EndsReplayRefused, EndsUnread, HasSnapshot}
+use Rattle.sr_top.specs.Replaying.{EndsBadJournal, EndsEarlyInReplay, EndsIllegal, EndsOtherFiles, EndsReplayInput, EndsReplayRead, EndsReplayRefused, EndsTooLong, EndsTooMany, EndsUnread, HasAnswer}
 use Rattle.sr_top.specs.Tasks.{Checks, ListsClasses, Named, Origin, Runs, origin_in, task}
 use Rattle.sr_top.specs.declared.report.Ending.{Ending}
+use Rattle.sr_top.specs.declared.report.LimitKind.{LimitKind}
+use Rattle.sr_top.specs.declared.report.LimitKind.TheVariants as limit
 use Rattle.sr_top.specs.declared.report.Ending.TheVariants.{Done, Quiet, Stopped, Failed, Limit, Refused, NoFile, ReadFault, WriteFault, NoMemory, Usage, BadJournal, OtherFiles, Illegal}
 use Rattle.sr_world.specs.declared.ends.End.TheVariants as end
 
@@ -83,9 +86,9 @@ pub record HasClassLines (call : Call) (lines : List ℕ) : Type 0 where
   pub left : call.now.left ≡ call.before.left
   pub no_read_fault : call.now.read_faults ≡ call.before.read_faults
 
--- the lines that the words ask for: those of classes, those of what is to be seen after a replay, or a file in the one style
+-- the lines that the words ask for: those of classes, those that answer a question about a journal, or a file in the one style
 abbrev pub HasLines : Call → List ℕ → Type 0
-HasLines call lines = HasClassLines call lines ⊎ HasSnapshot call lines ⊎ HasLayout call lines
+HasLines call lines = HasClassLines call lines ⊎ HasAnswer call lines ⊎ HasLayout call lines
 
 -- the lines were put
 pub record EndsListed (call : Call) : Type 0 where
@@ -154,13 +157,21 @@ pub record EndsRun (call : Call) (ending : RunEnd) : Type 0 where
 
 -- ---- all endings
 
+-- at which limit a call ended: one of the run, or one of a journal and its input
+abbrev pub EndsAtLimit : Call → LimitKind → Type 0
+EndsAtLimit call limit.Steps = EndsRun call (run_end.Limit run_limit.Steps)
+EndsAtLimit call (limit.Ticks process) = EndsRun call (run_end.Limit (run_limit.Ticks process))
+EndsAtLimit call limit.Input = EndsRun call (run_end.Limit run_limit.Input) ⊎ EndsReplayInput call
+EndsAtLimit call limit.Items = EndsTooLong call
+EndsAtLimit call limit.Races = EndsTooMany call
+
 -- what each ending says of the call
 abbrev pub HasCause : Call → Ending → Type 0
 HasCause call Done = EndsChecked call ⊎ EndsListed call
 HasCause call Quiet = EndsRun call (run_end.Ended end.Quiet)
 HasCause call (Stopped status) = EndsRun call (run_end.Ended (end.Stopped status))
 HasCause call (Failed fault place) = EndsRun call (run_end.Ended (end.Failed fault place))
-HasCause call (Limit kind) = EndsRun call (run_end.Limit kind) ⊎ ((kind ≡ limit.Input) × EndsReplayInput call)
+HasCause call (Limit kind) = EndsAtLimit call kind
 HasCause call (Refused refusal) = EndsRefused call refusal ⊎ EndsReplayRefused call refusal ⊎ EndsSourceRefused call refusal
 HasCause call (NoFile file) = EndsNoFile call file ⊎ EndsUnread call file ⊎ EndsNoSource call file
 HasCause call ReadFault = EndsRun call run_end.ReadFault ⊎ EndsReplayRead call
@@ -173,12 +184,18 @@ HasCause call (Illegal at) = EndsIllegal call at
 
 -- ---- from the run to the call
 
+-- the limit of a run, among those of a call
+abbrev pub limit_of : RunLimit → LimitKind
+limit_of run_limit.Steps = limit.Steps
+limit_of (run_limit.Ticks process) = limit.Ticks process
+limit_of run_limit.Input = limit.Input
+
 -- the ending of a call whose run ended so
 abbrev pub ending_of : RunEnd → Ending
 ending_of (run_end.Ended end.Quiet) = Quiet
 ending_of (run_end.Ended (end.Stopped status)) = Stopped status
 ending_of (run_end.Ended (end.Failed fault place)) = Failed fault place
-ending_of (run_end.Limit kind) = Limit kind
+ending_of (run_end.Limit kind) = Limit (limit_of kind)
 ending_of run_end.ReadFault = ReadFault
 ending_of run_end.WriteFault = WriteFault
 ending_of run_end.NoMemory = NoMemory

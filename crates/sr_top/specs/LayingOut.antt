@@ -1,5 +1,5 @@
 -- Why the laying out of a file ends as it does. Each cause says what was there before it.
-use Rattle.std.specs.Prelude.{◌≡◌, ℕ, List, [], Option, Some}
+use Rattle.std.specs.Prelude.{◌≡◌, ℕ, List, Option, Some}
 use Rattle.sr_layout.specs.LaidOut.{IsLaidOut, IsRefused}
 use Rattle.sr_text.specs.declared.refusal.Refusal.{Refusal}
 use Rattle.sr_top.specs.Calls.{Call, HasNoItems, RunsNothing}

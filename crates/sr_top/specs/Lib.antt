@@ -6,6 +6,7 @@ pub mod LayingOut
 pub mod Outcome
 pub mod Placing
 pub mod Programs
+pub mod Racing
 pub mod Reading
 pub mod Replaying
 pub mod Report

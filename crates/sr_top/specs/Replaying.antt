@@ -1,5 +1,5 @@
 -- Why a replay ends as it does. Each cause says what was there before it.
-use Rattle.std.specs.Prelude.{◌≡◌, ◌≢◌, ◌+◌, ◌<◌, ◌≤◌, ◌⊎◌, ℕ, List, [], length, min, slice_get, take, Option, IfSome, Some}
+use Rattle.std.specs.Prelude.{◌≡◌, ◌≢◌, ◌+◌, ◌<◌, ◌≤◌, ◌⊎◌, ℕ, Bool, true, false, List, [], length, min, slice_get, take, Option, IfSome, Some}
 use Rattle.std.specs.Io.KnownBytes.{prepend_known}
 use Rattle.std.specs.Option.{option_map}
 use Rattle.std.specs.Str.{IsUtf8}
@@ -15,6 +15,10 @@ use Rattle.sr_journal.specs.declared.fail.JournalFail.TheVariants as fails
 use Rattle.sr_journal.specs.declared.header.Header.{Header}
 use Rattle.sr_ports.specs.Faults.{Rose}
 use Rattle.sr_ports.specs.Files.{bytes_of}
+use Rattle.sr_races.specs.Items.{Run}
+use Rattle.sr_races.specs.Races.{Races, is_too_long}
+use Rattle.sr_races.specs.declared.race.Race.{Race}
+use Rattle.sr_races.specs.declared.race.Raced.TheVariants as raced
 use Rattle.sr_replay.specs.Replays.{Replays}
 use Rattle.sr_replay.specs.declared.snapshot.Snapshot.{Snapshot}
 use Rattle.sr_replay.specs.declared.whole.Replayed.{Replayed}
@@ -22,18 +26,63 @@ use Rattle.sr_replay.specs.declared.whole.Replayed.TheVariants as replayed
 use Rattle.sr_text.specs.declared.refusal.Refusal.{Refusal}
 use Rattle.sr_top.specs.Calls.{Call, HasNoItems, PutsNothing, RunsNothing}
 use Rattle.sr_top.specs.Placing.{shown_text}
+use Rattle.sr_top.specs.Racing.{races_text}
 use Rattle.sr_top.specs.Reading.{AreRead, FailsAt, IsUnread, sizes_of}
 use Rattle.sr_top.specs.Tasks.{Replays as asks, task}
-use Rattle.sr_top.specs.declared.view.View.{View}
+use Rattle.sr_top.specs.declared.question.Question.{Question}
+use Rattle.sr_top.specs.declared.question.Question.TheVariants as question
+use Rattle.sr_top.specs.declared.question.View.{View}
+
+-- ---- what is asked of a journal
+
+-- the items of a journal over a core and an input
+abbrev pub run_by : Core → Header → List Item → List ℕ → Run
+run_by core header items input = record { core = core; limit = header.ticks; input = input; items = items }
+
+-- what a replay of the first items comes to
+abbrev pub ReplaysTo : View → ℕ → Run → Replayed → Type 0
+ReplaysTo view steps r so = Replays r.core steps r.limit r.input r.items (min view.upto (length r.items)) so
+
+-- the lines of what is to be seen after the first items
+pub record AreSeen (view : View) (names : List (List ℕ)) (steps : ℕ) (r : Run) (lines : List ℕ) : Type 0 where
+  pub snapshot : Snapshot
+  pub replays : ReplaysTo view steps r (replayed.Reached snapshot)
+  pub are : lines ≡ shown_text r.core names view.places snapshot
+
+-- the lines of all races
+pub record AreRacesOf (names : List (List ℕ)) (steps : ℕ) (r : Run) (lines : List ℕ) : Type 0 where
+  pub races : List Race
+  pub found : Races steps r (raced.Found races)
+  pub are : lines ≡ races_text names races
+
+-- the lines that answer a question
+abbrev pub AreLines : Question → List (List ℕ) → ℕ → Run → List ℕ → Type 0
+AreLines (question.Seen view) names steps r lines = AreSeen view names steps r lines
+AreLines question.Races names steps r lines = AreRacesOf names steps r lines
+
+-- this item is the first that is no step, of those that a question looks at
+abbrev pub IsNoStep : Question → ℕ → Run → ℕ → Type 0
+IsNoStep (question.Seen view) steps r at = ReplaysTo view steps r (replayed.Illegal at)
+IsNoStep question.Races steps r at = Races steps r (raced.Illegal at)
+
+-- there are more items than a question may have; a replay may have all
+abbrev pub is_too_long_for : Question → List Item → Bool
+is_too_long_for (question.Seen view) items = false
+is_too_long_for question.Races items = is_too_long items
+
+-- there are more races than may be told
+abbrev pub HasTooMany : Question → ℕ → Run → Type 0
+HasTooMany (question.Seen view) steps r = ⊥
+HasTooMany question.Races steps r = Races steps r raced.TooMany
 
 -- ---- what is there, one after the other
 
--- the words ask for the replay of a journal
+-- the words ask a question about a journal
 pub record AsksReplay (call : Call) : Type 0 where
   pub journal : List ℕ
   pub names : List (List ℕ)
-  pub view : View
-  pub asked : task call.words ≡ Some (asks journal names view)
+  pub question : Question
+  pub asked : task call.words ≡ Some (asks journal names question)
 
 -- these are the first 536,870,912 bytes, or all, of the journal of a name, which is text
 pub record AreBytesOf (told : Option (List (List ℕ × List ℕ))) (name bytes : List ℕ) : Type 0 where
@@ -53,16 +102,21 @@ pub record HasJournal (call : Call) : Type 0 where
   pub items : List Item
   pub is : IsJournal header items reads.bytes
 
+-- it has no more items than the question may have
+pub record HasItems (call : Call) : Type 0 where
+  pub journal : HasJournal call
+  pub fits : is_too_long_for journal.reads.asks.question journal.items ≡ false
+
 -- the files were read
 pub record HasFiles (call : Call) : Type 0 where
-  pub journal : HasJournal call
+  pub items : HasItems call
   pub files : List (List ℕ × List ℕ)
-  pub read : AreRead call.files journal.reads.asks.names files
+  pub read : AreRead call.files items.journal.reads.asks.names files
 
 -- they have the names and the lengths that the journal tells
 pub record HasSameFiles (call : Call) : Type 0 where
   pub has : HasFiles call
-  pub same : sizes_of has.files ≡ has.journal.header.files
+  pub same : sizes_of has.files ≡ has.items.journal.header.files
 
 -- they are accepted, and this is their core; no read failed
 pub record HasProgram (call : Call) : Type 0 where
@@ -86,34 +140,27 @@ pub record HasInput (call : Call) : Type 0 where
   pub no_read_fault : call.now.read_faults ≡ call.before.read_faults
   pub no_items : HasNoItems call
 
--- what a replay of the journal comes to
-abbrev pub ReplaysSo : (call : Call) → HasInput call → Replayed → Type 0
-ReplaysSo call input so =
-    let program = input.program in
-    let journal = program.same.has.journal in
-    Replays program.core journal.header.steps journal.header.ticks input.taken journal.items (min journal.reads.asks.view.upto (length journal.items)) so
+-- the journal of the call
+abbrev pub journal_in : (call : Call) → HasInput call → HasJournal call
+journal_in call input = input.program.same.has.items.journal
 
--- the lines of a snapshot, with places where the words ask for them
-abbrev pub shown_lines : (call : Call) → HasInput call → Snapshot → List ℕ
-shown_lines call input snapshot =
-    let asks = input.program.same.has.journal.reads.asks in
-    shown_text input.program.core asks.names asks.view.places snapshot
+-- its items over the program and the input
+abbrev pub run_in : (call : Call) → HasInput call → Run
+run_in call input = run_by input.program.core (journal_in call input).header (journal_in call input).items input.taken
 
--- these are the lines of what is to be seen after the items
-pub record HasSnapshot (call : Call) (lines : List ℕ) : Type 0 where
+-- these lines answer the question
+pub record HasAnswer (call : Call) (lines : List ℕ) : Type 0 where
   pub input : HasInput call
-  pub snapshot : Snapshot
-  pub replays : ReplaysSo call input (replayed.Reached snapshot)
-  pub are : lines ≡ shown_lines call input snapshot
+  pub are : AreLines (journal_in call input).reads.asks.question (journal_in call input).reads.asks.names (journal_in call input).header.steps (run_in call input) lines
 
 -- ---- causes, in the order in which they are looked for
 
 -- the file of this place among the words that name files can't be read: the journal, or a file after it
 pub record IsUnreadFile (call : Call) (word : ℕ) : Type 0 where
-  pub has : HasJournal call
+  pub has : HasItems call
   pub file : ℕ
   pub place : word ≡ file + 1
-  pub unread : IsUnread call.files has.reads.asks.names file
+  pub unread : IsUnread call.files has.journal.reads.asks.names file
 
 abbrev pub IsUnreadWord : Call → ℕ → Type 0
 IsUnreadWord call word = ((word ≡ 0) × AsksReplay call) ⊎ IsUnreadFile call word
@@ -136,6 +183,13 @@ pub record EndsBadJournal (call : Call) (fail : JournalFail) : Type 0 where
   pub no_fault : call.reads_now.faults ≡ call.reads.faults
   pub nothing : RunsNothing call
 
+-- the journal has more items than the question may have
+pub record EndsTooLong (call : Call) : Type 0 where
+  pub has : HasJournal call
+  pub long : is_too_long_for has.reads.asks.question has.items ≡ true
+  pub no_fault : call.reads_now.faults ≡ call.reads.faults
+  pub nothing : RunsNothing call
+
 -- this is the first place at which two lists of files differ, or the smaller number of files
 pub record IsFirstOther (sizes told : List (ℕ × List ℕ)) (file : ℕ) : Type 0 where
   pub before : take file sizes ≡ take file told
@@ -144,7 +198,7 @@ pub record IsFirstOther (sizes told : List (ℕ × List ℕ)) (file : ℕ) : Typ
 
 pub record EndsOtherFiles (call : Call) (file : ℕ) : Type 0 where
   pub has : HasFiles call
-  pub other : IsFirstOther (sizes_of has.files) has.journal.header.files file
+  pub other : IsFirstOther (sizes_of has.files) has.items.journal.header.files file
   pub no_fault : call.reads_now.faults ≡ call.reads.faults
   pub nothing : RunsNothing call
 
@@ -177,7 +231,13 @@ pub record EndsReplayInput (call : Call) : Type 0 where
 -- this item is the first that is no step
 pub record EndsIllegal (call : Call) (at : ℕ) : Type 0 where
   pub input : HasInput call
-  pub replays : ReplaysSo call input (replayed.Illegal at)
+  pub no_step : IsNoStep (journal_in call input).reads.asks.question (journal_in call input).header.steps (run_in call input) at
+  pub nothing : PutsNothing call
+
+-- there are more races than may be told
+pub record EndsTooMany (call : Call) : Type 0 where
+  pub input : HasInput call
+  pub many : HasTooMany (journal_in call input).reads.asks.question (journal_in call input).header.steps (run_in call input)
   pub nothing : PutsNothing call
 
 -- memory ran out before the lines; no count rose

@@ -11,8 +11,8 @@ use Rattle.sr_journal.specs.declared.fail.JournalFail.{JournalFail}
 use Rattle.sr_journal.specs.declared.fail.JournalFail.TheVariants as fails
 use Rattle.sr_top.specs.declared.report.Ending.{Ending}
 use Rattle.sr_top.specs.declared.report.Ending.TheVariants.{Done, Quiet, Stopped, Failed, Limit, Refused, NoFile, ReadFault, WriteFault, NoMemory, Usage, BadJournal, OtherFiles, Illegal}
-use Rattle.sr_run.specs.declared.end.LimitKind.{LimitKind}
-use Rattle.sr_run.specs.declared.end.LimitKind.TheVariants.{Steps, Ticks, Input}
+use Rattle.sr_top.specs.declared.report.LimitKind.{LimitKind}
+use Rattle.sr_top.specs.declared.report.LimitKind.TheVariants.{Steps, Ticks, Input, Items, Races}
 use Rattle.sr_top.specs.declared.report.Side.{Side}
 use Rattle.sr_top.specs.declared.report.Side.TheVariants as sides
 
@@ -33,6 +33,8 @@ abbrev pub limit_label : LimitKind → List ℕ
 limit_label Steps = codes "steps"
 limit_label (Ticks process) = codes "ticks"
 limit_label Input = codes "input"
+limit_label Items = codes "items"
+limit_label Races = codes "races"
 
 -- the number and the name of what a journal isn't
 abbrev pub journal_label : JournalFail → List ℕ
@@ -57,6 +59,7 @@ usage_text =
     codes "       sr classes FILE..." ++ 10 ∷
     codes "       sr gen SEED [--workers N]" ++ 10 ∷
     codes "       sr replay JOURNAL FILE... [--upto N] [--where]" ++ 10 ∷
+    codes "       sr races JOURNAL FILE..." ++ 10 ∷
     codes "       sr fmt FILE" ++ 10 ∷ []
 
 -- the name of what was read of this place: a journal that is replayed comes before the files

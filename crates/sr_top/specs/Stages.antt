@@ -11,18 +11,15 @@ use Rattle.sr_journal.specs.declared.fail.JournalFail.{JournalFail}
 use Rattle.sr_journal.specs.declared.header.Header.{Header}
 use Rattle.sr_ports.specs.Faults.{Rose}
 use Rattle.sr_ports.specs.Files.{next_read}
-use Rattle.sr_replay.specs.Replays.{Replays}
-use Rattle.sr_replay.specs.declared.snapshot.Snapshot.{Snapshot}
-use Rattle.sr_replay.specs.declared.whole.Replayed.TheVariants as replayed
-use Rattle.sr_run.specs.declared.end.LimitKind.TheVariants as limit
+use Rattle.sr_races.specs.Items.{Run}
 use Rattle.sr_text.specs.declared.refusal.Refusal.{Refusal}
-use Rattle.sr_top.specs.Placing.{shown_text}
 use Rattle.sr_top.specs.Reading.{AreRead, FailsAt, IsUnread, Reads, sizes_of}
-use Rattle.sr_top.specs.Replaying.{AreBytesOf, IsCauseOf, IsFirstOther, IsTooLong, IsWhole}
+use Rattle.sr_top.specs.Replaying.{AreBytesOf, AreLines, HasTooMany, IsCauseOf, IsFirstOther, IsNoStep, IsTooLong, IsWhole, is_too_long_for, run_by}
 use Rattle.sr_top.specs.declared.report.Ending.{Ending}
 use Rattle.sr_top.specs.declared.report.Ending.TheVariants.{Limit, Refused, NoFile, ReadFault, NoMemory, BadJournal, OtherFiles, Illegal}
+use Rattle.sr_top.specs.declared.report.LimitKind.TheVariants as limit
 use Rattle.sr_top.specs.declared.recorded.Journal.{Journal}
-use Rattle.sr_top.specs.declared.view.View.{View}
+use Rattle.sr_top.specs.declared.question.Question.{Question}
 
 -- what the files tell: names and bytes
 abbrev pub Told : Type 0
@@ -127,16 +124,16 @@ EndsInput left left_now faults faults_now _ = ⊥
 
 -- ---- the items
 
--- these are the lines of what is to be seen after the items
-pub record AreLines (core : Core) (journal : Journal) (names : List (List ℕ)) (input : List ℕ) (view : View) (lines : List ℕ) : Type 0 where
-  pub snapshot : Snapshot
-  pub replays : Replays core journal.header.steps journal.header.ticks input journal.items (min view.upto (length journal.items)) (replayed.Reached snapshot)
-  pub are : lines ≡ shown_text core names view.places snapshot
+-- the items of a journal over a core and an input
+abbrev pub run_of : Core → Journal → List ℕ → Run
+run_of core journal input = run_by core journal.header journal.items input
 
-abbrev pub EndsItems : Core → Journal → List ℕ → View → Ending → Type 0
-EndsItems core journal input view (Illegal at) = Replays core journal.header.steps journal.header.ticks input journal.items (min view.upto (length journal.items)) (replayed.Illegal at)
-EndsItems core journal input view NoMemory = Unit {0}
-EndsItems core journal input view _ = ⊥
+-- why no lines answer a question about the items
+abbrev pub EndsItems : Question → ℕ → Run → Ending → Type 0
+EndsItems question steps r (Illegal at) = IsNoStep question steps r at
+EndsItems question steps r (Limit limit.Races) = HasTooMany question steps r
+EndsItems question steps r NoMemory = Unit {0}
+EndsItems question steps r _ = ⊥
 
 -- ---- several stages
 
@@ -149,64 +146,91 @@ abbrev pub inputs : Option (List ℕ) → ℕ → Inputs
 inputs left faults = record { left = left; faults = faults }
 
 -- the lines, once there is a program
-pub record HasLinesOf (core : Core) (journal : Journal) (names : List (List ℕ)) (view : View) (before now : Inputs) (lines : List ℕ) : Type 0 where
+pub record HasLinesOf (core : Core) (journal : Journal) (names : List (List ℕ)) (question : Question) (before now : Inputs) (lines : List ℕ) : Type 0 where
   pub taken : List ℕ
   pub whole : IsWhole before.left now.left taken
-  pub are : AreLines core journal names taken view lines
+  pub are : AreLines question names journal.header.steps (run_of core journal taken) lines
   pub no_fault : now.faults ≡ before.faults
 
 -- the items have no lines
-pub record EndsInItems (core : Core) (journal : Journal) (view : View) (before now : Inputs) (ending : Ending) : Type 0 where
+pub record EndsInItems (core : Core) (journal : Journal) (question : Question) (before now : Inputs) (ending : Ending) : Type 0 where
   pub taken : List ℕ
   pub whole : IsWhole before.left now.left taken
-  pub ends : EndsItems core journal taken view ending
+  pub ends : EndsItems question journal.header.steps (run_of core journal taken) ending
   pub no_fault : now.faults ≡ before.faults
 
 -- why there are no lines, once there is a program: the input, or the items
-abbrev pub EndsAfterProgram : Core → Journal → View → Inputs → Inputs → Ending → Type 0
-EndsAfterProgram core journal view before now ending = EndsInput before.left now.left before.faults now.faults ending ⊎ EndsInItems core journal view before now ending
+abbrev pub EndsAfterProgram : Core → Journal → Question → Inputs → Inputs → Ending → Type 0
+EndsAfterProgram core journal question before now ending = EndsInput before.left now.left before.faults now.faults ending ⊎ EndsInItems core journal question before now ending
 
 -- the lines, once there is a journal
-pub record IsTextOf (told : Told) (journal : Journal) (names : List (List ℕ)) (view : View) (reads reads_now : Reads) (before now : Inputs) (lines : List ℕ) : Type 0 where
+pub record IsTextOf (told : Told) (journal : Journal) (names : List (List ℕ)) (question : Question) (reads reads_now : Reads) (before now : Inputs) (lines : List ℕ) : Type 0 where
   pub core : Core
   pub classes : Classes
   pub program : AreProgram told names journal.header core classes
   pub no_fault : reads_now.faults ≡ reads.faults
-  pub lines_of : HasLinesOf core journal names view before now lines
+  pub lines_of : HasLinesOf core journal names question before now lines
 
 -- there is a program, and no lines
-pub record EndsWithProgram (told : Told) (journal : Journal) (names : List (List ℕ)) (view : View) (reads reads_now : Reads) (before now : Inputs) (ending : Ending) : Type 0 where
+pub record EndsWithProgram (told : Told) (journal : Journal) (names : List (List ℕ)) (question : Question) (reads reads_now : Reads) (before now : Inputs) (ending : Ending) : Type 0 where
   pub core : Core
   pub classes : Classes
   pub program : AreProgram told names journal.header core classes
   pub no_fault : reads_now.faults ≡ reads.faults
-  pub ends : EndsAfterProgram core journal view before now ending
+  pub ends : EndsAfterProgram core journal question before now ending
 
--- why there are none, once there is a journal: the program, or what comes after it
-abbrev pub EndsAfterJournal : Told → Journal → List (List ℕ) → View → Reads → Reads → Inputs → Inputs → Ending → Type 0
-EndsAfterJournal told journal names view reads reads_now before now ending =
-    (EndsProgram told names journal.header reads reads_now ending × (now ≡ before)) ⊎ EndsWithProgram told journal names view reads reads_now before now ending
+-- why there are none, once the items fit: the program, or what comes after it
+abbrev pub EndsAfterItems : Told → Journal → List (List ℕ) → Question → Reads → Reads → Inputs → Inputs → Ending → Type 0
+EndsAfterItems told journal names question reads reads_now before now ending =
+    (EndsProgram told names journal.header reads reads_now ending × (now ≡ before)) ⊎ EndsWithProgram told journal names question reads reads_now before now ending
+
+-- the items fit, and these are the lines
+pub record HasTextOf (told : Told) (journal : Journal) (names : List (List ℕ)) (question : Question) (reads reads_now : Reads) (before now : Inputs) (lines : List ℕ) : Type 0 where
+  pub fits : is_too_long_for question journal.items ≡ false
+  pub text : IsTextOf told journal names question reads reads_now before now lines
+
+-- there are too many items, or memory ran out before they were counted
+abbrev pub EndsLong : Question → Journal → Ending → Type 0
+EndsLong question journal (Limit limit.Items) = is_too_long_for question journal.items ≡ true
+EndsLong question journal NoMemory = Unit {0}
+EndsLong question journal _ = ⊥
+
+-- nothing was read or taken after the journal
+pub record EndsAtJournal (journal : Journal) (question : Question) (reads reads_now : Reads) (before now : Inputs) (ending : Ending) : Type 0 where
+  pub ends : EndsLong question journal ending
+  pub no_reads : reads_now ≡ reads
+  pub no_input : now ≡ before
+
+-- the items fit, and there are no lines
+pub record EndsWithItems (told : Told) (journal : Journal) (names : List (List ℕ)) (question : Question) (reads reads_now : Reads) (before now : Inputs) (ending : Ending) : Type 0 where
+  pub fits : is_too_long_for question journal.items ≡ false
+  pub ends : EndsAfterItems told journal names question reads reads_now before now ending
+
+-- why there are none, once there is a journal: its items, or what comes after them
+abbrev pub EndsAfterJournal : Told → Journal → List (List ℕ) → Question → Reads → Reads → Inputs → Inputs → Ending → Type 0
+EndsAfterJournal told journal names question reads reads_now before now ending =
+    EndsAtJournal journal question reads reads_now before now ending ⊎ EndsWithItems told journal names question reads reads_now before now ending
 
 -- ---- all stages
 
 -- the lines of the whole replay
-pub record IsText (told : Told) (name : List ℕ) (names : List (List ℕ)) (view : View) (reads reads_now : Reads) (before now : Inputs) (lines : List ℕ) : Type 0 where
+pub record IsText (told : Told) (name : List ℕ) (names : List (List ℕ)) (question : Question) (reads reads_now : Reads) (before now : Inputs) (lines : List ℕ) : Type 0 where
   pub journal : Journal
   pub is : IsJournalOf told name journal
   pub mid : Reads
   pub same : mid.faults ≡ reads.faults
-  pub text : IsTextOf told journal names view mid reads_now before now lines
+  pub text : HasTextOf told journal names question mid reads_now before now lines
 
 -- there is a journal, and no lines
-pub record EndsWithJournal (told : Told) (name : List ℕ) (names : List (List ℕ)) (view : View) (reads reads_now : Reads) (before now : Inputs) (ending : Ending) : Type 0 where
+pub record EndsWithJournal (told : Told) (name : List ℕ) (names : List (List ℕ)) (question : Question) (reads reads_now : Reads) (before now : Inputs) (ending : Ending) : Type 0 where
   pub journal : Journal
   pub is : IsJournalOf told name journal
   pub mid : Reads
   pub one : mid.reads ≡ next_read reads.reads
   pub same : mid.faults ≡ reads.faults
-  pub ends : EndsAfterJournal told journal names view mid reads_now before now ending
+  pub ends : EndsAfterJournal told journal names question mid reads_now before now ending
 
 -- why there are none: the journal, or what comes after it
-abbrev pub EndsText : Told → List ℕ → List (List ℕ) → View → Reads → Reads → Inputs → Inputs → Ending → Type 0
-EndsText told name names view reads reads_now before now ending =
-    (EndsJournal told name reads reads_now ending × (now ≡ before)) ⊎ EndsWithJournal told name names view reads reads_now before now ending
+abbrev pub EndsText : Told → List ℕ → List (List ℕ) → Question → Reads → Reads → Inputs → Inputs → Ending → Type 0
+EndsText told name names question reads reads_now before now ending =
+    (EndsJournal told name reads reads_now ending × (now ≡ before)) ⊎ EndsWithJournal told name names question reads reads_now before now ending

@@ -3,9 +3,10 @@ use Rattle.std.specs.Prelude.{ℕ, Bool, false, List, [], ◌∷◌, codes, Opti
 use Rattle.std.specs.Option.{option_map}
 use Rattle.sr_words.specs.Commands.{command_of, default_of}
 use Rattle.sr_words.specs.declared.command.Command.{Command}
-use Rattle.sr_words.specs.declared.command.Command.TheVariants.{Run, Check, Classes, Fmt, Gen, Replay}
+use Rattle.sr_words.specs.declared.command.Command.TheVariants.{Run, Check, Classes, Fmt, Gen, Replay, Races}
 use Rattle.sr_words.specs.declared.options.Setting.TheVariants.{Steps, Ticks}
-use Rattle.sr_top.specs.declared.view.View.{View}
+use Rattle.sr_top.specs.declared.question.Question.{Question}
+use Rattle.sr_top.specs.declared.question.Question.TheVariants as question
 
 -- where a program comes from
 pub data Origin : Type 0 where
@@ -22,8 +23,8 @@ pub data Task : Type 0 where
   Checks : List (List ℕ) → Task
   -- write the classes of the operations of the program in these files
   ListsClasses : List (List ℕ) → Task
-  -- replay the first items of the journal of this name, over the program in these files, and show so much
-  Replays : List ℕ → List (List ℕ) → View → Task
+  -- replay the journal of this name, over the program in these files, and answer this question
+  Replays : List ℕ → List (List ℕ) → Question → Task
   -- write this file in the one style
   LaysOut : List ℕ → Task
 
@@ -33,7 +34,8 @@ task_of (Run files workers steps ticks journal) = Runs (Named files) workers ste
 task_of (Check files) = Checks files
 task_of (Classes files) = ListsClasses files
 task_of (Gen seed workers) = Runs (Sampled seed) workers (default_of Steps) (default_of Ticks) false
-task_of (Replay journal files upto places) = Replays journal files (record { upto = upto; places = places })
+task_of (Replay journal files upto places) = Replays journal files (question.Seen (record { upto = upto; places = places }))
+task_of (Races journal files) = Replays journal files question.Races
 task_of (Fmt file) = LaysOut file
 
 -- the task that the words give
@@ -48,7 +50,7 @@ abbrev pub origin_of : Task → Option Origin
 origin_of (Runs origin workers steps ticks journal) = Some origin
 origin_of (Checks files) = Some (Named files)
 origin_of (ListsClasses files) = Some (Named files)
-origin_of (Replays journal files view) = None
+origin_of (Replays journal files question) = None
 origin_of (LaysOut file) = None
 
 -- where that program comes from, by the words
@@ -68,7 +70,7 @@ abbrev pub names_in : Task → List (List ℕ)
 names_in (Runs origin workers steps ticks journal) = names_of origin
 names_in (Checks files) = files
 names_in (ListsClasses files) = files
-names_in (Replays journal files view) = files
+names_in (Replays journal files question) = files
 names_in (LaysOut file) = file ∷ []
 
 abbrev pub file_names : List (List ℕ) → List (List ℕ)
@@ -76,7 +78,7 @@ file_names words = unwrap_or (option_map names_in (task words)) []
 
 -- the name of the journal that is replayed
 abbrev pub replayed_by : Task → Option (List ℕ)
-replayed_by (Replays journal files view) = Some journal
+replayed_by (Replays journal files question) = Some journal
 replayed_by _ = None
 
 abbrev pub replayed_journal : List (List ℕ) → Option (List ℕ)
@@ -88,7 +90,7 @@ abbrev pub keeps_journal : Task → Bool
 keeps_journal (Runs origin workers steps ticks journal) = journal
 keeps_journal (Checks files) = false
 keeps_journal (ListsClasses files) = false
-keeps_journal (Replays journal files view) = false
+keeps_journal (Replays journal files question) = false
 keeps_journal (LaysOut file) = false
 
 -- whether the words ask for a journal

@@ -4,16 +4,15 @@ ghost use Rattle.sr_top.specs.Report as report_of;
 ghost use Rattle.sr_top.specs.declared.report.Ending.TheVariants as endings;
 
 use crate::putting::put_text;
-use crate::report::{Ending, Side};
+use crate::report::{Ending, LimitKind, Side};
 use sr_journal::JournalFail;
 use sr_ports::Sink;
-use sr_run::LimitKind;
 use sr_value::{Fault, NoMemory, Place, Text};
 use std::alloc::Global;
 
 /// The text for words that are no command.
 const USAGE: &str =
-    "usage: sr run FILE... [--workers N] [--steps N] [--ticks N] [--journal]\n       sr check FILE...\n       sr classes FILE...\n       sr gen SEED [--workers N]\n       sr replay JOURNAL FILE... [--upto N] [--where]\n       sr fmt FILE\n";
+    "usage: sr run FILE... [--workers N] [--steps N] [--ticks N] [--journal]\n       sr check FILE...\n       sr classes FILE...\n       sr gen SEED [--workers N]\n       sr replay JOURNAL FILE... [--upto N] [--where]\n       sr races JOURNAL FILE...\n       sr fmt FILE\n";
 
 /// The number and the name of a fault.
 fn fault_label(fault: Fault) -> &'static str
@@ -41,6 +40,8 @@ fn limit_label(kind: LimitKind) -> &'static str
         LimitKind::Steps => "steps",
         LimitKind::Ticks(_) => "ticks",
         LimitKind::Input => "input",
+        LimitKind::Items => "items",
+        LimitKind::Races => "races",
     }
 }
 

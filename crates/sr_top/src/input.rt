@@ -2,9 +2,8 @@ ghost use Rattle.std.specs.Prelude.{◌≡◌, ◌+◌, ◌<◌, ◌≤◌, [], 
 ghost use Rattle.sr_top.specs.Replaying.{IsWhole};
 ghost use Rattle.sr_top.specs.Stages.{EndsInput, EndsPiece, TakesPiece};
 
-use crate::report::Ending;
+use crate::report::{Ending, LimitKind};
 use sr_ports::Source;
-use sr_run::LimitKind;
 use sr_value::Text;
 use std::alloc::Global;
 

@@ -15,9 +15,9 @@ use crate::listing::list_classes;
 use crate::outcome::{Outcome, run_program, without_items};
 use crate::preparing::{Prepared, prepare};
 use crate::program::Process;
+use crate::question::{Question, View};
 use crate::replaying::replay_journal;
 use crate::report::Ending;
-use crate::view::View;
 use sr_ask::Item;
 use sr_journal::Header;
 use sr_ports::{Files, Sink, Source};
@@ -160,7 +160,22 @@ pub fn obey<F: Files, I: Source, O: Sink>(
                 alloc,
                 &journal,
                 names.as_slice(),
-                View { upto, places },
+                Question::Seen(View { upto, places }),
+                files,
+                input,
+                output,
+            );
+            Obeyed::named(Some(journal), names, outcome)
+        }
+        Command::Races {
+            journal,
+            files: names,
+        } => {
+            let outcome = replay_journal(
+                alloc,
+                &journal,
+                names.as_slice(),
+                Question::Races,
                 files,
                 input,
                 output,

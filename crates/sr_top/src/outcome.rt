@@ -5,14 +5,14 @@ ghost use Rattle.sr_run.specs.Numbers.{IsNumbered};
 ghost use Rattle.sr_top.specs.Causes.{EndsAs, IsAlone, arrangement_of};
 ghost use Rattle.sr_top.specs.Causes as causes;
 
-use crate::report::Ending;
+use crate::report::{Ending, LimitKind};
 use sr_actor::Actor;
 use sr_ask::Item;
 use sr_core::Classes;
 use sr_journal::Header;
 use sr_plain::Passes;
 use sr_ports::{Sink, Source};
-use sr_run::{Run, RunEnd, Stretch, run, run_in_rounds};
+use sr_run::{LimitKind as RunLimit, Run, RunEnd, Stretch, run, run_in_rounds};
 use sr_value::Row;
 use sr_world::End;
 use std::alloc::Global;
@@ -121,6 +121,17 @@ fn made_by<A: Actor, I: Source, O: Sink>(
     }
 }
 
+/// The limit of a run.
+fn limit_of(kind: RunLimit) -> LimitKind
+    ensures { result ≡ causes.limit_of kind }
+{
+    match kind {
+        RunLimit::Steps => LimitKind::Steps,
+        RunLimit::Ticks(process) => LimitKind::Ticks(process),
+        RunLimit::Input => LimitKind::Input,
+    }
+}
+
 /// The ending of a call whose run ended so.
 fn ending_of(end: RunEnd) -> Ending
     ensures { result ≡ causes.ending_of end }
@@ -129,7 +140,7 @@ fn ending_of(end: RunEnd) -> Ending
         RunEnd::Ended(End::Quiet) => Ending::Quiet,
         RunEnd::Ended(End::Stopped(status)) => Ending::Stopped(status),
         RunEnd::Ended(End::Failed { fault, place }) => Ending::Failed { fault, place },
-        RunEnd::Limit(kind) => Ending::Limit(kind),
+        RunEnd::Limit(kind) => Ending::Limit(limit_of(kind)),
         RunEnd::ReadFault => Ending::ReadFault,
         RunEnd::WriteFault => Ending::WriteFault,
         RunEnd::NoMemory => Ending::NoMemory,

@@ -1,10 +1,12 @@
-ghost use Rattle.std.specs.Prelude.{◌≡◌, ◌<◌, ◌≤◌, ℕ, List, IfErr, IfOk, None, Some};
+ghost use Rattle.std.specs.Prelude.{◌≡◌, ◌<◌, ◌≤◌, ℕ, List, IfErr, IfOk, None, Some, false};
 ghost use Rattle.sr_top.specs.Causes.{HasCause, call_of, devices};
 ghost use Rattle.sr_top.specs.Placing.{shown_text};
 ghost use Rattle.sr_top.specs.Programs.{core_in};
 ghost use Rattle.sr_top.specs.Reading.{reads_by};
-ghost use Rattle.sr_top.specs.Stages.{AreLines, EndsAfterJournal, EndsAfterProgram, EndsItems, EndsText, HasLinesOf, IsText, IsTextOf, inputs};
+ghost use Rattle.sr_top.specs.Replaying.{AreLines, AreSeen, is_too_long_for};
+ghost use Rattle.sr_top.specs.Stages.{EndsAfterItems, EndsAfterJournal, EndsAfterProgram, EndsItems, EndsText, HasLinesOf, HasTextOf, IsText, IsTextOf, inputs, run_of};
 ghost use Rattle.sr_top.specs.Tasks as tasks;
+ghost use Rattle.sr_top.specs.declared.question.Question.TheVariants as question;
 ghost use Rattle.sr_top.specs.declared.report.Ending.TheVariants as endings;
 
 use crate::input::whole_input;
@@ -12,26 +14,28 @@ use crate::outcome::{Outcome, without_items};
 use crate::placing::push_places;
 use crate::program::{Process, Program};
 use crate::putting::put_lines;
+use crate::question::{Question, View};
+use crate::racing::text_of_races;
 use crate::recorded::{Journal, journal_in};
-use crate::report::Ending;
+use crate::report::{Ending, LimitKind};
 use crate::told_files::program_of;
-use crate::view::View;
 use sr_ports::{Files, Sink, Source};
+use sr_races::is_too_long;
 use sr_replay::{Replayed, Snapshot, replay, snapshot_text};
 use sr_value::{NoMemory, Text};
 use std::alloc::Global;
 
-/// Replays a journal over the program in the files of these names, and puts what is to be seen after its items.
+/// Replays a journal over the program in the files of these names, and puts the lines that answer a question.
 pub fn replay_journal<F: Files, I: Source, O: Sink>(
     alloc: Global,
     journal: &Text,
     names: &[Text],
-    view: View,
+    question: Question,
     files: &mut F,
     input: &mut I,
     output: &mut O,
 ) -> Outcome
-    ensures cause { (words : List (List ℕ)) → tasks.task words ≡ Some (tasks.Replays journal.now names.now view) → HasCause
+    ensures cause { (words : List (List ℕ)) → tasks.task words ≡ Some (tasks.Replays journal.now names.now question) → HasCause
         (call_of words (F.content files.old) (reads_by (F.readings files.old) (F.faults files.old)) (reads_by (F.readings files.new) (F.faults files.new))
         (devices (I.left input.old) (I.faults input.old) (O.held output.old) (O.faults output.old))
         (devices (I.left input.new) (I.faults input.new) (O.held output.new) (O.faults output.new))
@@ -40,27 +44,27 @@ pub fn replay_journal<F: Files, I: Source, O: Sink>(
     ensures header { result.header ≡ None }
     ensures files { F.content files.new ≡ F.content files.old }
 {
-    match replayed_text(alloc, journal, names, view, files, input) {
+    match replayed_text(alloc, journal, names, question, files, input) {
         Ok(text) => without_items(alloc, put_lines(text.as_bytes(), output)),
         Err(ending) => without_items(alloc, ending),
     }
 }
 
-/// The lines of what is to be seen after the items of a journal.
+/// The lines that answer a question about a journal.
 fn replayed_text<F: Files, I: Source>(
     alloc: Global,
     journal: &Text,
     names: &[Text],
-    view: View,
+    question: Question,
     files: &mut F,
     input: &mut I,
 ) -> Result<Text, Ending>
-    ensures text { IfOk result (IsText (F.content files.old) journal.now names.now view (reads_by (F.readings files.old) (F.faults files.old)) (reads_by (F.readings files.new) (F.faults files.new)) (inputs (I.left input.old) (I.faults input.old)) (inputs (I.left input.new) (I.faults input.new))) }
-    ensures ends { IfErr result (EndsText (F.content files.old) journal.now names.now view (reads_by (F.readings files.old) (F.faults files.old)) (reads_by (F.readings files.new) (F.faults files.new)) (inputs (I.left input.old) (I.faults input.old)) (inputs (I.left input.new) (I.faults input.new))) }
+    ensures text { IfOk result (IsText (F.content files.old) journal.now names.now question (reads_by (F.readings files.old) (F.faults files.old)) (reads_by (F.readings files.new) (F.faults files.new)) (inputs (I.left input.old) (I.faults input.old)) (inputs (I.left input.new) (I.faults input.new))) }
+    ensures ends { IfErr result (EndsText (F.content files.old) journal.now names.now question (reads_by (F.readings files.old) (F.faults files.old)) (reads_by (F.readings files.new) (F.faults files.new)) (inputs (I.left input.old) (I.faults input.old)) (inputs (I.left input.new) (I.faults input.new))) }
     ensures kept { F.content files.new ≡ F.content files.old }
 {
     match journal_in(alloc, journal, files) {
-        Ok(journal) => text_of_journal(alloc, &journal, names, view, files, input),
+        Ok(journal) => text_of_journal(alloc, &journal, names, question, files, input),
         Err(ending) => Err(ending),
     }
 }
@@ -70,16 +74,51 @@ fn text_of_journal<F: Files, I: Source>(
     alloc: Global,
     journal: &Journal,
     names: &[Text],
-    view: View,
+    question: Question,
     files: &mut F,
     input: &mut I,
 ) -> Result<Text, Ending>
-    ensures text { IfOk result (IsTextOf (F.content files.old) journal.now names.now view (reads_by (F.readings files.old) (F.faults files.old)) (reads_by (F.readings files.new) (F.faults files.new)) (inputs (I.left input.old) (I.faults input.old)) (inputs (I.left input.new) (I.faults input.new))) }
-    ensures ends { IfErr result (EndsAfterJournal (F.content files.old) journal.now names.now view (reads_by (F.readings files.old) (F.faults files.old)) (reads_by (F.readings files.new) (F.faults files.new)) (inputs (I.left input.old) (I.faults input.old)) (inputs (I.left input.new) (I.faults input.new))) }
+    ensures text { IfOk result (HasTextOf (F.content files.old) journal.now names.now question (reads_by (F.readings files.old) (F.faults files.old)) (reads_by (F.readings files.new) (F.faults files.new)) (inputs (I.left input.old) (I.faults input.old)) (inputs (I.left input.new) (I.faults input.new))) }
+    ensures ends { IfErr result (EndsAfterJournal (F.content files.old) journal.now names.now question (reads_by (F.readings files.old) (F.faults files.old)) (reads_by (F.readings files.new) (F.faults files.new)) (inputs (I.left input.old) (I.faults input.old)) (inputs (I.left input.new) (I.faults input.new))) }
+    ensures kept { F.content files.new ≡ F.content files.old }
+{
+    match is_too_long_for(alloc, question, journal) {
+        Ok(long) => {
+            if long {
+                return Err(Ending::Limit(LimitKind::Items));
+            }
+            text_of_files(alloc, journal, names, question, files, input)
+        }
+        Err(_) => Err(Ending::NoMemory),
+    }
+}
+
+/// Whether a journal has more items than a question may have.
+fn is_too_long_for(alloc: Global, question: Question, journal: &Journal) -> Result<bool, NoMemory>
+    ensures { IfOk result (λ long. long ≡ is_too_long_for question journal.now.items) }
+{
+    match question {
+        Question::Seen(_) => Ok(false),
+        Question::Races => is_too_long(alloc, &journal.items),
+    }
+}
+
+/// The same for a journal whose items aren't too many.
+fn text_of_files<F: Files, I: Source>(
+    alloc: Global,
+    journal: &Journal,
+    names: &[Text],
+    question: Question,
+    files: &mut F,
+    input: &mut I,
+) -> Result<Text, Ending>
+    requires fits { is_too_long_for question journal.now.items ≡ false }
+    ensures text { IfOk result (IsTextOf (F.content files.old) journal.now names.now question (reads_by (F.readings files.old) (F.faults files.old)) (reads_by (F.readings files.new) (F.faults files.new)) (inputs (I.left input.old) (I.faults input.old)) (inputs (I.left input.new) (I.faults input.new))) }
+    ensures ends { IfErr result (EndsAfterItems (F.content files.old) journal.now names.now question (reads_by (F.readings files.old) (F.faults files.old)) (reads_by (F.readings files.new) (F.faults files.new)) (inputs (I.left input.old) (I.faults input.old)) (inputs (I.left input.new) (I.faults input.new))) }
     ensures kept { F.content files.new ≡ F.content files.old }
 {
     match program_of(alloc, &journal.header, names, files) {
-        Ok(program) => text_of_program(alloc, journal, &program, names, view, input),
+        Ok(program) => text_of_program(alloc, journal, &program, names, question, input),
         Err(ending) => Err(ending),
     }
 }
@@ -90,20 +129,40 @@ fn text_of_program<I: Source>(
     journal: &Journal,
     program: &Program,
     names: &[Text],
-    view: View,
+    question: Question,
     input: &mut I,
 ) -> Result<Text, Ending>
-    ensures lines { IfOk result (HasLinesOf (core_in program.now) journal.now names.now view (inputs (I.left input.old) (I.faults input.old)) (inputs (I.left input.new) (I.faults input.new))) }
-    ensures ends { IfErr result (EndsAfterProgram (core_in program.now) journal.now view (inputs (I.left input.old) (I.faults input.old)) (inputs (I.left input.new) (I.faults input.new))) }
+    requires fits { is_too_long_for question journal.now.items ≡ false }
+    ensures lines { IfOk result (HasLinesOf (core_in program.now) journal.now names.now question (inputs (I.left input.old) (I.faults input.old)) (inputs (I.left input.new) (I.faults input.new))) }
+    ensures ends { IfErr result (EndsAfterProgram (core_in program.now) journal.now question (inputs (I.left input.old) (I.faults input.old)) (inputs (I.left input.new) (I.faults input.new))) }
 {
     match whole_input(alloc, input) {
-        Ok(taken) => text_of_items(alloc, journal, program, names, &taken, view),
+        Ok(taken) => text_of_items(alloc, journal, program, names, &taken, question),
         Err(ending) => Err(ending),
     }
 }
 
-/// The same for an input: replays the items, and writes the lines of what is to be seen.
+/// The same for an input.
 fn text_of_items(
+    alloc: Global,
+    journal: &Journal,
+    program: &Program,
+    names: &[Text],
+    input: &Text,
+    question: Question,
+) -> Result<Text, Ending>
+    requires fits { is_too_long_for question journal.now.items ≡ false }
+    ensures lines { IfOk result (AreLines question names.now journal.now.header.steps (run_of (core_in program.now) journal.now input.now)) }
+    ensures ends { IfErr result (EndsItems question journal.now.header.steps (run_of (core_in program.now) journal.now input.now)) }
+{
+    match question {
+        Question::Seen(view) => text_of_view(alloc, journal, program, names, input, view),
+        Question::Races => text_of_races(alloc, journal, program, names, input),
+    }
+}
+
+/// The lines of what is to be seen after the first items.
+fn text_of_view(
     alloc: Global,
     journal: &Journal,
     program: &Program,
@@ -111,8 +170,8 @@ fn text_of_items(
     input: &Text,
     view: View,
 ) -> Result<Text, Ending>
-    ensures lines { IfOk result (AreLines (core_in program.now) journal.now names.now input.now view) }
-    ensures ends { IfErr result (EndsItems (core_in program.now) journal.now input.now view) }
+    ensures lines { IfOk result (AreSeen view names.now journal.now.header.steps (run_of (core_in program.now) journal.now input.now)) }
+    ensures ends { IfErr result (EndsItems (question.Seen view) journal.now.header.steps (run_of (core_in program.now) journal.now input.now)) }
 {
     let items = &journal.items;
     let header = &journal.header;

@@ -1,6 +1,6 @@
 use sr_ask::Item;
 use sr_journal::JournalFail;
-use sr_run::{LimitKind, Stretch};
+use sr_run::Stretch;
 use sr_text::Refusal;
 use sr_value::{Fault, Place, Row};
 
@@ -35,6 +35,21 @@ pub enum Ending {
     OtherFiles(u32),
     /// The item of this number in the journal, from 1, is the first that is no step.
     Illegal(u32),
+}
+
+/// A limit that was reached.
+#[derive(Clone, Copy, Debug, PartialEq, Eq)]
+pub enum LimitKind {
+    /// The steps of the run.
+    Steps,
+    /// The ticks of this process between two answers.
+    Ticks(u32),
+    /// The bytes of the input.
+    Input,
+    /// The items of a journal that is searched for races, or the processes that make them.
+    Items,
+    /// The races.
+    Races,
 }
 
 /// How far the text of a sink got.

@@ -1,4 +1,4 @@
-use crate::support::{Case, called, goes_so, silent};
+use crate::support::{Case, USAGE, called, goes_so, silent};
 use sr_ask::Item;
 use sr_ports::MemSink;
 use sr_text::{Kind, Refusal};
@@ -99,9 +99,6 @@ fn early<'a>(words: &'a [&'a str], ending: Ending, status: u8, diag: &'a [u8]) -
         ..silent(words, &EMPTY)
     }
 }
-
-const USAGE: &[u8] =
-    b"usage: sr run FILE... [--workers N] [--steps N] [--ticks N] [--journal]\n       sr check FILE...\n       sr classes FILE...\n       sr gen SEED [--workers N]\n       sr replay JOURNAL FILE... [--upto N] [--where]\n       sr fmt FILE\n";
 
 #[test]
 fn calls_with_ports_in_memory(rt: HostRuntime) -> Result<(), Fail> {

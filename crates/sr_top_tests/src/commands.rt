@@ -1,4 +1,4 @@
-use crate::support::{Case, called, called_with, goes_so, push_file, silent};
+use crate::support::{Case, USAGE, called, called_with, goes_so, push_file, silent};
 use sr_ports::{MemFiles, MemSink};
 use sr_value::{NoMemory, Row, Text};
 use std::alloc::Global;
@@ -46,9 +46,6 @@ end
 
 const CLASSES: &[u8] =
     b"Servant: getforks relforks\nServant: server\nPhilosopher: life\nmain: finished\n";
-
-const USAGE: &[u8] =
-    b"usage: sr run FILE... [--workers N] [--steps N] [--ticks N] [--journal]\n       sr check FILE...\n       sr classes FILE...\n       sr gen SEED [--workers N]\n       sr replay JOURNAL FILE... [--upto N] [--where]\n       sr fmt FILE\n";
 
 const FILES: [(&str, &[u8]); 3] = [
     ("hello.sr", HELLO),

@@ -18,6 +18,10 @@ mod limits;
 #[cfg(test)]
 mod order;
 #[cfg(test)]
+mod races;
+#[cfg(test)]
 mod replays;
+#[cfg(test)]
+mod rounds;
 #[cfg(test)]
 mod support;

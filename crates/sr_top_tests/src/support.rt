@@ -5,6 +5,10 @@ use sr_top::{Ending, Report, Side, sr_top};
 use sr_value::{NoMemory, Row, Text};
 use std::alloc::Global;
 
+/// What a call puts whose words it doesn't understand.
+pub const USAGE: &[u8] =
+    b"usage: sr run FILE... [--workers N] [--steps N] [--ticks N] [--journal]\n       sr check FILE...\n       sr classes FILE...\n       sr gen SEED [--workers N]\n       sr replay JOURNAL FILE... [--upto N] [--where]\n       sr races JOURNAL FILE...\n       sr fmt FILE\n";
+
 /// A call with ports in memory: its words and its files, and the reads of these that fail; the input, and the takes of it
 /// that fail; the puts of the output and of the journal that fail, and the most bytes of one put of each. Then what is to
 /// come: the ending, where it is looked at, the status, the number of items, the output, the diagnostic text and the bytes

@@ -14,7 +14,7 @@ use Rattle.sr_words.specs.declared.options.Flag.TheVariants.{Journal, Where}
 use Rattle.sr_words.specs.declared.options.Setting.{Setting}
 use Rattle.sr_words.specs.declared.options.Setting.TheVariants.{Workers, Steps, Ticks, Upto}
 use Rattle.sr_words.specs.declared.verb.Verb.{Verb}
-use Rattle.sr_words.specs.declared.verb.Verb.TheVariants.{Run, Check, Classes, Fmt, Gen, Replay}
+use Rattle.sr_words.specs.declared.verb.Verb.TheVariants.{Run, Check, Classes, Fmt, Gen, Replay, Races}
 
 -- what the words say: the value of each option that is given, whether `--journal` and `--where` are, and the words that are
 -- no options
@@ -125,12 +125,19 @@ gen_command t =
     (setting_number Workers t.workers)
 
 -- a journal, and 1 to 64 files
-abbrev pub replay_of : ℕ → Bool → List (List ℕ) → Option Command
-replay_of upto places [] = None
-replay_of upto places (word ∷ words) = option_map (λ files. command.Replay word files upto places) (files_of words)
+abbrev pub recorded_of : List (List ℕ) → Option (List ℕ × List (List ℕ))
+recorded_of [] = None
+recorded_of (word ∷ words) = option_map (λ files. (word, files)) (files_of words)
 
 abbrev pub replay_command : Taken → Option Command
-replay_command t = option_and_then (λ upto. replay_of upto t.places t.words) (setting_number Upto t.upto)
+replay_command t =
+    option_and_then (λ upto. option_map
+    (λ recorded. command.Replay recorded.0 recorded.1 upto t.places)
+    (recorded_of t.words))
+    (setting_number Upto t.upto)
+
+abbrev pub races_command : Taken → Option Command
+races_command t = option_map (λ recorded. command.Races recorded.0 recorded.1) (recorded_of t.words)
 
 -- the command of a name, where the words say this
 abbrev pub verb_command : Verb → Taken → Option Command
@@ -140,6 +147,7 @@ verb_command Classes t = option_map (λ files. command.Classes files) (files_of 
 verb_command Fmt t = option_map (λ file. command.Fmt file) (file_of t.words)
 verb_command Gen t = gen_command t
 verb_command Replay t = replay_command t
+verb_command Races t = races_command t
 
 -- the command of all words: the first is the name
 abbrev pub command_of : List (List ℕ) → Option Command

@@ -8,7 +8,7 @@ use Rattle.sr_words.specs.declared.options.Flag.TheVariants.{Journal, Where}
 use Rattle.sr_words.specs.declared.options.Setting.{Setting}
 use Rattle.sr_words.specs.declared.options.Setting.TheVariants.{Workers, Steps, Ticks, Upto}
 use Rattle.sr_words.specs.declared.verb.Verb.{Verb}
-use Rattle.sr_words.specs.declared.verb.Verb.TheVariants.{Run, Check, Classes, Fmt, Gen, Replay}
+use Rattle.sr_words.specs.declared.verb.Verb.TheVariants.{Run, Check, Classes, Fmt, Gen, Replay, Races}
 
 -- the options of each command
 abbrev pub options_of : Verb → List CommandOption
@@ -18,6 +18,7 @@ options_of Classes = []
 options_of Fmt = []
 options_of Gen = Number Workers ∷ []
 options_of Replay = Number Upto ∷ Switch Where ∷ []
+options_of Races = []
 
 -- what stands after the dashes of an option that takes a number
 abbrev pub setting_name : Setting → List ℕ

@@ -2,7 +2,7 @@
 use Rattle.std.specs.Prelude.{ℕ, List, codes, Option, Some, None, if◌then◌else◌}
 use Rattle.std.specs.Str.{bytes_eq}
 use Rattle.sr_words.specs.declared.verb.Verb.{Verb}
-use Rattle.sr_words.specs.declared.verb.Verb.TheVariants.{Run, Check, Classes, Fmt, Gen, Replay}
+use Rattle.sr_words.specs.declared.verb.Verb.TheVariants.{Run, Check, Classes, Fmt, Gen, Replay, Races}
 
 -- the command that is written as a word
 abbrev pub verb_of : List ℕ → Option Verb
@@ -13,4 +13,5 @@ verb_of word =
     else if bytes_eq word (codes "fmt") then Some Fmt
     else if bytes_eq word (codes "gen") then Some Gen
     else if bytes_eq word (codes "replay") then Some Replay
+    else if bytes_eq word (codes "races") then Some Races
     else None

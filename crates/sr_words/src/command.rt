@@ -44,6 +44,11 @@ pub enum Command {
         /// Whether the place of each request is told.
         places: bool,
     },
+    /// Finds the races of the run in the journal, of the program of these files.
+    Races {
+        journal: Text,
+        files: Row<Text>,
+    },
 }
 
 /// Why the words give no command.

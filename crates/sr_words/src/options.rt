@@ -47,6 +47,7 @@ pub fn options_of(verb: Verb) -> &'static [CommandOption]
             CommandOption::Number(Setting::Upto),
             CommandOption::Switch(Flag::Where),
         ],
+        Verb::Races => &[],
     }
 }
 

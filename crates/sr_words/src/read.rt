@@ -83,6 +83,7 @@ fn verb_command(alloc: Global, verb: Verb, matches: &ArgMatches<'_>) -> Result<C
         }),
         Verb::Gen => gen_command(matches),
         Verb::Replay => replay_command(alloc, matches),
+        Verb::Races => races_command(alloc, matches),
     }
 }
 
@@ -131,41 +132,45 @@ fn replay_command(alloc: Global, matches: &ArgMatches<'_>) -> Result<Command, Wo
     let Some(upto) = number_of(Setting::Upto, matches) else {
         return Err(WordsFail::Usage);
     };
-    replay_of(alloc, upto, has_flag(Flag::Where, matches), matches)
+    let (journal, files) = recorded_of(alloc, matches)?;
+    Ok(Command::Replay {
+        journal,
+        files,
+        upto,
+        places: has_flag(Flag::Where, matches),
+    })
 }
 
-/// The replay of the words that are no options.
-fn replay_of(
-    alloc: Global,
-    upto: u32,
-    places: bool,
-    matches: &ArgMatches<'_>,
-) -> Result<Command, WordsFail>
-    ensures command { IfOk result (λ command. commands.replay_of upto places (arguments.taken_from matches.now).words ≡ Some command) }
-    ensures usage { result ≡ Err fails.Usage → commands.replay_of upto places (arguments.taken_from matches.now).words ≡ None }
+fn races_command(alloc: Global, matches: &ArgMatches<'_>) -> Result<Command, WordsFail>
+    ensures command { IfOk result (λ command. commands.races_command (arguments.taken_from matches.now) ≡ Some command) }
+    ensures usage { result ≡ Err fails.Usage → commands.races_command (arguments.taken_from matches.now) ≡ None }
+{
+    let (journal, files) = recorded_of(alloc, matches)?;
+    Ok(Command::Races { journal, files })
+}
+
+/// The journal and the files of a command.
+fn recorded_of(alloc: Global, matches: &ArgMatches<'_>) -> Result<(Text, Row<Text>), WordsFail>
+    ensures recorded { IfOk result (λ recorded. commands.recorded_of (arguments.taken_from matches.now).words ≡ Some recorded) }
+    ensures usage { result ≡ Err fails.Usage → commands.recorded_of (arguments.taken_from matches.now).words ≡ None }
 {
     match matches.get_raw("word") {
         None => Err(WordsFail::Usage),
-        Some(words) => replay_in(alloc, upto, places, words),
+        Some(words) => recorded_in(alloc, words),
     }
 }
 
-/// The replay of the journal that is the first word.
-fn replay_in(alloc: Global, upto: u32, places: bool, words: &[&str]) -> Result<Command, WordsFail>
-    ensures command { IfOk result (λ command. commands.replay_of upto places (map (λ word. word.now) words.now) ≡ Some command) }
-    ensures usage { result ≡ Err fails.Usage → commands.replay_of upto places (map (λ word. word.now) words.now) ≡ None }
+/// The journal is the first word, and the others are the files.
+fn recorded_in(alloc: Global, words: &[&str]) -> Result<(Text, Row<Text>), WordsFail>
+    ensures recorded { IfOk result (λ recorded. commands.recorded_of (map (λ word. word.now) words.now) ≡ Some recorded) }
+    ensures usage { result ≡ Err fails.Usage → commands.recorded_of (map (λ word. word.now) words.now) ≡ None }
 {
     match words {
         [] => Err(WordsFail::Usage),
         [journal, words @ ..] => {
             let files = files_in(alloc, words)?;
             let journal = Text::from_slice(alloc, journal.as_bytes())?;
-            Ok(Command::Replay {
-                journal,
-                files,
-                upto,
-                places,
-            })
+            Ok((journal, files))
         }
     }
 }

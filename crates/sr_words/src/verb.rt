@@ -10,6 +10,7 @@ pub enum Verb {
     Fmt,
     Gen,
     Replay,
+    Races,
 }
 
 /// The command that is written as this word.
@@ -28,6 +29,8 @@ pub fn verb_of(word: &[u8]) -> Option<Verb>
         Some(Verb::Gen)
     } else if word == b"replay".as_slice() {
         Some(Verb::Replay)
+    } else if word == b"races".as_slice() {
+        Some(Verb::Races)
     } else {
         None
     }

@@ -11,6 +11,7 @@ use Rattle.sr_top.specs.Causes.{Call, HasCause, call_of, devices}
 use Rattle.sr_top.specs.Journal.{CanBeAsked, EndsBeforeRun, HasHeaderIf, without}
 use Rattle.sr_top.specs.Tasks.{Checks, ListsClasses, Named, Replays, Runs, keeps_journal}
 use Rattle.sr_top.specs.Reading.{reads_by}
+use Rattle.sr_top.specs.declared.question.Question.TheVariants as question
 use Rattle.sr_top.proofs.obeying.obey.Goals as goal
 
 pub returns-in-Run-clause-cause : goal.returns-in-Run-clause-cause
@@ -105,7 +106,7 @@ returns-in-Replay-clause-cause g c = λ words told.
     (devices (g.I.Source.left c.replay_journal-outcome.new.input) (g.I.Source.faults c.replay_journal-outcome.new.input) (g.O.Sink.held c.replay_journal-outcome.new.output) (g.O.Sink.faults c.replay_journal-outcome.new.output)) in
     handed_on (λ items rounds ending header. HasCause (call items rounds) ending) _ _ _ _ _ _ _ _ c.named-in-Replay.ensures.items c.named-in-Replay.ensures.rounds c.named-in-Replay.ensures.ending c.named-in-Replay.ensures.header
     (c.replay_journal-outcome.ensures.cause words
-    (task_is words _ _ _ told c.in-Replay.is refl ∙ ap (λ names. Some (Replays c.in-Replay.journal names (record { upto = c.in-Replay.upto; places = c.in-Replay.places }))) (sym c.as_slice-in-Replay.ensures)))
+    (task_is words _ _ _ told c.in-Replay.is refl ∙ ap (λ names. Some (Replays c.in-Replay.journal names (question.Seen (record { upto = c.in-Replay.upto; places = c.in-Replay.places })))) (sym c.as_slice-in-Replay.ensures)))
 
 pub returns-in-Replay-clause-header : goal.returns-in-Replay-clause-header
 returns-in-Replay-clause-header g c = λ words told.
@@ -116,6 +117,27 @@ returns-in-Replay-clause-in_range g c = λ words told. subst (λ o. IfSome o (λ
 
 pub returns-in-Replay-clause-names : goal.returns-in-Replay-clause-names
 returns-in-Replay-clause-names g c = λ words told. named_as words c.named-in-Replay.result.names c.named-in-Replay.result.replayed _ _ (task_is words _ _ _ told c.in-Replay.is refl) c.named-in-Replay.ensures.names c.named-in-Replay.ensures.replayed
+
+pub returns-in-Races-clause-cause : goal.returns-in-Races-clause-cause
+returns-in-Races-clause-cause g c = λ words told.
+    let call : List Item → List Stretch → Call =
+    call_of words (g.F.Files.content c.args.files.now)
+    (reads_by (g.F.Files.readings c.args.files.now) (g.F.Files.faults c.args.files.now)) (reads_by (g.F.Files.readings c.replay_journal-outcome-in-Races.new.files) (g.F.Files.faults c.replay_journal-outcome-in-Races.new.files))
+    (devices (g.I.Source.left c.args.input.now) (g.I.Source.faults c.args.input.now) (g.O.Sink.held c.args.output.now) (g.O.Sink.faults c.args.output.now))
+    (devices (g.I.Source.left c.replay_journal-outcome-in-Races.new.input) (g.I.Source.faults c.replay_journal-outcome-in-Races.new.input) (g.O.Sink.held c.replay_journal-outcome-in-Races.new.output) (g.O.Sink.faults c.replay_journal-outcome-in-Races.new.output)) in
+    handed_on (λ items rounds ending header. HasCause (call items rounds) ending) _ _ _ _ _ _ _ _ c.named-in-Races.ensures.items c.named-in-Races.ensures.rounds c.named-in-Races.ensures.ending c.named-in-Races.ensures.header
+    (c.replay_journal-outcome-in-Races.ensures.cause words
+    (task_is words _ _ _ told c.in-Races.is refl ∙ ap (λ names. Some (Replays c.in-Races.journal names question.Races)) (sym c.as_slice-in-Races.ensures)))
+
+pub returns-in-Races-clause-header : goal.returns-in-Races-clause-header
+returns-in-Races-clause-header g c = λ words told.
+    subst (HasHeaderIf _ _) (sym (c.named-in-Races.ensures.header ∙ c.replay_journal-outcome-in-Races.ensures.header)) (without (inl (ap (λ t. unwrap_or (option_map keeps_journal t) false) (task_is words _ _ _ told c.in-Races.is refl))))
+
+pub returns-in-Races-clause-in_range : goal.returns-in-Races-clause-in_range
+returns-in-Races-clause-in_range g c = λ words told. subst (λ o. IfSome o (λ h. IsInRange h c.named-in-Races.result.items)) (sym (c.named-in-Races.ensures.header ∙ c.replay_journal-outcome-in-Races.ensures.header)) tt
+
+pub returns-in-Races-clause-names : goal.returns-in-Races-clause-names
+returns-in-Races-clause-names g c = λ words told. named_as words c.named-in-Races.result.names c.named-in-Races.result.replayed _ _ (task_is words _ _ _ told c.in-Races.is refl) c.named-in-Races.ensures.names c.named-in-Races.ensures.replayed
 
 pub returns-in-Gen-clause-header : goal.returns-in-Gen-clause-header
 returns-in-Gen-clause-header g c = λ words told.

@@ -1,3 +1,12 @@
+/// What is asked of a journal.
+#[derive(Clone, Copy)]
+pub enum Question {
+    /// What is to be seen after its first items.
+    Seen(View),
+    /// Which of its accesses race.
+    Races,
+}
+
 /// What of a replay is to be seen.
 #[derive(Clone, Copy)]
 pub struct View {

@@ -1,23 +1,29 @@
 -- What the replay came to, and its lines.
-use Rattle.std.proofs.Common.{◌∙◌, ap, length, min, subst}
+use Rattle.std.proofs.Common.{◌∙◌, ap, min, subst}
 use Rattle.sr_replay.specs.Replays.{Replays}
-use Rattle.sr_top.proofs.Replayed.{min_is, no_shown_as, shown_as}
+use Rattle.sr_top.proofs.Replayed.{min_is, out_of_memory_as, seen_as}
 use Rattle.sr_top.specs.Programs.{core_in}
-use Rattle.sr_top.proofs.replaying.text_of_items.Goals as goal
+use Rattle.sr_top.specs.Replaying.{ReplaysTo}
+use Rattle.sr_top.specs.Stages.{run_of}
+use Rattle.sr_top.specs.declared.question.Question.TheVariants as question
+use Rattle.sr_top.proofs.replaying.text_of_view.Goals as goal
 
 pub returns-in-Ok-Reached-clause-lines : goal.returns-in-Ok-Reached-clause-lines
 returns-in-Ok-Reached-clause-lines c =
     let core = core_in c.args.program.now in
     let journal = c.args.journal.now in
     let header = journal.header in
+    let run = run_of core journal c.args.input.now in
     let few = min_is c.fewer-upto.result c.args.view.upto c.len.result c.fewer-upto.ensures.one c.fewer-upto.ensures.other ∙ ap (min c.args.view.upto) c.len.ensures in
-    shown_as core journal c.args.names.now c.args.input.now c.args.view c.in-Ok-Reached.snapshot c.lines_of.result
-    (subst (Replays core header.steps header.ticks c.args.input.now journal.items (min c.args.view.upto (length journal.items))) c.in-Ok-Reached.field-0-is
+    seen_as c.args.names.now header.steps run c.args.view c.in-Ok-Reached.snapshot c.lines_of.result
+    (subst (ReplaysTo c.args.view header.steps run) c.in-Ok-Reached.field-0-is
     (subst (λ n. Replays core header.steps header.ticks c.args.input.now journal.items n c.in-Ok-Reached.field-0) few c.in-Ok-Reached.ensures))
     c.lines_of.ensures.lines
 
 pub returns-in-Ok-Reached-clause-ends : goal.returns-in-Ok-Reached-clause-ends
-returns-in-Ok-Reached-clause-ends c = no_shown_as (core_in c.args.program.now) c.args.journal.now c.args.names.now c.args.input.now c.args.view c.lines_of.result c.lines_of.ensures.ends
+returns-in-Ok-Reached-clause-ends c =
+    let journal = c.args.journal.now in
+    out_of_memory_as c.args.names.now journal.header.steps (run_of (core_in c.args.program.now) journal c.args.input.now) (question.Seen c.args.view) c.lines_of.result c.lines_of.ensures.ends
 
 pub returns-in-Ok-Illegal-clause-ends : goal.returns-in-Ok-Illegal-clause-ends
 returns-in-Ok-Illegal-clause-ends c =
@@ -25,5 +31,5 @@ returns-in-Ok-Illegal-clause-ends c =
     let journal = c.args.journal.now in
     let header = journal.header in
     let few = min_is c.fewer-upto.result c.args.view.upto c.len.result c.fewer-upto.ensures.one c.fewer-upto.ensures.other ∙ ap (min c.args.view.upto) c.len.ensures in
-    subst (Replays core header.steps header.ticks c.args.input.now journal.items (min c.args.view.upto (length journal.items))) c.in-Ok-Illegal.field-0-is
+    subst (ReplaysTo c.args.view header.steps (run_of core journal c.args.input.now)) c.in-Ok-Illegal.field-0-is
     (subst (λ n. Replays core header.steps header.ticks c.args.input.now journal.items n c.in-Ok-Illegal.field-0) few c.in-Ok-Illegal.ensures)
