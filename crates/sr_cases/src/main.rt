@@ -1,18 +1,20 @@
 //! The program `sr_cases`: compares what the parts of the compiler say of the cases in files, and what programs do, with
 //! what is written there. Its words are the names of the files. It prints a line for each file, and each case that
 //! differs. In the files of `runs` are programs with what they do; long lists in them are written short. A word
-//! `NAME.sr` is a program by itself, whose output stands in `NAME.out`.
+//! `NAME.sr` is a program by itself, which stands in the one style, and whose output stands in `NAME.out`.
 #![tactic(auto)]
 
 mod calls;
 mod checks;
 mod cores;
 mod divided;
+mod layouts;
 mod programs;
 mod repeats;
 mod subject;
 mod telling;
 
+use crate::layouts::is_laid_out;
 use crate::subject::Subject;
 use sr_value::NoMemory;
 use std::alloc::Global;
@@ -39,9 +41,12 @@ fn report<R: Files + AllocGlobal + Print>(rt: &R, name: &str) -> io::Result<()> 
     }
 }
 
-/// Prints whether an example writes what stands beside it.
+/// Prints whether an example stands in the one style and writes what stands beside it.
 fn try_example<R: Files + AllocGlobal + Print>(rt: &R, name: &str, stem: &str) -> io::Result<()> {
     let text = fs::read_to_string(rt, name)?;
+    if !is_laid_out(rt.alloc(), text.as_bytes()) {
+        return println!(rt; "{name}: isn't in the one style");
+    }
     let output = format!(in rt.alloc(); "{stem}.out")?;
     let wanted = fs::read_to_string(rt, output.as_str())?;
     match calls::writes(rt.alloc(), name, text.as_str(), wanted.as_str()) {

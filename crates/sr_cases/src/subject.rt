@@ -1,6 +1,6 @@
 //! What the cases of a file are about.
 
-use crate::{checks, cores};
+use crate::{checks, cores, layouts};
 use sr_case_files::{Case, CaseFile, Tally, cases_in};
 use sr_case_reports::{tell_edit, tell_names};
 use sr_case_trees::{Fragment, tell_fragment, tell_limits, tell_tokens};
@@ -13,6 +13,7 @@ use std::alloc::Global;
 pub enum Subject {
     Tokens,
     Limits,
+    Layouts,
     Expressions,
     Types,
     Files,
@@ -33,6 +34,7 @@ impl Subject {
         match name {
             "tokens.txt" => Some(Subject::Tokens),
             "limits.txt" => Some(Subject::Limits),
+            "layouts.txt" => Some(Subject::Layouts),
             "expressions.txt" => Some(Subject::Expressions),
             "types.txt" => Some(Subject::Types),
             "files.txt" => Some(Subject::Files),
@@ -59,6 +61,7 @@ impl Subject {
         match self {
             Subject::Tokens => tell_tokens(alloc, case),
             Subject::Limits => tell_limits(alloc, case),
+            Subject::Layouts => layouts::tell_layout(alloc, case),
             Subject::Expressions => tell_fragment(alloc, Fragment::Expr, case),
             Subject::Types => tell_fragment(alloc, Fragment::Type, case),
             Subject::Names => tell_names(alloc, case),

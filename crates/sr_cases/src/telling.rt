@@ -10,7 +10,7 @@ use std::alloc::{AllocError, Global};
 const ITEMS_A_LINE: usize = 20;
 
 /// Puts lines of bytes at the end of a text, each after a mark.
-fn push_lines(text: &mut String, mark: &str, bytes: &[u8]) -> Result<(), AllocError> {
+pub fn push_lines(text: &mut String, mark: &str, bytes: &[u8]) -> Result<(), AllocError> {
     let mut begins = true;
     for byte in bytes {
         if begins {
