@@ -12,5 +12,6 @@ pub mod PathLemmas
 pub mod RaceLemmas
 pub mod SearchLemmas
 pub mod StandLemmas
+pub mod TraceLemmas
 pub mod WalkLemmas
 pub mod WholeLemmas

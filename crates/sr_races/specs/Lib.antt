@@ -5,4 +5,6 @@ pub mod Links
 pub mod Origins
 pub mod Races
 pub mod Searches
+pub mod Traces
+pub mod Trails
 pub mod Walks

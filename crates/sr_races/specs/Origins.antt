@@ -88,3 +88,15 @@ origins_in origins process request answered global =
     ++ (listed (made_if (last_in origins.lasts process) (last_in origins.makers process))
     ++ (listed (only_if (is_select request) (last_in origins.makers answered))
     ++ (listed (only_if (is_take request) (last_in origins.answerers answered)) ++ listed (last_in origins.readiers global)))))
+
+-- ---- the item after which a step comes
+
+abbrev pub first_some : Option ℕ → Option ℕ → Option ℕ
+first_some None second = second
+first_some (Some item) second = Some item
+
+-- the item that made the invocation which it services, the reply which it takes, or the instance ready for which it asks
+abbrev pub after_in : Origins → Request → ℕ → ℕ → Option ℕ
+after_in origins request answered global =
+    first_some (only_if (is_select request) (last_in origins.makers answered))
+    (first_some (only_if (is_take request) (last_in origins.answerers answered)) (last_in origins.readiers global))

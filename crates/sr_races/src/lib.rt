@@ -1,4 +1,4 @@
-//! Races of a run: accesses of shared variables that conflict, and neither is before the other.
+//! Races of a run: accesses of shared variables that conflict, and neither is before the other. And the rows of its trace.
 #![tactic(auto)]
 
 mod access;
@@ -8,6 +8,8 @@ mod link;
 mod origins;
 mod race;
 mod search;
+mod tracing;
+mod trail;
 mod walk;
 mod whole;
 
@@ -15,4 +17,5 @@ pub use access::{Access, accesses_by, conflict};
 pub use laws::{before_comes_earlier, earlier_items_are_before_too};
 pub use link::LinkKind;
 pub use race::{Race, Raced};
+pub use tracing::{Traces, trace};
 pub use whole::{is_too_long, races};

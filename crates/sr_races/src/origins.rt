@@ -1,8 +1,9 @@
 ghost use Rattle.std.specs.Prelude.{◌≡◌, ◌==◌, ◌&&◌, ◌+◌, ◌++◌, IfOk, OnOk, not};
+ghost use Rattle.sr_clock_rows.specs.Lasts.{last_in};
 ghost use Rattle.sr_races.specs.Items.{Run, actor_at, number_at};
 ghost use Rattle.sr_races.specs.Links.{ends_all as ends_all_of, is_stop as is_stop_of, is_take as is_take_of};
 ghost use Rattle.sr_world.specs.Deciding.{is_select as is_select_of};
-ghost use Rattle.sr_races.specs.Origins.{AreOrigins, closing_if as closing_if_of, duty_at, listed, made_if as made_if_of, only_if as only_if_of, origins_in, readied_at};
+ghost use Rattle.sr_races.specs.Origins.{AreOrigins, after_in, closing_if as closing_if_of, duty_at, first_some as first_some_of, listed, made_if as made_if_of, only_if as only_if_of, origins_in, readied_at};
 
 use sr_ask::Request;
 use sr_clock_rows::Lasts;
@@ -62,13 +63,10 @@ impl Origins {
         ensures { IfOk result (λ origins. origins ≡ origins_in self.now process request.now answered global) }
     {
         let last = self.lasts.of(process);
-        let of_process = self.makers.of(process);
-        let of_answered = self.makers.of(answered);
-        let answerer = self.answerers.of(answered);
+        let maker = self.maker(process);
+        let service = self.service(request, answered);
+        let answer = self.answer(request, answered);
         let readier = self.readiers.of(global);
-        let maker = made_if(last, of_process);
-        let service = only_if(is_select(request), of_answered);
-        let answer = only_if(is_take(request), answerer);
         six(alloc, self.closing, last, maker, service, answer, readier)
     }
 
@@ -79,6 +77,39 @@ impl Origins {
         let mut items = Row::new(alloc);
         push_some(&mut items, self.closing)?;
         Ok(items)
+    }
+
+    /// The item that made a process, where that makes its first item.
+    pub fn maker(&self, process: u32) -> Option<u32>
+        ensures { result ≡ made_if_of (last_in self.now.lasts process) (last_in self.now.makers process) }
+    {
+        made_if(self.lasts.of(process), self.makers.of(process))
+    }
+
+    /// The item that made the invocation that a step services.
+    fn service(&self, request: &Request, answered: u32) -> Option<u32>
+        ensures { result ≡ only_if_of (is_select_of request.now) (last_in self.now.makers answered) }
+    {
+        only_if(is_select(request), self.makers.of(answered))
+    }
+
+    /// The item that made the reply that a step takes.
+    fn answer(&self, request: &Request, answered: u32) -> Option<u32>
+        ensures { result ≡ only_if_of (is_take_of request.now) (last_in self.now.answerers answered) }
+    {
+        only_if(is_take(request), self.answerers.of(answered))
+    }
+
+    /// The item that made the invocation that a step services, or the reply that it takes, or with which the instance became
+    /// ready that it asks for.
+    pub fn after(&self, request: &Request, answered: u32, global: u32) -> Option<u32>
+        ensures { result ≡ after_in self.now request.now answered global }
+    {
+        let service = self.service(request, answered);
+        let answer = self.answer(request, answered);
+        let readier = self.readiers.of(global);
+        let other = first_some(answer, readier);
+        first_some(service, other)
     }
 
     /// Notes what the next item leaves.
@@ -137,6 +168,16 @@ fn closing_if(ends: bool, item: u32, closing: Option<u32>) -> Option<u32>
     ensures { result ≡ closing_if_of ends item closing }
 {
     if ends { Some(item) } else { closing }
+}
+
+/// The first of two items, where there is one.
+fn first_some(first: Option<u32>, second: Option<u32>) -> Option<u32>
+    ensures { result ≡ first_some_of first second }
+{
+    match first {
+        Some(_) => first,
+        None => second,
+    }
 }
 
 /// An item, where the test passes.

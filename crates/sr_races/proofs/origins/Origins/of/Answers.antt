@@ -1,4 +1,4 @@
-use Rattle.std.proofs.Common.{◌∙◌, ap}
+use Rattle.std.proofs.Common.{◌∙◌}
 use Rattle.sr_clock_rows.specs.Lasts.{last_in}
 use Rattle.sr_replay.proofs.CrewLemmas.{if_ok}
 use Rattle.sr_races.proofs.OriginLemmas.{six-same}
@@ -19,11 +19,7 @@ returns c =
     if_ok c.six.result
     (λ items is.
     is
-    ∙ six-same origins.closing c.of-last.result c.made_if-maker.result c.only_if-service.result c.only_if-answer.result c.of-readier.result
+    ∙ six-same origins.closing c.of-last.result c.maker-maker.result c.service-service.result c.answer-answer.result c.of-readier.result
     last (made_if last made) (only_if (is_select request) service) (only_if (is_take request) answer) ready
-    c.of-last.ensures
-    (c.made_if-maker.ensures ∙ ap (λ o. made_if o c.of-of_process.result) c.of-last.ensures ∙ ap (λ o. made_if last o) c.of-of_process.ensures)
-    (c.only_if-service.ensures ∙ ap (λ b. only_if b c.of-of_answered.result) c.is_select.ensures ∙ ap (λ o. only_if (is_select request) o) c.of-of_answered.ensures)
-    (c.only_if-answer.ensures ∙ ap (λ b. only_if b c.of-answerer.result) c.is_take.ensures ∙ ap (λ o. only_if (is_take request) o) c.of-answerer.ensures)
-    c.of-readier.ensures)
+    c.of-last.ensures c.maker-maker.ensures c.service-service.ensures c.answer-answer.ensures c.of-readier.ensures)
     c.six.ensures

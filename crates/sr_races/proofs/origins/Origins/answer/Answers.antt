@@ -1,0 +1,7 @@
+use Rattle.std.proofs.Common.{◌∙◌, ap}
+use Rattle.sr_races.specs.Origins.{only_if}
+use Rattle.sr_races.specs.Links.{is_take}
+use Rattle.sr_races.proofs.origins.Origins.answer.Goals as goal
+
+pub returns : goal.returns
+returns c = c.only_if.ensures ∙ ap (λ b. only_if b c.of.result) c.is_take.ensures ∙ ap (λ o. only_if (is_take c.args.request.now) o) c.of.ensures
