@@ -31,6 +31,7 @@ fn head_of(alloc: Global, command: &Command) -> Result<String, NoMemory> {
         Command::Gen { seed, workers } => Ok(format!(in alloc; "gen {seed} {workers}")?),
         Command::Replay { upto, places, .. } => Ok(format!(in alloc; "replay {upto} {places}")?),
         Command::Races { .. } => Ok(format!(in alloc; "races")?),
+        Command::Trace { upto, picture, .. } => Ok(format!(in alloc; "trace {upto} {picture}")?),
     }
 }
 
@@ -63,7 +64,9 @@ fn shown(alloc: Global, command: &Command) -> Result<Text, NoMemory> {
         }
         Command::Fmt { file } => add_file(&mut shown, file)?,
         Command::Gen { .. } => {}
-        Command::Replay { journal, files, .. } | Command::Races { journal, files } => {
+        Command::Replay { journal, files, .. }
+        | Command::Races { journal, files }
+        | Command::Trace { journal, files, .. } => {
             add_journal(&mut shown, journal, files.as_slice())?
         }
     }
@@ -81,7 +84,7 @@ fn gives(alloc: Global, line: &str, wanted: &str) -> Result<bool, NoMemory> {
 }
 
 /// Lines, and the commands that they give.
-const RIGHT: [(&str, &str); 45] = [
+const RIGHT: [(&str, &str); 47] = [
     ("run a.sr", "run 1 1000000 10000000 false a.sr"),
     ("run a.sr b.sr", "run 1 1000000 10000000 false a.sr b.sr"),
     ("run a.sr a.sr", "run 1 1000000 10000000 false a.sr a.sr"),
@@ -166,10 +169,18 @@ const RIGHT: [(&str, &str); 45] = [
     ),
     ("races a.journal a.sr b.sr", "races a.journal a.sr b.sr"),
     ("races -- -j a.sr", "races -j a.sr"),
+    (
+        "trace a.journal a.sr",
+        "trace 16000000 false a.journal a.sr",
+    ),
+    (
+        "trace a.journal --picture a.sr b.sr --upto 5",
+        "trace 5 true a.journal a.sr b.sr",
+    ),
 ];
 
 /// Lines that give no command.
-const WRONG: [&str; 80] = [
+const WRONG: [&str; 86] = [
     "",
     "run",
     "run --",
@@ -248,6 +259,12 @@ const WRONG: [&str; 80] = [
     "races a.journal",
     "races a.journal a.sr --upto 5",
     "races a.journal a.sr --where",
+    "trace",
+    "trace a.journal",
+    "trace a.journal a.sr --picture --picture",
+    "trace a.journal a.sr --where",
+    "replay a.journal a.sr --picture",
+    "run a.sr --picture",
     "run a.sr --where",
     "run a.sr --upto 5",
 ];

@@ -4,7 +4,7 @@ use Rattle.std.specs.Option.{option_map}
 use Rattle.std.proofs.lemmas.Bool.{leb-true}
 use Rattle.std.proofs.lemmas.Option.{option_and_then_some}
 use Rattle.sr_top.specs.Journal.{CanBeAsked}
-use Rattle.sr_words.specs.Commands.{Taken, command_of, default_of, file_of, files_of, gen_command, least_of, most_of, races_command, recorded_of, replay_command, run_command, seed_of, setting_number, taken_of, verb_command}
+use Rattle.sr_words.specs.Commands.{Taken, command_of, default_of, file_of, files_of, gen_command, least_of, most_of, races_command, recorded_of, replay_command, run_command, seed_of, setting_number, taken_of, trace_command, verb_command}
 use Rattle.sr_words.specs.Verbs.{verb_of}
 use Rattle.sr_words.specs.Numbers.{is_number, number_within, value_of}
 use Rattle.sr_words.specs.declared.command.Command.{Command}
@@ -12,7 +12,7 @@ use Rattle.sr_words.specs.declared.command.Command.TheVariants as command
 use Rattle.sr_words.specs.declared.options.Setting.{Setting}
 use Rattle.sr_words.specs.declared.options.Setting.TheVariants.{Workers, Steps, Ticks, Upto}
 use Rattle.sr_words.specs.declared.verb.Verb.{Verb}
-use Rattle.sr_words.specs.declared.verb.Verb.TheVariants.{Run, Check, Classes, Fmt, Gen, Replay, Races}
+use Rattle.sr_words.specs.declared.verb.Verb.TheVariants.{Run, Check, Classes, Fmt, Gen, Replay, Races, Trace}
 
 -- ---- values that are there
 
@@ -100,6 +100,11 @@ module _ (names : List (List ℕ)) (workers steps ticks : ℕ) (journal : Bool) 
   no-races : (t : Taken) → races_command t ≡ Some asked → ⊥
   no-races t is = let found = mapped (λ recorded. command.Races recorded.0 recorded.1) (recorded_of t.words) asked is in absurd (cc)
 
+  no-trace : (t : Taken) → trace_command t ≡ Some asked → ⊥
+  no-trace t is =
+      option_and_then_some _ (setting_number Upto t.upto) asked is (λ upto has more.
+      let found = mapped (λ recorded. command.Trace recorded.0 recorded.1 upto t.picture) (recorded_of t.words) asked more in absurd (cc))
+
   no-fmt : (t : Taken) → option_map (λ file. command.Fmt file) (file_of t.words) ≡ Some asked → ⊥
   no-fmt t is = let found = mapped (λ file. command.Fmt file) (file_of t.words) asked is in absurd (cc)
 
@@ -110,6 +115,7 @@ module _ (names : List (List ℕ)) (workers steps ticks : ℕ) (journal : Bool) 
   by-verb Gen t is = absurd (no-gen t is)
   by-verb Replay t is = absurd (no-replay t is)
   by-verb Races t is = absurd (no-races t is)
+  by-verb Trace t is = absurd (no-trace t is)
   by-verb Fmt t is = absurd (no-fmt t is)
 
   pub can_be_asked : (words : List (List ℕ)) → command_of words ≡ Some asked → CanBeAsked names steps ticks

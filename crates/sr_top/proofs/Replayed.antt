@@ -11,6 +11,7 @@ use Rattle.sr_races.specs.Items.{Run}
 use Rattle.sr_races.specs.Races.{Races}
 use Rattle.sr_races.specs.declared.race.Race.{Race}
 use Rattle.sr_races.specs.declared.race.Raced.TheVariants as raced
+use Rattle.sr_races.specs.declared.tracing.Traces.TheVariants as traces
 use Rattle.sr_replay.specs.declared.snapshot.Snapshot.{Snapshot}
 use Rattle.sr_replay.specs.declared.whole.Replayed.TheVariants as replayed
 use Rattle.sr_top.proofs.Endings.{devices_same}
@@ -18,16 +19,19 @@ use Rattle.sr_top.specs.Causes.{Call, HasCause, HasNoItems, PutsNothing, RunsNot
 use Rattle.sr_top.specs.Placing.{shown_text}
 use Rattle.sr_top.specs.Racing.{races_text}
 use Rattle.sr_top.specs.Reading.{FailsAt, Reads, reads_after}
-use Rattle.sr_top.specs.Replaying.{AreBytesOf, AreLines, AreRacesOf, AreSeen, AsksReplay, HasAnswer, HasInput, HasItems, HasJournal, HasProgram, IsWhole, ReadsJournal, ReplaysTo, is_too_long_for}
+use Rattle.sr_top.specs.Replaying.{AreBytesOf, AreLines, AreRacesOf, AreSeen, AreTracedOf, AsksReplay, HasAnswer, HasInput, HasItems, HasJournal, HasProgram, IsWhole, ReadsJournal, ReplaysTo, TracesTo, is_too_long_for}
 use Rattle.sr_top.specs.Stages.{AreProgram, EndsAfterItems, EndsAfterJournal, EndsAfterProgram, EndsInput, EndsItems, EndsJournal, EndsLong, EndsProgram, EndsText, HasLinesOf, HasTextOf, Inputs, IsJournalOf, IsText, IsTextOf, Told, inputs, run_of}
 use Rattle.sr_top.specs.Tasks as tasks
+use Rattle.sr_top.specs.Tracing.{EndsTold, told_text}
 use Rattle.sr_top.specs.declared.report.LimitKind.TheVariants as limit
 use Rattle.sr_top.specs.declared.recorded.Journal.{Journal}
 use Rattle.sr_top.specs.declared.report.Ending.{Ending}
 use Rattle.sr_top.specs.declared.report.Ending.TheVariants.{Done, Quiet, Stopped, Failed, Limit, Refused, NoFile, ReadFault, WriteFault, NoMemory, Usage, BadJournal, OtherFiles, Illegal}
 use Rattle.sr_top.specs.declared.question.Question.{Question}
 use Rattle.sr_top.specs.declared.question.Question.TheVariants as question
+use Rattle.sr_top.specs.declared.question.Tracing.{Tracing}
 use Rattle.sr_top.specs.declared.question.View.{View}
+use Rattle.sr_trace.specs.declared.traced.Traced.{Traced}
 
 -- ---- counts of reads
 
@@ -95,7 +99,7 @@ module _ (call : Call) (name : List ℕ) (names : List (List ℕ)) (question : Q
   long_ended journal is same nothing (Limit limit.Steps) ends = absurd ends
   long_ended journal is same nothing (Limit (limit.Ticks process)) ends = absurd ends
   long_ended journal is same nothing (Limit limit.Input) ends = absurd ends
-  long_ended journal is same nothing (Limit limit.Items) ends = record { has = journal_of journal is; long = ends; no_fault = same; nothing = nothing }
+  long_ended journal is same nothing (Limit limit.Items) ends = inl (record { has = journal_of journal is; long = ends; no_fault = same; nothing = nothing })
   long_ended journal is same nothing (Limit limit.Races) ends = absurd ends
   long_ended journal is same nothing (Refused refusal) ends = absurd ends
   long_ended journal is same nothing (NoFile file) ends = absurd ends
@@ -159,7 +163,7 @@ module _ (call : Call) (name : List ℕ) (names : List (List ℕ)) (question : Q
     items_ended nothing (Limit limit.Steps) ends = absurd ends
     items_ended nothing (Limit (limit.Ticks process)) ends = absurd ends
     items_ended nothing (Limit limit.Input) ends = absurd ends
-    items_ended nothing (Limit limit.Items) ends = absurd ends
+    items_ended nothing (Limit limit.Items) ends = inr (record { input = input_of nothing.no_items; large = ends; nothing = nothing })
     items_ended nothing (Limit limit.Races) ends = record { input = input_of nothing.no_items; many = ends; nothing = nothing }
     items_ended nothing (Refused refusal) ends = absurd ends
     items_ended nothing (NoFile file) ends = absurd ends
@@ -270,6 +274,35 @@ module _ (names : List (List ℕ)) (steps : ℕ) (r : Run) where
       → IfOk result (λ lines. lines ≡ races_text names races) → IfOk result (AreRacesOf names steps r)
   raced_as races (Ok lines) found are = record { races = races; found = found; are = are }
   raced_as races (Err ending) found are = tt
+
+  module _ (tracing : Tracing) (rows : List Traced) (found : TracesTo tracing steps r (traces.Found rows)) where
+    pub traced_as : (result : Result (List ℕ) Ending) → IfOk result (λ lines. told_text r.core names tracing.picture rows ≡ Some lines) → IfOk result (AreTracedOf tracing names steps r)
+    traced_as (Ok lines) are = record { rows = rows; traces = found; are = are }
+    traced_as (Err ending) are = tt
+
+    pub untraced_as : (result : Result (List ℕ) Ending) → IfErr result (EndsTold r.core tracing.picture rows) → IfErr result (EndsItems (question.Trace tracing) steps r)
+    untraced_as (Ok lines) ends = tt
+    untraced_as (Err ending) ends = ended ending ends
+      where
+        ended : (ending : Ending) → EndsTold r.core tracing.picture rows ending → EndsItems (question.Trace tracing) steps r ending
+        ended Done ends = absurd ends
+        ended Quiet ends = absurd ends
+        ended (Stopped status) ends = absurd ends
+        ended (Failed fault place) ends = absurd ends
+        ended (Limit limit.Steps) ends = absurd ends
+        ended (Limit (limit.Ticks process)) ends = absurd ends
+        ended (Limit limit.Input) ends = absurd ends
+        ended (Limit limit.Items) ends = record { rows = rows; traces = found; large = ends }
+        ended (Limit limit.Races) ends = absurd ends
+        ended (Refused refusal) ends = absurd ends
+        ended (NoFile file) ends = absurd ends
+        ended ReadFault ends = absurd ends
+        ended WriteFault ends = absurd ends
+        ended NoMemory ends = tt
+        ended Usage ends = absurd ends
+        ended (BadJournal fail) ends = absurd ends
+        ended (OtherFiles file) ends = absurd ends
+        ended (Illegal at) ends = absurd ends
 
   pub out_of_memory_as : (question : Question) (result : Result (List ℕ) Ending) → IfErr result (λ ending. ending ≡ NoMemory) → IfErr result (EndsItems question steps r)
   out_of_memory_as question (Ok lines) ends = tt

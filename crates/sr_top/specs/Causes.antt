@@ -21,7 +21,7 @@ use Rattle.sr_run.specs.declared.stretch.Stretch.{Stretch}
 use Rattle.sr_text.specs.declared.refusal.Refusal.{Refusal}
 use Rattle.sr_top.specs.LayingOut.{EndsNoSource, EndsSourceRefused, HasLayout}
 use Rattle.sr_top.specs.Reading.{AreCompiled, AreRefused, FailsAt, IsUnread}
-use Rattle.sr_top.specs.Replaying.{EndsBadJournal, EndsEarlyInReplay, EndsIllegal, EndsOtherFiles, EndsReplayInput, EndsReplayRead, EndsReplayRefused, EndsTooLong, EndsTooMany, EndsUnread, HasAnswer}
+use Rattle.sr_top.specs.Replaying.{EndsBadJournal, EndsEarlyInReplay, EndsIllegal, EndsOtherFiles, EndsReplayInput, EndsReplayRead, EndsReplayRefused, EndsTooLarge, EndsTooLong, EndsTooMany, EndsUnread, HasAnswer}
 use Rattle.sr_top.specs.Tasks.{Checks, ListsClasses, Named, Origin, Runs, origin_in, task}
 use Rattle.sr_top.specs.declared.report.Ending.{Ending}
 use Rattle.sr_top.specs.declared.report.LimitKind.{LimitKind}
@@ -162,7 +162,7 @@ abbrev pub EndsAtLimit : Call → LimitKind → Type 0
 EndsAtLimit call limit.Steps = EndsRun call (run_end.Limit run_limit.Steps)
 EndsAtLimit call (limit.Ticks process) = EndsRun call (run_end.Limit (run_limit.Ticks process))
 EndsAtLimit call limit.Input = EndsRun call (run_end.Limit run_limit.Input) ⊎ EndsReplayInput call
-EndsAtLimit call limit.Items = EndsTooLong call
+EndsAtLimit call limit.Items = EndsTooLong call ⊎ EndsTooLarge call
 EndsAtLimit call limit.Races = EndsTooMany call
 
 -- what each ending says of the call

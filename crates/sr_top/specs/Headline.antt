@@ -8,7 +8,7 @@ use Rattle.sr_ports.specs.Streams.{PutInPart}
 use Rattle.sr_run.specs.Runs as runs
 use Rattle.sr_top.specs.Causes.{Call, Compiles, EndsChecked, EndsListed, EndsRefused, IsAlone, IsCutInLines, RunsNothing, arrangement_of, run_of}
 use Rattle.sr_top.specs.LayingOut.{EndsSourceRefused}
-use Rattle.sr_top.specs.Replaying.{EndsBadJournal, EndsEarlyInReplay, EndsIllegal, EndsOtherFiles, EndsReplayInput, EndsReplayRead, EndsReplayRefused, EndsTooLong, EndsTooMany}
+use Rattle.sr_top.specs.Replaying.{EndsBadJournal, EndsEarlyInReplay, EndsIllegal, EndsOtherFiles, EndsReplayInput, EndsReplayRead, EndsReplayRefused, EndsTooLarge, EndsTooLong, EndsTooMany}
 use Rattle.sr_top.specs.Tasks.{task}
 use Rattle.sr_top.specs.declared.report.Ending.{Ending}
 use Rattle.sr_top.specs.declared.report.Ending.TheVariants.{Done, Quiet, Stopped, Failed, Limit, Refused, NoFile, ReadFault, WriteFault, NoMemory, Usage, BadJournal, OtherFiles, Illegal}
@@ -60,7 +60,7 @@ Headline call Done = EndsChecked call ⊎ EndsListed call
 Headline call Quiet = RunsWhole call (Some end.Quiet)
 Headline call (Stopped status) = RunsWhole call (Some (end.Stopped status))
 Headline call (Failed fault place) = RunsWhole call (Some (end.Failed fault place))
-Headline call (Limit limit.Items) = EndsTooLong call
+Headline call (Limit limit.Items) = EndsTooLong call ⊎ EndsTooLarge call
 Headline call (Limit limit.Races) = EndsTooMany call
 Headline call (Limit limit.Input) = RunsWhole call None ⊎ EndsReplayInput call
 Headline call (Limit limit.Steps) = RunsWhole call None

@@ -12,3 +12,4 @@ pub mod Replaying
 pub mod Report
 pub mod Stages
 pub mod Tasks
+pub mod Tracing

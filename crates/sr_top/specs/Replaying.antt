@@ -18,19 +18,25 @@ use Rattle.sr_ports.specs.Files.{bytes_of}
 use Rattle.sr_races.specs.Items.{Run}
 use Rattle.sr_races.specs.Races.{Races, is_too_long}
 use Rattle.sr_races.specs.declared.race.Race.{Race}
+use Rattle.sr_races.specs.Traces.{IsTrace}
 use Rattle.sr_races.specs.declared.race.Raced.TheVariants as raced
+use Rattle.sr_races.specs.declared.tracing.Traces.{Traces}
+use Rattle.sr_races.specs.declared.tracing.Traces.TheVariants as traces
 use Rattle.sr_replay.specs.Replays.{Replays}
 use Rattle.sr_replay.specs.declared.snapshot.Snapshot.{Snapshot}
 use Rattle.sr_replay.specs.declared.whole.Replayed.{Replayed}
 use Rattle.sr_replay.specs.declared.whole.Replayed.TheVariants as replayed
 use Rattle.sr_text.specs.declared.refusal.Refusal.{Refusal}
+use Rattle.sr_trace.specs.declared.traced.Traced.{Traced}
 use Rattle.sr_top.specs.Calls.{Call, HasNoItems, PutsNothing, RunsNothing}
 use Rattle.sr_top.specs.Placing.{shown_text}
 use Rattle.sr_top.specs.Racing.{races_text}
 use Rattle.sr_top.specs.Reading.{AreRead, FailsAt, IsUnread, sizes_of}
 use Rattle.sr_top.specs.Tasks.{Replays as asks, task}
+use Rattle.sr_top.specs.Tracing.{HasNoRoom, told_text}
 use Rattle.sr_top.specs.declared.question.Question.{Question}
 use Rattle.sr_top.specs.declared.question.Question.TheVariants as question
+use Rattle.sr_top.specs.declared.question.Tracing.{Tracing}
 use Rattle.sr_top.specs.declared.question.View.{View}
 
 -- ---- what is asked of a journal
@@ -55,25 +61,50 @@ pub record AreRacesOf (names : List (List ℕ)) (steps : ℕ) (r : Run) (lines :
   pub found : Races steps r (raced.Found races)
   pub are : lines ≡ races_text names races
 
+-- what a trace of the first items comes to
+abbrev pub TracesTo : Tracing → ℕ → Run → Traces → Type 0
+TracesTo tracing steps r so = IsTrace steps (min tracing.upto (length r.items)) r so
+
+-- the text of a trace of the first items
+pub record AreTracedOf (tracing : Tracing) (names : List (List ℕ)) (steps : ℕ) (r : Run) (lines : List ℕ) : Type 0 where
+  pub rows : List Traced
+  pub traces : TracesTo tracing steps r (traces.Found rows)
+  pub are : told_text r.core names tracing.picture rows ≡ Some lines
+
 -- the lines that answer a question
 abbrev pub AreLines : Question → List (List ℕ) → ℕ → Run → List ℕ → Type 0
 AreLines (question.Seen view) names steps r lines = AreSeen view names steps r lines
 AreLines question.Races names steps r lines = AreRacesOf names steps r lines
+AreLines (question.Trace tracing) names steps r lines = AreTracedOf tracing names steps r lines
 
 -- this item is the first that is no step, of those that a question looks at
 abbrev pub IsNoStep : Question → ℕ → Run → ℕ → Type 0
 IsNoStep (question.Seen view) steps r at = ReplaysTo view steps r (replayed.Illegal at)
 IsNoStep question.Races steps r at = Races steps r (raced.Illegal at)
+IsNoStep (question.Trace tracing) steps r at = TracesTo tracing steps r (traces.Illegal at)
 
--- there are more items than a question may have; a replay may have all
+-- there are more items than a question may have; a replay and a trace may have all
 abbrev pub is_too_long_for : Question → List Item → Bool
 is_too_long_for (question.Seen view) items = false
 is_too_long_for question.Races items = is_too_long items
+is_too_long_for (question.Trace tracing) items = false
 
 -- there are more races than may be told
 abbrev pub HasTooMany : Question → ℕ → Run → Type 0
 HasTooMany (question.Seen view) steps r = ⊥
 HasTooMany question.Races steps r = Races steps r raced.TooMany
+HasTooMany (question.Trace tracing) steps r = ⊥
+
+-- the items are too many for a picture
+pub record AreTooLarge (tracing : Tracing) (steps : ℕ) (r : Run) : Type 0 where
+  pub rows : List Traced
+  pub traces : TracesTo tracing steps r (traces.Found rows)
+  pub large : HasNoRoom r.core tracing.picture rows
+
+abbrev pub IsTooLarge : Question → ℕ → Run → Type 0
+IsTooLarge (question.Seen view) steps r = ⊥
+IsTooLarge question.Races steps r = ⊥
+IsTooLarge (question.Trace tracing) steps r = AreTooLarge tracing steps r
 
 -- ---- what is there, one after the other
 
@@ -238,6 +269,12 @@ pub record EndsIllegal (call : Call) (at : ℕ) : Type 0 where
 pub record EndsTooMany (call : Call) : Type 0 where
   pub input : HasInput call
   pub many : HasTooMany (journal_in call input).reads.asks.question (journal_in call input).header.steps (run_in call input)
+  pub nothing : PutsNothing call
+
+-- there are more items or processes than a picture has room for
+pub record EndsTooLarge (call : Call) : Type 0 where
+  pub input : HasInput call
+  pub large : IsTooLarge (journal_in call input).reads.asks.question (journal_in call input).header.steps (run_in call input)
   pub nothing : PutsNothing call
 
 -- memory ran out before the lines; no count rose

@@ -60,6 +60,7 @@ usage_text =
     codes "       sr gen SEED [--workers N]" ++ 10 ∷
     codes "       sr replay JOURNAL FILE... [--upto N] [--where]" ++ 10 ∷
     codes "       sr races JOURNAL FILE..." ++ 10 ∷
+    codes "       sr trace JOURNAL FILE... [--upto N] [--picture]" ++ 10 ∷
     codes "       sr fmt FILE" ++ 10 ∷ []
 
 -- the name of what was read of this place: a journal that is replayed comes before the files

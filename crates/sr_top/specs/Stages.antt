@@ -14,7 +14,7 @@ use Rattle.sr_ports.specs.Files.{next_read}
 use Rattle.sr_races.specs.Items.{Run}
 use Rattle.sr_text.specs.declared.refusal.Refusal.{Refusal}
 use Rattle.sr_top.specs.Reading.{AreRead, FailsAt, IsUnread, Reads, sizes_of}
-use Rattle.sr_top.specs.Replaying.{AreBytesOf, AreLines, HasTooMany, IsCauseOf, IsFirstOther, IsNoStep, IsTooLong, IsWhole, is_too_long_for, run_by}
+use Rattle.sr_top.specs.Replaying.{AreBytesOf, AreLines, HasTooMany, IsCauseOf, IsFirstOther, IsNoStep, IsTooLarge, IsTooLong, IsWhole, is_too_long_for, run_by}
 use Rattle.sr_top.specs.declared.report.Ending.{Ending}
 use Rattle.sr_top.specs.declared.report.Ending.TheVariants.{Limit, Refused, NoFile, ReadFault, NoMemory, BadJournal, OtherFiles, Illegal}
 use Rattle.sr_top.specs.declared.report.LimitKind.TheVariants as limit
@@ -132,6 +132,7 @@ run_of core journal input = run_by core journal.header journal.items input
 abbrev pub EndsItems : Question → ℕ → Run → Ending → Type 0
 EndsItems question steps r (Illegal at) = IsNoStep question steps r at
 EndsItems question steps r (Limit limit.Races) = HasTooMany question steps r
+EndsItems question steps r (Limit limit.Items) = IsTooLarge question steps r
 EndsItems question steps r NoMemory = Unit {0}
 EndsItems question steps r _ = ⊥
 

@@ -3,7 +3,7 @@ use Rattle.std.specs.Prelude.{ℕ, Bool, false, List, [], ◌∷◌, codes, Opti
 use Rattle.std.specs.Option.{option_map}
 use Rattle.sr_words.specs.Commands.{command_of, default_of}
 use Rattle.sr_words.specs.declared.command.Command.{Command}
-use Rattle.sr_words.specs.declared.command.Command.TheVariants.{Run, Check, Classes, Fmt, Gen, Replay, Races}
+use Rattle.sr_words.specs.declared.command.Command.TheVariants.{Run, Check, Classes, Fmt, Gen, Replay, Races, Trace}
 use Rattle.sr_words.specs.declared.options.Setting.TheVariants.{Steps, Ticks}
 use Rattle.sr_top.specs.declared.question.Question.{Question}
 use Rattle.sr_top.specs.declared.question.Question.TheVariants as question
@@ -36,6 +36,7 @@ task_of (Classes files) = ListsClasses files
 task_of (Gen seed workers) = Runs (Sampled seed) workers (default_of Steps) (default_of Ticks) false
 task_of (Replay journal files upto places) = Replays journal files (question.Seen (record { upto = upto; places = places }))
 task_of (Races journal files) = Replays journal files question.Races
+task_of (Trace journal files upto picture) = Replays journal files (question.Trace (record { upto = upto; picture = picture }))
 task_of (Fmt file) = LaysOut file
 
 -- the task that the words give

@@ -12,7 +12,7 @@ use std::alloc::Global;
 
 /// The text for words that are no command.
 const USAGE: &str =
-    "usage: sr run FILE... [--workers N] [--steps N] [--ticks N] [--journal]\n       sr check FILE...\n       sr classes FILE...\n       sr gen SEED [--workers N]\n       sr replay JOURNAL FILE... [--upto N] [--where]\n       sr races JOURNAL FILE...\n       sr fmt FILE\n";
+    "usage: sr run FILE... [--workers N] [--steps N] [--ticks N] [--journal]\n       sr check FILE...\n       sr classes FILE...\n       sr gen SEED [--workers N]\n       sr replay JOURNAL FILE... [--upto N] [--where]\n       sr races JOURNAL FILE...\n       sr trace JOURNAL FILE... [--upto N] [--picture]\n       sr fmt FILE\n";
 
 /// The number and the name of a fault.
 fn fault_label(fault: Fault) -> &'static str

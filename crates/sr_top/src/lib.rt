@@ -22,6 +22,7 @@ mod replaying;
 mod report;
 mod told_files;
 mod top;
+mod tracing;
 
 pub use host::run_host;
 pub use report::{Ending, LimitKind, Report, Side};

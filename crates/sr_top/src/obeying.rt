@@ -15,7 +15,7 @@ use crate::listing::list_classes;
 use crate::outcome::{Outcome, run_program, without_items};
 use crate::preparing::{Prepared, prepare};
 use crate::program::Process;
-use crate::question::{Question, View};
+use crate::question::{Question, Tracing, View};
 use crate::replaying::replay_journal;
 use crate::report::Ending;
 use sr_ask::Item;
@@ -176,6 +176,23 @@ pub fn obey<F: Files, I: Source, O: Sink>(
                 &journal,
                 names.as_slice(),
                 Question::Races,
+                files,
+                input,
+                output,
+            );
+            Obeyed::named(Some(journal), names, outcome)
+        }
+        Command::Trace {
+            journal,
+            files: names,
+            upto,
+            picture,
+        } => {
+            let outcome = replay_journal(
+                alloc,
+                &journal,
+                names.as_slice(),
+                Question::Trace(Tracing { upto, picture }),
                 files,
                 input,
                 output,

@@ -5,6 +5,8 @@ pub enum Question {
     Seen(View),
     /// Which of its accesses race.
     Races,
+    /// What each of its first items did.
+    Trace(Tracing),
 }
 
 /// What of a replay is to be seen.
@@ -14,4 +16,13 @@ pub struct View {
     pub upto: u32,
     /// Whether the place of each request is told.
     pub places: bool,
+}
+
+/// What of a trace is to be seen.
+#[derive(Clone, Copy)]
+pub struct Tracing {
+    /// How many items are told, at most.
+    pub upto: u32,
+    /// Whether they are drawn.
+    pub picture: bool,
 }

@@ -1,4 +1,4 @@
-ghost use Rattle.std.specs.Prelude.{◌≡◌, IfErr, IfOk, OnOk};
+ghost use Rattle.std.specs.Prelude.{◌≡◌, ◌<◌, ◌≤◌, IfErr, IfOk, OnOk, length, min};
 ghost use Rattle.sr_journal.specs.Causes.{IsJournal};
 ghost use Rattle.sr_ports.specs.Files.{next_read};
 ghost use Rattle.sr_top.specs.Reading.{reads_by};
@@ -49,4 +49,22 @@ fn journal_of(alloc: Global, bytes: &[u8]) -> Result<Journal, Ending>
         Err(JournalFail::NoMemory) => Err(Ending::NoMemory),
         Err(fail) => Err(Ending::BadJournal(fail)),
     }
+}
+
+/// How many of the items of a journal are looked at, where so many are asked for at most.
+pub fn count_upto(journal: &Journal, upto: u32) -> u32
+    ensures count { result ≡ min upto (length journal.now.items) }
+    ensures within { result ≤ length journal.now.items }
+{
+    fewer(upto as usize, journal.items.len()) as u32
+}
+
+/// The less of two numbers.
+fn fewer(one: usize, other: usize) -> usize
+    ensures one { one ≤ other → result ≡ one }
+    ensures other { other < one → result ≡ other }
+    ensures most { result ≤ one }
+    ensures least { result ≤ other }
+{
+    if one <= other { one } else { other }
 }

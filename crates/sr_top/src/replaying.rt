@@ -16,9 +16,10 @@ use crate::program::{Process, Program};
 use crate::putting::put_lines;
 use crate::question::{Question, View};
 use crate::racing::text_of_races;
-use crate::recorded::{Journal, journal_in};
+use crate::recorded::{Journal, count_upto, journal_in};
 use crate::report::{Ending, LimitKind};
 use crate::told_files::program_of;
+use crate::tracing::text_of_trace;
 use sr_ports::{Files, Sink, Source};
 use sr_races::is_too_long;
 use sr_replay::{Replayed, Snapshot, replay, snapshot_text};
@@ -100,6 +101,7 @@ fn is_too_long_for(alloc: Global, question: Question, journal: &Journal) -> Resu
     match question {
         Question::Seen(_) => Ok(false),
         Question::Races => is_too_long(alloc, &journal.items),
+        Question::Trace(_) => Ok(false),
     }
 }
 
@@ -158,6 +160,7 @@ fn text_of_items(
     match question {
         Question::Seen(view) => text_of_view(alloc, journal, program, names, input, view),
         Question::Races => text_of_races(alloc, journal, program, names, input),
+        Question::Trace(tracing) => text_of_trace(alloc, journal, program, names, input, tracing),
     }
 }
 
@@ -175,7 +178,7 @@ fn text_of_view(
 {
     let items = &journal.items;
     let header = &journal.header;
-    let upto = fewer(view.upto as usize, items.len()) as u32;
+    let upto = count_upto(journal, view.upto);
     match replay::<Process>(
         alloc,
         program,
@@ -189,16 +192,6 @@ fn text_of_view(
         Ok(Replayed::Illegal { at }) => Err(Ending::Illegal(at)),
         Err(_) => Err(Ending::NoMemory),
     }
-}
-
-/// The less of two numbers.
-fn fewer(one: usize, other: usize) -> usize
-    ensures one { one ≤ other → result ≡ one }
-    ensures other { other < one → result ≡ other }
-    ensures most { result ≤ one }
-    ensures least { result ≤ other }
-{
-    if one <= other { one } else { other }
 }
 
 /// The lines of a snapshot.

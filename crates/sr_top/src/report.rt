@@ -46,7 +46,7 @@ pub enum LimitKind {
     Ticks(u32),
     /// The bytes of the input.
     Input,
-    /// The items of a journal that is searched for races, or the processes that make them.
+    /// The items of a journal that is searched for races or drawn, or the processes that make them.
     Items,
     /// The races.
     Races,

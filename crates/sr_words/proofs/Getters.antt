@@ -17,7 +17,7 @@ use Rattle.sr_words.specs.Arguments.{HasFlags, HasFlagsIn, IsFlag, is_true, pars
 use Rattle.sr_words.specs.Commands.{flag_in, taken_of, value_in}
 use Rattle.sr_words.specs.Options.{flag_name, options_of, setting_name}
 use Rattle.sr_words.specs.declared.options.Flag.{Flag}
-use Rattle.sr_words.specs.declared.options.Flag.TheVariants.{Journal, Where}
+use Rattle.sr_words.specs.declared.options.Flag.TheVariants.{Journal, Where, Picture}
 use Rattle.sr_words.specs.declared.options.Setting.{Setting}
 use Rattle.sr_words.specs.declared.options.Setting.TheVariants.{Workers, Steps, Ticks, Upto}
 use Rattle.sr_words.specs.declared.verb.Verb.{Verb}
@@ -39,6 +39,7 @@ value_read s f name o read is = value_first s f ∙ (ap (first_value f) (sym is)
 flag_said : (flag : Flag) (rows : List Row) → flag_in flag (taken_in rows) ≡ is_true (one_of (flag_name flag) rows)
 flag_said Journal rows = refl
 flag_said Where rows = refl
+flag_said Picture rows = refl
 
 -- `get_flag`
 pub flag_read : (flag : Flag) (f : Found) (name : Text) (b : Bool) → name ≡ flag_name flag → (one_text f name ≡ None → b ≡ false)

@@ -18,7 +18,7 @@ use Rattle.sr_words.specs.Parts.{Part, parts}
 use Rattle.sr_words.specs.declared.options.CommandOption.{CommandOption}
 use Rattle.sr_words.specs.declared.options.CommandOption.TheVariants.{Number, Switch}
 use Rattle.sr_words.specs.declared.options.Flag.{Flag}
-use Rattle.sr_words.specs.declared.options.Flag.TheVariants.{Journal, Where}
+use Rattle.sr_words.specs.declared.options.Flag.TheVariants.{Journal, Where, Picture}
 use Rattle.sr_words.specs.declared.options.Setting.{Setting}
 use Rattle.sr_words.specs.declared.options.Setting.TheVariants.{Workers, Steps, Ticks, Upto}
 use Rattle.sr_words.specs.declared.verb.Verb.{Verb}
@@ -197,7 +197,8 @@ says options rows t shows =
     let flags : SaysFlags (defaulted options rows) t = flags_say options rows t (λ flag. flag_shown rows t shows flag (flag_in flag t) refl) in
     let journal : is_true (one_of (codes "journal") (defaulted options rows)) ≡ t.journal = (flags Journal).0 in
     let places : is_true (one_of (codes "where") (defaulted options rows)) ≡ t.places = (flags Where).0 in
-    (rw (workers, steps, ticks, upto, journal, places, words, all_texts t.words) refl, λ flag. (flags flag).1)
+    let picture : is_true (one_of (codes "picture") (defaulted options rows)) ≡ t.picture = (flags Picture).0 in
+    (rw (workers, steps, ticks, upto, journal, places, picture, words, all_texts t.words) refl, λ flag. (flags flag).1)
 
 taken_rows : (options : List CommandOption) (faults : Kinds) (rows : List Row) (o : Option (List Row)) (q : Option Taken) → Agree o q
     → unless faults (Some rows) ≡ option_map (defaulted options) o → faults ≡ [] → (t : Taken) × (q ≡ Some t) × Says rows t

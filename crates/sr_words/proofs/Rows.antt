@@ -11,7 +11,7 @@ use Rattle.clap.specs.declared.builder.value_parser.Reading.TheVariants.{AsWritt
 use Rattle.clap.specs.declared.parser.matches.ValueSource.{ValueSource}
 use Rattle.clap.specs.declared.parser.matches.ValueSource.TheVariants.{CommandLine}
 use Rattle.sr_words.specs.declared.options.Flag.{Flag}
-use Rattle.sr_words.specs.declared.options.Flag.TheVariants.{Journal, Where}
+use Rattle.sr_words.specs.declared.options.Flag.TheVariants.{Journal, Where, Picture}
 use Rattle.sr_words.specs.declared.options.Setting.{Setting}
 use Rattle.sr_words.specs.declared.options.Setting.TheVariants.{Workers, Steps, Ticks, Upto}
 use Rattle.sr_words.specs.Options.{flag_name, setting_name}
@@ -231,6 +231,7 @@ none_at_first Upto = refl
 no_flag_at_first : (flag : Flag) → row_at (flag_name flag) [] ≡ row_if flag (flag_in flag nothing_taken)
 no_flag_at_first Journal = refl
 no_flag_at_first Where = refl
+no_flag_at_first Picture = refl
 
 pub at_first : Shows [] nothing_taken
 at_first = record { settings = none_at_first; flags = no_flag_at_first; words = refl }

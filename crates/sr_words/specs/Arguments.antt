@@ -53,6 +53,7 @@ taken_in rows = record {
   upto = first_of (codes "upto") rows;
   journal = is_true (one_of (codes "journal") rows);
   places = is_true (one_of (codes "where") rows);
+  picture = is_true (one_of (codes "picture") rows);
   words = unwrap_or (all_of (codes "word") rows) [];
 }
 

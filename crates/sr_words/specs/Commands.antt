@@ -1,6 +1,6 @@
 -- The command that the words after the program's name give. The first is the name of the command, exactly as written.
 -- In the rest an option may stand anywhere before a word `--`, is written `--x v` or `--x=v`, and stands at most once;
--- `--journal` and `--where` take no value and are written alone. Each other word is a file, a journal or a seed.
+-- `--journal`, `--where` and `--picture` take no value and are written alone. Each other word is a file, a journal or a seed.
 use Rattle.std.specs.Prelude.{ℕ, ◌&&◌, Bool, true, false, nat_le, List, [], ◌∷◌, ◌++◌, length, Option, Some, None, is_some, if◌then◌else◌, option_and_then}
 use Rattle.std.specs.Option.{option_map}
 use Rattle.sr_words.specs.Numbers.{number_within}
@@ -10,14 +10,14 @@ use Rattle.sr_words.specs.Verbs.{verb_of}
 use Rattle.sr_words.specs.declared.command.Command.{Command}
 use Rattle.sr_words.specs.declared.command.Command.TheVariants as command
 use Rattle.sr_words.specs.declared.options.Flag.{Flag}
-use Rattle.sr_words.specs.declared.options.Flag.TheVariants.{Journal, Where}
+use Rattle.sr_words.specs.declared.options.Flag.TheVariants.{Journal, Where, Picture}
 use Rattle.sr_words.specs.declared.options.Setting.{Setting}
 use Rattle.sr_words.specs.declared.options.Setting.TheVariants.{Workers, Steps, Ticks, Upto}
 use Rattle.sr_words.specs.declared.verb.Verb.{Verb}
-use Rattle.sr_words.specs.declared.verb.Verb.TheVariants.{Run, Check, Classes, Fmt, Gen, Replay, Races}
+use Rattle.sr_words.specs.declared.verb.Verb.TheVariants.{Run, Check, Classes, Fmt, Gen, Replay, Races, Trace}
 
--- what the words say: the value of each option that is given, whether `--journal` and `--where` are, and the words that are
--- no options
+-- what the words say: the value of each option that takes one and is given, whether `--journal`, `--where` and `--picture`
+-- are, and the words that are no options
 pub record Taken : Type 0 where
   pub workers : Option (List ℕ)
   pub steps : Option (List ℕ)
@@ -25,10 +25,11 @@ pub record Taken : Type 0 where
   pub upto : Option (List ℕ)
   pub journal : Bool
   pub places : Bool
+  pub picture : Bool
   pub words : List (List ℕ)
 
 abbrev pub nothing_taken : Taken
-nothing_taken = record { workers = None; steps = None; ticks = None; upto = None; journal = false; places = false; words = [] }
+nothing_taken = record { workers = None; steps = None; ticks = None; upto = None; journal = false; places = false; picture = false; words = [] }
 
 -- the value of an option
 abbrev pub value_in : Setting → Taken → Option (List ℕ)
@@ -47,10 +48,12 @@ with_value Upto value t = record t { upto = Some value }
 abbrev pub flag_in : Flag → Taken → Bool
 flag_in Journal t = t.journal
 flag_in Where t = t.places
+flag_in Picture t = t.picture
 
 abbrev pub with_flag : Flag → Taken → Taken
 with_flag Journal t = record t { journal = true }
 with_flag Where t = record t { places = true }
+with_flag Picture t = record t { picture = true }
 
 -- one more part; an option stands at most once
 abbrev pub take_one : Taken → Part → Option Taken
@@ -139,6 +142,13 @@ replay_command t =
 abbrev pub races_command : Taken → Option Command
 races_command t = option_map (λ recorded. command.Races recorded.0 recorded.1) (recorded_of t.words)
 
+abbrev pub trace_command : Taken → Option Command
+trace_command t =
+    option_and_then (λ upto. option_map
+    (λ recorded. command.Trace recorded.0 recorded.1 upto t.picture)
+    (recorded_of t.words))
+    (setting_number Upto t.upto)
+
 -- the command of a name, where the words say this
 abbrev pub verb_command : Verb → Taken → Option Command
 verb_command Run t = run_command t
@@ -148,6 +158,7 @@ verb_command Fmt t = option_map (λ file. command.Fmt file) (file_of t.words)
 verb_command Gen t = gen_command t
 verb_command Replay t = replay_command t
 verb_command Races t = races_command t
+verb_command Trace t = trace_command t
 
 -- the command of all words: the first is the name
 abbrev pub command_of : List (List ℕ) → Option Command

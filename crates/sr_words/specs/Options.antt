@@ -4,11 +4,11 @@ use Rattle.std.specs.Str.{bytes_eq}
 use Rattle.sr_words.specs.declared.options.CommandOption.{CommandOption}
 use Rattle.sr_words.specs.declared.options.CommandOption.TheVariants.{Number, Switch}
 use Rattle.sr_words.specs.declared.options.Flag.{Flag}
-use Rattle.sr_words.specs.declared.options.Flag.TheVariants.{Journal, Where}
+use Rattle.sr_words.specs.declared.options.Flag.TheVariants.{Journal, Where, Picture}
 use Rattle.sr_words.specs.declared.options.Setting.{Setting}
 use Rattle.sr_words.specs.declared.options.Setting.TheVariants.{Workers, Steps, Ticks, Upto}
 use Rattle.sr_words.specs.declared.verb.Verb.{Verb}
-use Rattle.sr_words.specs.declared.verb.Verb.TheVariants.{Run, Check, Classes, Fmt, Gen, Replay, Races}
+use Rattle.sr_words.specs.declared.verb.Verb.TheVariants.{Run, Check, Classes, Fmt, Gen, Replay, Races, Trace}
 
 -- the options of each command
 abbrev pub options_of : Verb → List CommandOption
@@ -19,6 +19,7 @@ options_of Fmt = []
 options_of Gen = Number Workers ∷ []
 options_of Replay = Number Upto ∷ Switch Where ∷ []
 options_of Races = []
+options_of Trace = Number Upto ∷ Switch Picture ∷ []
 
 -- what stands after the dashes of an option that takes a number
 abbrev pub setting_name : Setting → List ℕ
@@ -31,6 +32,7 @@ setting_name Upto = codes "upto"
 abbrev pub flag_name : Flag → List ℕ
 flag_name Journal = codes "journal"
 flag_name Where = codes "where"
+flag_name Picture = codes "picture"
 
 -- what stands after the dashes of an option
 abbrev pub option_name : CommandOption → List ℕ

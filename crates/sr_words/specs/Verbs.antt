@@ -2,7 +2,7 @@
 use Rattle.std.specs.Prelude.{ℕ, List, codes, Option, Some, None, if◌then◌else◌}
 use Rattle.std.specs.Str.{bytes_eq}
 use Rattle.sr_words.specs.declared.verb.Verb.{Verb}
-use Rattle.sr_words.specs.declared.verb.Verb.TheVariants.{Run, Check, Classes, Fmt, Gen, Replay, Races}
+use Rattle.sr_words.specs.declared.verb.Verb.TheVariants.{Run, Check, Classes, Fmt, Gen, Replay, Races, Trace}
 
 -- the command that is written as a word
 abbrev pub verb_of : List ℕ → Option Verb
@@ -14,4 +14,5 @@ verb_of word =
     else if bytes_eq word (codes "gen") then Some Gen
     else if bytes_eq word (codes "replay") then Some Replay
     else if bytes_eq word (codes "races") then Some Races
+    else if bytes_eq word (codes "trace") then Some Trace
     else None

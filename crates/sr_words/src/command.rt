@@ -49,6 +49,15 @@ pub enum Command {
         journal: Text,
         files: Row<Text>,
     },
+    /// Tells what each item did of the run in the journal, of the program of these files.
+    Trace {
+        journal: Text,
+        files: Row<Text>,
+        /// How many of its items are told, at most.
+        upto: u32,
+        /// Whether they are drawn.
+        picture: bool,
+    },
 }
 
 /// Why the words give no command.

@@ -17,6 +17,7 @@ pub enum Setting {
 pub enum Flag {
     Journal,
     Where,
+    Picture,
 }
 
 /// An option of a command.
@@ -48,6 +49,10 @@ pub fn options_of(verb: Verb) -> &'static [CommandOption]
             CommandOption::Switch(Flag::Where),
         ],
         Verb::Races => &[],
+        Verb::Trace => &[
+            CommandOption::Number(Setting::Upto),
+            CommandOption::Switch(Flag::Picture),
+        ],
     }
 }
 
@@ -70,6 +75,7 @@ pub fn flag_name<'a>(flag: Flag) -> &'a str
     match flag {
         Flag::Journal => "journal",
         Flag::Where => "where",
+        Flag::Picture => "picture",
     }
 }
 

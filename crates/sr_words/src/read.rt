@@ -84,6 +84,7 @@ fn verb_command(alloc: Global, verb: Verb, matches: &ArgMatches<'_>) -> Result<C
         Verb::Gen => gen_command(matches),
         Verb::Replay => replay_command(alloc, matches),
         Verb::Races => races_command(alloc, matches),
+        Verb::Trace => trace_command(alloc, matches),
     }
 }
 
@@ -147,6 +148,23 @@ fn races_command(alloc: Global, matches: &ArgMatches<'_>) -> Result<Command, Wor
 {
     let (journal, files) = recorded_of(alloc, matches)?;
     Ok(Command::Races { journal, files })
+}
+
+fn trace_command(alloc: Global, matches: &ArgMatches<'_>) -> Result<Command, WordsFail>
+    requires { arguments.HasFlags matches.now }
+    ensures command { IfOk result (λ command. commands.trace_command (arguments.taken_from matches.now) ≡ Some command) }
+    ensures usage { result ≡ Err fails.Usage → commands.trace_command (arguments.taken_from matches.now) ≡ None }
+{
+    let Some(upto) = number_of(Setting::Upto, matches) else {
+        return Err(WordsFail::Usage);
+    };
+    let (journal, files) = recorded_of(alloc, matches)?;
+    Ok(Command::Trace {
+        journal,
+        files,
+        upto,
+        picture: has_flag(Flag::Picture, matches),
+    })
 }
 
 /// The journal and the files of a command.

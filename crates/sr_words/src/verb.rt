@@ -11,6 +11,7 @@ pub enum Verb {
     Gen,
     Replay,
     Races,
+    Trace,
 }
 
 /// The command that is written as this word.
@@ -31,6 +32,8 @@ pub fn verb_of(word: &[u8]) -> Option<Verb>
         Some(Verb::Replay)
     } else if word == b"races".as_slice() {
         Some(Verb::Races)
+    } else if word == b"trace".as_slice() {
+        Some(Verb::Trace)
     } else {
         None
     }

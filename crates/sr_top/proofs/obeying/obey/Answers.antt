@@ -139,6 +139,27 @@ returns-in-Races-clause-in_range g c = λ words told. subst (λ o. IfSome o (λ 
 pub returns-in-Races-clause-names : goal.returns-in-Races-clause-names
 returns-in-Races-clause-names g c = λ words told. named_as words c.named-in-Races.result.names c.named-in-Races.result.replayed _ _ (task_is words _ _ _ told c.in-Races.is refl) c.named-in-Races.ensures.names c.named-in-Races.ensures.replayed
 
+pub returns-in-Trace-clause-cause : goal.returns-in-Trace-clause-cause
+returns-in-Trace-clause-cause g c = λ words told.
+    let call : List Item → List Stretch → Call =
+    call_of words (g.F.Files.content c.args.files.now)
+    (reads_by (g.F.Files.readings c.args.files.now) (g.F.Files.faults c.args.files.now)) (reads_by (g.F.Files.readings c.replay_journal-outcome-in-Trace.new.files) (g.F.Files.faults c.replay_journal-outcome-in-Trace.new.files))
+    (devices (g.I.Source.left c.args.input.now) (g.I.Source.faults c.args.input.now) (g.O.Sink.held c.args.output.now) (g.O.Sink.faults c.args.output.now))
+    (devices (g.I.Source.left c.replay_journal-outcome-in-Trace.new.input) (g.I.Source.faults c.replay_journal-outcome-in-Trace.new.input) (g.O.Sink.held c.replay_journal-outcome-in-Trace.new.output) (g.O.Sink.faults c.replay_journal-outcome-in-Trace.new.output)) in
+    handed_on (λ items rounds ending header. HasCause (call items rounds) ending) _ _ _ _ _ _ _ _ c.named-in-Trace.ensures.items c.named-in-Trace.ensures.rounds c.named-in-Trace.ensures.ending c.named-in-Trace.ensures.header
+    (c.replay_journal-outcome-in-Trace.ensures.cause words
+    (task_is words _ _ _ told c.in-Trace.is refl ∙ ap (λ names. Some (Replays c.in-Trace.journal names (question.Trace (record { upto = c.in-Trace.upto; picture = c.in-Trace.picture })))) (sym c.as_slice-in-Trace.ensures)))
+
+pub returns-in-Trace-clause-header : goal.returns-in-Trace-clause-header
+returns-in-Trace-clause-header g c = λ words told.
+    subst (HasHeaderIf _ _) (sym (c.named-in-Trace.ensures.header ∙ c.replay_journal-outcome-in-Trace.ensures.header)) (without (inl (ap (λ t. unwrap_or (option_map keeps_journal t) false) (task_is words _ _ _ told c.in-Trace.is refl))))
+
+pub returns-in-Trace-clause-in_range : goal.returns-in-Trace-clause-in_range
+returns-in-Trace-clause-in_range g c = λ words told. subst (λ o. IfSome o (λ h. IsInRange h c.named-in-Trace.result.items)) (sym (c.named-in-Trace.ensures.header ∙ c.replay_journal-outcome-in-Trace.ensures.header)) tt
+
+pub returns-in-Trace-clause-names : goal.returns-in-Trace-clause-names
+returns-in-Trace-clause-names g c = λ words told. named_as words c.named-in-Trace.result.names c.named-in-Trace.result.replayed _ _ (task_is words _ _ _ told c.in-Trace.is refl) c.named-in-Trace.ensures.names c.named-in-Trace.ensures.replayed
+
 pub returns-in-Gen-clause-header : goal.returns-in-Gen-clause-header
 returns-in-Gen-clause-header g c = λ words told.
     subst (HasHeaderIf _ _) (sym c.early.ensures.header)

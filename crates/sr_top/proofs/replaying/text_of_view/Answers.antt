@@ -1,7 +1,7 @@
 -- What the replay came to, and its lines.
-use Rattle.std.proofs.Common.{◌∙◌, ap, min, subst}
+use Rattle.std.proofs.Common.{subst}
 use Rattle.sr_replay.specs.Replays.{Replays}
-use Rattle.sr_top.proofs.Replayed.{min_is, out_of_memory_as, seen_as}
+use Rattle.sr_top.proofs.Replayed.{out_of_memory_as, seen_as}
 use Rattle.sr_top.specs.Programs.{core_in}
 use Rattle.sr_top.specs.Replaying.{ReplaysTo}
 use Rattle.sr_top.specs.Stages.{run_of}
@@ -14,10 +14,9 @@ returns-in-Ok-Reached-clause-lines c =
     let journal = c.args.journal.now in
     let header = journal.header in
     let run = run_of core journal c.args.input.now in
-    let few = min_is c.fewer-upto.result c.args.view.upto c.len.result c.fewer-upto.ensures.one c.fewer-upto.ensures.other ∙ ap (min c.args.view.upto) c.len.ensures in
     seen_as c.args.names.now header.steps run c.args.view c.in-Ok-Reached.snapshot c.lines_of.result
     (subst (ReplaysTo c.args.view header.steps run) c.in-Ok-Reached.field-0-is
-    (subst (λ n. Replays core header.steps header.ticks c.args.input.now journal.items n c.in-Ok-Reached.field-0) few c.in-Ok-Reached.ensures))
+    (subst (λ n. Replays core header.steps header.ticks c.args.input.now journal.items n c.in-Ok-Reached.field-0) c.count_upto-upto.ensures.count c.in-Ok-Reached.ensures))
     c.lines_of.ensures.lines
 
 pub returns-in-Ok-Reached-clause-ends : goal.returns-in-Ok-Reached-clause-ends
@@ -30,6 +29,5 @@ returns-in-Ok-Illegal-clause-ends c =
     let core = core_in c.args.program.now in
     let journal = c.args.journal.now in
     let header = journal.header in
-    let few = min_is c.fewer-upto.result c.args.view.upto c.len.result c.fewer-upto.ensures.one c.fewer-upto.ensures.other ∙ ap (min c.args.view.upto) c.len.ensures in
     subst (ReplaysTo c.args.view header.steps (run_of core journal c.args.input.now)) c.in-Ok-Illegal.field-0-is
-    (subst (λ n. Replays core header.steps header.ticks c.args.input.now journal.items n c.in-Ok-Illegal.field-0) few c.in-Ok-Illegal.ensures)
+    (subst (λ n. Replays core header.steps header.ticks c.args.input.now journal.items n c.in-Ok-Illegal.field-0) c.count_upto-upto.ensures.count c.in-Ok-Illegal.ensures)
