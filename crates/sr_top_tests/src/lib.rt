@@ -18,8 +18,6 @@ mod limits;
 #[cfg(test)]
 mod order;
 #[cfg(test)]
-mod races;
-#[cfg(test)]
 mod replays;
 #[cfg(test)]
 mod rounds;

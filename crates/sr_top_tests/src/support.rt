@@ -7,7 +7,7 @@ use std::alloc::Global;
 
 /// What a call puts whose words it doesn't understand.
 pub const USAGE: &[u8] =
-    b"usage: sr run FILE... [--workers N] [--steps N] [--ticks N] [--journal]\n       sr check FILE...\n       sr classes FILE...\n       sr gen SEED [--workers N]\n       sr replay JOURNAL FILE... [--upto N] [--where]\n       sr races JOURNAL FILE...\n       sr fmt FILE\n";
+    b"usage: sr run FILE... [--workers N] [--steps N] [--ticks N] [--journal]\n       sr check FILE...\n       sr classes FILE...\n       sr gen SEED [--workers N]\n       sr replay JOURNAL FILE... [--upto N] [--where]\n       sr races JOURNAL FILE...\n       sr trace JOURNAL FILE... [--upto N] [--picture]\n       sr fmt FILE\n";
 
 /// A call with ports in memory: its words and its files, and the reads of these that fail; the input, and the takes of it
 /// that fail; the puts of the output and of the journal that fail, and the most bytes of one put of each. Then what is to

@@ -1,6 +1,6 @@
-use crate::support::{Case, goes_so, push_file, silent, words_of};
-use sr_ports::{FreeGate, MemFiles, MemSink, MemSource};
-use sr_top::{Ending, LimitKind, sr_top};
+use crate::support::{Question, call, is_answered};
+use sr_ports::MemSink;
+use sr_top::{Ending, LimitKind};
 use sr_value::{NoMemory, Row, Text};
 use std::alloc::Global;
 use std::test::Fail;
@@ -24,7 +24,8 @@ const ORDER_JOURNAL: &[u8] =
 const ILLEGAL: &[u8] =
     b"SRJ1\nfiles 1\n94 7 race.sr\nsteps 1000000 ticks 10000000\nitems 2\ns 1 2\ns 3 0\nend\n";
 
-const FILES: [(&str, &[u8]); 6] = [
+/// The files of the questions.
+pub const FILES: [(&str, &[u8]); 6] = [
     ("race.sr", RACE),
     ("order.sr", ORDER),
     ("r", RACE_JOURNAL),
@@ -33,54 +34,60 @@ const FILES: [(&str, &[u8]); 6] = [
     ("none", b"SRJ\n"),
 ];
 
-fn finds<'a>(words: &'a [&'a str], output: &'a [u8]) -> Case<'a> {
-    Case {
+/// A question that is answered so.
+pub fn found<'a>(words: &'a [&'a str], output: &'a [u8]) -> Question<'a> {
+    Question {
+        words,
+        files: &FILES,
+        fails: &[],
+        status: 0,
         output,
-        ..silent(words, &FILES)
+        diag: b"",
     }
 }
 
-fn ends<'a>(words: &'a [&'a str], status: u8, diag: &'a [u8]) -> Case<'a> {
-    Case {
+/// A call that ends with this status and puts nothing.
+pub fn refused<'a>(words: &'a [&'a str], status: u8, diag: &'a [u8]) -> Question<'a> {
+    Question {
         status,
         diag,
-        ..silent(words, &FILES)
+        ..found(words, b"")
     }
 }
 
 /// The races of a run, and each reason for which there are none.
 #[test]
 fn finds_races(rt: HostRuntime) -> Result<(), Fail> {
-    let cases = [
-        finds(
+    let questions = [
+        found(
             &["races", "r", "race.sr"],
             b"race 4 7 race.sr:4 race.sr:7\nraces 1\n",
         ),
-        finds(&["races", "o", "order.sr"], b"races 0\n"),
-        ends(&["races", "k", "race.sr"], 104, b"sr: cannot read k\n"),
-        ends(
+        found(&["races", "o", "order.sr"], b"races 0\n"),
+        refused(&["races", "k", "race.sr"], 104, b"sr: cannot read k\n"),
+        refused(
             &["races", "none", "b.sr"],
             110,
             b"sr: journal: J1 NotJournal\n",
         ),
-        ends(&["races", "r", "b.sr"], 104, b"sr: cannot read b.sr\n"),
-        ends(
+        refused(&["races", "r", "b.sr"], 104, b"sr: cannot read b.sr\n"),
+        refused(
             &["races", "r", "order.sr"],
             111,
             b"sr: journal: other files\n",
         ),
-        ends(
+        refused(
             &["races", "illegal", "race.sr"],
             109,
             b"sr: journal: item 2 is no step\n",
         ),
-        Case {
-            put_fails: &[1],
-            ..ends(&["races", "o", "order.sr"], 106, b"sr: output failed\n")
+        Question {
+            fails: &[1],
+            ..refused(&["races", "o", "order.sr"], 106, b"sr: output failed\n")
         },
     ];
-    for (index, case) in cases.iter().enumerate() {
-        assert!(rt; goes_so(rt.alloc(), case)?, "case {index}");
+    for (index, question) in questions.iter().enumerate() {
+        assert!(rt; is_answered(rt.alloc(), question)?, "question {index}");
     }
     Ok(())
 }
@@ -102,25 +109,19 @@ fn journal_of(alloc: Global, items: u32) -> Result<Text, NoMemory> {
 
 /// How the search in a journal of so many items ends, where the file of its program isn't there.
 fn ending_of(alloc: Global, items: u32) -> Result<Ending, NoMemory> {
-    let journal = journal_of(alloc, items)?;
-    let mut files = Row::new(alloc);
-    push_file(alloc, &mut files, b"j", journal.as_bytes())?;
-    let mut files = MemFiles::new(files, Row::new(alloc));
-    let mut input = MemSource::new(Text::new(alloc), 1, Row::new(alloc));
+    let text = journal_of(alloc, items)?;
+    let files = [("j", text.as_bytes())];
     let mut output = MemSink::new(alloc, 1, Row::new(alloc));
     let mut diag = MemSink::new(alloc, 1, Row::new(alloc));
-    let mut none = MemSink::new(alloc, 1, Row::new(alloc));
-    let words = words_of(alloc, &["races", "j", "race.sr"])?;
-    let report = sr_top(
+    let mut journal = MemSink::new(alloc, 1, Row::new(alloc));
+    let report = call(
         alloc,
-        &words,
-        &mut files,
-        &mut input,
+        &["races", "j", "race.sr"],
+        &files,
         &mut output,
         &mut diag,
-        &mut none,
-        &FreeGate,
-    );
+        &mut journal,
+    )?;
     Ok(report.ending)
 }
 
