@@ -1,4 +1,4 @@
-ghost use Rattle.std.specs.Prelude.{◌≡◌, IfNone, IfOk, IsOk, OnErr, OnOk, is_some};
+ghost use Rattle.std.specs.Prelude.{◌≡◌, IfNone, IfOk, IsOk, OnErr, OnOk, is_some, option_copied};
 ghost use Rattle.std.specs.Option.{option_map};
 ghost use Rattle.std.specs.FinMap as map;
 ghost use Rattle.sr_calls.specs.Calls.{CanAnswer, CanHold, KeepsAnswers, KeepsHolds, KeepsOtherAnswers, KeepsOtherHolds, earliest_reply, held_as, with_item, with_items, without_held, without_reply};
@@ -157,6 +157,16 @@ impl Bucket {
         match self.by_process.get(&caller) {
             Some(process_calls) => process_calls.has_reply(ids),
             None => false,
+        }
+    }
+
+    /// The earliest reply to a caller whose number is among `ids`.
+    pub fn earliest(&self, caller: u32, ids: &SharedNumbers) -> Option<&Reply>
+        ensures { option_copied result ≡ earliest_reply self.now.replies caller ids.now }
+    {
+        match self.by_process.get(&caller) {
+            Some(process_calls) => process_calls.earliest(ids),
+            None => None,
         }
     }
 

@@ -1,4 +1,4 @@
-ghost use Rattle.std.specs.Prelude.{◌≡◌, ◌+◌, ◌<◌, ◌≤◌, [], ◌∷◌, ◌++◌, IfNone, IfOk, IsOk, OnErr, OnOk, OnSome, Some, find, is_some, position, remove, slice_index_or};
+ghost use Rattle.std.specs.Prelude.{◌≡◌, ◌+◌, ◌<◌, ◌≤◌, [], ◌∷◌, ◌++◌, IfNone, IfOk, IsOk, OnErr, OnOk, OnSome, Some, find, is_some, option_copied, position, remove, slice_index_or};
 ghost use Rattle.std.specs.List.{list_any};
 ghost use Rattle.sr_calls.specs.Calls.{answers_one, is_held_as, without_first};
 ghost use Rattle.sr_calls.specs.PerProcess.{KeepsRoom};
@@ -138,6 +138,13 @@ impl ProcessCalls {
         is_any_among(&self.replies, ids)
     }
 
+    /// The earliest reply whose number is among `ids`.
+    pub fn earliest(&self, ids: &SharedNumbers) -> Option<&Reply>
+        ensures { option_copied result ≡ find (answers_one ids.now) self.now.replies }
+    {
+        earliest_among(&self.replies, ids)
+    }
+
     /// Takes the earliest reply out whose number is among `ids`.
     pub fn take(&mut self, ids: &SharedNumbers) -> Option<Reply>
         ensures found { result ≡ find (answers_one ids.now) self.old.replies }
@@ -203,6 +210,13 @@ fn place_of(held: &[Held], id: u32) -> Option<usize>
     ensures { result ≡ position (is_held_as id) held.now }
 {
     held.iter().position(|held| held.id == id)
+}
+
+/// The earliest reply whose number is among `ids`.
+fn earliest_among<'a>(replies: &'a VecDeque<Reply>, ids: &SharedNumbers) -> Option<&'a Reply>
+    ensures { option_copied result ≡ find (answers_one ids.now) replies.now.items }
+{
+    replies.iter().find(|reply| ids.contains(reply.id))
 }
 
 /// Where the earliest reply stands whose number is among `ids`.

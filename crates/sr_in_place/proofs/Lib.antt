@@ -1,3 +1,4 @@
+pub mod CheckingLemmas
 pub mod FittingLemmas
 pub mod IndexLemmas
 pub mod PlaceLemmas

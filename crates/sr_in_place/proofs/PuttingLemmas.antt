@@ -20,10 +20,10 @@ set-same at [] part here = absurd (true≢false (sym (ap is_some here)))
 set-same zero (value ∷ values) part here = let same : value ≡ part = cc in ap (λ v. v ∷ values) (sym same)
 set-same (suc at) (value ∷ values) part here = ap (λ vs. value ∷ vs) (set-same at values part here)
 
-out-arr-shape : (dims : Dims) (item : Shape) → out-Shape (arr_shape dims item) ≡ Shape-F.Arr dims item
+pub out-arr-shape : (dims : Dims) (item : Shape) → out-Shape (arr_shape dims item) ≡ Shape-F.Arr dims item
 out-arr-shape dims item = ap out-Shape (sym (rolls-arr-shape dims item)) ∙ out-roll-Shape (Shape-F.Arr dims item)
 
-out-arr : (dims : Dims) (items : List Value) → out-Value (Arr dims items) ≡ Value-F.Arr dims items
+pub out-arr : (dims : Dims) (items : List Value) → out-Value (Arr dims items) ≡ Value-F.Arr dims items
 out-arr dims items = ap out-Value (sym (rolls-Arr dims items)) ∙ out-roll-Value (Value-F.Arr dims items)
 
 module _ (shape : Shape) (place : Value) (path : List Sel) (step : Sel) (rest : List Sel) (value : Value) (path-is : path ≡ step ∷ rest) where

@@ -22,6 +22,11 @@ abbrev pub Wrote : {A : Type 0} → Result (Unit {0}) Fault → A → A → Resu
 Wrote (Ok done) old new meant = meant ≡ Ok new
 Wrote (Err fault) old new meant = (meant ≡ Err fault) × (new ≡ old)
 
+-- whether something can be done, or its fault
+abbrev pub outcome : {A : Type 0} → Result A Fault → Result (Unit {0}) Fault
+outcome (Ok done) = Ok tt
+outcome (Err fault) = Err fault
+
 -- the items after a value was put at the end of a path in one of them
 abbrev pub item_stored : Shape → List Value → ℕ → List Sel → Value → Result (List Value) Fault
 item_stored shape items spot path value =

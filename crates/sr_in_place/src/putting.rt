@@ -92,7 +92,7 @@ fn put_char(
 }
 
 /// Where the byte of a string that a step selects stands, where there is one.
-fn byte_spot(value: &Value, step: Sel) -> Option<usize>
+pub(crate) fn byte_spot(value: &Value, step: Sel) -> Option<usize>
     ensures { result ≡ layer_spot (out-Value value.now) step }
 {
     match value {
@@ -102,7 +102,7 @@ fn byte_spot(value: &Value, step: Sel) -> Option<usize>
 }
 
 /// The char that the place of a char holds after a store, where the path has ended and the value is one.
-fn char_at_end(path: &[Sel], at: usize, value: &Value) -> Result<u8, Fault>
+pub(crate) fn char_at_end(path: &[Sel], at: usize, value: &Value) -> Result<u8, Fault>
     ensures { IsCharStored (drop at path.now) value.now result }
 {
     match step_at(path, at) {

@@ -12,7 +12,8 @@ use Rattle.sr_value.specs.declared.shape.Sel.{Sel}
 use Rattle.sr_value.specs.declared.value.Value.{Value}
 use Rattle.sr_value.specs.Parts.{loaded_at, or_fault, stored_at, with_ok}
 use Rattle.sr_store.specs.Kept.{Kept}
-use Rattle.sr_in_place.specs.Puts.{Wrote}
+use Rattle.sr_in_place.specs.Puts.{Wrote, outcome}
+use Rattle.sr_in_place.proofs.CheckingLemmas.{outcome-made}
 use Rattle.sr_store.specs.Variables.{ByNumber, block_loaded, block_stored}
 use Rattle.sr_store.specs.declared.variable.Variable.{Variable}
 
@@ -57,6 +58,10 @@ module _ (es : List (ℕ × Variable)) (block : ByNumber Variable) (is : map.fro
 
     pub stored-early : None ≡ lookup (nat_eq var) es → block_stored block var path value ≡ Err Early
     stored-early none = stored-by None none
+
+    pub checked-here : (variable : Variable) → Some variable ≡ lookup (nat_eq var) es → outcome (block_stored block var path value) ≡ outcome (stored_at variable.shape variable.value path value)
+    checked-here variable at =
+        ap outcome (stored-by (Some variable) at) ∙ outcome-made (stored_at variable.shape variable.value path value) (λ held. map.insert block var (record variable { value = held }))
 
     pub stored-here : (new : List (ℕ × Variable)) (variable : Variable) (held : Value) (result : Result (Unit {0}) Fault) → Some variable ≡ lookup (nat_eq var) es
         → ((q : ℕ) → lookup (nat_eq q) new ≡ cond (nat_eq var q) (Some (record variable { value = held })) (lookup (nat_eq q) es))

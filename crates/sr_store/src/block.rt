@@ -2,11 +2,12 @@ ghost use Rattle.std.specs.Prelude.{◌≡◌, ◌<◌, ◌≤◌, IfOk, IsOk, O
 ghost use Rattle.std.specs.HashMap.{Updates, spare};
 ghost use Rattle.std.specs.FinMap as map;
 ghost use Rattle.sr_value.specs.Operators.{Answers};
-ghost use Rattle.sr_in_place.specs.Puts.{Wrote};
+ghost use Rattle.sr_in_place.specs.Puts.{Wrote, outcome};
 ghost use Rattle.sr_store.specs.Variables.{block_loaded, block_stored};
 
 use crate::part::{put_at, value_at};
 use crate::variable::Variable;
+use sr_in_place::check_put;
 use sr_value::{Duplicate, Fault, NoMemory, Sel, Value, ValueFail};
 use std::alloc::Global;
 use std::collections::HashMap;
@@ -97,6 +98,16 @@ impl Block {
             return Err(Fault::Early);
         };
         put_at(&variable.shape, &mut variable.value, path, value)
+    }
+
+    /// Whether [`Block::store`] would put a value there, or its fault.
+    pub fn check_store(&self, var: u32, path: &[Sel], value: &Value) -> Result<(), Fault>
+        ensures { result ≡ outcome (block_stored self.now.variables var path.now value.now) }
+    {
+        match self.variables.get(&var) {
+            Some(variable) => check_put(&variable.shape, &variable.value, path, value),
+            None => Err(Fault::Early),
+        }
     }
 
     /// A copy of the variables.

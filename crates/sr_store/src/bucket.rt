@@ -1,7 +1,7 @@
 ghost use Rattle.std.specs.Prelude.{◌≡◌, IfOk, IsOk, OnErr, OnOk};
 ghost use Rattle.std.specs.FinMap as map;
 ghost use Rattle.sr_value.specs.Operators.{Answers};
-ghost use Rattle.sr_in_place.specs.Puts.{Wrote};
+ghost use Rattle.sr_in_place.specs.Puts.{Wrote, outcome};
 ghost use Rattle.sr_store.specs.Variables.{CanPlace, KeepsOtherRoom, KeepsRoom, Made, declared_in, loaded_in, stored_in, with_block, with_variable};
 
 use crate::block::Block;
@@ -111,6 +111,22 @@ impl Bucket {
             return Err(Fault::Early);
         };
         kept.store(var, path, value)
+    }
+
+    /// Whether [`Bucket::store`] would put a value there, or its fault. Nothing is changed, and it takes no memory.
+    pub fn check_store(
+        &self,
+        block: u32,
+        var: u32,
+        path: &[Sel],
+        value: &Value,
+    ) -> Result<(), Fault>
+        ensures { result ≡ outcome (stored_in self.now.variables block var path.now value.now) }
+    {
+        match self.tables.get(&block) {
+            Some(kept) => kept.check_store(var, path, value),
+            None => Err(Fault::Early),
+        }
     }
 
     /// Gives a block with room a variable of this shape and value. One that it had by this number goes. It
