@@ -68,6 +68,20 @@ fn hello(rt: HostRuntime) -> Result<(), Fail> {
 }
 
 #[test]
+fn ticks(rt: HostRuntime) -> Result<(), Fail> {
+    let bytes: &[u8] =
+        b"SRJ2\nfiles 1\n40 8 hello.sr\nsteps 5 ticks 7\nitems 3\ns 1 2\nt 10\nt 2147483647\nend\n";
+    let items = [
+        Item::Step { actor: 1, name: 2 },
+        Item::Tick { to: 10 },
+        Item::Tick { to: 2_147_483_647 },
+    ];
+    assert!(rt; has_items(rt.alloc(), bytes, &items)?);
+    assert!(rt; has_header(rt.alloc(), bytes, (40, b"hello.sr"), 5, 7)?);
+    Ok(())
+}
+
+#[test]
 fn cut_at_every_byte(rt: HostRuntime) -> Result<(), Fail> {
     for len in 0..HELLO.len() {
         assert_eq!(rt; outcome(rt.alloc(), &HELLO[..len])?, b'2', "{len}");
@@ -171,17 +185,23 @@ const ONE_FILE: &[u8] = b"SRJ1\nfiles 1\n";
 
 const TO_ITEMS: &[u8] = b"SRJ1\nfiles 1\n0 0 \nsteps 5 ticks 7\nitems ";
 
+const TO_TIMED_ITEMS: &[u8] = b"SRJ2\nfiles 1\n0 0 \nsteps 5 ticks 7\nitems ";
+
 /// What a journal begins with, how it goes on, and what comes.
-const ROWS: [(&[u8], &[u8], u8); 62] = [
+const ROWS: [(&[u8], &[u8], u8); 78] = [
     (NO_HEAD, b"", b'2'),
     (NO_HEAD, b"hello", b'1'),
     (NO_HEAD, b"SRJ", b'2'),
     (NO_HEAD, b"SRJ1", b'2'),
-    (NO_HEAD, b"SRJ2", b'1'),
+    (NO_HEAD, b"SRJ2", b'2'),
+    (NO_HEAD, b"SRJ3", b'1'),
+    (NO_HEAD, b"SRJ12", b'1'),
     (NO_HEAD, b"SRJ10", b'1'),
     (NO_HEAD, b"SRJ0\n", b'3'),
     (NO_HEAD, b"SRJ01\n", b'1'),
-    (NO_HEAD, b"SRJ2\n", b'3'),
+    (NO_HEAD, b"SRJ2\n", b'2'),
+    (NO_HEAD, b"SRJ2\nfiles 65", b'1'),
+    (NO_HEAD, b"SRJ3\n", b'3'),
     (NO_HEAD, b"SRJ10\nfiles 1", b'3'),
     (NO_HEAD, b"SRJ18446744073709551617\n", b'3'),
     (NO_HEAD, b"SRJ\n", b'1'),
@@ -235,6 +255,18 @@ const ROWS: [(&[u8], &[u8], u8); 62] = [
     (TO_ITEMS, b"1\nend\n", b'1'),
     (TO_ITEMS, b"2\nq 0\ns 1 0\nend\n", b'0'),
     (TO_ITEMS, b"1\nt 1\nend\n", b'1'),
+    (TO_TIMED_ITEMS, b"5", b'2'),
+    (TO_TIMED_ITEMS, b"6", b'1'),
+    (TO_TIMED_ITEMS, b"0\nend\n", b'0'),
+    (TO_TIMED_ITEMS, b"1\nt", b'2'),
+    (TO_TIMED_ITEMS, b"1\nt 0", b'1'),
+    (TO_TIMED_ITEMS, b"1\nt 1\nend\n", b'0'),
+    (TO_TIMED_ITEMS, b"1\nt 01", b'1'),
+    (TO_TIMED_ITEMS, b"1\nt 1 0", b'1'),
+    (TO_TIMED_ITEMS, b"1\nt 2147483647\nend\n", b'0'),
+    (TO_TIMED_ITEMS, b"1\nt 2147483648", b'1'),
+    (TO_TIMED_ITEMS, b"1\nend\n", b'1'),
+    (TO_TIMED_ITEMS, b"2\ns 1 2\nq 0\nend\n", b'0'),
 ];
 
 #[test]

@@ -1,11 +1,11 @@
 -- What `read_journal` promises, from what reading tells.
-use Rattle.std.proofs.Common.{◌≡◌, ◌≢◌, refl, ◌∙◌, ap, subst, ℕ, Bool, true, false, not, nat_eq, None, List, Result, Ok, Err, IfOk, IsTrue, arith}
+use Rattle.std.proofs.Common.{◌≡◌, ◌≢◌, refl, ◌∙◌, ap, subst, ℕ, Bool, true, false, not, ◌≤◌, None, List, Result, Ok, Err, IfOk, IsTrue, arith}
 use Rattle.std.specs.Prelude.{◌↔◌, codes}
-use Rattle.std.proofs.lemmas.Bool.{eqb-true, eqb-false}
 use Rattle.sr_ask.specs.declared.item.Item.{Item}
 use Rattle.sr_journal.specs.declared.header.Header.{Header}
 use Rattle.sr_journal.specs.declared.fail.JournalFail.{JournalFail}
 use Rattle.sr_journal.specs.declared.fail.JournalFail.TheVariants.{NotJournal, Truncated, Version, NoMemory}
+use Rattle.sr_journal.specs.Journal.{IsVersion}
 use Rattle.sr_journal.specs.Causes.{IsJournal, IsBeginning, IsOtherVersion, IsNoJournal, ComesExactlyFor}
 use Rattle.sr_journal.specs.Reading.{Reading, Gives, ◌>>=◌, capped, with_capped, word_at, number_at, version_at, journal_at}
 use Rattle.sr_journal.proofs.Whole.{Journal, IsRight, IsCut, IsWrong, Verdict, verdict, no-text, no-front, other-version, no-version}
@@ -76,15 +76,9 @@ this-answer s (Err NoMemory) none e = out-of-memory s none
 abbrev pub Answers : List ℕ → Bool → Type 0
 Answers s t = (IsTrue t → IsOtherVersion s) × (IsOtherVersion s → IsTrue t)
 
-no-one : (n c : ℕ) → capped n ≡ c → (nat_eq c 1 ≡ false) → n ≡ 1 → ⊥
-no-one n c e f at = let k : c ≡ 1 = omega (arith, e, at) in eqb-false c 1 f k
-
-just-one : (n c : ℕ) → capped n ≡ c → c ≡ 1 → n ≡ 1
-just-one n c e f = omega (arith, e, f)
-
-by-number : (s : List ℕ) (n c : ℕ) (t : Bool) → nat_eq c 1 ≡ t → capped n ≡ c → (n ≢ 1 → IsOtherVersion s) × (n ≡ 1 → IsOtherVersion s → ⊥) → Answers s (not t)
-by-number s n c true f e v = (λ h. cc, λ o. absurd (v.1 (just-one n c e (eqb-true c 1 f)) o))
-by-number s n c false f e v = (λ h. v.0 (no-one n c e f), λ o. refl)
+by-test : (s : List ℕ) (n : ℕ) (t : Bool) → (t ≡ true → IsVersion n) → (IsVersion n → t ≡ true) → ((IsVersion n → ⊥) → IsOtherVersion s) × (IsVersion n → IsOtherVersion s → ⊥) → Answers s (not t)
+by-test s n true known has v = (λ h. cc, λ o. absurd (v.1 (known refl) o))
+by-test s n false known has v = (λ h. v.0 (λ is. let no : false ≡ true = has is in cc), λ o. refl)
 
 version-of : (s rest : List ℕ) → word_at (codes "SRJ") s ≡ Ok rest → version_at s ≡ number_at true None 10 rest
 unfolding version_at
@@ -102,10 +96,17 @@ capped-fails : (r : Reading ℕ) (e : JournalFail) → with_capped r ≡ Err e �
 capped-fails (Ok x) e h = cc
 capped-fails (Err u) e h = h
 
-pub version-read : (s rest : List ℕ) (c : ℕ) (q : List ℕ) → word_at (codes "SRJ") s ≡ Ok rest → with_capped (number_at true None 10 rest) ≡ Ok (c, q) → Answers s (not (nat_eq c 1))
-version-read s rest c q w e =
+near : (n c : ℕ) → capped n ≡ c → IsVersion n → IsVersion c
+near n c e h = let low : 1 ≤ n = h.0 in let high : n ≤ 2 = h.1 in (omega (arith, e), omega (arith, e))
+
+far : (n c : ℕ) → capped n ≡ c → IsVersion c → IsVersion n
+far n c e h = let low : 1 ≤ c = h.0 in let high : c ≤ 2 = h.1 in (omega (arith, e), omega (arith, e))
+
+pub version-read : (s rest : List ℕ) (c : ℕ) (q : List ℕ) (t : Bool) → (t ≡ true → IsVersion c) → (IsVersion c → t ≡ true) → word_at (codes "SRJ") s ≡ Ok rest
+    → with_capped (number_at true None 10 rest) ≡ Ok (c, q) → Answers s (not t)
+version-read s rest c q t known has w e =
     let k = capped-is (number_at true None 10 rest) c q e in
-    by-number s k.0 c (nat_eq c 1) refl k.3 (other-version s k.0 k.1 (version-of s rest w ∙ k.2))
+    by-test s k.0 t (λ is. far k.0 c k.3 (known is)) (λ is. has (near k.0 c k.3 is)) (other-version s k.0 k.1 (version-of s rest w ∙ k.2))
 
 pub version-unread : (s rest : List ℕ) (e : JournalFail) → word_at (codes "SRJ") s ≡ Ok rest → with_capped (number_at true None 10 rest) ≡ Err e → Answers s false
 version-unread s rest e w h = (λ f. cc, λ o. absurd (no-version s e (version-of s rest w ∙ capped-fails (number_at true None 10 rest) e h) o))

@@ -10,8 +10,8 @@ use Rattle.sr_ask.specs.declared.item.Item.TheVariants.{Step, Quiesce, Tick}
 use Rattle.sr_journal.specs.declared.fail.JournalFail.{JournalFail}
 use Rattle.sr_journal.specs.declared.fail.JournalFail.TheVariants.{NotJournal, Truncated, Version, NoMemory}
 use Rattle.sr_journal.specs.Numbers.{number_text}
-use Rattle.sr_journal.specs.Journal.{blank, newline, file_line, files_text, limits_line, item_line, items_text, IsFile, IsItem}
-use Rattle.sr_journal.specs.Reading.{Reading, ◌>>=◌, word_at, number_at, name_at, file_at, many_at, files_at, limits_at, step_at, quiesce_at, item_at, items_at}
+use Rattle.sr_journal.specs.Journal.{blank, newline, file_line, files_text, limits_line, item_line, items_text, IsFile, IsItemOf, IsMoment}
+use Rattle.sr_journal.specs.Reading.{Reading, ◌>>=◌, word_at, number_at, name_at, file_at, many_at, files_at, limits_at, step_at, quiesce_at, tick_at, item_at, items_at}
 use Rattle.sr_journal.proofs.Characters.{Padding, padding}
 use Rattle.sr_journal.proofs.Formats.{Format, Failed, Judged, Left, ended, then}
 use Rattle.sr_journal.proofs.Lists.{append-nil}
@@ -52,16 +52,16 @@ no-way e = cc
 stands : (n most : ℕ) → n ≤ most → CanStand true (Some most) n
 stands n most h = record { least = λ e. no-way e; within = le-leb n most h }
 
-stands-above : (n most : ℕ) → 1 ≤ n → n ≤ most → CanStand false (Some most) n
+pub stands-above : (n most : ℕ) → 1 ≤ n → n ≤ most → CanStand false (Some most) n
 stands-above n most some h = record { least = λ e. some; within = le-leb n most h }
 
 pub any-stands : (n : ℕ) → CanStand true None n
 any-stands n = record { least = λ e. no-way e; within = refl }
 
-at-most : (b : Bool) (n most : ℕ) → CanStand b (Some most) n → n ≤ most
+pub at-most : (b : Bool) (n most : ℕ) → CanStand b (Some most) n → n ≤ most
 at-most b n most h = leb-true n most h.within
 
-at-least : (most : Option ℕ) (n : ℕ) → CanStand false most n → 1 ≤ n
+pub at-least : (most : Option ℕ) (n : ℕ) → CanStand false most n → 1 ≤ n
 at-least most n h = h.least refl
 
 no-blank : IsDigit 32 → ⊥
@@ -243,26 +243,42 @@ limits-judged s =
 
 -- what stands after the first byte of an item's line
 abbrev pub StepHolds : Item → Type 0
-StepHolds (Step actor name) = IsItem (Step actor name)
+StepHolds (Step actor name) = IsItemOf false (Step actor name)
 StepHolds (Quiesce name) = ⊥
 StepHolds (Tick to) = ⊥
 
 abbrev pub QuiesceHolds : Item → Type 0
 QuiesceHolds (Step actor name) = ⊥
-QuiesceHolds (Quiesce name) = IsItem (Quiesce name)
+QuiesceHolds (Quiesce name) = IsItemOf false (Quiesce name)
 QuiesceHolds (Tick to) = ⊥
 
-abbrev after-made : Item → List ℕ
+abbrev pub TickHolds : Item → Type 0
+TickHolds (Step actor name) = ⊥
+TickHolds (Quiesce name) = ⊥
+TickHolds (Tick to) = IsMoment true to
+
+abbrev moment_of : Item → ℕ
+moment_of (Step actor name) = 0
+moment_of (Quiesce name) = 0
+moment_of (Tick to) = to
+
+abbrev pub after-made : Item → List ℕ
 after-made item = number_text (number_of item) ++ newline
 
 abbrev after-actor : Item → List ℕ
 after-actor item = number_text (actor_of item) ++ (blank ++ after-made item)
+
+abbrev after-moment : Item → List ℕ
+after-moment item = number_text (moment_of item) ++ newline
 
 abbrev Steps : Format Item
 Steps = record { Holds = StepHolds; text = λ item. blank ++ after-actor item }
 
 abbrev Quiesces : Format Item
 Quiesces = record { Holds = QuiesceHolds; text = λ item. blank ++ after-made item }
+
+abbrev Ticks : Format Item
+Ticks = record { Holds = TickHolds; text = λ item. blank ++ after-moment item }
 
 step-from : (a b : ℕ) → CanStand false (Some 4294967295) a → CanStand true (Some 4294967295) b → StepHolds (Step a b)
 step-from a b h g =
@@ -288,6 +304,14 @@ quiesce-name (Step a b) h = absurd h
 quiesce-name (Quiesce b) h = let l : b < 2 ^ 32 = h in stands b 4294967295 (omega (arith, l))
 quiesce-name (Tick to) h = absurd h
 
+tick-from : (to : ℕ) → CanStand false (Some 2147483647) to → TickHolds (Tick to)
+tick-from to h = (at-least (Some 2147483647) to h, at-most false to 2147483647 h)
+
+tick-moment : (c : Item) → TickHolds c → CanStand false (Some 2147483647) (moment_of c)
+tick-moment (Step a b) h = absurd h
+tick-moment (Quiesce b) h = absurd h
+tick-moment (Tick to) h = stands-above to 2147483647 h.0 h.1
+
 same-step : (a b : ℕ) (c : Item) → StepHolds c → actor_of c ≡ a → number_of c ≡ b → c ≡ Step a b
 same-step a b (Step x y) h p q = λ i. Step (p i) (q i)
 same-step a b (Quiesce y) h p q = absurd h
@@ -297,6 +321,11 @@ same-quiesce : (b : ℕ) (c : Item) → QuiesceHolds c → number_of c ≡ b →
 same-quiesce b (Step x y) h q = absurd h
 same-quiesce b (Quiesce y) h q = ap Quiesce q
 same-quiesce b (Tick to) h q = absurd h
+
+same-tick : (to : ℕ) (c : Item) → TickHolds c → moment_of c ≡ to → c ≡ Tick to
+same-tick to (Step x y) h q = absurd h
+same-tick to (Quiesce y) h q = absurd h
+same-tick to (Tick y) h q = ap Tick q
 
 one-actor : CanStand false (Some 4294967295) 1
 one-actor = stands-above 1 4294967295 (omega arith) (omega arith)
@@ -338,9 +367,25 @@ quiesce-judged s =
     (λ name. Ok (Quiesce name.0, name.1))
     (λ b end g. ended (Left (Rest Quiesces after-made) number_of no-more-of b) (Quiesce b) end (quiesce-from b g, refl) refl (λ c i. same-quiesce b c i.0 i.1)))
 
+one-moment : CanStand false (Some 2147483647) 1
+one-moment = stands-above 1 2147483647 (omega arith) (omega arith)
+
+tick-judged : (s : List ℕ) → Judged Ticks s (tick_at s)
+unfolding tick_at
+tick-judged s =
+    after blank Ticks after-moment (λ c h. refl) (Tick 1) (tick-from 1 one-moment)
+    s (λ rest. number_at false (Some 2147483647) 10 rest >>= λ to. Ok (Tick to.0, to.1))
+    (λ rest.
+    then (Number false (Some 2147483647) 10) (Rest Ticks after-moment) moment_of no-more-of
+    tick-moment (λ c g. sym (append-nil (after-moment c)))
+    (λ to g. (Tick to, tick-from to g, refl))
+    rest (number_at false (Some 2147483647) 10 rest) (number-judged false (Some 2147483647) 10 no-newline 1 one-moment rest)
+    (λ to. Ok (Tick to.0, to.1))
+    (λ to end g. ended (Left (Rest Ticks after-moment) moment_of no-more-of to) (Tick to) end (tick-from to g, refl) refl (λ c i. same-tick to c i.0 i.1)))
+
 -- the line of an item
-abbrev pub Items-one : Format Item
-Items-one = record { Holds = IsItem; text = item_line }
+abbrev pub Items-one : Bool → Format Item
+Items-one timed = record { Holds = IsItemOf timed; text = item_line }
 
 -- a first byte, which tells the values that come after it
 module _ {A : Type 0} (F G : Format A) (b : ℕ)
@@ -371,49 +416,65 @@ module _ {A : Type 0} (F G : Format A) (b : ℕ)
     only = λ a u v h e. k.only a u v (down a (s ++ u) v h e) (tails a (s ++ u) v h e);
   }
 
-step-up : (c : Item) → StepHolds c → IsItem c
-step-up (Step a b) h = h
-step-up (Quiesce b) h = absurd h
-step-up (Tick to) h = absurd h
+step-up : (timed : Bool) (c : Item) → StepHolds c → IsItemOf timed c
+step-up timed (Step a b) h = h
+step-up timed (Quiesce b) h = absurd h
+step-up timed (Tick to) h = absurd h
 
 step-led : (c : Item) → StepHolds c → item_line c ≡ 115 ∷ (blank ++ after-actor c)
 step-led (Step a b) h = refl
 step-led (Quiesce b) h = absurd h
 step-led (Tick to) h = absurd h
 
-step-down : (c : Item) (p y : List ℕ) → IsItem c → 115 ∷ p ≡ item_line c ++ y → StepHolds c
-step-down (Step a b) p y h e = h
-step-down (Quiesce b) p y h e = let head : ◌≡◌ {A = ℕ} 115 113 = cc in absurd (omega (arith, head))
-step-down (Tick to) p y h e = absurd h
+step-down : (timed : Bool) (c : Item) (p y : List ℕ) → IsItemOf timed c → 115 ∷ p ≡ item_line c ++ y → StepHolds c
+step-down timed (Step a b) p y h e = h
+step-down timed (Quiesce b) p y h e = let head : ◌≡◌ {A = ℕ} 115 113 = cc in absurd (omega (arith, head))
+step-down timed (Tick to) p y h e = let head : ◌≡◌ {A = ℕ} 115 116 = cc in absurd (omega (arith, head))
 
-quiesce-up : (c : Item) → QuiesceHolds c → IsItem c
-quiesce-up (Step a b) h = absurd h
-quiesce-up (Quiesce b) h = h
-quiesce-up (Tick to) h = absurd h
+quiesce-up : (timed : Bool) (c : Item) → QuiesceHolds c → IsItemOf timed c
+quiesce-up timed (Step a b) h = absurd h
+quiesce-up timed (Quiesce b) h = h
+quiesce-up timed (Tick to) h = absurd h
 
 quiesce-led : (c : Item) → QuiesceHolds c → item_line c ≡ 113 ∷ (blank ++ after-made c)
 quiesce-led (Step a b) h = absurd h
 quiesce-led (Quiesce b) h = refl
 quiesce-led (Tick to) h = absurd h
 
-quiesce-down : (c : Item) (p y : List ℕ) → IsItem c → 113 ∷ p ≡ item_line c ++ y → QuiesceHolds c
-quiesce-down (Step a b) p y h e = let head : ◌≡◌ {A = ℕ} 113 115 = cc in absurd (omega (arith, head))
-quiesce-down (Quiesce b) p y h e = h
-quiesce-down (Tick to) p y h e = absurd h
+quiesce-down : (timed : Bool) (c : Item) (p y : List ℕ) → IsItemOf timed c → 113 ∷ p ≡ item_line c ++ y → QuiesceHolds c
+quiesce-down timed (Step a b) p y h e = let head : ◌≡◌ {A = ℕ} 113 115 = cc in absurd (omega (arith, head))
+quiesce-down timed (Quiesce b) p y h e = h
+quiesce-down timed (Tick to) p y h e = let head : ◌≡◌ {A = ℕ} 113 116 = cc in absurd (omega (arith, head))
 
-no-item : (b : ℕ) (p y : List ℕ) (c : Item) → IsItem c → (b ≡ 115 → ⊥) → (b ≡ 113 → ⊥) → b ∷ p ≡ item_line c ++ y → ⊥
-no-item b p y (Step x z) h s q e = let head : b ≡ 115 = cc in s head
-no-item b p y (Quiesce z) h s q e = let head : b ≡ 113 = cc in q head
-no-item b p y (Tick to) h s q e = h
+tick-up : (c : Item) → TickHolds c → IsItemOf true c
+tick-up (Step a b) h = absurd h
+tick-up (Quiesce b) h = absurd h
+tick-up (Tick to) h = h
+
+tick-led : (c : Item) → TickHolds c → item_line c ≡ 116 ∷ (blank ++ after-moment c)
+tick-led (Step a b) h = absurd h
+tick-led (Quiesce b) h = absurd h
+tick-led (Tick to) h = refl
+
+tick-down : (c : Item) (p y : List ℕ) → IsItemOf true c → 116 ∷ p ≡ item_line c ++ y → TickHolds c
+tick-down (Step a b) p y h e = let head : ◌≡◌ {A = ℕ} 116 115 = cc in absurd (omega (arith, head))
+tick-down (Quiesce b) p y h e = let head : ◌≡◌ {A = ℕ} 116 113 = cc in absurd (omega (arith, head))
+tick-down (Tick to) p y h e = h
+
+-- no item's line begins so; that of a tick begins with a `t`
+no-item : (timed : Bool) (b : ℕ) (p y : List ℕ) (c : Item) → IsItemOf timed c → (b ≡ 115 → ⊥) → (b ≡ 113 → ⊥) → ((to : ℕ) → IsMoment timed to → b ≡ 116 → ⊥) → b ∷ p ≡ item_line c ++ y → ⊥
+no-item timed b p y (Step x z) h s q t e = let head : b ≡ 115 = cc in s head
+no-item timed b p y (Quiesce z) h s q t e = let head : b ≡ 113 = cc in q head
+no-item timed b p y (Tick to) h s q t e = let head : b ≡ 116 = cc in t to h head
 
 no-line : (c : Item) (x : List ℕ) → [] ≡ item_line c ++ x → ⊥
 no-line (Step a b) x e = cc
 no-line (Quiesce b) x e = cc
 no-line (Tick to) x e = cc
 
-pub item-judged : (s : List ℕ) → Judged Items-one s (item_at s)
+pub item-judged : (timed : Bool) (s : List ℕ) → Judged (Items-one timed) s (item_at timed s)
 unfolding item_at
-item-judged [] = record {
+item-judged timed [] = record {
   value = Quiesce 0;
   more = item_line (Quiesce 0);
   holds = omega arith;
@@ -421,19 +482,22 @@ item-judged [] = record {
   some_more = omega arith;
   none = λ c x h e. no-line c x e;
 }
-item-judged (b ∷ s) = by_first (eqb b 115) (eqb b 113) refl refl
+item-judged timed (b ∷ s) = by_first (eqb b 115) (eqb b 113) (eqb b 116) timed refl refl refl
   where
-    by_first : (x y : Bool) → eqb b 115 ≡ x → eqb b 113 ≡ y → Judged Items-one (b ∷ s) (cond x (step_at s) (cond y (quiesce_at s) (Err NotJournal)))
-    by_first true y p q = subst (λ c. Judged Items-one (c ∷ s) (step_at s)) (sym (eqb-true b 115 p)) (led-judged Items-one Steps 115 step-up step-led step-down s (step_at s) (step-judged s))
-    by_first false true p q = subst (λ c. Judged Items-one (c ∷ s) (quiesce_at s)) (sym (eqb-true b 113 q)) (led-judged Items-one Quiesces 113 quiesce-up quiesce-led quiesce-down s (quiesce_at s) (quiesce-judged s))
-    by_first false false p q = record { none = λ c x y h e. no-item b (s ++ x) y c h (eqb-false b 115 p) (eqb-false b 113 q) e }
+    by_first : (x y z t : Bool) → eqb b 115 ≡ x → eqb b 113 ≡ y → eqb b 116 ≡ z
+        → Judged (Items-one t) (b ∷ s) (cond x (step_at s) (cond y (quiesce_at s) (cond z (cond t (tick_at s) (Err NotJournal)) (Err NotJournal))))
+    by_first true y z t p q r = subst (λ c. Judged (Items-one t) (c ∷ s) (step_at s)) (sym (eqb-true b 115 p)) (led-judged (Items-one t) Steps 115 (step-up t) step-led (step-down t) s (step_at s) (step-judged s))
+    by_first false true z t p q r = subst (λ c. Judged (Items-one t) (c ∷ s) (quiesce_at s)) (sym (eqb-true b 113 q)) (led-judged (Items-one t) Quiesces 113 (quiesce-up t) quiesce-led (quiesce-down t) s (quiesce_at s) (quiesce-judged s))
+    by_first false false true true p q r = subst (λ c. Judged (Items-one true) (c ∷ s) (tick_at s)) (sym (eqb-true b 116 r)) (led-judged (Items-one true) Ticks 116 tick-up tick-led tick-down s (tick_at s) (tick-judged s))
+    by_first false false true false p q r = record { none = λ c x y h e. no-item false b (s ++ x) y c h (eqb-false b 115 p) (eqb-false b 113 q) (λ to none at. none) e }
+    by_first false false false t p q r = record { none = λ c x y h e. no-item t b (s ++ x) y c h (eqb-false b 115 p) (eqb-false b 113 q) (λ to moment at. eqb-false b 116 r at) e }
 
 -- the lines of all items, of which there are at most so many
-abbrev pub AreItems : ℕ → List Item → Type 0
-AreItems most items = (length items ≤ most) × AllByRecursion IsItem items
+abbrev pub AreItems : Bool → ℕ → List Item → Type 0
+AreItems timed most items = (length items ≤ most) × AllByRecursion (IsItemOf timed) items
 
-abbrev pub Items : ℕ → Format (List Item)
-Items most = record { Holds = AreItems most; text = items_text }
+abbrev pub Items : Bool → ℕ → Format (List Item)
+Items timed most = record { Holds = AreItems timed most; text = items_text }
 
 abbrev item-lines : List Item → List ℕ
 item-lines items = concat (map item_line items)
@@ -441,22 +505,22 @@ item-lines items = concat (map item_line items)
 abbrev after-items-word : List Item → List ℕ
 after-items-word items = number_text (length items) ++ (newline ++ item-lines items)
 
-end-item : IsItem (Quiesce 0)
-end-item = omega arith
+end-item : (timed : Bool) → IsItemOf timed (Quiesce 0)
+end-item timed = omega arith
 
-pub items-judged : (most : ℕ) (s : List ℕ) → Judged (Items most) s (items_at most s)
+pub items-judged : (timed : Bool) (most : ℕ) (s : List ℕ) → Judged (Items timed most) s (items_at timed most s)
 unfolding items_at
-items-judged most s =
-    after (codes "items ") (Items most) after-items-word (λ c h. refl) [] (omega arith, tt)
-    s (λ rest. number_at true (Some most) 10 rest >>= λ count. many_at item_at count.0 count.1)
+items-judged timed most s =
+    after (codes "items ") (Items timed most) after-items-word (λ c h. refl) [] (omega arith, tt)
+    s (λ rest. number_at true (Some most) 10 rest >>= λ count. many_at (item_at timed) count.0 count.1)
     (λ rest.
-    then (Number true (Some most) 10) (Rest (Items most) after-items-word) count-of item-lines
+    then (Number true (Some most) 10) (Rest (Items timed most) after-items-word) count-of item-lines
     (λ c h. stands (length c) most h.0) (λ c h. sym (append_assoc (number_text (length c)) (10 ∷ []) (item-lines c)))
-    (λ k h. let c = copies IsItem (Quiesce 0) end-item k in
+    (λ k h. let c = copies (IsItemOf timed) (Quiesce 0) (end-item timed) k in
     (c.all, (let l : length c.all ≡ k = c.long in let g : k ≤ most = at-most true k most h in omega (arith, l, g), c.each), c.long))
     rest (number_at true (Some most) 10 rest) (number-judged true (Some most) 10 no-newline 0 (stands 0 most (omega arith)) rest)
-    (λ count. many_at item_at count.0 count.1)
+    (λ count. many_at (item_at timed) count.0 count.1)
     (λ k left h.
-    equal (Many Items-one k) (Left (Rest (Items most) after-items-word) count-of item-lines k)
+    equal (Many (Items-one timed) k) (Left (Rest (Items timed most) after-items-word) count-of item-lines k)
     (λ c g. ((let l : length c ≡ k = g.0 in let i : k ≤ most = at-most true k most h in omega (arith, l, i), g.1), g.0))
-    (λ c g. (g.1, g.0.1)) (λ c. refl) left (many_at item_at k left) (many-judged Items-one item_at item-judged (Quiesce 0) end-item k left)))
+    (λ c g. (g.1, g.0.1)) (λ c. refl) left (many_at (item_at timed) k left) (many-judged (Items-one timed) (item_at timed) (item-judged timed) (Quiesce 0) (end-item timed) k left)))

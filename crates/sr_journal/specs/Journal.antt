@@ -1,5 +1,5 @@
--- The text of a journal, version 1.
-use Rattle.std.specs.Prelude.{ℕ, ◌≤◌, ◌<◌, ◌^◌, List, [], ◌∷◌, length, map, codes}
+-- The text of a journal, of both versions. Only the second tells of time.
+use Rattle.std.specs.Prelude.{ℕ, ◌≤◌, ◌<◌, ◌^◌, ◌==◌, Bool, true, false, List, [], ◌∷◌, length, map, codes}
 use Rattle.std.specs.List.{concat, AllByRecursion}
 use Rattle.std.specs.Str.{IsUtf8}
 use Rattle.sr_ask.specs.declared.item.Item.{Item}
@@ -39,23 +39,43 @@ item_line (Tick to) = concat (codes "t " ∷ number_text to ∷ newline ∷ [])
 abbrev pub items_text : List Item → List ℕ
 items_text items = concat (codes "items " ∷ number_text (length items) ∷ newline ∷ map item_line items)
 
--- the bytes of a journal
+-- the bytes of a journal of a version
+abbrev pub version_text : ℕ → Header → List Item → List ℕ
+version_text version header items =
+    concat (version_line version ∷ files_text header.files ∷ limits_line header.steps header.ticks ∷ items_text items ∷ codes "end" ∷ newline ∷ [])
+
+-- the bytes of a journal as it is written
 abbrev pub journal_text : Header → List Item → List ℕ
-journal_text header items =
-    concat (codes "SRJ1" ∷ newline ∷ files_text header.files ∷ limits_line header.steps header.ticks ∷ items_text items ∷ codes "end" ∷ newline ∷ [])
+journal_text header items = version_text 1 header items
 
 -- a file has at most a mebibyte, and its name is text
 abbrev pub IsFile : ℕ × List ℕ → Type 0
 IsFile file = (file.0 ≤ 1048576) × IsUtf8 file.1
 
--- a step is made by a process, and processes are numbered from 1; no time passes in this version
-abbrev pub IsItem : Item → Type 0
-IsItem (Step actor name) = (1 ≤ actor) × (actor < 2 ^ 32) × (name < 2 ^ 32)
-IsItem (Quiesce name) = name < 2 ^ 32
-IsItem (Tick to) = ⊥
+abbrev pub IsVersion : ℕ → Type 0
+IsVersion version = (1 ≤ version) × (version ≤ 2)
 
--- what a journal can hold
-pub record IsInRange (header : Header) (items : List Item) : Type 0 where
+-- whether the items of a version tell of time
+abbrev pub tells_time : ℕ → Bool
+tells_time version = version == 2
+
+-- time comes to a moment after the first, 0; none passes where it isn't told of
+abbrev pub IsMoment : Bool → ℕ → Type 0
+IsMoment true to = (1 ≤ to) × (to ≤ 2147483647)
+IsMoment false to = ⊥
+
+-- a step is made by a process, and processes are numbered from 1
+abbrev pub IsItemOf : Bool → Item → Type 0
+IsItemOf timed (Step actor name) = (1 ≤ actor) × (actor < 2 ^ 32) × (name < 2 ^ 32)
+IsItemOf timed (Quiesce name) = name < 2 ^ 32
+IsItemOf timed (Tick to) = IsMoment timed to
+
+-- an item of a journal that is written
+abbrev pub IsItem : Item → Type 0
+IsItem item = IsItemOf false item
+
+-- what a journal can hold whose items tell of time or don't
+pub record IsWithin (timed : Bool) (header : Header) (items : List Item) : Type 0 where
   pub some_file : 1 ≤ length header.files
   pub few_files : length header.files ≤ 64
   pub each_file : AllByRecursion IsFile header.files
@@ -64,4 +84,8 @@ pub record IsInRange (header : Header) (items : List Item) : Type 0 where
   pub some_ticks : 1 ≤ header.ticks
   pub few_ticks : header.ticks ≤ 1000000000
   pub few_items : length items ≤ header.steps
-  pub each_item : AllByRecursion IsItem items
+  pub each_item : AllByRecursion (IsItemOf timed) items
+
+-- what a journal that is written can hold
+abbrev pub IsInRange : Header → List Item → Type 0
+IsInRange header items = IsWithin false header items

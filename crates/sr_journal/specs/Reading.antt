@@ -4,11 +4,11 @@ use Rattle.std.specs.Char.{is_ascii_digit}
 use Rattle.std.specs.Str.{is_utf8}
 use Rattle.std.specs.Str.Lossy.{utf8_valid_len, utf8_error_len}
 use Rattle.sr_ask.specs.declared.item.Item.{Item}
-use Rattle.sr_ask.specs.declared.item.Item.TheVariants.{Step, Quiesce}
+use Rattle.sr_ask.specs.declared.item.Item.TheVariants.{Step, Quiesce, Tick}
 use Rattle.sr_journal.specs.declared.header.Header.{Header}
 use Rattle.sr_journal.specs.declared.fail.JournalFail.{JournalFail}
 use Rattle.sr_journal.specs.declared.fail.JournalFail.TheVariants.{NotJournal, Truncated, NoMemory}
-use Rattle.sr_journal.specs.Journal.{blank, newline}
+use Rattle.sr_journal.specs.Journal.{blank, newline, tells_time}
 
 -- a value and the bytes after it
 abbrev pub Reading : Type 0 → Type 0
@@ -127,30 +127,45 @@ quiesce_at bytes = do
   name ← number_at true (Some 4294967295) 10 rest
   Ok (Quiesce name.0, name.1)
 
--- by the first byte, `s` or `q`
-unfoldable pub item_at : List ℕ → Reading Item
-item_at [] = Err Truncated
-item_at (b ∷ bytes) = if b == 115 then step_at bytes else (if b == 113 then quiesce_at bytes else Err NotJournal)
+unfoldable pub tick_at : List ℕ → Reading Item
+tick_at bytes = do
+  rest ← word_at blank bytes
+  to ← number_at false (Some 2147483647) 10 rest
+  Ok (Tick to.0, to.1)
 
-unfoldable pub items_at : ℕ → List ℕ → Reading (List Item)
-items_at most bytes = do
+-- by the first byte, `s`, `q` or, where the items tell of time, `t`
+unfoldable pub item_at : Bool → List ℕ → Reading Item
+item_at timed [] = Err Truncated
+item_at timed (b ∷ bytes) =
+    if b == 115 then step_at bytes
+    else (if b == 113 then quiesce_at bytes else (if b == 116 then (if timed then tick_at bytes else Err NotJournal) else Err NotJournal))
+
+unfoldable pub items_at : Bool → ℕ → List ℕ → Reading (List Item)
+items_at timed most bytes = do
   rest ← word_at (codes "items ") bytes
   count ← number_at true (Some most) 10 rest
-  many_at item_at count.0 count.1
+  many_at (item_at timed) count.0 count.1
 
-unfoldable pub parts_at : List ℕ → Reading (Header × List Item)
-parts_at bytes = do
-  rest ← word_at (codes "SRJ1" ++ newline) bytes
-  files ← files_at rest
+-- the number of a version that is read
+unfoldable pub first_line_at : List ℕ → Reading ℕ
+first_line_at bytes = do
+  rest ← word_at (codes "SRJ") bytes
+  number_at false (Some 2) 10 rest
+
+-- what stands after the first line
+unfoldable pub parts_at : Bool → List ℕ → Reading (Header × List Item)
+parts_at timed bytes = do
+  files ← files_at bytes
   limits ← limits_at files.1
-  items ← items_at limits.0.0 limits.1
+  items ← items_at timed limits.0.0 limits.1
   rest ← word_at (codes "end" ++ newline) items.1
   Ok ((record { files = files.0; steps = limits.0.0; ticks = limits.0.1 }, items.0), rest)
 
 -- nothing stands after the last line
 unfoldable pub journal_at : List ℕ → Result (Header × List Item) JournalFail
 journal_at bytes = do
-  parts ← parts_at bytes
+  version ← first_line_at bytes
+  parts ← parts_at (tells_time version.0) version.1
   if length parts.1 == 0 then Ok parts.0 else Err NotJournal
 
 -- the number of a version, and what stands after its line

@@ -1,13 +1,16 @@
 ghost use Rattle.std.specs.Prelude.{◌≡◌, ◌++◌, map, OnOk, IfOk};
 ghost use Rattle.std.specs.List.{concat};
 ghost use Rattle.sr_journal.specs.Numbers.{number_text};
-ghost use Rattle.sr_journal.specs.Journal.{file_line, files_text, limits_line, item_line, items_text, journal_text, IsInRange};
+ghost use Rattle.sr_journal.specs.Journal.{file_line, files_text, limits_line, item_line, items_text, journal_text, version_line, IsInRange};
 
 use crate::header::Header;
 use itoa::Buffer;
 use sr_ask::Item;
 use sr_value::{NoMemory, Row, Text};
 use std::alloc::Global;
+
+/// The version that is written.
+const VERSION: u32 = 1;
 
 /// The text of a journal, version 1.
 pub fn write_journal(alloc: Global, header: &Header, items: &Row<Item>) -> Result<Text, NoMemory>
@@ -22,11 +25,19 @@ pub fn write_journal(alloc: Global, header: &Header, items: &Row<Item>) -> Resul
 fn push_journal(text: &mut Text, header: &Header, items: &Row<Item>) -> Result<(), NoMemory>
     ensures { OnOk result (text.new ≡ text.old ++ journal_text header.now items.now) }
 {
-    text.push_all(b"SRJ1\n")?;
+    push_version(text, VERSION)?;
     push_files(text, header.files.as_slice())?;
     push_limits(text, header.steps, header.ticks)?;
     push_items(text, items.as_slice())?;
     text.push_all(b"end\n")
+}
+
+fn push_version(text: &mut Text, version: u32) -> Result<(), NoMemory>
+    ensures { OnOk result (text.new ≡ text.old ++ version_line version) }
+{
+    text.push_all(b"SRJ")?;
+    push_number(text, u64::from(version))?;
+    text.push(b'\n')
 }
 
 fn push_files(text: &mut Text, files: &[(u32, Text)]) -> Result<(), NoMemory>

@@ -30,7 +30,7 @@ const FILES: [(&str, &[u8]); 9] = [
         "cut",
         b"SRJ1\nfiles 1\n40 8 hello.sr\nsteps 1000000 ticks 10000000\nitems 6\ns 1 2\n",
     ),
-    ("other", b"SRJ2\n"),
+    ("other", b"SRJ3\n"),
     (
         "longer",
         b"SRJ1\nfiles 1\n41 8 hello.sr\nsteps 1000000 ticks 10000000\nitems 0\nend\n",
