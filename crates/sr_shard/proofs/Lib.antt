@@ -1,9 +1,16 @@
+pub mod ApartLemmas
+pub mod ChangeLemmas
+pub mod CommitLemmas
+pub mod DepartLemmas
 pub mod ItemLemmas
 pub mod LawProofs
 pub mod ListLemmas
+pub mod LiveLemmas
 pub mod LocalLemmas
 pub mod LocalStepLemmas
 pub mod MapLemmas
+pub mod PresentLemmas
+pub mod ReadyLemmas
 pub mod RunLemmas
 pub mod ShardLemmas
 pub mod SoundLemmas

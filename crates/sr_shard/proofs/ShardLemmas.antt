@@ -1,5 +1,5 @@
 -- The journal of a shard replays to what it has.
-use Rattle.std.proofs.Common.{◌≡◌, ◌==◌, ℕ, ◌<◌, Bool, List, [], length, Some, refl, ap, sym, ◌∙◌, subst, arith}
+use Rattle.std.proofs.Common.{◌≡◌, ◌==◌, ℕ, ◌<◌, Bool, List, [], length, Option, Some, refl, ap, sym, ◌∙◌, subst, arith}
 use Rattle.std.proofs.lemmas.Option.{slice_get_within}
 use Rattle.std.specs.Prelude.{filter, flat_map, slice_get}
 use Rattle.sr_ask.specs.declared.entry.Entry.{Entry}
@@ -7,10 +7,14 @@ use Rattle.sr_orders.proofs.ListLemmas.{filter_twice}
 use Rattle.sr_orders.proofs.OrderLemmas as order
 use Rattle.sr_world.specs.Worlds.{World}
 use Rattle.sr_shard.specs.Acts.{Act, Fits, apply, part}
-use Rattle.sr_shard.specs.Dividing.{Moved, moved_in, moved_part}
+use Rattle.sr_shard.specs.Dividing.{Moved, moved_in, moved_part, moved_to, with_moved}
 use Rattle.sr_shard.specs.Entries.{acts_of}
 use Rattle.sr_shard.specs.Laws.{ReplaysIn, is_touched_by, world_after}
 use Rattle.sr_shard.specs.Masks.{mask}
+use Rattle.sr_shard.specs.Presents.{IsSame, present_in}
+use Rattle.sr_shard.specs.declared.change.Change.{Change}
+use Rattle.sr_shard.specs.declared.portion.Portion.{Portion}
+use Rattle.sr_shard.specs.declared.present.Present.{Present}
 use Rattle.sr_shard.specs.Shards.{IsReplay, JoiningUndoesDividing, Opened, Sharded, ShardsHaveAHistory, acts_on, opened_part, shown}
 use Rattle.sr_shard.proofs.LocalLemmas.{acts_are_local}
 use Rattle.sr_shard.proofs.LawProofs.{journals_in_parts}
@@ -18,17 +22,42 @@ use Rattle.sr_shard.proofs.SplitLemmas.{at_place, masked_twice}
 
 -- ---- at first
 
-pub begins : (opened : Opened) (number : ℕ) (journal : List Entry) (moved : Moved) → number < 32 → journal ≡ [] → moved ≡ moved_part opened.class number (moved_in opened.world)
-    → IsReplay opened (shown opened number journal moved)
-begins opened number journal moved less none same =
-    subst (λ entries. IsReplay opened (shown opened number entries moved)) (sym none)
-    (subst (λ m. IsReplay opened (shown opened number [] m)) (sym same) (record {
+pub begins : (opened : Opened) (journal : List Entry) (planned : Option (List Change)) (present : Present) → present.portion.number < 32 → journal ≡ []
+    → present_in (opened_part opened present.portion.number) present ≡ opened_part opened present.portion.number → IsReplay opened (shown opened journal planned present)
+begins opened journal planned present less none same =
+    subst (λ entries. IsReplay opened (shown opened entries planned present)) (sym none) (record {
       number = less;
       touched = λ k d inside. absurd (omega arith);
       fits = tt;
-      present = refl;
+      present = same;
       rising = λ j k d less' inside. absurd (omega arith);
-    }))
+    })
+
+module _ (opened : Opened) (portion : Portion) (present : Present) (is : present.portion ≡ portion) (moved : moved_to portion ≡ moved_part opened.class portion.number (moved_in opened.world))
+    (shows : (base : World) → present_in base present ≡ with_moved (moved_to portion) base) where
+  pub begun_present : present_in (opened_part opened present.portion.number) present ≡ opened_part opened portion.number
+  begun_present =
+      shows (opened_part opened present.portion.number)
+      ∙ ap (λ (p : Portion). with_moved (moved_to portion) (opened_part opened p.number)) is
+      ∙ ap (λ (m : Moved). with_moved m (opened_part opened portion.number)) moved
+
+  pub begun_replay : (journal : List Entry) (planned : Option (List Change)) → portion.number < 32 → journal ≡ [] → IsReplay opened (shown opened journal planned present)
+  begun_replay journal planned less none =
+      begins opened journal planned present (subst (λ (p : Portion). p.number < 32) (sym is) less) none (begun_present ∙ ap (λ (p : Portion). opened_part opened p.number) (sym is))
+
+-- room for changes changes nothing else
+
+pub same_present : (opened : Opened) (old new : Present) → IsSame old new → present_in (opened_part opened new.portion.number) new ≡ present_in (opened_part opened old.portion.number) old
+same_present opened old new same = ap (λ n. present_in (opened_part opened n) new) same.number ∙ same.present (opened_part opened old.portion.number)
+
+pub replay_same : (opened : Opened) (journal later : List Entry) (planned other : Option (List Change)) (old new : Present) → IsSame old new → later ≡ journal → IsReplay opened (shown opened journal planned old)
+    → IsReplay opened (shown opened later other new)
+replay_same opened journal later planned other old new same more replay =
+    let number = sym same.number in
+    let entries = sym more in
+    let present = sym (same_present opened old new same) in
+    subst (λ (shard : Sharded). IsReplay opened shard) (λ k. record { number = number k; journal = entries k; present = present k; planned = other })
+    (record { number = replay.number; touched = replay.touched; fits = replay.fits; present = replay.present; rising = replay.rising })
 
 -- ---- what it has stands in its part
 

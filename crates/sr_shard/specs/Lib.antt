@@ -1,9 +1,12 @@
 pub mod Acts
+pub mod Changes
+pub mod Committing
 pub mod Dividing
 pub mod Entries
 pub mod Items
 pub mod Laws
 pub mod Masks
+pub mod Presents
 pub mod Runs
 pub mod Shards
 pub mod Written

@@ -1,15 +1,18 @@
 -- What a shard keeps: one of the 32 parts of a world, by itself.
-use Rattle.std.specs.Prelude.{◌≡◌, ◌==◌, ◌<◌, ℕ, true, List, [], All, AllPairs, Some, filter, flat_map, length, slice_get}
+use Rattle.std.specs.Prelude.{◌≡◌, ◌==◌, ◌<◌, ℕ, true, List, [], All, AllPairs, Option, None, Some, filter, flat_map, length, slice_get}
 use Rattle.sr_ask.specs.declared.entry.Entry.{Entry}
 use Rattle.sr_core.specs.declared.component.Core.{Core}
 use Rattle.sr_queue.specs.Dividing.{AreInOrder}
 use Rattle.sr_world.specs.Worlds.{World}
 use Rattle.sr_shard.specs.Acts.{Act, part}
-use Rattle.sr_shard.specs.Dividing.{HasPart, Moved, moved_in, with_moved, without_moved}
-use Rattle.sr_shard.specs.declared.divided.Divided.{Divided}
+use Rattle.sr_shard.specs.Dividing.{HasPart, moved_in, without_moved}
 use Rattle.sr_shard.specs.Entries.{acts_of}
 use Rattle.sr_shard.specs.Laws.{ReplaysIn, is_touched_by, world_after}
 use Rattle.sr_shard.specs.Masks.{mask}
+use Rattle.sr_shard.specs.Presents.{AreReady, present_in}
+use Rattle.sr_shard.specs.declared.change.Change.{Change}
+use Rattle.sr_shard.specs.declared.divided.Divided.{Divided}
+use Rattle.sr_shard.specs.declared.present.Present.{Present}
 
 -- what shards were opened with: a program, by its core and classes, and the world that was divided
 pub record Opened : Type 0 where
@@ -25,15 +28,26 @@ no_core = record { components = []; operations = []; procs = []; sites = []; nam
 abbrev pub opened_part : Opened → ℕ → World
 opened_part opened number = mask opened.class number opened.world
 
--- a shard has its number, the entries that touched its part, and what its part has now
+-- a shard has its number, the entries that touched its part, what its part has now, and the changes for which it has made room
 pub record Sharded : Type 0 where
   pub number : ℕ
   pub journal : List Entry
   pub present : World
+  pub planned : Option (List Change)
 
--- the part that an opened world has, with what was moved into the shard
-abbrev pub shown : Opened → ℕ → List Entry → Moved → Sharded
-shown opened number journal moved = record { number = number; journal = journal; present = with_moved moved (opened_part opened number) }
+-- the part that an opened world has, with all that has changed
+abbrev pub shown : Opened → List Entry → Option (List Change) → Present → Sharded
+shown opened journal planned present = record {
+  number = present.portion.number;
+  journal = journal;
+  present = present_in (opened_part opened present.portion.number) present;
+  planned = planned;
+}
+
+-- there is room for the changes that are planned, and for one more entry
+abbrev pub HasRoom : Opened → ℕ → Option (List Change) → Present → Type 0
+HasRoom opened room None present = Unit {0}
+HasRoom opened room (Some changes) present = (0 < room) × AreReady (opened_part opened present.portion.number) present changes
 
 -- the acts of entries that are on a part
 abbrev pub acts_on : Opened → ℕ → List Entry → List Act
