@@ -30,6 +30,13 @@ y_of rows item = 100 + 28 * unwrap_or (position (λ (row : Traced). row.item == 
 abbrev pub spot_of : List Column → List Traced → ℕ → Spot
 spot_of columns rows item = record { x = x_of columns (process_of rows item); y = y_of rows item }
 
+-- a link within a column goes round the items between; any other comes to its end along the row of that
+abbrev pub bend_of : Spot → Spot → Spot
+bend_of from to =
+    if from.x == to.x
+    then record { x = from.x - 50; y = (from.y + to.y) / 2 }
+    else record { x = (from.x + to.x) / 2; y = to.y }
+
 abbrev pub width_of : ℕ → ℕ
 width_of columns = 20 + 200 * columns
 
@@ -85,13 +92,8 @@ arrow_class false = codes "after"
 unfoldable pub spot_words : List ℕ → Spot → List ℕ
 spot_words before spot = numbered before spot.x ++ numbered (codes " ") spot.y
 
--- a link within a column goes round the items between
-unfoldable pub bend_words : Spot → Spot → List ℕ
-bend_words from to =
-    if from.x == to.x then numbered (codes "Q") (from.x - 50) ++ numbered (codes " ") ((from.y + to.y) / 2) ++ codes " " else codes "L"
-
 unfoldable pub path_words : Spot → Spot → List ℕ
-path_words from to = spot_words (codes "M") from ++ bend_words from to ++ spot_words [] to
+path_words from to = spot_words (codes "M") from ++ spot_words (codes "Q") (bend_of from to) ++ spot_words (codes " ") to
 
 unfoldable pub arrow_at : Bool → Spot → Spot → List ℕ
 arrow_at begins from to = codes "<path class='" ++ arrow_class begins ++ codes "' d='" ++ path_words from to ++ codes "'/>" ++ 10 ∷ []

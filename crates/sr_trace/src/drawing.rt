@@ -4,7 +4,7 @@ ghost use Rattle.sr_trace.specs.Words.{deed_words, runs_words};
 
 use crate::escaping::push_escaped;
 use crate::shown::{Arrow, Column};
-use crate::spot::{MOST_COLUMNS, MOST_ROWS, Spot, spot_of, x_of};
+use crate::spot::{MOST_COLUMNS, MOST_ROWS, Spot, bend_of, spot_of, x_of};
 use crate::traced::{Runs, Traced};
 use crate::words::{push_deed, push_number, push_runs};
 use sr_core::Core;
@@ -113,26 +113,13 @@ fn push_spot(text: &mut Text, before: &[u8], spot: Spot) -> Result<(), NoMemory>
     push_numbered(text, b" ", u64::from(spot.y))
 }
 
-/// Adds how a link goes on from its first spot.
-#[tactic(auto, unfolding(crate::specs::Drawing::bend_words))]
-fn push_bend(text: &mut Text, from: Spot, to: Spot) -> Result<(), NoMemory>
-    ensures { OnOk result (text.new ≡ text.old ++ drawing.bend_words from to) }
-{
-    if from.x != to.x {
-        return text.push_all(b"L");
-    }
-    push_numbered(text, b"Q", u64::from(from.x).saturating_sub(50))?;
-    push_numbered(text, b" ", (u64::from(from.y) + u64::from(to.y)) / 2)?;
-    text.push_all(b" ")
-}
-
 #[tactic(auto, unfolding(crate::specs::Drawing::path_words))]
 fn push_path(text: &mut Text, from: Spot, to: Spot) -> Result<(), NoMemory>
     ensures { OnOk result (text.new ≡ text.old ++ drawing.path_words from to) }
 {
     push_spot(text, b"M", from)?;
-    push_bend(text, from, to)?;
-    push_spot(text, b"", to)
+    push_spot(text, b"Q", bend_of(from, to))?;
+    push_spot(text, b" ", to)
 }
 
 #[tactic(auto, unfolding(crate::specs::Drawing::arrow_at))]

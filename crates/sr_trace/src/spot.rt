@@ -1,4 +1,4 @@
-ghost use Rattle.std.specs.Prelude.{◌≡◌, ◌==◌, ◌<◌, ◌≤◌, IfSome, find, length, position};
+ghost use Rattle.std.specs.Prelude.{◌≡◌, ◌==◌, ◌+◌, ◌/◌, ◌<◌, ◌≤◌, IfSome, find, length, position};
 ghost use Rattle.std.specs.Option.{option_copied};
 ghost use Rattle.sr_trace.specs.Drawing as drawing;
 
@@ -16,6 +16,30 @@ pub const MOST_ROWS: usize = 2000;
 pub(crate) struct Spot {
     pub x: u32,
     pub y: u32,
+}
+
+/// The number in the middle of two.
+fn middle(first: u32, second: u32) -> u32
+    ensures { result ≡ (first + second) / 2 }
+{
+    ((u64::from(first) + u64::from(second)) / 2) as u32
+}
+
+/// The spot towards which a link leaves its first spot, and from which it comes to its last.
+pub(crate) fn bend_of(from: Spot, to: Spot) -> Spot
+    ensures { result ≡ drawing.bend_of from to }
+{
+    if from.x == to.x {
+        Spot {
+            x: from.x.saturating_sub(50),
+            y: middle(from.y, to.y),
+        }
+    } else {
+        Spot {
+            x: middle(from.x, to.x),
+            y: to.y,
+        }
+    }
 }
 
 /// The spot of an item.

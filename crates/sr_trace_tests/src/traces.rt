@@ -80,8 +80,8 @@ const LINES: &[u8] =
 const DRAWN: &[u8] =
     b"<path class='life' d='M70 60V184'/><text class='head' y='28' x='70'>1</text><text class='runs' y='48' x='70'>boot</text>
 <path class='life' d='M270 60V184'/><text class='head' y='28' x='270'>2</text><text class='runs' y='48' x='270'>proc</text>
-<path class='made' d='M70 100L270 128'/>
-<path class='after' d='M270 128L70 156'/>
+<path class='made' d='M70 100Q170 128 270 128'/>
+<path class='after' d='M270 128Q170 156 70 156'/>
 <circle r='4' cx='70' cy='100'/><text class='act' x='76' y='94'><tspan>1</tspan> creates</text>
 <circle r='4' cx='270' cy='128'/><text class='act' x='276' y='122'><tspan>3</tspan> sends</text>
 <circle r='4' cx='70' cy='156'/><text class='act' x='76' y='150'><tspan>4</tspan> services</text>
