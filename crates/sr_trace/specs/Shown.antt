@@ -36,8 +36,12 @@ shown rows = flat_map (λ row. row_if (is_shown rows row) row) rows
 abbrev pub column_of : Traced → Column
 column_of row = record { process = row.process; runs = row.runs }
 
+-- a column is that of a process
+abbrev pub is_column_of : ℕ → Column → Bool
+is_column_of process column = column.process == process
+
 abbrev pub with_column : List Column → Traced → List Column
-with_column columns row = if list_any (λ (column : Column). column.process == row.process) columns then columns else columns ++ column_of row ∷ []
+with_column columns row = if list_any (is_column_of row.process) columns then columns else columns ++ column_of row ∷ []
 
 -- a column for each process, in the order of their first rows
 abbrev pub columns_of : List Traced → List Column
@@ -56,7 +60,7 @@ arrows_to row = arrow_from true row.begun_by row.item ++ arrow_from false row.af
 abbrev pub arrows : List Traced → List Arrow
 arrows rows = flat_map arrows_to rows
 
--- ---- tests of the law
+-- ---- tests of the laws
 
 -- an arrow goes from an item to another
 abbrev pub is_arrow : ℕ → ℕ → Arrow → Bool
@@ -65,3 +69,7 @@ is_arrow from to arrow = (arrow.from == from) && (arrow.to == to)
 -- a row is that of an item, and is linked from another
 abbrev pub is_link : ℕ → ℕ → Traced → Bool
 is_link from to row = is_source from row && (row.item == to)
+
+-- a row is that of a process
+abbrev pub is_row_of : ℕ → Traced → Bool
+is_row_of process row = row.process == process

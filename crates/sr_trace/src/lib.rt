@@ -13,7 +13,7 @@ mod traced;
 mod words;
 
 pub use asking::{act_of, subject_of};
-pub use laws::arrows_are_links;
+pub use laws::{arrows_are_links, one_column_each};
 pub use line::trace_text;
 pub use picture::picture_text;
 pub use traced::{Act, Runs, Subject, Traced};
