@@ -77,7 +77,7 @@ module _ (r : Run) where
 
   module _ (count : ℕ) (clocks : Clocks) (has : HasRows r count clocks) where
     -- an item's own row has its place among the items of its process
-    own-place : (i : ℕ) → 0 < actor_at r i → i < count → count_of clocks i (actor_at r i) ≡ made (actors r) (actor_at r i) (i + 1)
+    pub own-place : (i : ℕ) → 0 < actor_at r i → i < count → count_of clocks i (actor_at r i) ≡ made (actors r) (actor_at r i) (i + 1)
     own-place i some within =
         let least = row_own (IsKept r) (actors r) (kept_in_line r) count (count_of clocks) has.rows (actor_at r i) (suc i) i some (omega arith) (omega arith) refl in
         let most = row_most (IsKept r) (actors r) (kept_in_line r) count (count_of clocks) has.rows (actor_at r i) (suc i) i some (omega arith) (omega arith) in

@@ -5,12 +5,14 @@ pub mod KeptLemmas
 pub mod KindLemmas
 pub mod LeaveLemmas
 pub mod LinkLemmas
+pub mod MarkLemmas
 pub mod MoveLemmas
 pub mod OriginLemmas
 pub mod PairLemmas
 pub mod PathLemmas
 pub mod RaceLemmas
 pub mod SearchLemmas
+pub mod SpotLemmas
 pub mod StandLemmas
 pub mod TraceLemmas
 pub mod WalkLemmas

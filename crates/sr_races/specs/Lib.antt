@@ -2,9 +2,11 @@ pub mod Accesses
 pub mod Items
 pub mod Kept
 pub mod Links
+pub mod Marks
 pub mod Origins
 pub mod Races
 pub mod Searches
+pub mod Spots
 pub mod Traces
 pub mod Trails
 pub mod Walks

@@ -1,11 +1,12 @@
--- How far the search for races has come: all pairs are looked at by their first, and then by their second items.
-use Rattle.std.specs.Prelude.{◌≡◌, ◌≢◌, ◌+◌, ◌<◌, ◌≤◌, ◌⊎◌, ℕ, Bool, true, false, All, Contains, List, length}
+-- How far the search for races has come: all pairs are looked at by their second, and then by their first items.
+use Rattle.std.specs.Prelude.{◌≡◌, ◌≢◌, ◌+◌, ◌<◌, ◌≤◌, ◌⊎◌, ℕ, Bool, true, false, All, AllPairs, Contains, List, length, slice_index}
+use Rattle.std.specs.List.Sorted.{IsStrictlyIncreasing}
 use Rattle.sr_clock_rows.specs.Rows.{count_at}
 use Rattle.sr_clock_rows.specs.declared.clocks.Clocks.{Clocks}
 use Rattle.sr_races.specs.Accesses.{SomeConflict}
 use Rattle.sr_races.specs.Items.{Run}
 use Rattle.sr_races.specs.Kept.{HasRows}
-use Rattle.sr_races.specs.Races.{AreAllRaces, AreRaces, AreTooMany, IsRace}
+use Rattle.sr_races.specs.Races.{AreAllRaces, AreTooMany, IsRace, Tells}
 use Rattle.sr_races.specs.Walks.{AreEntries}
 use Rattle.sr_races.specs.declared.race.Race.{Race}
 use Rattle.sr_races.specs.declared.race.Raced.{Raced}
@@ -14,22 +15,48 @@ use Rattle.sr_races.specs.declared.walk.Entry.{Entry}
 
 -- one pair of items comes before another
 abbrev pub Precedes : ℕ → ℕ → ℕ → ℕ → Type 0
-Precedes a b i j = (a < i) ⊎ ((a ≡ i) × (b < j))
+Precedes a b i j = (b < j) ⊎ ((b ≡ j) × (a < i))
 
 -- a race whose items, from 1, come before these, from 0
 abbrev pub IsEarlier : ℕ → ℕ → Race → Type 0
 IsEarlier i j race = Precedes race.first race.second (i + 1) (j + 1)
 
+-- by the second item, and then by the first
+abbrev pub IsFoundFirst : Race → Race → Type 0
+IsFoundFirst race later = (race.second < later.second) ⊎ ((race.second ≡ later.second) × (race.first < later.first))
+
+-- the number of its first item
+abbrev pub first_of : Race → ℕ
+first_of race = race.first
+
+-- races in the order in which they are found, each once
+pub record AreFound (r : Run) (races : List Race) : Type 0 where
+  pub sorted : AllPairs IsFoundFirst races
+  pub true_ones : All (Tells r) races
+
 -- these are the races before a pair of items
 pub record AreRacesBefore (r : Run) (i j : ℕ) (races : List Race) : Type 0 where
-  pub each : AreRaces r races
+  pub each : AreFound r races
   pub earlier : All (IsEarlier i j) races
   pub complete : (a b : ℕ) → Precedes a b i j → IsRace r a b → (race : Race) × Contains races race × (race.first ≡ a + 1) × (race.second ≡ b + 1)
 
 -- all pairs were looked at, or there are too many races
 abbrev pub HasSearched : Run → ℕ → Bool → List Race → Type 0
-HasSearched r count true races = AreRacesBefore r count 0 races × (length races ≤ 65536)
-HasSearched r count false races = AreRaces r races × (65536 < length races)
+HasSearched r count true races = AreRacesBefore r 0 count races × (length races ≤ 65536)
+HasSearched r count false races = AreFound r races × (65536 < length races)
+
+-- earlier items, in order, among which all are that are in a race with an item
+pub record AreFirsts (r : Run) (second : ℕ) (firsts : List ℕ) : Type 0 where
+  pub rising : IsStrictlyIncreasing firsts
+  pub below : (item : ℕ) → Contains firsts item → item < second
+  pub complete : (item : ℕ) → IsRace r item second → Contains firsts item
+
+-- the first of them, so many, were looked at
+pub record HasCome (r : Run) (second : ℕ) (firsts : List ℕ) (count : ℕ) (races : List Race) : Type 0 where
+  pub up_to : ℕ
+  pub earlier : (k : ℕ) → k < count → slice_index firsts k < up_to
+  pub later : (k : ℕ) → count ≤ k → k < length firsts → up_to ≤ slice_index firsts k
+  pub found : AreRacesBefore r up_to second races
 
 -- ---- what is looked at
 

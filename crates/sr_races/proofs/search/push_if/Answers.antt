@@ -12,6 +12,6 @@ returns-then-not-looks_raced c = λ r count has is-one is-other less within foun
 pub returns : goal.returns
 returns c = λ r count has is-one is-other less within found.
     on_ok_weaker c.push.result
-    (λ pushed. subst (λ xs. AreRacesBefore r c.args.first (c.args.second + 1) xs) (sym pushed)
+    (λ pushed. subst (λ xs. AreRacesBefore r (c.args.first + 1) c.args.second xs) (sym pushed)
     (pair-found r count c.args.clocks.now has c.args.first c.args.second c.args.one.now c.args.other.now is-one is-other less within c.args.races.now found (c.looks_raced.ensures.0 c.if-not-looks_raced.false) _ refl refl refl refl))
     c.push.ensures.ok
