@@ -2,6 +2,7 @@
 use Rattle.std.specs.Prelude.{ℕ, Bool, true, false, ◌+◌, ◌-◌, ◌*◌, ◌/◌, ◌==◌, ◌++◌, ◌∷◌, [], List, Option, Some, None, codes, find, flat_map, if◌then◌else◌, position, unwrap_or}
 use Rattle.std.specs.Fmt.{decimal}
 use Rattle.sr_core.specs.declared.component.Core.{Core}
+use Rattle.sr_trace.specs.Lines.{line_words}
 use Rattle.sr_trace.specs.Words.{deed_words, runs_words}
 use Rattle.sr_trace.specs.declared.shown.Arrow.{Arrow}
 use Rattle.sr_trace.specs.declared.shown.Column.{Column}
@@ -112,8 +113,16 @@ label_text core spot row =
     numbered (codes "<text class='act' x='") (spot.x + 6) ++ numbered (codes "' y='") (spot.y - 6) ++ numbered (codes "'><tspan>") (row.item + 1)
     ++ codes "</tspan> " ++ ended (deed_words core row.act row.subject)
 
-abbrev pub mark_at : Core → Spot → Traced → List ℕ
-mark_at core spot row = circle_text spot.x spot.y ++ label_text core spot row
+-- the words of a title, and its end
+unfoldable pub titled : List ℕ → List ℕ
+titled words = escaped words ++ codes "</title>"
 
-unfoldable pub mark_text : Core → List Column → List Traced → Traced → List ℕ
-mark_text core columns rows row = mark_at core (spot_of columns rows row.item) row
+-- its line of the trace, which is shown where one points at it
+unfoldable pub title_text : Core → List (List ℕ) → Traced → List ℕ
+title_text core names row = codes "<g><title>" ++ titled (line_words core names row)
+
+unfoldable pub mark_at : Core → List (List ℕ) → Spot → Traced → List ℕ
+mark_at core names spot row = title_text core names row ++ circle_text spot.x spot.y ++ label_text core spot row ++ codes "</g>" ++ 10 ∷ []
+
+unfoldable pub mark_text : Core → List (List ℕ) → List Column → List Traced → Traced → List ℕ
+mark_text core names columns rows row = mark_at core names (spot_of columns rows row.item) row

@@ -22,10 +22,13 @@ abbrev pub place_words : List (List ℕ) → Option Place → List ℕ
 place_words names None = []
 place_words names (Some place) = codes " at " ++ file_name names place.file ++ 58 ∷ decimal place.line
 
-unfoldable pub trace_line : Core → List (List ℕ) → Traced → List ℕ
-trace_line core names row =
+unfoldable pub line_words : Core → List (List ℕ) → Traced → List ℕ
+line_words core names row =
     runner_words core row.item row.process row.runs ++ deed_words core row.act row.subject ++ link_words (codes " begun by ") row.begun_by
-    ++ link_words (codes " after ") row.after ++ place_words names row.place ++ 10 ∷ []
+    ++ link_words (codes " after ") row.after ++ place_words names row.place
+
+unfoldable pub trace_line : Core → List (List ℕ) → Traced → List ℕ
+trace_line core names row = line_words core names row ++ 10 ∷ []
 
 abbrev pub trace_text : Core → List (List ℕ) → List Traced → List ℕ
 trace_text core names rows = flat_map (trace_line core names) rows

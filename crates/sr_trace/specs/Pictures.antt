@@ -1,5 +1,5 @@
 -- The picture of a trace.
-use Rattle.std.specs.Prelude.{ℕ, ◌++◌, ◌∷◌, [], List, Option, Some, None, codes, flat_map, if◌then◌else◌, length, nat_lt}
+use Rattle.std.specs.Prelude.{ℕ, Bool, ◌||◌, ◌++◌, ◌∷◌, [], List, Option, Some, None, codes, flat_map, if◌then◌else◌, length, nat_lt}
 use Rattle.sr_core.specs.declared.component.Core.{Core}
 use Rattle.sr_trace.specs.Drawing.{arrow_text, column_text, height_of, mark_text, numbered, width_of}
 use Rattle.sr_trace.specs.Shown.{arrows, columns_of, shown}
@@ -37,18 +37,21 @@ sheet_text width height =
     size_text width height ++ box_text width height ++ (codes "' font-family='sans-serif' font-size='12'>" ++ 10 ∷ []) ++ style_text
 
 -- columns, arrows and items on a sheet
-unfoldable pub drawn_with : Core → List Column → List Traced → List Arrow → List ℕ
-drawn_with core columns rows links =
+unfoldable pub drawn_with : Core → List (List ℕ) → List Column → List Traced → List Arrow → List ℕ
+drawn_with core names columns rows links =
     sheet_text (width_of (length columns)) (height_of (length rows)) ++ flat_map (column_text core (height_of (length rows)) columns) columns
-    ++ flat_map (arrow_text columns rows) links ++ flat_map (mark_text core columns rows) rows ++ codes "</svg>" ++ 10 ∷ []
+    ++ flat_map (arrow_text columns rows) links ++ flat_map (mark_text core names columns rows) rows ++ codes "</svg>" ++ 10 ∷ []
 
--- no picture has more columns than these, or more rows
-unfoldable pub picture_on : Core → List Column → List Traced → Option (List ℕ)
-picture_on core columns rows = if nat_lt MOST_COLUMNS (length columns) then None else Some (drawn_with core columns rows (arrows rows))
+unfoldable pub picture_on : Core → List (List ℕ) → List Column → List Traced → Option (List ℕ)
+picture_on core names columns rows = if nat_lt MOST_COLUMNS (length columns) then None else Some (drawn_with core names columns rows (arrows rows))
 
-unfoldable pub picture_within : Core → List Traced → Option (List ℕ)
-picture_within core rows = if nat_lt MOST_ROWS (length rows) then None else picture_on core (columns_of rows) rows
+-- no picture has more rows than these, or more columns
+abbrev pub is_too_large : List Traced → Bool
+is_too_large rows = nat_lt MOST_ROWS (length rows) || nat_lt MOST_COLUMNS (length (columns_of rows))
+
+unfoldable pub picture_within : Core → List (List ℕ) → List Traced → Option (List ℕ)
+picture_within core names rows = if nat_lt MOST_ROWS (length rows) then None else picture_on core names (columns_of rows) rows
 
 -- the rows that are an end of a link, unless they are too many for a picture
-abbrev pub picture_of : Core → List Traced → Option (List ℕ)
-picture_of core rows = picture_within core (shown rows)
+abbrev pub picture_of : Core → List (List ℕ) → List Traced → Option (List ℕ)
+picture_of core names rows = picture_within core names (shown rows)

@@ -3,6 +3,7 @@ ghost use Rattle.sr_trace.specs.Drawing as drawing;
 ghost use Rattle.sr_trace.specs.Words.{deed_words, runs_words};
 
 use crate::escaping::push_escaped;
+use crate::line::line_of;
 use crate::shown::{Arrow, Column};
 use crate::spot::{MOST_COLUMNS, MOST_ROWS, Spot, bend_of, spot_of, x_of};
 use crate::traced::{Runs, Traced};
@@ -186,21 +187,63 @@ fn push_label(
     push_ended(text, words.as_bytes())
 }
 
-/// Adds an item: its spot, its number and what it does.
+/// Adds the words of a title, and its end.
+#[tactic(auto, unfolding(crate::specs::Drawing::titled))]
+fn push_titled(text: &mut Text, words: &[u8]) -> Result<(), NoMemory>
+    ensures { OnOk result (text.new ≡ text.old ++ drawing.titled words.now) }
+{
+    push_escaped(text, words)?;
+    text.push_all(b"</title>")
+}
+
+/// Adds the line of an item, which is shown where one points at it.
+#[tactic(auto, unfolding(crate::specs::Drawing::title_text))]
+fn push_title(
+    alloc: Global,
+    text: &mut Text,
+    core: &Core,
+    names: &[Text],
+    row: &Traced,
+) -> Result<(), NoMemory>
+    ensures { OnOk result (text.new ≡ text.old ++ drawing.title_text core.now names.now row.now) }
+{
+    text.push_all(b"<g><title>")?;
+    let line = line_of(alloc, core, names, row)?;
+    push_titled(text, line.as_bytes())
+}
+
+#[tactic(auto, unfolding(crate::specs::Drawing::mark_at))]
+fn push_mark_at(
+    alloc: Global,
+    text: &mut Text,
+    core: &Core,
+    names: &[Text],
+    spot: Spot,
+    row: &Traced,
+) -> Result<(), NoMemory>
+    ensures { OnOk result (text.new ≡ text.old ++ drawing.mark_at core.now names.now spot row.now) }
+{
+    push_title(alloc, text, core, names, row)?;
+    push_circle(text, u64::from(spot.x), u64::from(spot.y))?;
+    push_label(alloc, text, core, spot, row)?;
+    text.push_all(b"</g>\n")
+}
+
+/// Adds an item: its line, its spot, its number and what it does.
 #[tactic(auto, unfolding(crate::specs::Drawing::mark_text))]
 pub(crate) fn push_mark(
     alloc: Global,
     text: &mut Text,
     core: &Core,
+    names: &[Text],
     columns: &[Column],
     rows: &[Traced],
     row: &Traced,
 ) -> Result<(), NoMemory>
     requires columns { length columns.now ≤ MOST_COLUMNS }
     requires rows { length rows.now ≤ MOST_ROWS }
-    ensures { OnOk result (text.new ≡ text.old ++ drawing.mark_text core.now columns.now rows.now row.now) }
+    ensures { OnOk result (text.new ≡ text.old ++ drawing.mark_text core.now names.now columns.now rows.now row.now) }
 {
     let spot = spot_of(columns, rows, row.item);
-    push_circle(text, u64::from(spot.x), u64::from(spot.y))?;
-    push_label(alloc, text, core, spot, row)
+    push_mark_at(alloc, text, core, names, spot, row)
 }

@@ -34,12 +34,34 @@ fn push_lines(text: &mut Text, core: &Core, names: &[Text], rows: &[Traced]) -> 
 fn push_line(text: &mut Text, core: &Core, names: &[Text], row: &Traced) -> Result<(), NoMemory>
     ensures { OnOk result (text.new ≡ text.old ++ lines.trace_line core.now names.now row.now) }
 {
+    push_words(text, core, names, row)?;
+    text.push(b'\n')
+}
+
+/// The line of an item, without its end.
+pub(crate) fn line_of(
+    alloc: Global,
+    core: &Core,
+    names: &[Text],
+    row: &Traced,
+) -> Result<Text, NoMemory>
+    ensures { IfOk result (λ words. words ≡ lines.line_words core.now names.now row.now) }
+{
+    let mut words = Text::new(alloc);
+    push_words(&mut words, core, names, row)?;
+    Ok(words)
+}
+
+/// Adds the line of an item, without its end.
+#[tactic(auto, unfolding(crate::specs::Lines::line_words))]
+fn push_words(text: &mut Text, core: &Core, names: &[Text], row: &Traced) -> Result<(), NoMemory>
+    ensures { OnOk result (text.new ≡ text.old ++ lines.line_words core.now names.now row.now) }
+{
     push_runner(text, core, row)?;
     push_deed(text, core, row)?;
     push_link(text, b" begun by ", row.begun_by)?;
     push_link(text, b" after ", row.after)?;
-    push_place(text, names, row.place)?;
-    text.push(b'\n')
+    push_place(text, names, row.place)
 }
 
 /// Adds the number of an item, its process and what that runs.

@@ -28,56 +28,69 @@ circle{fill:#2c5f8a}
 ";
 
 /// A picture of a trace, as an SVG text: a column for each process, a row for each item that is an end of a link, and an
-/// arrow for each link. There is none of more than `MOST_COLUMNS` columns or `MOST_ROWS` rows.
-pub fn picture_text(alloc: Global, core: &Core, rows: &[Traced]) -> Result<Option<Text>, NoMemory>
-    ensures { IfOk result (λ text. text ≡ pictures.picture_of core.now rows.now) }
+/// arrow for each link. An item shows its line of the trace where one points at it, with the names of the files. There is no
+/// picture of more than `MOST_COLUMNS` columns or `MOST_ROWS` rows.
+pub fn picture_text(
+    alloc: Global,
+    core: &Core,
+    names: &[Text],
+    rows: &[Traced],
+) -> Result<Option<Text>, NoMemory>
+    ensures { IfOk result (λ text. text ≡ pictures.picture_of core.now names.now rows.now) }
 {
     let kept = shown(alloc, rows)?;
-    picture_within(alloc, core, kept.as_slice())
+    picture_within(alloc, core, names, kept.as_slice())
 }
 
 #[tactic(auto, unfolding(crate::specs::Pictures::picture_within))]
-fn picture_within(alloc: Global, core: &Core, rows: &[Traced]) -> Result<Option<Text>, NoMemory>
-    ensures { IfOk result (λ text. text ≡ pictures.picture_within core.now rows.now) }
+fn picture_within(
+    alloc: Global,
+    core: &Core,
+    names: &[Text],
+    rows: &[Traced],
+) -> Result<Option<Text>, NoMemory>
+    ensures { IfOk result (λ text. text ≡ pictures.picture_within core.now names.now rows.now) }
 {
     if rows.len() > MOST_ROWS {
         return Ok(None);
     }
     let columns = columns_of(alloc, rows)?;
-    picture_on(alloc, core, columns.as_slice(), rows)
+    picture_on(alloc, core, names, columns.as_slice(), rows)
 }
 
 #[tactic(auto, unfolding(crate::specs::Pictures::picture_on))]
 fn picture_on(
     alloc: Global,
     core: &Core,
+    names: &[Text],
     columns: &[Column],
     rows: &[Traced],
 ) -> Result<Option<Text>, NoMemory>
     requires { length rows.now ≤ MOST_ROWS }
-    ensures { IfOk result (λ text. text ≡ pictures.picture_on core.now columns.now rows.now) }
+    ensures { IfOk result (λ text. text ≡ pictures.picture_on core.now names.now columns.now rows.now) }
 {
     if columns.len() > MOST_COLUMNS {
         return Ok(None);
     }
     let arrows = arrows_of(alloc, rows)?;
-    draw(alloc, core, columns, rows, arrows.as_slice())
+    draw(alloc, core, names, columns, rows, arrows.as_slice())
 }
 
 /// The picture of these columns, rows and arrows.
 fn draw(
     alloc: Global,
     core: &Core,
+    names: &[Text],
     columns: &[Column],
     rows: &[Traced],
     arrows: &[Arrow],
 ) -> Result<Option<Text>, NoMemory>
     requires columns { length columns.now ≤ MOST_COLUMNS }
     requires rows { length rows.now ≤ MOST_ROWS }
-    ensures { IfOk result (λ text. text ≡ Some (pictures.drawn_with core.now columns.now rows.now arrows.now)) }
+    ensures { IfOk result (λ text. text ≡ Some (pictures.drawn_with core.now names.now columns.now rows.now arrows.now)) }
 {
     let mut text = Text::new(alloc);
-    push_drawn(alloc, &mut text, core, columns, rows, arrows)?;
+    push_drawn(alloc, &mut text, core, names, columns, rows, arrows)?;
     Ok(Some(text))
 }
 
@@ -86,20 +99,21 @@ fn push_drawn(
     alloc: Global,
     text: &mut Text,
     core: &Core,
+    names: &[Text],
     columns: &[Column],
     rows: &[Traced],
     arrows: &[Arrow],
 ) -> Result<(), NoMemory>
     requires columns { length columns.now ≤ MOST_COLUMNS }
     requires rows { length rows.now ≤ MOST_ROWS }
-    ensures { OnOk result (text.new ≡ text.old ++ pictures.drawn_with core.now columns.now rows.now arrows.now) }
+    ensures { OnOk result (text.new ≡ text.old ++ pictures.drawn_with core.now names.now columns.now rows.now arrows.now) }
 {
     let width = 20 + 200 * columns.len() as u64;
     let height = 100 + 28 * rows.len() as u64;
     push_sheet(text, width, height)?;
     push_columns(alloc, text, core, height, columns)?;
     push_arrows(text, columns, rows, arrows)?;
-    push_marks(alloc, text, core, columns, rows)?;
+    push_marks(alloc, text, core, names, columns, rows)?;
     text.push_all(b"</svg>\n")
 }
 
@@ -177,15 +191,16 @@ fn push_marks(
     alloc: Global,
     text: &mut Text,
     core: &Core,
+    names: &[Text],
     columns: &[Column],
     rows: &[Traced],
 ) -> Result<(), NoMemory>
     requires columns { length columns.now ≤ MOST_COLUMNS }
     requires rows { length rows.now ≤ MOST_ROWS }
-    ensures { OnOk result (text.new ≡ text.old ++ flat_map (drawing.mark_text core.now columns.now rows.now) rows.now) }
+    ensures { OnOk result (text.new ≡ text.old ++ flat_map (drawing.mark_text core.now names.now columns.now rows.now) rows.now) }
 {
     for row in rows {
-        push_mark(alloc, text, core, columns, rows, row)?;
+        push_mark(alloc, text, core, names, columns, rows, row)?;
     }
     Ok(())
 }
