@@ -7,4 +7,5 @@ pub mod Journals
 pub mod Layouts
 pub mod Readings
 pub mod Replayed
+pub mod Rooms
 pub mod Sizes

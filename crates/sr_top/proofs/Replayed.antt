@@ -280,11 +280,11 @@ module _ (names : List (List ℕ)) (steps : ℕ) (r : Run) where
     traced_as (Ok lines) are = record { rows = rows; traces = found; are = are }
     traced_as (Err ending) are = tt
 
-    pub untraced_as : (result : Result (List ℕ) Ending) → IfErr result (EndsTold r.core tracing.picture rows) → IfErr result (EndsItems (question.Trace tracing) steps r)
+    pub untraced_as : (result : Result (List ℕ) Ending) → IfErr result (EndsTold tracing.picture rows) → IfErr result (EndsItems (question.Trace tracing) steps r)
     untraced_as (Ok lines) ends = tt
     untraced_as (Err ending) ends = ended ending ends
       where
-        ended : (ending : Ending) → EndsTold r.core tracing.picture rows ending → EndsItems (question.Trace tracing) steps r ending
+        ended : (ending : Ending) → EndsTold tracing.picture rows ending → EndsItems (question.Trace tracing) steps r ending
         ended Done ends = absurd ends
         ended Quiet ends = absurd ends
         ended (Stopped status) ends = absurd ends

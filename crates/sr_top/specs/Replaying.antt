@@ -99,7 +99,7 @@ HasTooMany (question.Trace tracing) steps r = ⊥
 pub record AreTooLarge (tracing : Tracing) (steps : ℕ) (r : Run) : Type 0 where
   pub rows : List Traced
   pub traces : TracesTo tracing steps r (traces.Found rows)
-  pub large : HasNoRoom r.core tracing.picture rows
+  pub large : HasNoRoom tracing.picture rows
 
 abbrev pub IsTooLarge : Question → ℕ → Run → Type 0
 IsTooLarge (question.Seen view) steps r = ⊥

@@ -52,10 +52,10 @@ fn told(
     rows: &[Traced],
 ) -> Result<Text, Ending>
     ensures text { IfOk result (λ text. told_text (core_in program.now) names.now picture rows.now ≡ Some text) }
-    ensures ends { IfErr result (EndsTold (core_in program.now) picture rows.now) }
+    ensures ends { IfErr result (EndsTold picture rows.now) }
 {
     if picture {
-        drawn(alloc, program, rows)
+        drawn(alloc, program, names, rows)
     } else {
         written(alloc, program, names, rows)
     }
@@ -69,7 +69,7 @@ fn written(
     rows: &[Traced],
 ) -> Result<Text, Ending>
     ensures text { IfOk result (λ text. told_text (core_in program.now) names.now false rows.now ≡ Some text) }
-    ensures ends { IfErr result (EndsTold (core_in program.now) false rows.now) }
+    ensures ends { IfErr result (EndsTold false rows.now) }
 {
     match trace_text(alloc, &program.program().core, names, rows) {
         Ok(text) => Ok(text),
@@ -78,11 +78,11 @@ fn written(
 }
 
 /// The picture of items.
-fn drawn(alloc: Global, program: &Program, rows: &[Traced]) -> Result<Text, Ending>
-    ensures text { IfOk result (λ text. picture_of (core_in program.now) rows.now ≡ Some text) }
-    ensures ends { IfErr result (EndsTold (core_in program.now) true rows.now) }
+fn drawn(alloc: Global, program: &Program, names: &[Text], rows: &[Traced]) -> Result<Text, Ending>
+    ensures text { IfOk result (λ text. picture_of (core_in program.now) names.now rows.now ≡ Some text) }
+    ensures ends { IfErr result (EndsTold true rows.now) }
 {
-    match picture_text(alloc, &program.program().core, rows) {
+    match picture_text(alloc, &program.program().core, names, rows) {
         Ok(Some(text)) => Ok(text),
         Ok(None) => Err(Ending::Limit(LimitKind::Items)),
         Err(_) => Err(Ending::NoMemory),

@@ -21,13 +21,12 @@ returns-in-Ok-Found-clause-lines c =
 
 pub returns-in-Ok-Found-clause-ends : goal.returns-in-Ok-Found-clause-ends
 returns-in-Ok-Found-clause-ends c =
-    let core = core_in c.args.program.now in
     let journal = c.args.journal.now in
     let steps = journal.header.steps in
-    let run = run_of core journal c.args.input.now in
+    let run = run_of (core_in c.args.program.now) journal c.args.input.now in
     let found = subst (λ n. IsTrace steps n run c.in-Ok-Found.field-0) c.count_upto.ensures.count c.in-Ok-Found.ensures in
     untraced_as c.args.names.now steps run c.args.tracing c.in-Ok-Found.rows (subst (TracesTo c.args.tracing steps run) c.in-Ok-Found.field-0-is found) c.told.result
-    (subst (λ rows. IfErr c.told.result (EndsTold core c.args.tracing.picture rows)) c.as_slice.ensures c.told.ensures.ends)
+    (subst (λ rows. IfErr c.told.result (EndsTold c.args.tracing.picture rows)) c.as_slice.ensures c.told.ensures.ends)
 
 pub returns-in-Ok-Illegal-clause-ends : goal.returns-in-Ok-Illegal-clause-ends
 returns-in-Ok-Illegal-clause-ends c =

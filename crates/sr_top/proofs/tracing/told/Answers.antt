@@ -11,7 +11,7 @@ returns-then-picture-clause-text c =
 
 pub returns-then-picture-clause-ends : goal.returns-then-picture-clause-ends
 returns-then-picture-clause-ends c =
-    subst (λ b. IfErr c.drawn.result (EndsTold (core_in c.args.program.now) b c.args.rows.now)) (sym c.if-picture.true) c.drawn.ensures.ends
+    subst (λ b. IfErr c.drawn.result (EndsTold b c.args.rows.now)) (sym c.if-picture.true) c.drawn.ensures.ends
 
 pub returns-else-picture-clause-text : goal.returns-else-picture-clause-text
 returns-else-picture-clause-text c =
@@ -19,4 +19,4 @@ returns-else-picture-clause-text c =
 
 pub returns-else-picture-clause-ends : goal.returns-else-picture-clause-ends
 returns-else-picture-clause-ends c =
-    subst (λ b. IfErr c.written.result (EndsTold (core_in c.args.program.now) b c.args.rows.now)) (sym c.if-picture.false) c.written.ensures.ends
+    subst (λ b. IfErr c.written.result (EndsTold b c.args.rows.now)) (sym c.if-picture.false) c.written.ensures.ends
