@@ -1,5 +1,5 @@
 use sr_ask::Item;
-use sr_journal::{JournalFail, read_journal, write_journal};
+use sr_journal::{JournalFail, read_journal};
 use sr_value::NoMemory;
 use std::alloc::Global;
 use std::test::Fail;
@@ -17,13 +17,6 @@ fn outcome(alloc: Global, bytes: &[u8]) -> Result<u8, NoMemory> {
         Err(JournalFail::Version) => Ok(b'3'),
         Err(JournalFail::NoMemory) => Err(NoMemory),
     }
-}
-
-/// Whether the bytes are a journal that is written as these bytes.
-fn comes_back(alloc: Global, bytes: &[u8]) -> Result<bool, JournalFail> {
-    let (header, items) = read_journal(alloc, bytes)?;
-    let text = write_journal(alloc, &header, &items)?;
-    Ok(text.as_bytes() == bytes)
 }
 
 /// Whether the journal has these items.
@@ -63,7 +56,6 @@ fn hello(rt: HostRuntime) -> Result<(), Fail> {
     assert_eq!(rt; HELLO.len(), 102);
     assert!(rt; has_items(rt.alloc(), HELLO, &items)?);
     assert!(rt; has_header(rt.alloc(), HELLO, (40, b"hello.sr"), 1_000_000, 10_000_000)?);
-    assert!(rt; comes_back(rt.alloc(), HELLO)?);
     Ok(())
 }
 
